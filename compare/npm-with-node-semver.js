@@ -29,18 +29,18 @@ const BATCH = 20000
 const ACCIDENTS = [
   ['more than one `v` or `=`, or white space between', /[v=]\s*[v=]|v\s/],
   ['white space within an operator', /[<>]\s+=|~\s+>/],
-  ['a comparison behind `~` or `^`', /[~^]>?\s*[<>=]/],
+  ['a comparison after `~` or `^`', /[~^]>?\s*[<>=]/],
   ['an operator at a side of a hyphen range', /[<>=~^][^|]*\s-\s|\s-\s[^|]*[<>=~^]/],
   ['`*` beside what it replaces', /\*[^\s|.]|[^\s|.<>=~^v]\*|[<>=~^v]\s*\*\S|[^\s|<>][<>]?=\s*\*/]
 ]
 
 // What it doesn't read although its pages have it, by the same accident.
 const REFUSALS = [
-  ['`=` between white space behind `v`, and before it a part of a pre-release that begins with digits', /[\dxX*]-(?:[0-9A-Za-z-]+\.)*\d+(?:v|[A-Za-z-][^\s|]*v)\s+=\s/]
+  ['`=` between white space after `v`, and before it a part of a pre-release that begins with digits', /[\dxX*]-(?:[0-9A-Za-z-]+\.)*\d+(?:v|[A-Za-z-][^\s|]*v)\s+=\s/]
 ]
 
 // What it reads and doesn't read of a hyphen range with `includePrerelease`, where a right side is a
-// raised bound and `-0` is put behind the left side: here the limits are those without this option.
+// raised bound and `-0` is put after the left side: here the limits are those without this option.
 const OF_SIDES = [['a hyphen range at a limit', /[^|]{250}|\d{16}/, /\s-\s/]]
 
 function simple (random) {
@@ -140,7 +140,7 @@ function asked (random, of) {
 
 // `>=0.0.0` with a build or a `v` asks nothing here, and is a comparator there, also as the left side
 // of a hyphen range. And with `includePrerelease` the left side `1.2.3+b` begins with 1.2.3 there, since
-// `-0` is put behind the build. So node-semver is asked of the text without both.
+// `-0` is put after the build. So node-semver is asked of the text without both.
 const plain = (of) => of.replace(/\+[0-9A-Za-z.-]+/g, '').replace(/v0\.0\.0/g, '0.0.0')
 
 // The rules for pre-releases: the call of the program, and what node-semver is asked by.

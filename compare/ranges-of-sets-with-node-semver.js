@@ -17,7 +17,7 @@ function pair (random) {
   return { texts, versions: Array.from({ length: VERSIONS }, () => version(random, random.of(ranges))) }
 }
 
-// The words behind each version: what the program says that it is in.
+// The words after each version: what the program says that it is in.
 const said = (answer) => answer.split('; ').slice(1).map((one) => one.split(':')[1].trim().split(' '))
 
 // The ranges of the releases and of the pre-releases of each part.

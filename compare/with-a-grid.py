@@ -18,7 +18,7 @@ from range_meaning import RULES, meets_term, precedence, ranges, shown, version
 
 NUMBERS = (0, 1, 2)
 PRE_RELEASES = ((0,), (1,), ("a",), ("a", 0), ("a", "b"), ("b",))
-# With 3 the grid has the next numbers of each; with the identifier 0 it has the lowest pre-releases, and those right behind another.
+# With 3 the grid has the next numbers of each; with the identifier 0 it has the lowest pre-releases, and those right after another.
 GRID_NUMBERS = (0, 1, 2, 3)
 OTHERS = ((2,), (7,), ("B",), ("Z",), (0, 0, 0), (0, "z"), (1, 1), (1, "a"), ("a", 0, 1), ("a", 1), ("a", "a"), ("a", "b", "c"), ("a", "c"), ("aa",), ("b", 1), ("b", "a"), ("b", "b"), ("c",), ("z",))
 GRID_PRE_RELEASES = sorted({*PRE_RELEASES, *(pre + (0,) for pre in PRE_RELEASES), *OTHERS}, key=str)

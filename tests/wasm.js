@@ -15,7 +15,7 @@ const ERRORS = {
 const module_ = new WebAssembly.Module(fs.readFileSync(process.argv[2]));
 const { memory, meets, __heap_base } = new WebAssembly.Instance(module_, {}).exports;
 
-// The answer of the module on two texts, which are put behind what the module itself uses.
+// The answer of the module on two texts, which are put after what the module itself uses.
 function ask(range, dialect, version) {
     const texts = [range, version].map((text) => (typeof text === 'string' ? Buffer.from(text) : text));
     const begin = Number(__heap_base.value);

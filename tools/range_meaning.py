@@ -160,8 +160,8 @@ def raised(front):
 def places(*texts):
     """The versions, by precedence, at which an answer about the terms of these texts can begin or end.
 
-    Each condition of the tables compares a version, or its first numbers, with z. So it begins or ends at z, right behind z, at the lowest version of
-    some numbers or right behind the highest.
+    Each condition of the tables compares a version, or its first numbers, with z. So it begins or ends at z, right after z, at the lowest version of
+    some numbers or right after the highest.
     """
     numbers, found = {(0, 0, 0)}, set()
     for _, stated, pre in (term for read in texts for terms in read for term in terms):
@@ -182,7 +182,7 @@ def least(found, holds):
 # ---- whole answers
 
 
-def right_behind(it):
+def right_after(it):
     """The next version of the same kind by precedence, if there is one."""
     numbers, pre = it
     if pre:
@@ -209,7 +209,7 @@ def intervals(found, holds):
 
 def interval_text(interval, lowest):
     begin, end = interval
-    if end == right_behind(begin):
+    if end == right_after(begin):
         return f"={shown(begin)}"
     bounds = [f">={shown(begin)}"] if begin != lowest else []
     return " ".join(bounds + ([f"<{shown(end)}"] if end else [])) or "*"

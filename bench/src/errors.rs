@@ -3,7 +3,7 @@
 use crate::forms::{fill, TAILS};
 use crate::source::Source;
 
-/// Spoils a version, which is given as its numbers and what stands behind them.
+/// Spoils a version, which is given as its numbers and what stands after them.
 pub type Error = fn(&mut Source, &str, &str) -> String;
 
 /// The errors that users hand in, and how many of a hundred refused texts have each.
@@ -16,7 +16,7 @@ pub const ERRORS: [(usize, Error); 12] = [
     (12, operator_in_front),
     (6, empty_pre_release),
     (6, double_hyphen),
-    (8, something_behind),
+    (8, something_after),
     (8, bad_character),
     (6, word),
     (2, nothing),
@@ -74,9 +74,9 @@ fn double_hyphen(source: &mut Source, numbers: &str, _: &str) -> String {
     format!("{numbers}{hyphens}{number}")
 }
 
-fn something_behind(source: &mut Source, numbers: &str, tail: &str) -> String {
-    let behind = [" beta", ",", " 2.0.0", " - 2.0.0", " x86-64", " stable"];
-    format!("{numbers}{tail}{}", source.random.pick(&behind))
+fn something_after(source: &mut Source, numbers: &str, tail: &str) -> String {
+    let after = [" beta", ",", " 2.0.0", " - 2.0.0", " x86-64", " stable"];
+    format!("{numbers}{tail}{}", source.random.pick(&after))
 }
 
 fn bad_character(source: &mut Source, numbers: &str, tail: &str) -> String {
@@ -86,7 +86,7 @@ fn bad_character(source: &mut Source, numbers: &str, tail: &str) -> String {
     format!("{}{bad}{}", &text[..at], &text[at + 1..])
 }
 
-/// A word, and with a number behind it once the words alone are used up.
+/// A word, and with a number after it once the words alone are used up.
 fn word(source: &mut Source, _: &str, _: &str) -> String {
     let word = source.random.pick(&["latest", "next", "stable", "nightly", "main", "unknown"]);
     if source.is_wide {

@@ -1,7 +1,7 @@
 //! The known departures of the real crate, undone: what the answer here has to be, from the crate's own.
 //!
 //! The lexer's error that is given again, a comma and the panics at numbers are undone in the crate's answer. The other departures of the
-//! range grammar are refusals, or answers that don't tell a build from a pre-release; so they are undone in the text. Behind three
+//! range grammar are refusals, or answers that don't tell a build from a pre-release; so they are undone in the text. After three
 //! components the build is taken away, and each part of a pre-release that begins with a digit and isn't a canonical decimal is marked
 //! by letters in front, which the crate then keeps as a text. What the answer to that text keeps so marked is then kept by the rule
 //! written in docs/MEANING.md.
@@ -13,7 +13,7 @@ use crate::real::{self, ERROR_AGAIN};
 use semver_parser::{Compat, Identifier, RangeSet};
 
 const AGAIN: &str = "the lexer's error is given again";
-const COMMA: &str = "a comma behind a simple is taken";
+const COMMA: &str = "a comma after a simple is taken";
 const BUILD_ALONE: &str = "a build that stands alone is kept as the pre-release";
 const PRE_AND_BUILD: &str = "a pre-release and a build together are refused";
 const DIGIT_FIRST: &str = "a part that begins with a digit and is no canonical decimal is refused";
@@ -105,7 +105,7 @@ fn undone(text: &str) -> Undone {
 }
 
 impl Undone {
-    /// Adds a word. One whose qualifier isn't in the grammar, or doesn't stand behind three components, is left as it is.
+    /// Adds a word. One whose qualifier isn't in the grammar, or doesn't stand after three components, is left as it is.
     fn push_word(&mut self, word: &str, mark: &str) {
         let at = word.find(['-', '+']).unwrap_or(word.len());
         let (numbers, qualifier) = word.split_at(at);

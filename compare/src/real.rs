@@ -7,7 +7,7 @@ use semver_parser::parser::{Error, Parser};
 use semver_parser::version::{self, Identifier, Version};
 use semver_parser::Compat;
 
-/// What stands behind the tokens where the crate gives the lexer's error again at two further calls.
+/// What stands after the tokens where the crate gives the lexer's error again at two further calls.
 pub const ERROR_AGAIN: &str = "and again";
 
 /// What the crate answers to a case.

@@ -84,7 +84,7 @@ fn place(random: &mut Random, text: &str) -> usize {
     places[random.below(places.len())]
 }
 
-/// The text with an identifier of hundreds of runs behind it.
+/// The text with an identifier of hundreds of runs after it.
 fn many_hyphens(random: &mut Random, text: &str) -> String {
     let runs = vec![random.pick(&["a", "0", "1", "01"]); 250 + random.below(20)];
     format!("{text}{}{}", random.pick(&["", "-", "-", "+", "."]), runs.join("-"))

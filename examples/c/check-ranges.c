@@ -4,10 +4,10 @@
  *     make
  *     printf '^1.2.0\t1.4.0\n^1.2.0\t2.0.0\n' | out/check-ranges [READING]
  *
- * prints the second. What stands behind another tab is left alone, and is printed with its line. A
+ * prints the second. What stands after another tab is left alone, and is printed with its line. A
  * line that can't be checked is told on standard error with its number. The status is 0 where all
  * lines hold, 1 where some doesn't, and 2 where some can't be checked, or where the input can't be
- * read to its end or the output can't be written: then what is behind is left unchecked, and that
+ * read to its end or the output can't be written: then what is after is left unchecked, and that
  * is told.
  *
  * The reading is `npm` or `cargo`, by which a line holds where this tool itself takes the version;
@@ -62,14 +62,14 @@ static int check(const char *line, size_t length, unsigned long number, const re
         return CANNOT_BE_CHECKED;
     }
     const char *version = tab + 1;
-    const char *behind = memchr(version, '\t', (size_t)(end - version));
-    if (behind == NULL) {
-        behind = end;
+    const char *after = memchr(version, '\t', (size_t)(end - version));
+    if (after == NULL) {
+        after = end;
     }
     bool meets;
     int32_t answer = semver_parser_meets((const uint8_t *)line, (size_t)(tab - line), by->reading,
                                          by->pre_releases, (const uint8_t *)version,
-                                         (size_t)(behind - version), &meets);
+                                         (size_t)(after - version), &meets);
     if (answer != SEMVER_PARSER_OK) {
         fprintf(stderr, "line %lu: %s\n", number, semver_parser_fault_text(answer));
         return CANNOT_BE_CHECKED;

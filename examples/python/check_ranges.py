@@ -3,7 +3,7 @@
     printf '^1.2.0\\t1.4.0\\n^1.2.0\\t2.0.0\\n' | python3 check_ranges.py [READING]
 
 It prints each line whose version doesn't meet its range, and tells on standard error of each line
-that can't be checked. What stands behind another tab is left alone, and is printed with its line.
+that can't be checked. What stands after another tab is left alone, and is printed with its line.
 
 The reading is `npm` or `cargo`, by which a line holds where this tool itself takes the version; or
 `crate-npm` or `crate-cargo`, those of the Rust crate semver-parser, by which a pre-release meets a
@@ -26,12 +26,12 @@ READINGS = {
 
 def check(line: bytes, number: int, reading: Reading, pre_releases: PreReleases) -> int:
     """The status of a line."""
-    wanted, tab, behind = line.partition(b"\t")
+    wanted, tab, after = line.partition(b"\t")
     if not tab:
         print(f"line {number}: no tab", file=sys.stderr)
         return 2
     try:
-        if meets(wanted, behind.split(b"\t")[0], reading, pre_releases):
+        if meets(wanted, after.split(b"\t")[0], reading, pre_releases):
             return 0
     except (RangeError, VersionError) as error:
         print(f"line {number}: {error.sentence}", file=sys.stderr)

@@ -29,7 +29,7 @@ class WrongShape(Exception):
 
 
 def bytes_of(path: str) -> bytes:
-    """What a file holds, or standard input, behind a byte order mark."""
+    """What a file holds, or standard input, after a byte order mark."""
     if path != STANDARD_INPUT:
         with open(path, "rb") as file:
             return file.read().removeprefix(BYTE_ORDER_MARK)

@@ -132,7 +132,7 @@ class Op(enum.Enum):
 
 
 def _printed_part(mark: str, identifiers: Tuple[Identifier, ...]) -> str:
-    """The identifiers behind their mark, or nothing where there is none."""
+    """The identifiers after their mark, or nothing where there is none."""
     return mark + ".".join(map(str, identifiers)) if identifiers else ""
 
 

@@ -189,7 +189,7 @@ def _greatest(chosen: Filter, versions: List[Version]) -> str:
 def answer(call: str, text: str, steps: str) -> Optional[str]:
     """What the package answers to a call of the table, as that writes it; None where it has none.
 
-    An answer that ends with a bracket is a front: the tokens behind it aren't told.
+    An answer that ends with a bracket is a front: the tokens after it aren't told.
     """
     name, _, last = call.partition("-")
     npm = "npm" in call

@@ -14,21 +14,21 @@ TOP = Path(__file__).resolve().parents[2]
 
 
 def named(body: List[ast.stmt]) -> Iterator[Tuple[str, ast.stmt, ast.stmt]]:
-    """What has a name among some statements: the name, its statement, and the one behind that."""
-    for it, behind in zip(body, [*body[1:], ast.Pass()]):
+    """What has a name among some statements: the name, its statement, and the one after that."""
+    for it, after in zip(body, [*body[1:], ast.Pass()]):
         if isinstance(it, (ast.ClassDef, ast.FunctionDef)):
-            yield it.name, it, behind
+            yield it.name, it, after
         elif isinstance(it, ast.Assign) and isinstance(it.targets[0], ast.Name):
-            yield it.targets[0].id, it, behind
+            yield it.targets[0].id, it, after
         elif isinstance(it, ast.AnnAssign) and isinstance(it.target, ast.Name):
-            yield it.target.id, it, behind
+            yield it.target.id, it, after
 
 
-def is_told(name: str, it: ast.stmt, behind: ast.stmt, around: str) -> bool:
-    """Whether something has a docstring, or a string behind it, or is named in the one around."""
+def is_told(name: str, it: ast.stmt, after: ast.stmt, around: str) -> bool:
+    """Whether something has a docstring, or a string after it, or is named in the one around."""
     if isinstance(it, (ast.ClassDef, ast.FunctionDef)):
         return ast.get_docstring(it) is not None
-    is_text = isinstance(behind, ast.Expr) and isinstance(behind.value, ast.Constant)
+    is_text = isinstance(after, ast.Expr) and isinstance(after.value, ast.Constant)
     return is_text or f"`{name}`" in around
 
 
@@ -45,19 +45,19 @@ class Documents(unittest.TestCase):
         for file in (TOP / "python" / "semver_parser").glob("*.py"):
             module = ast.parse(file.read_text())
             self.assertTrue(ast.get_docstring(module), file)
-            for name, it, behind in named(module.body):
+            for name, it, after in named(module.body):
                 if name in semver_parser.__all__:
                     found.append(name)
-                    self.assertTrue(is_told(name, it, behind, ""), name)
+                    self.assertTrue(is_told(name, it, after, ""), name)
                     self.check_members(it)
         self.assertEqual(sorted(found), sorted(semver_parser.__all__))
 
     def check_members(self, of: ast.stmt) -> None:
         if isinstance(of, ast.ClassDef):
             around = ast.get_docstring(of) or ""
-            for name, it, behind in named(of.body):
+            for name, it, after in named(of.body):
                 if not name.startswith("_"):
-                    self.assertTrue(is_told(name, it, behind, around), (of.name, name))
+                    self.assertTrue(is_told(name, it, after, around), (of.name, name))
 
     def test_version(self) -> None:
         version = (TOP / "VERSION").read_text().strip()

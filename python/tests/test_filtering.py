@@ -417,11 +417,11 @@ class Greatest(unittest.TestCase):
         self.assertEqual(sorted(reversed(versions)), versions)
         self.assertEqual((min(versions), max(versions)), (versions[0], versions[-1]))
         for at, one in enumerate(versions):
-            for behind, other in enumerate(versions):
-                self.assertIs(one < other, at < behind)
-                self.assertIs(one <= other, at <= behind)
-                self.assertIs(one > other, at > behind)
-                self.assertIs(one >= other, at >= behind)
+            for after, other in enumerate(versions):
+                self.assertIs(one < other, at < after)
+                self.assertIs(one <= other, at <= after)
+                self.assertIs(one > other, at > after)
+                self.assertIs(one >= other, at >= after)
 
     def test_order_of_other_types(self) -> None:
         version = parse_version("1.2.3")

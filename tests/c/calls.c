@@ -171,7 +171,7 @@ int32_t precedence(
 
 /* ---- rewriting */
 
-/* A room for bytes and one for comparators, each with a guard behind it; at null where it is empty
+/* A room for bytes and one for comparators, each with a guard after it; at null where it is empty
  * and that is asked for. */
 typedef struct {
     uint8_t *out;
@@ -224,9 +224,9 @@ static int32_t call(int which, const text *of, int32_t reading, bool exact, room
 /* Whether what a call left alone is as it was. */
 static void require_kept(int which, int32_t answer, const rooms *to, const text *of) {
     size_t comparator_size = sizeof *to->comparators;
-    require(to->out[to->room] == GUARD, "a byte behind the room", of);
+    require(to->out[to->room] == GUARD, "a byte after the room", of);
     require(is_filled(to->comparators + to->comparator_room, GUARD, comparator_size),
-        "a comparator behind the room", of);
+        "a comparator after the room", of);
     bool told = answer == SEMVER_PARSER_OK || answer == SEMVER_PARSER_NO_ROOM;
     require(told == (to->length != UNTOLD), "another length at an error", of);
     require(
@@ -235,9 +235,9 @@ static void require_kept(int which, int32_t answer, const rooms *to, const text 
     size_t put = answer == SEMVER_PARSER_OK && which == COMPARATORS ? to->count : 0;
     require(written <= to->room && put <= to->comparator_room, "more than there is room for", of);
     require(is_filled(to->out + written, FILL, to->room - written),
-        "a byte behind what was put, or at an error", of);
+        "a byte after what was put, or at an error", of);
     require(is_filled(to->comparators + put, FILL, (to->comparator_room - put) * comparator_size),
-        "a comparator behind the set, or at an error", of);
+        "a comparator after the set, or at an error", of);
 }
 
 static bool is_same_comparator(
@@ -314,7 +314,7 @@ const char *operator_text(int32_t op) {
     }
 }
 
-/* The comparators, printed, are the set. Their pre-releases lie one behind the other, and there is
+/* The comparators, printed, are the set. Their pre-releases lie one after the other, and there is
  * nothing else beside them. */
 static void require_printed(const text *of, const text *set, const comparator_list *list) {
     text printed = {NULL, 0, 0};
@@ -339,7 +339,7 @@ static void require_printed(const text *of, const text *set, const comparator_li
         }
         offset += one->pre.length;
     }
-    require(offset == list->pre_releases.length, "bytes behind the pre-releases", of);
+    require(offset == list->pre_releases.length, "bytes after the pre-releases", of);
     require(printed.length == set->length && memcmp(printed.bytes, set->bytes, set->length) == 0,
         "comparators of another set", of);
     text_free(&printed);
@@ -453,7 +453,7 @@ static void require_each(const text *range, int32_t reading, int32_t pre_release
     }
     size_t written = read ? count : 0;
     require(is_filled(answers + written, FILL, sizeof answers - written),
-        "a byte behind the answers, or at an error", range);
+        "a byte after the answers, or at an error", range);
     free(range_bytes);
     free(version_bytes);
     free(versions_block);
@@ -477,7 +477,7 @@ int32_t meets(const text *range, int32_t reading, int32_t pre_releases, const te
 
 /* ---- the least version */
 
-/* Asks for it in a room of some length. What is behind what was written has to be as it was, and
+/* Asks for it in a room of some length. What is after what was written has to be as it was, and
  * all of it at an error. */
 static int32_t least_in(const text *range, int32_t reading, int32_t pre_releases, uint8_t *out,
                         size_t room, size_t *length, bool at_null) {
@@ -490,7 +490,7 @@ static int32_t least_in(const text *range, int32_t reading, int32_t pre_releases
     free(range_bytes);
     size_t written = answer == SEMVER_PARSER_OK ? *length : 0;
     require(written <= room && is_filled(out + written, FILL, room + 1 - written),
-        "a byte behind the version, or at an error", range);
+        "a byte after the version, or at an error", range);
     require(answer == SEMVER_PARSER_OK || answer == SEMVER_PARSER_NO_ROOM || *length == 777,
         "a length at an error", range);
     return answer;
@@ -526,7 +526,7 @@ int32_t least(const text *range, int32_t reading, int32_t pre_releases, text *pr
 
 /* ---- two ranges */
 
-/* Compares in a room of some length. What is behind what was written has to be as it was, and all
+/* Compares in a room of some length. What is after what was written has to be as it was, and all
  * of it at an error. */
 static int32_t compare_in(const text *old_range, const text *new_range, int32_t reading,
                           int32_t pre_releases, uint8_t *out, size_t room, size_t *length,
@@ -544,23 +544,23 @@ static int32_t compare_in(const text *old_range, const text *new_range, int32_t 
     free(new_bytes);
     size_t written = answer == SEMVER_PARSER_OK ? *length : 0;
     require(written <= room && is_filled(out + written, FILL, room + 1 - written),
-        "a byte behind the versions, or at an error", old_range);
+        "a byte after the versions, or at an error", old_range);
     bool is_told = answer == SEMVER_PARSER_OK || answer == SEMVER_PARSER_NO_ROOM;
     require(is_told || (*length == 777 && is_filled(told, FILL, sizeof *told)),
         "a comparison at an error", old_range);
     return answer;
 }
 
-/* A part has to lie at the place, or nowhere where it is empty. What is behind it is the next
+/* A part has to lie at the place, or nowhere where it is empty. What is after it is the next
  * place. */
-static size_t place_behind(semver_parser_part part, size_t place, const text *of) {
+static size_t place_after(semver_parser_part part, size_t place, const text *of) {
     require(part.offset == (part.length == 0 ? 0 : place), "a version in another place", of);
     return place + part.length;
 }
 
 static void require_places(const semver_parser_comparison *told, size_t length, const text *of) {
-    size_t end = place_behind(
-        told->shared, place_behind(told->gained, place_behind(told->lost, 0, of), of), of);
+    size_t end = place_after(
+        told->shared, place_after(told->gained, place_after(told->lost, 0, of), of), of);
     require(end == length, "another length than that of the three versions", of);
 }
 

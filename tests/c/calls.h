@@ -1,5 +1,5 @@
 /* The calls of the library, made with care: each text and each room is a block of its own with
- * nothing behind it that may be read, each room has a guard byte behind it, and what a call has to
+ * nothing after it that may be read, each room has a guard byte after it, and what a call has to
  * leave as it was is looked at. What isn't as the header says ends the program. */
 #ifndef CALLS_H
 #define CALLS_H
@@ -64,7 +64,7 @@ typedef struct {
 
 /* Compares two range texts, or answers the error and leaves `told` alone. It tries a room of each
  * length up to one past what is needed (of more than 300 bytes, of some lengths), and at null where
- * the room or a text is empty. The parts have to lie one behind the other. */
+ * the room or a text is empty. The parts have to lie one after the other. */
 int32_t compare(const text *old_range, const text *new_range, int32_t reading, int32_t pre_releases,
                 compared *told);
 void free_compared(compared *told);

@@ -54,9 +54,9 @@ static bool has_rule(int32_t reading, int32_t rule) {
 /* The rule by which a reading is asked for pre-releases where a table doesn't say one. */
 static int32_t rule_of(int32_t reading) { return is_of_tool(reading) ? OF_TOOL : STATED; }
 
-/* A text that stands behind a long front, by which it means the same of all versions above
+/* A text that stands after a long front, by which it means the same of all versions above
  * 0.0.7. */
-static text behind_a_front(int32_t reading, const char *bytes) {
+static text after_a_front(int32_t reading, const char *bytes) {
     text made = {NULL, 0, 0};
     for (int at = 0; at < 300; at++) {
         text_say(&made, "%s", reading == CARGO ? "          " : "=0.0.7 || ");
@@ -481,7 +481,7 @@ static void meets_by(int32_t reading, int32_t rule, const char *range, const cha
                      int32_t wanted) {
     text short_range = string(range);
     text short_version = string(version);
-    text long_range = behind_a_front(reading, range);
+    text long_range = after_a_front(reading, range);
     text long_version = long_text_of(reading, version);
     check(meets(&short_range, reading, rule, &short_version) == wanted, "another answer", reading,
           range);
@@ -737,7 +737,7 @@ static void no_such_numbers(void) {
     for (int at = 0; at < TEXTS - 1; at++) {
         texts[at] = string(short_texts[at]);
     }
-    texts[TEXTS - 1] = behind_a_front(NPM, "1");
+    texts[TEXTS - 1] = after_a_front(NPM, "1");
     for (size_t at = 0; at < sizeof no_readings / sizeof *no_readings; at++) {
         rewriting_is_refused(no_readings[at]);
         versions_are_refused(no_readings[at]);

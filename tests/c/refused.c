@@ -324,7 +324,7 @@ static void many_take(const char *range, bool at_null, int32_t wanted) {
                 "another version's answer", range, request);
             check(answers[1] == faulty, "the answer of a refusal", range, request);
             check(!refused || !is_of_tool(), "a version that takes memory", range, request);
-            check(answers[3] == SEMVER_PARSER_DOES_NOT_MEET, "the answer behind a refusal", range,
+            check(answers[3] == SEMVER_PARSER_DOES_NOT_MEET, "the answer after a refusal", range,
                 request);
         } else {
             check(memcmp(answers, "xxxx", 4) == 0, "an answer at an error", range, request);

@@ -202,7 +202,7 @@ static bool say_answer(text *to, const char *call, const text *of, const text *s
 }
 
 /* Whether an answer is what the table expects. Of an error whose name has tokens or a character
- * behind it, the name decides. */
+ * after it, the name decides. */
 static bool is_expected(const text *answer, const char *expected, size_t length) {
     bool is_front = answer->length > 0 && answer->bytes[answer->length - 1] == '(';
     return (is_front ? answer->length <= length : answer->length == length) &&

@@ -81,7 +81,7 @@ static void version_error_is(const char *bytes, size_t length, int32_t error) {
     text_free(&of);
 }
 
-/* Versions with a long identifier, many identifiers, and long white space, and errors behind a long
+/* Versions with a long identifier, many identifiers, and long white space, and errors after a long
  * pre-release. */
 static void long_versions(void) {
     const semver_parser_part none = {0, 0};
@@ -173,8 +173,8 @@ static void versions_in_order(void) {
         "2.1.1", "18446744073709551615.0.0"};
     enum { COUNT = sizeof ordered / sizeof *ordered };
     for (int at = 0; at < COUNT; at++) {
-        for (int behind = at; behind < COUNT; behind++) {
-            order_is(ordered[at], ordered[behind], at == behind ? 0 : -1);
+        for (int after = at; after < COUNT; after++) {
+            order_is(ordered[at], ordered[after], at == after ? 0 : -1);
         }
     }
     order_is("1.2.3+a", "1.2.3+b.1", 0);
@@ -257,20 +257,20 @@ static void range_error_is(const char *bytes, size_t length, int32_t error) {
 }
 
 /* Many ranges, whose last number is their place, as a text has them and as they are printed. */
-static void many_ranges_are(int32_t reading, bool exact, const char *before, const char *behind) {
+static void many_ranges_are(int32_t reading, bool exact, const char *before, const char *after) {
     text of = {NULL, 0, 0};
     text wanted = {NULL, 0, 0};
     for (int at = 0; at < 300; at++) {
         const char *between = at == 0 ? "" : " || ";
         text_say(&of, "%s1.2.%d", between, at);
-        text_say(&wanted, "%s%s1.2.%d%s", between, before, at, behind);
+        text_say(&wanted, "%s%s1.2.%d%s", between, before, at, after);
     }
     range_is(reading, exact, of.bytes, wanted.bytes);
     text_free(&of);
     text_free(&wanted);
 }
 
-/* Many ranges, one with a long identifier, and errors behind many ranges. */
+/* Many ranges, one with a long identifier, and errors after many ranges. */
 static void long_ranges(void) {
     many_ranges_are(CRATE_CARGO, false, ">=", " <2.0.0");
     many_ranges_are(CRATE_CARGO, true, ">=", " <2.0.0-0");
@@ -413,7 +413,7 @@ static void texts_meet(
     }
 }
 
-/* So they do where the range stands behind many that mean 0.0.7 alone, and the version behind many
+/* So they do where the range stands after many that mean 0.0.7 alone, and the version after many
  * spaces. No version here is 0.0.7. */
 static void meets_are(
     const char *range, const char *version, int32_t releases, int32_t stated, int32_t all) {
@@ -532,7 +532,7 @@ static void many(void) {
                                      SEMVER_PARSER_STATED_PRE_RELEASES, texts, count, answers);
         check(answer == SEMVER_PARSER_OK && memcmp(answers, wanted, count) == 0,
             "other answers of many", &of);
-        check(answers[count] == 0xA5, "a byte behind the answers", &of);
+        check(answers[count] == 0xA5, "a byte after the answers", &of);
         text_free(&of);
     }
 }

@@ -6,7 +6,7 @@
 #include <stddef.h>
 #include <stdint.h>
 
-/* Bytes that grow at their end. A zero byte stands behind them. */
+/* Bytes that grow at their end. A zero byte stands after them. */
 typedef struct {
     char *bytes;
     size_t length;

@@ -4,7 +4,7 @@ use Rattle.std.proofs.Common.{true≢false}
 use Rattle.std.specs.Cmp.{IsTotalOrder}
 use Rattle.std.specs.List.{AllByRecursion}
 use Rattle.std.specs.Ordering.{ordering_reverse}
-use Rattle.semver_parser.specs.Outlines.{outline_behind}
+use Rattle.semver_parser.specs.Outlines.{outline_after}
 use Rattle.semver_parser.specs.Precedence.{precedence}
 use Rattle.semver_parser.specs.Texts.{Text}
 use Rattle.semver_parser.specs.ToolVersions.{SpellsIn}
@@ -38,14 +38,14 @@ module _ (same : (dialect : Dialect) (v w : VersionValue) (text : Text) → Spel
   one_judged DoesNotPass (Passes o) p q = absurd (true≢false (sym (q.1 p.0.0 p.0.1) ∙ p.1 p.0.0 p.0.1))
   one_judged (Passes o) NoVersion p q = absurd (q (p.0.0, p.0.1))
   one_judged (Passes o) DoesNotPass p q = absurd (true≢false (sym (p.1 q.0.0 q.0.1) ∙ q.1 q.0.0 q.0.1))
-  one_judged (Passes o) (Passes o') p q = ap Passes (p.0.2 ∙ ap (outline_behind _) (same dialect p.0.0 q.0.0 text p.0.1 q.0.1) ∙ sym q.0.2)
+  one_judged (Passes o) (Passes o') p q = ap Passes (p.0.2 ∙ ap (outline_after _) (same dialect p.0.0 q.0.0 text p.0.1 q.0.1) ∙ sym q.0.2)
 
 module _ {X : Type 0} (total : IsTotalOrder precedence) (Has : X → VersionValue → Type 0) where
   -- one that an item after it isn't above isn't below that
-  behind : (x y : X) (v w : VersionValue) → Has x v → Has y w → IsBelow precedence Has w x → (front back : List X)
+  not_above : (x y : X) (v w : VersionValue) → Has x v → Has y w → IsBelow precedence Has w x → (front back : List X)
       → AllByRecursion (IsNotAbove precedence Has v) (front ++ y ∷ back) → ⊥
-  behind x y v w h k below [] back p = p.0 w k (total.antisymm w.plain v.plain ∙ ap ordering_reverse (below v h))
-  behind x y v w h k below (z ∷ front) back p = behind x y v w h k below front back p.1
+  not_above x y v w h k below [] back p = p.0 w k (total.antisymm w.plain v.plain ∙ ap ordering_reverse (below v h))
+  not_above x y v w h k below (z ∷ front) back p = not_above x y v w h k below front back p.1
 
   -- so two of which each is the greatest stand in one place
   module _ (x y : X) (v w : VersionValue) (h : Has x v) (k : Has y w) where
@@ -54,10 +54,10 @@ module _ {X : Type 0} (total : IsTotalOrder precedence) (Has : X → VersionValu
         → AllByRecursion (IsNotAbove precedence Has v) back → AllByRecursion (IsNotAbove precedence Has w) back' → x ≡ y
     same_place [] [] back back' e p q p' q' = cc
     same_place [] (z ∷ front) back back' e p q p' q' =
-        absurd (behind x y v w h k (subst (IsBelow precedence Has w) (cc) q.0) front back'
+        absurd (not_above x y v w h k (subst (IsBelow precedence Has w) (cc) q.0) front back'
         (subst (AllByRecursion (IsNotAbove precedence Has v)) (cc) p'))
     same_place (z ∷ front) [] back back' e p q p' q' =
-        absurd (behind y x w v k h (subst (IsBelow precedence Has v) (cc) p.0) front back
+        absurd (not_above y x w v k h (subst (IsBelow precedence Has v) (cc) p.0) front back
         (subst (AllByRecursion (IsNotAbove precedence Has w)) (cc) q'))
     same_place (z ∷ front) (z' ∷ front') back back' e p q p' q' = same_place front front' back back' (cc) p.1 q.1 p' q'
 

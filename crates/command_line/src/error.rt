@@ -13,13 +13,13 @@ pub enum ArgumentError {
     #[error("unknown option: {0:?}")]
     UnknownOption(String),
     /// Nothing follows `--as`.
-    #[error("--as wants a dialect")]
+    #[error("--as needs a dialect")]
     NoDialect,
     /// What follows `--as` names no dialect.
     #[error("unknown dialect: {0:?}")]
     UnknownDialect(String),
     /// Nothing follows `--prefix`.
-    #[error("--prefix wants a text")]
+    #[error("--prefix needs a text")]
     NoPrefix,
     /// Before this option it, or another of the same meaning, was given.
     #[error("{0} is given twice")]

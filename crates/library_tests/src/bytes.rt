@@ -62,8 +62,8 @@ pub fn write_bytes(rt: &impl Print, alloc: Global) -> io::Result<()> {
             println!(rt; "dialects: wrong at {place}")?;
         }
     }
-    if !are_read_behind_numbers() || !are_read_of_numbers() {
-        println!(rt; "parts: wrong behind numbers")?;
+    if !are_read_after_numbers() || !are_read_of_numbers() {
+        println!(rt; "parts: wrong after numbers")?;
     }
     println!(rt; "bytes: {} texts and others", BYTES.len())
 }
@@ -101,7 +101,7 @@ fn has_parts(text: &str, pre: (&str, usize), build: (&str, usize)) -> bool {
 }
 
 /// Whether the parts of `1.2.3-rc.4+b5` are read after its numbers, and none of `1.2.3.4`.
-fn are_read_behind_numbers() -> bool {
+fn are_read_after_numbers() -> bool {
     let Some(outline) = version::outline_of_numbers(1, 2, 3, 5, b"-rc.4+b5", Dialect::Crate) else {
         return false;
     };

@@ -24,7 +24,7 @@ none_between n m (j, is) (k, so) less = by_order (cases_lt j k)
     by_order (inl before) =
         let more : 2 ^ (j + 1) ≤ 2 ^ k = grind (arith, pow-le-pow_right) in
         omega (arith, pow_more 2 j)
-    by_order (inr behind) = grind (arith, pow-le-pow_right)
+    by_order (inr after) = grind (arith, pow-le-pow_right)
 
 -- ---- the looks
 
@@ -50,11 +50,11 @@ module _ (dialect : Dialect) (prefixes : List Text) (at_front : Bool) where
     where
       by_next : (n < size) ⊎ (size ≤ n) → n ≤ size → May (take size line)
       by_next (inl above) _ = absurd (omega (arith, less, none_between n size at looked above))
-      by_next (inr within) behind = let same : n ≡ size = omega (arith, within, behind) in subst (λ s. May (take s line)) same here
+      by_next (inr within) after = let same : n ≡ size = omega (arith, within, after) in subst (λ s. May (take s line)) same here
 
       by_order : (size < n) ⊎ (n ≤ size) → May (take size line)
       by_order (inl below) = may size looked below
-      by_order (inr behind) = by_next (cases_lt n size) behind
+      by_order (inr after) = by_next (cases_lt n size) after
 
   -- the bytes that show that the line has no version are left
   pub left_front : (line seen left : Text) (size : ℕ) → seen ≡ line → left ≡ take size seen

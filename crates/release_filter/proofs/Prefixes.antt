@@ -13,7 +13,7 @@ Strips prefix bytes found =
     × (length x.now + length prefix ≡ length bytes))
 
 -- what is after the prefix, if the bytes begin with it
-pub behind : (prefix bytes : List ℕ) (found : Option (Bor (List ℕ))) → Strips prefix bytes found
+pub after : (prefix bytes : List ℕ) (found : Option (Bor (List ℕ))) → Strips prefix bytes found
     → MatchOption found ((t : List ℕ) → ¬ (bytes ≡ prefix ++ t)) (λ x. bytes ≡ prefix ++ x.now)
-behind prefix bytes None other = grind (arith, bytes_decides, take-append_seam)
-behind prefix bytes (Some x) (same, rest, len) = grind (arith, take-append-drop, bytes_decides)
+after prefix bytes None other = grind (arith, bytes_decides, take-append_seam)
+after prefix bytes (Some x) (same, rest, len) = grind (arith, take-append-drop, bytes_decides)

@@ -17,7 +17,7 @@ use Rattle.release_filter.specs.Skipping.{BeginsAfter, BeginsAfterOne, IsLeft, M
 use Rattle.release_filter.specs.Verdicts.{HasNoVersion, HasVersion, IsVerdictOn, Verdict, asked, dropped, empty, invalid, kept}
 use Rattle.semver_texts.proofs.Lists.{by_test}
 use Rattle.release_filter.proofs.Looks.{looked_least, may_longer}
-use Rattle.release_filter.proofs.NumberedLines.{strip_behind}
+use Rattle.release_filter.proofs.NumberedLines.{strip_after}
 use Rattle.release_filter.proofs.Passing.{not_both}
 use Rattle.release_filter.proofs.TakenPieces.{NoEnd, no_end_marked}
 use Rattle.std.proofs.lemmas.Grind.{common_steps}
@@ -31,7 +31,7 @@ strip_front byte xs =
 
 text_front : (front more : Text) → NoEnd front → (rest : Text) × (line_text (front ++ more) ≡ strip_last 13 front ++ rest)
 text_front front [] none = search rules
-text_front front (x ∷ xs) none = by_rest _ (ap (strip_last 13) (strip_behind 10 front _ (omega arith)))
+text_front front (x ∷ xs) none = by_rest _ (ap (strip_last 13) (strip_after 10 front _ (omega arith)))
   where
     by_rest : (rest : Text) → line_text (front ++ x ∷ xs) ≡ strip_last 13 (front ++ rest)
         → (r : Text) × (line_text (front ++ x ∷ xs) ≡ strip_last 13 front ++ r)
@@ -39,7 +39,7 @@ text_front front (x ∷ xs) none = by_rest _ (ap (strip_last 13) (strip_behind 1
     by_rest (y ∷ ys) e =
         let end = strip_front 13 front in (
           end.0 ++ strip_last 13 (y ∷ ys),
-          e ∙ strip_behind 13 front _ (omega arith) ∙ ap (λ l. l ++ strip_last 13 (y ∷ ys)) end.1
+          e ∙ strip_after 13 front _ (omega arith) ∙ ap (λ l. l ++ strip_last 13 (y ∷ ys)) end.1
               ∙ append_assoc _ end.0 _,
         )
 

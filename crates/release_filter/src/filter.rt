@@ -22,7 +22,7 @@ use version_sets::{PreReleases, VersionSet};
 /// Which versions a range text means, by one of the three rules for pre-releases, and the dialect
 /// by which version texts are read.
 ///
-/// It is read once, by [`Filter::new`], and then answers as often as is asked.
+/// [`Filter::new`] reads the range once; the filter then judges any number of versions.
 #[derive(Drop)]
 pub struct Filter {
     /// The versions that the text means.
@@ -81,8 +81,8 @@ impl Filter {
     }
 
     // Answer: equation.
-    /// A filter that the versions of a set pass, as those that a tool's own reading of a range text
-    /// answers, and that reads version texts by a dialect. It does not allocate.
+    /// A filter that the versions of a set pass, as the set that `tool_ranges::meaning::read`
+    /// returns, and that reads version texts by a dialect. It does not allocate.
     pub fn of_versions(versions: VersionSet, dialect: Dialect) -> Filter
         ensures set { result.set ≡ versions }
         // Which pre-releases count, the set says by itself.
@@ -123,8 +123,8 @@ impl Filter {
     // Answer: law answer_laws::filters::one_greatest.
     /// Of the versions that pass, the greatest by precedence (SemVer 2.0.0, section 11), and the
     /// first of those that are equal to it; builds don't count. `None` exactly where none passes.
-    /// Of 1.2.0, 2.0.0, 1.9.0+a and 1.9.0+b, a filter of `^1.2` answers 1.9.0+a. It takes no
-    /// memory.
+    /// Of 1.2.0, 2.0.0, 1.9.0+a and 1.9.0+b, a filter of `^1.2` returns 1.9.0+a. It does not
+    /// allocate.
     pub fn greatest<'v>(&self, versions: &'v [Version]) -> Option<&'v Version>
         ensures greatest { IfSome result (λ version.
             IsGreatest (IsOneThat (passes self.now)) versions.now version.now) }

@@ -91,10 +91,10 @@ fn first_outlined(bytes: &[u8], dialect: Dialect) -> Option<(&[u8], Option<Outli
         IsOutlined dialect (line_text found.0.now) found.1) }
 {
     if let Some((major, minor, patch, rest)) = numbers(bytes) {
-        let behind = whole_line(rest)?;
+        let after = whole_line(rest)?;
         let numbers_end = bytes.len() - rest.len();
-        let line = &bytes[..numbers_end + behind.len()];
-        let text = text_of(behind);
+        let line = &bytes[..numbers_end + after.len()];
+        let text = text_of(after);
         let outline = outline_of_numbers(major, minor, patch, numbers_end, text, dialect);
         return Some((line, outline));
     }

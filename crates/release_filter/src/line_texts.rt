@@ -63,11 +63,11 @@ pub(crate) fn without_last(bytes: &[u8], byte: u8) -> &[u8]
 pub(crate) fn after_mark(at_front: bool, line: &[u8]) -> &[u8]
     ensures { result.now ≡ after_mark at_front line.now }
 {
-    if at_front { behind_mark(line) } else { line }
+    if at_front { without_mark(line) } else { line }
 }
 
 /// The text after a byte order mark, if it begins with one.
-fn behind_mark(text: &[u8]) -> &[u8]
+fn without_mark(text: &[u8]) -> &[u8]
     ensures { result.now ≡ without_mark text.now }
 {
     text.strip_prefix(MARK).unwrap_or(text)

@@ -90,9 +90,9 @@ zero_one_prints = refl
 -- ---- reading
 
 -- `a/`: the lookahead after `a` is the bad character
-slash_behind_word : IsOutcomeOf (codes "a/") (Err (state.Lexer 47))
+slash_after_word : IsOutcomeOf (codes "a/") (Err (state.Lexer 47))
 unfolding scan first_token component sign chars
-slash_behind_word = record {
+slash_after_word = record {
   start = record { remaining = token.AlphaNumeric _ ∷ []; pending = Some 47 };
   answer = Err _;
   end = record { remaining = token.AlphaNumeric _ ∷ []; pending = Some 47 };

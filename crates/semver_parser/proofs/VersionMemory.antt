@@ -9,7 +9,7 @@ use Rattle.semver_tokens.specs.Tokens.{TokenValue, LtEq, GtEq, Or, Hyphen, Plus,
 use Rattle.semver_tokens.specs.Tokens.{token_text}
 use Rattle.semver_texts.specs.VersionGrammar.{SpellsIdentifier, SpellsPart, SpellsCore, SpellsVersion}
 use Rattle.semver_tokens.specs.VersionReading.{HoldsIdentifierRun, TextMayRunOut, inner_text, inner_texts}
-use Rattle.semver_tokens.specs.Steps.Taking.{run, Part, pre_release, build, Place, start, behind_number, patch, at_run, behind_run, step}
+use Rattle.semver_tokens.specs.Steps.Taking.{run, Part, pre_release, build, Place, start, after_number, patch, at_run, after_run, step}
 use Rattle.semver_tokens.specs.Steps.Taking.{accepts}
 use Rattle.semver_tokens.proofs.TokenLists.{decimal_is_run}
 use Rattle.semver_texts.proofs.Lists.{Passes, all_more, passes_append, passes_apart}
@@ -20,10 +20,10 @@ use Rattle.semver_parser.proofs.WholeText.{is_no_mark, letter_no_mark, has, spel
 -- ---- after a mark comes a run
 
 mark_leads : (mark : Part) (p q : Place) → step p (mark_of mark) ≡ Some q → (part : Part) × (q ≡ at_run part)
-mark_leads pre_release (behind_number patch) q e = (pre_release, cc)
-mark_leads pre_release (behind_run part) q e = (part, cc)
-mark_leads build (behind_number patch) q e = (build, cc)
-mark_leads build (behind_run pre_release) q e = (build, cc)
+mark_leads pre_release (after_number patch) q e = (pre_release, cc)
+mark_leads pre_release (after_run part) q e = (part, cc)
+mark_leads build (after_number patch) q e = (build, cc)
+mark_leads build (after_run pre_release) q e = (build, cc)
 mark_leads _ _ q e = cc
 
 mark_holds : (mark : Part) (p q : Place) → step p (mark_of mark) ≡ Some q → (ts : List TokenValue) (last : Place)

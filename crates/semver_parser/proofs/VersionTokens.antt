@@ -12,8 +12,8 @@ use Rattle.semver_tokens.specs.Steps.Scanning.{component}
 use Rattle.semver_texts.specs.Versions.{IdentifierValue, numeric, alphanumeric, VersionValue}
 use Rattle.semver_texts.specs.VersionGrammar.{SpellsIdentifier, SpellsPart, SpellsCore, SpellsVersion}
 use Rattle.semver_tokens.specs.VersionReading.{IsVersionShape, inner_text, inner_texts}
-use Rattle.semver_tokens.specs.Steps.Taking.{run, major, minor, patch, Part, pre_release, build, Place, start, at_number, behind_number}
-use Rattle.semver_tokens.specs.Steps.Taking.{at_run, behind_run, end, step, accepts}
+use Rattle.semver_tokens.specs.Steps.Taking.{run, major, minor, patch, Part, pre_release, build, Place, start, at_number, after_number}
+use Rattle.semver_tokens.specs.Steps.Taking.{at_run, after_run, end, step, accepts}
 use Rattle.semver_texts.proofs.Lists.{Passes}
 use Rattle.semver_tokens.proofs.FirstToken.{continues_into, continues-component, token_text-component, IsTokenAt-component}
 use Rattle.semver_tokens.proofs.FirstToken.{space_is_no_run}
@@ -21,7 +21,7 @@ use Rattle.semver_tokens.proofs.TokenLists.{tokens_cons, shows_kind, decimal_is_
 use Rattle.semver_tokens.proofs.Components.{component_cases}
 use Rattle.semver_tokens.proofs.VersionSteps.{version_is_read}
 use Rattle.semver_tokens.proofs.VersionTaking.{mark_of}
-use Rattle.semver_versions.proofs.OneVersion.{at_numbers, behind_spaces, build_ends, pre_ends, numbers_end, numbers_first, core_begins}
+use Rattle.semver_versions.proofs.OneVersion.{at_numbers, after_spaces, build_ends, pre_ends, numbers_end, numbers_first, core_begins}
 
 -- the tokens from a place of the text on, which lead from the place p of a version to one where it may end, and spell this without white
 -- space
@@ -42,8 +42,8 @@ run_inner : (run : List ℕ) → 0 < length run → inner_text (component run) �
 run_inner run some =
     component_cases run (λ t. inner_text t ≡ token_text [] t) (λ c. refl) (λ other. refl) ∙ token_text-component [] run some
 
-run_leads : (part : Part) (run : List ℕ) → step (at_run part) (component run) ≡ Some (behind_run part)
-run_leads part run = component_cases run (λ t. step (at_run part) t ≡ Some (behind_run part)) (λ c. refl) (λ other. refl)
+run_leads : (part : Part) (run : List ℕ) → step (at_run part) (component run) ≡ Some (after_run part)
+run_leads part run = component_cases run (λ t. step (at_run part) t ≡ Some (after_run part)) (λ c. refl) (λ other. refl)
 
 module _ (text : List ℕ) where
   -- a token, and what ends after it
@@ -52,17 +52,17 @@ module _ (text : List ℕ) where
       → AreEnding text p (inner_text t ++ spelled) at
   one_more t p q more spelled at here is_token stops leads rest =
       let n : ℕ = length (token_text text t) in
-      let behind : drop n (drop at text) ≡ more = ap (drop n) here ∙ drop_at (token_text text t) more n refl in
-      let e = rest (at + n) (sym (drop-drop n at text) ∙ behind) in
+      let after : drop n (drop at text) ≡ more = ap (drop n) here ∙ drop_at (token_text text t) more n refl in
+      let e = rest (at + n) (sym (drop-drop n at text) ∙ after) in
       record {
         ts = t ∷ e.ts;
         tokens = tokens_cons text at t n e.ts [] (record {
           front =
               record {
-                spelled = here ∙ ap (λ l. token_text text t ++ l) (sym behind);
+                spelled = here ∙ ap (λ l. token_text text t ++ l) (sym after);
                 is_token = is_token;
                 stops = ap
-                    (continues_into t) behind ∙ stops;
+                    (continues_into t) after ∙ stops;
               };
           len = refl;
           positive = (shows_kind text at t is_token).some;
@@ -136,28 +136,28 @@ module _ (text : List ℕ) where
 
     module _ (part : Part) where
       -- a run of letters and digits
-      run_more : (bytes spelled : List ℕ) → IsRun bytes → NoRun spelled → Ends (behind_run part) spelled
+      run_more : (bytes spelled : List ℕ) → IsRun bytes → NoRun spelled → Ends (after_run part) spelled
           → Ends (at_run part) (bytes ++ spelled)
       run_more bytes spelled w stops rest at here =
-          rw (run_inner bytes w.0) at (one_more (component bytes) (at_run part) (behind_run part) (spelled ++ after) spelled at
+          rw (run_inner bytes w.0) at (one_more (component bytes) (at_run part) (after_run part) (spelled ++ after) spelled at
           (here ∙ append_assoc bytes spelled after
           ∙ ap (λ l. l ++ (spelled ++ after)) (sym (token_text-component text bytes w.0)))
           (IsTokenAt-component text at bytes w) (continues-component bytes (slice_index (spelled ++ after) 0) ∙ stops)
           (run_leads part bytes) rest)
 
       runs_more : (runs : List (List ℕ)) (spelled : List ℕ) → 0 < length runs → AllByRecursion IsRun runs → NoRun spelled
-          → Ends (behind_run part) spelled → Ends (at_run part) (join_with_byte 45 runs ++ spelled)
+          → Ends (after_run part) spelled → Ends (at_run part) (join_with_byte 45 runs ++ spelled)
       runs_more [] spelled some each stops rest = absurd (omega (arith, some))
       runs_more (r ∷ []) spelled some each stops rest = run_more r spelled each.0 stops rest
       runs_more (r ∷ next ∷ runs) spelled some each stops rest =
           let others : List ℕ = join_with_byte 45 (next ∷ runs) ++ spelled in
           subst (Ends (at_run part)) (sym (append_assoc r (45 ∷ join_with_byte 45 (next ∷ runs)) spelled))
           (run_more r (45 ∷ others) each.0 refl
-          (λ at here. one_more Hyphen (behind_run part) (at_run part) (others ++ after) others at here tt refl refl
+          (λ at here. one_more Hyphen (after_run part) (at_run part) (others ++ after) others at here tt refl refl
           (runs_more (next ∷ runs) spelled (omega arith) each.1 stops rest)))
 
       identifier_more : (id : IdentifierValue) (bytes spelled : List ℕ) → SpellsIdentifier id bytes → NoRun spelled
-          → Ends (behind_run part) spelled → Ends (at_run part) (bytes ++ spelled)
+          → Ends (after_run part) spelled → Ends (at_run part) (bytes ++ spelled)
       identifier_more (numeric n) bytes spelled w stops rest =
           rw w.1
           (run_more (decimal n) spelled (decimal_is_run n w.0) stops rest)
@@ -166,7 +166,7 @@ module _ (text : List ℕ) where
           (runs_more w.1.runs spelled w.1.some w.1.each stops rest)
 
       identifiers_more : (ids : List IdentifierValue) (texts : List (List ℕ)) (spelled : List ℕ) → 0 < length texts
-          → AllZip SpellsIdentifier ids texts → NoRun spelled → Ends (behind_run part) spelled
+          → AllZip SpellsIdentifier ids texts → NoRun spelled → Ends (after_run part) spelled
           → Ends (at_run part) (join_with_byte 46 texts ++ spelled)
       identifiers_more ids [] spelled some each stops rest = absurd (omega (arith, some))
       identifiers_more [] (t ∷ texts) spelled some each stops rest = absurd each
@@ -174,7 +174,7 @@ module _ (text : List ℕ) where
       identifiers_more (id ∷ ids) (t ∷ next ∷ texts) spelled some each stops rest =
           subst (Ends (at_run part)) (sym (append_assoc t (46 ∷ join_with_byte 46 (next ∷ texts)) spelled))
           (identifier_more id t (46 ∷ (join_with_byte 46 (next ∷ texts) ++ spelled)) each.0 refl
-          (dot_more (behind_run part) (at_run part) _ refl (identifiers_more ids (next ∷ texts) spelled (omega arith) each.1 stops rest)))
+          (dot_more (after_run part) (at_run part) _ refl (identifiers_more ids (next ∷ texts) spelled (omega arith) each.1 stops rest)))
 
     mark_more : (part : Part) (from : Place) (spelled : List ℕ) → step from (mark_of part) ≡ Some (at_run part) → Ends (at_run part) spelled
         → Ends from (inner_text (mark_of part) ++ spelled)
@@ -186,7 +186,7 @@ module _ (text : List ℕ) where
     -- a part, from a place where its mark leads to a run of it, or nothing
     part_more : (part : Part) (from : Place) (ids : List IdentifierValue) (bytes spelled : List ℕ)
         → step from (mark_of part) ≡ Some (at_run part) → SpellsPart (inner_text (mark_of part)) ids bytes → NoRun spelled
-        → Ends from spelled → Ends (behind_run part) spelled → Ends from (bytes ++ spelled)
+        → Ends from spelled → Ends (after_run part) spelled → Ends from (bytes ++ spelled)
     part_more part from ids bytes spelled leads w stops without rest =
         subst (λ l. Ends from (l ++ spelled)) (sym w.joined) (at_texts w.texts w.each)
       where
@@ -219,28 +219,28 @@ module _ (v : VersionValue) (text : List ℕ) (w : SpellsVersion v text) where
   at_build p may space plus =
       subst (EndsAt p) (append-nil w.spells.build_text)
       (part_more text w.after w.spaces_after build p v.build w.spells.build_text [] plus w.spells.build
-      (build_ends w is_ascii_alphanumeric refl space_is_no_run) (ended p may space) (ended (behind_run build) refl (λ a b. refl)))
+      (build_ends w is_ascii_alphanumeric refl space_is_no_run) (ended p may space) (ended (after_run build) refl (λ a b. refl)))
 
   at_patch : EndsAt (at_number patch) (decimal v.plain.patch ++ (w.spells.pre_text ++ w.spells.build_text))
   at_patch =
-      number_more text w.after w.spaces_after v.plain.patch (at_number patch) (behind_number patch) _ w.spells.patch
+      number_more text w.after w.spaces_after v.plain.patch (at_number patch) (after_number patch) _ w.spells.patch
       (rw append_assoc (numbers_end w is_ascii_alphanumeric refl space_is_no_run refl refl)) refl
-      (part_more text w.after w.spaces_after pre_release (behind_number patch) v.plain.pre w.spells.pre_text w.spells.build_text refl
-      w.spells.pre (pre_ends w is_ascii_alphanumeric refl space_is_no_run refl) (at_build (behind_number patch) refl (λ a b. refl) refl)
-      (at_build (behind_run pre_release) refl (λ a b. refl) refl))
+      (part_more text w.after w.spaces_after pre_release (after_number patch) v.plain.pre w.spells.pre_text w.spells.build_text refl
+      w.spells.pre (pre_ends w is_ascii_alphanumeric refl space_is_no_run refl) (at_build (after_number patch) refl (λ a b. refl) refl)
+      (at_build (after_run pre_release) refl (λ a b. refl) refl))
 
-  at_core : (p : Place) → step p (Numeric v.plain.major) ≡ Some (behind_number major) → EndsAt p w.core
+  at_core : (p : Place) → step p (Numeric v.plain.major) ≡ Some (after_number major) → EndsAt p w.core
   at_core p leads =
       subst (EndsAt p) (sym (w.spells.spelled ∙ simp append_assoc))
-      (number_more text w.after w.spaces_after v.plain.major p (behind_number major) _ w.spells.major refl leads
-      (dot_more text w.after w.spaces_after (behind_number major) (at_number minor) _ refl
-      (number_more text w.after w.spaces_after v.plain.minor (at_number minor) (behind_number minor) _ w.spells.minor refl refl
-      (dot_more text w.after w.spaces_after (behind_number minor) (at_number patch) _ refl at_patch))))
+      (number_more text w.after w.spaces_after v.plain.major p (after_number major) _ w.spells.major refl leads
+      (dot_more text w.after w.spaces_after (after_number major) (at_number minor) _ refl
+      (number_more text w.after w.spaces_after v.plain.minor (at_number minor) (after_number minor) _ w.spells.minor refl refl
+      (dot_more text w.after w.spaces_after (after_number minor) (at_number patch) _ refl at_patch))))
 
   pub version_tokens : HasTokens v text
   version_tokens =
       let whole = spaces_more text start (at_number major) w.before (at_numbers w) w.core w.spaces_before
-      (numbers_first (core_begins w)) (λ a b. refl) (at_core start refl) (at_core (at_number major) refl) 0 (behind_spaces w) in
+      (numbers_first (core_begins w)) (λ a b. refl) (at_core start refl) (at_core (at_number major) refl) 0 (after_spaces w) in
       record {
         ts = whole.ts;
         tokens = whole.tokens;

@@ -212,10 +212,10 @@ pre_side_prints mode = let l : PartialTree = three (codes "1") (codes "2") (code
     )
 
 -- what is after a wildcard isn't stated, and may be of any size
-pub behind_wildcard : (mode : Compat)
+pub after_wildcard : (mode : Compat)
     → IsRewritten (codes "1.*.99999999999999999999") mode (codes ">=1.0.0 <2.0.0")
 unfolding digits
-behind_wildcard mode = let p : PartialTree = three (codes "1") (codes "*")
+after_wildcard mode = let p : PartialTree = three (codes "1") (codes "*")
     (codes "99999999999999999999") [] [] in (
       lone bare p,
       lone-spells bare p [] (codes "1.*.99999999999999999999") refl

@@ -28,14 +28,14 @@ use std::alloc::Global;
 ///   `AlphaNumeric("01")` in `01.0.0`.
 /// - `MoreInput`: a version is followed by something else. It holds all tokens after the version
 ///   and its white space: `1.2.3 a.b` gives `AlphaNumeric("a")`, `Dot`, `AlphaNumeric("b")`.
-/// - `Lexer`: a character comes that begins no token. Since a token is read ahead, it is found
-///   before an error of the token before it: `a/` gives `Lexer(UnexpectedChar('/'))`. Behind a
-///   whole version it goes before `MoreInput`.
+/// - `Lexer`: a character begins no token. Since a token is read ahead, it is found before an error
+///   of the token before it: `a/` gives `Lexer(UnexpectedChar('/'))`. After a whole version it is
+///   found before `MoreInput`.
 /// - `OutOfMemory`: an allocation failed. Each identifier that isn't a number allocates, and so do
 ///   the lists of identifiers and the tokens of `MoreInput`; a text that spells a version without
 ///   pre-release and build never runs out of memory.
 ///
-/// What [`read`] finds is the answer. Where it finds none, the tokens tell the error.
+/// Returns the version that [`read`] finds. If there is none, the tokens show the error.
 #[inline(always)]
 pub fn parse(alloc: Global, input: &str) -> Result<Version, parser::Error<'_>>
     // Unless memory ran out, the answer is a version exactly where the text spells it.

@@ -14,7 +14,7 @@ use Rattle.tool_ranges.specs.Readings.{TreeOf, SpellsAs}
 use Rattle.tool_ranges.specs.Meanings.{MeansAs, reading_of}
 use Rattle.semver_parser_c.specs.Steps.MeantSets.{IsSetOf}
 use Rattle.semver_parser_c.specs.declared.ComparedRanges.{ComparedRanges}
-use Rattle.semver_parser_c.specs.Compared.{Compares, IsEmptyWithout, TellsWhich, place_behind, places_of}
+use Rattle.semver_parser_c.specs.Compared.{Compares, IsEmptyWithout, TellsWhich, place_after, places_of}
 
 -- the least of some versions is the least of those that are the same
 pub told_alike : (P Q : PlainVersion → Type 0) → ((v : PlainVersion) → P v ↔ Q v) → (o : Option Version) → TellsLeast P o → TellsLeast Q o
@@ -32,7 +32,7 @@ some_text : (v : VersionValue) → 0 < length (version_text v)
 some_text v = grind (arith, length-append)
 
 empty_without : (IsOne : PlainVersion → Type 0) (o : Option Version) (at : ℕ) → TellsLeast IsOne o
-    → IsEmptyWithout IsOne (place_behind at o)
+    → IsEmptyWithout IsOne (place_after at o)
 empty_without IsOne None at none = (λ _. none, λ _. refl)
 empty_without IsOne (Some x) at least =
     (λ empty. absurd (omega (arith, empty, some_text (version_value x))), λ none. absurd (none _ least.is_one))

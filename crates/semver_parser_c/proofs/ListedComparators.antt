@@ -36,12 +36,12 @@ listed_next n xs i x rest all told after text longer within is so_far after_is l
     }
 
 -- at each place stands the pre-release, where the texts are after some bytes
-places_have : (text before behind : Text) (at : ℕ) (cs : List Numbered) → text ≡ before ++ (pre_releases cs ++ behind)
+places_have : (text before after : Text) (at : ℕ) (cs : List Numbered) → text ≡ before ++ (pre_releases cs ++ after)
     → at ≡ length before → HasPreReleases text (listed_from at cs) cs
-places_have text before behind at [] is at_is = tt
-places_have text before behind at (c ∷ cs) is at_is = (
+places_have text before after at [] is at_is = tt
+places_have text before after at (c ∷ cs) is at_is = (
   simp (is, at_is, append_assoc, drop-append_seam, take-append_seam),
-  places_have text (before ++ pre_release c) behind _ cs (simp (is, append_assoc)) (simp (at_is, length-append)),
+  places_have text (before ++ pre_release c) after _ cs (simp (is, append_assoc)) (simp (at_is, length-append)),
 )
 
 -- where both are put, both are at the front

@@ -13,7 +13,7 @@ use Rattle.version_sets.specs.declared.comparison.Comparison.{Comparison}
 use Rattle.tool_ranges.specs.declared.meaning.Meaning.{Meaning}
 use Rattle.tool_ranges.specs.Readings.{TreeOf}
 use Rattle.tool_ranges.specs.Meanings.{reading_of}
-use Rattle.semver_parser_c.specs.Compared.{Compares, joined_texts, place_behind, places_of}
+use Rattle.semver_parser_c.specs.Compared.{Compares, joined_texts, place_after, places_of}
 
 neither_less : (x y : Ordering) → x ≡ ordering_reverse y → x ≢ Less → y ≢ Less → x ≡ Equal
 neither_less x y e more less = grind arith
@@ -25,7 +25,7 @@ one_version P v w a b =
     ap₂ (λ p b. let it : VersionValue = record { plain = p; build = b } in it) plain (a.no_build ∙ sym b.no_build)
 
 pub one_told : (P : PlainVersion → Type 0) (o other : Option Version) → TellsLeast P o → TellsLeast P other
-    → (text_of o ≡ text_of other) × ((at at' : ℕ) → at ≡ at' → place_behind at o ≡ place_behind at' other)
+    → (text_of o ≡ text_of other) × ((at at' : ℕ) → at ≡ at' → place_after at o ≡ place_after at' other)
 one_told P None None a b = (refl, λ at at' e. refl)
 one_told P None (Some w) a b = absurd (a _ b.is_one)
 one_told P (Some v) None a b = absurd (b _ a.is_one)

@@ -46,15 +46,15 @@ abbrev pub joined_texts : Comparison → Text
 joined_texts told = (text_of told.lost ++ text_of told.gained) ++ text_of told.shared
 
 -- where the text of a version lies after so many bytes; nowhere where there is none
-abbrev pub place_behind : ℕ → Option Version → Part
-place_behind at None = record { offset = 0; length = 0 }
-place_behind at (Some version) =
+abbrev pub place_after : ℕ → Option Version → Part
+place_after at None = record { offset = 0; length = 0 }
+place_after at (Some version) =
     record { offset = at; length = length (text_of (Some version)) }
 
 -- where the texts of the three lie when they are joined
 abbrev pub places_of : Comparison → ComparedRanges
 places_of told = record {
-  lost = place_behind 0 told.lost;
-  gained = place_behind (length (text_of told.lost)) told.gained;
-  shared = place_behind (length (text_of told.lost ++ text_of told.gained)) told.shared;
+  lost = place_after 0 told.lost;
+  gained = place_after (length (text_of told.lost)) told.gained;
+  shared = place_after (length (text_of told.lost ++ text_of told.gained)) told.shared;
 }

@@ -6,7 +6,7 @@ ghost use Rattle.tool_ranges.specs.declared.meaning.Meaning.{Meaning};
 ghost use Rattle.tool_ranges.specs.Readings.{TreeOf};
 ghost use Rattle.tool_ranges.specs.Meanings.{reading_of};
 ghost use Rattle.semver_parser_c.specs.Sets.{text_of};
-ghost use Rattle.semver_parser_c.specs.Compared.{Compares, joined_texts, place_behind};
+ghost use Rattle.semver_parser_c.specs.Compared.{Compares, joined_texts, place_after};
 ghost use Rattle.semver_parser_c.specs.Compared.{places_of};
 ghost use Rattle.semver_parser_c.specs.Steps.MeantSets.{IsSetOf};
 
@@ -66,7 +66,7 @@ fn append(text: &mut String, version: &Option<Version>) -> Result<Part, AllocErr
     ensures text { OnOk result
         (string_bytes text.new ≡ string_bytes text.old ++ text_of version.now) }
     ensures place { IfOk result (λ part.
-        part ≡ place_behind (length (string_bytes text.old)) version.now) }
+        part ≡ place_after (length (string_bytes text.old)) version.now) }
 {
     let Some(version) = version else {
         return Ok(Part {

@@ -517,7 +517,7 @@ pub extern "C" fn semver_parser_proved_meets_each(
         → (k : ℕ) → k < length versions.now → k < length answers.old
         → IfSome (slice_get versions.now k)
         (λ text. IsAnswer m range.now text.now (slice_index answers.new k)) }
-    ensures behind { drop (length versions.now) answers.new
+    ensures after { drop (length versions.now) answers.new
         ≡ drop (length versions.now) answers.old }
     ensures read { result ≡ number.ok → RangeIsRead reading pre_releases range.now result }
     ensures unchanged { result ≢ number.ok → answers.new ≡ answers.old }

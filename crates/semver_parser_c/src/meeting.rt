@@ -123,7 +123,7 @@ pub fn judge_each(alloc: Global, question: &Question<'_>, versions: &[&[u8]], an
         → (k : ℕ) → k < length versions.now → k < length answers.old
         → IfSome (slice_get versions.now k)
         (λ text. IsAnswer m range text.now (slice_index answers.new k)) }
-    ensures behind { drop (length versions.now) answers.new
+    ensures after { drop (length versions.now) answers.new
         ≡ drop (length versions.now) answers.old }
 {
     for at in 0..versions.len().min(answers.len()) {

@@ -12,7 +12,7 @@ use Rattle.semver_ranges.specs.declared.range.Compat.{Compat}
 use Rattle.semver_ranges.specs.RangeTree.{PartialTree, Simple, RangeTree, empty, hyphen, simples, SetTree, HasParts, SpellsSimples}
 use Rattle.semver_texts.specs.Texts.{is_part}
 use Rattle.semver_ranges.specs.RangeTree.{SpellsWord, SpellsRange, SpellsPadded, SpellsIn, Spells}
-use Rattle.semver_ranges.specs.RangeTree.{bare, Role, behind_form, behind_hyphen}
+use Rattle.semver_ranges.specs.RangeTree.{bare, Role, after_form, after_hyphen}
 use Rattle.semver_texts.specs.Texts.{Text, is_empty}
 use Rattle.semver_texts.specs.Versions.{numbers, IdentifierValue, PlainVersion}
 use Rattle.semver_ranges.specs.Partials.{fits_u64, kept, stated, states_nothing, pre_parts, pre_release, filled, zero_filled}
@@ -112,9 +112,9 @@ module _ (d : Dialect) {fit : Simple → Bool} {written : Simple → List PlainC
 
   simples_parts : (first : Simple) (others : List Simple) (t : Text) → SpellsSimples d first others t → HaveParts (first ∷ others)
   unfolding HaveParts
-  simples_parts first [] t (head, tail, f, p, eq) = (word_has_parts (behind_form first.form) first.partial tail p, tt)
+  simples_parts first [] t (head, tail, f, p, eq) = (word_has_parts (after_form first.form) first.partial tail p, tt)
   simples_parts first (next ∷ others) t (front, gap, back, (head, tail, f, p, eq), g, more, eq') =
-      (word_has_parts (behind_form first.form) first.partial tail p, simples_parts next others back more)
+      (word_has_parts (after_form first.form) first.partial tail p, simples_parts next others back more)
 
   -- the comparators of a range: some, and each printable
   abbrev ArePrintable : List PlainComparator → Type 0
@@ -130,8 +130,8 @@ module _ (d : Dialect) {fit : Simple → Bool} {written : Simple → List PlainC
   range_printable empty t h e = (refl, refl)
   range_printable (simples first others) t h e = made first others (simples_parts first others t h) e
   range_printable (hyphen left right) t (l, gap, gap', r, h, g, g', h', eq) e =
-      let here = word_has_parts (behind_form bare) left l h in
-      let there = word_has_parts behind_hyphen right r h' in
+      let here = word_has_parts (after_form bare) left l h in
+      let there = word_has_parts after_hyphen right r h' in
       by_test (states_nothing left)
       (λ a. by_test (states_nothing right)
       (λ b. rw (a, b) (refl, refl))

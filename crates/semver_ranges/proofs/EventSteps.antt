@@ -6,8 +6,8 @@ use Rattle.semver_ranges.specs.RangeTree.{Simple, RangeTree, empty, simples, Set
 use Rattle.semver_texts.specs.Texts.{Text}
 use Rattle.semver_ranges.specs.Steps.Reading.{ends_range, simple, put_before, all_simples, right_side}
 use Rattle.semver_texts.specs.Texts.{begins_with}
-use Rattle.semver_ranges.specs.Steps.Reading.{with_right, with_others, behind_bars, onto, more_ranges}
-use Rattle.semver_ranges.specs.Steps.Reading.{behind_range, behind_blanks, read}
+use Rattle.semver_ranges.specs.Steps.Reading.{with_right, with_others, after_bars, onto, more_ranges}
+use Rattle.semver_ranges.specs.Steps.Reading.{after_range, after_blanks, read}
 use Rattle.semver_ranges.specs.Steps.RangeEvents.{Event, one_simple, next_range, wildcard, yielded, in_front, events_of, put, put_simples}
 use Rattle.semver_ranges.specs.Steps.RangeEvents.{set_events, events, at_bars, others_left, simples_left, events_left}
 use Rattle.semver_ranges.proofs.ReadingSound.{read_sound}
@@ -31,22 +31,22 @@ module _ (d : Dialect) (lower : LowerBounds) where
   onto_events r t (Some (next ∷ others)) e = sym (put_some (yielded lower r) (next_range ∷ events_of lower (next ∷ others)))
 
   range_events : (r : RangeTree) (u : Text)
-      → set_events lower (behind_range (read d) (Some (r, u))) ≡ put_simples (yielded lower r) (others_left d lower u)
+      → set_events lower (after_range (read d) (Some (r, u))) ≡ put_simples (yielded lower r) (others_left d lower u)
   range_events r [] = sym (put_some (yielded lower r) [])
-  range_events r (b ∷ u) = at (behind_bars (b ∷ u)) where
+  range_events r (b ∷ u) = at (after_bars (b ∷ u)) where
     at : (o : Option Text) → set_events lower (more_ranges (read d) r o) ≡ put_simples (yielded lower r) (at_bars d lower o)
     at None = sym (put_none (yielded lower r))
     at (Some t) = onto_events r t (read d t) refl
 
   -- at the begin of a text
-  pub begin_left : (t u : Text) → u ≡ behind_blanks d t → events d lower t ≡ events_left d lower true u
+  pub begin_left : (t u : Text) → u ≡ after_blanks d t → events d lower t ≡ events_left d lower true u
   begin_left t u e = ap (set_events lower) (read_step d t) ∙ rw e
 
   -- where a range ends: two bars, or an empty range where it only begins
   pub end_left : (t : Text) → ends_range t ≡ true → events_left d lower false t ≡ others_left d lower t
   end_left t e = rw (simples_end d t e)
 
-  pub bars_left : (t : Text) (o : Option Text) → 0 < length t → ends_range t ≡ true → behind_bars t ≡ o
+  pub bars_left : (t : Text) (o : Option Text) → 0 < length t → ends_range t ≡ true → after_bars t ≡ o
       → events_left d lower false t ≡ at_bars d lower o
   bars_left [] o some ends e = absurd (omega arith)
   bars_left (b ∷ t) o some ends e = end_left (b ∷ t) ends ∙ rw e
@@ -61,7 +61,7 @@ module _ (d : Dialect) (lower : LowerBounds) where
   before_left s (Some found) = refl
 
   others_events : (s : Simple) (o : Option (List Simple × Text))
-      → set_events lower (behind_range (read d) (with_others s o)) ≡ put (one_simple s) (simples_left d lower o)
+      → set_events lower (after_range (read d) (with_others s o)) ≡ put (one_simple s) (simples_left d lower o)
   others_events s None = refl
   others_events s (Some found) = range_events (simples s found.0) found.1
 

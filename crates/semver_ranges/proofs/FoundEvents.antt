@@ -6,11 +6,11 @@ use Rattle.semver_ranges.specs.declared.grammar.Simple as read
 use Rattle.semver_ranges.specs.declared.events.Event.TheVariants as event
 use Rattle.semver_ranges.specs.RangeTree.{Simple}
 use Rattle.semver_ranges.specs.Steps.RangeEvents.{Event, one_simple, next_range, put, put_simples}
-use Rattle.semver_ranges.specs.Steps.CursorViews.{IsSimpleOf, AreSides, IsEventOf, HasBehind, HasLeft, IsFirst, flag}
+use Rattle.semver_ranges.specs.Steps.CursorViews.{IsSimpleOf, AreSides, IsEventOf, HasAfter, HasLeft, IsFirst, flag}
 
 -- the sides of a hyphen range
 pub sides_first : (xs : List Simple) (lower : read.Simple) (upper : Option read.Simple) (o : Option (List Event)) → AreSides xs lower upper
-    → (x : Event) × (left : Option (List Event)) × IsEventOf x (event.Simple lower) × HasBehind upper o left
+    → (x : Event) × (left : Option (List Event)) × IsEventOf x (event.Simple lower) × HasAfter upper o left
     × (put_simples xs o ≡ put x left)
 sides_first (s ∷ []) lower None o is = (one_simple s, o, is, refl, refl)
 sides_first (s ∷ next ∷ []) lower (Some upper) o is = (one_simple s, put _ o, is.0, (next, is.1, refl), refl)
@@ -38,21 +38,21 @@ module _ (d : Dialect) where
   -- the same where it is known what is left
   pub record NextSimple (es : List Event) (simple : read.Simple) (cursor : Events) : Type 0 where
     pub s : Simple
-    pub behind : List Event
+    pub after : List Event
     pub is : IsSimpleOf s simple
-    pub has : HasLeft d cursor (Some behind)
-    pub whole : es ≡ one_simple s ∷ behind
+    pub has : HasLeft d cursor (Some after)
+    pub whole : es ≡ one_simple s ∷ after
 
   pub next_simple : (es : List Event) (simple : read.Simple) (cursor : Events)
       → IsFirst d (Some es) (event.Simple simple) cursor
       → NextSimple es simple cursor
   next_simple es simple cursor (one_simple s, None, is, has, e) = cc
-  next_simple es simple cursor (one_simple s, Some behind, is, has, e) = record { s = s; behind = behind; is = is; has = has; whole = cc }
+  next_simple es simple cursor (one_simple s, Some after, is, has, e) = record { s = s; after = after; is = is; has = has; whole = cc }
   next_simple es simple cursor (next_range, left, is, has, e) = absurd is
 
   -- two bars that come first
   pub next_bars : (es : List Event) (cursor : Events) → IsFirst d (Some es) event.NextRange cursor
-      → (behind : List Event) × HasLeft d cursor (Some behind) × (es ≡ next_range ∷ behind)
+      → (after : List Event) × HasLeft d cursor (Some after) × (es ≡ next_range ∷ after)
   next_bars es cursor (one_simple s, left, is, has, e) = absurd is
   next_bars es cursor (next_range, None, is, has, e) = cc
-  next_bars es cursor (next_range, Some behind, is, has, e) = (behind, has, cc)
+  next_bars es cursor (next_range, Some after, is, has, e) = (after, has, cc)

@@ -21,7 +21,7 @@ use Rattle.semver_ranges.specs.NpmLengths.{is_short_number, is_short_pre, is_sho
 use Rattle.semver_texts.specs.declared.dialect.Dialect.{Dialect}
 use Rattle.semver_texts.specs.declared.dialect.Dialect.TheVariants.{Npm}
 use Rattle.semver_ranges.specs.Steps.NpmLimits.{are_short_parts, marked_length, IsBefore}
-use Rattle.semver_ranges.specs.Steps.Reading.{behind_v, component, with_first, whole_word, partial, takes, ends_word}
+use Rattle.semver_ranges.specs.Steps.Reading.{after_v, component, with_first, whole_word, partial, takes, ends_word}
 use Rattle.semver_texts.proofs.DottedParts.{found_same}
 use Rattle.semver_ranges.proofs.ReadingPieces.{PartialAt, component_sound, first_sound, length_before, no_v, partial_starts, starts}
 use Rattle.semver_ranges.proofs.ReadingPieces.{is_component_byte}
@@ -191,18 +191,18 @@ short_word role p t n h less small =
 
 -- ---- a word before its rest, as it was read
 
-pub before_rest : (d : Dialect) (text behind rest : Text) (p : PartialTree) → behind ≡ behind_v d text
-    → with_first (component behind) ≡ Some (p, rest) → IsBefore d p text rest
-before_rest d text behind rest p e found =
-    let at : PartialAt behind (Some (p, rest)) = subst (λ o. PartialAt behind o) found (first_sound behind _ (component_sound behind)) in
-    record { back = at.0; spelled = at.1; behind_is = sym e ∙ at.2 }
+pub before_rest : (d : Dialect) (text after rest : Text) (p : PartialTree) → after ≡ after_v d text
+    → with_first (component after) ≡ Some (p, rest) → IsBefore d p text rest
+before_rest d text after rest p e found =
+    let at : PartialAt after (Some (p, rest)) = subst (λ o. PartialAt after o) found (first_sound after _ (component_sound after)) in
+    record { back = at.0; spelled = at.1; after_is = sym e ∙ at.2 }
 
 -- to npm: the front of the text is its word
 record Front (text rest back : Text) : Type 0 where
   longer : length back + length rest ≤ length text
-  partial : behind_v Npm (take (length text - length rest) text) ≡ back
+  partial : after_v Npm (take (length text - length rest) text) ≡ back
 
-word_front : (text rest back : Text) (p : PartialTree) → SpellsPartial p back → behind_v Npm text ≡ back ++ rest → Front text rest back
+word_front : (text rest back : Text) (p : PartialTree) → SpellsPartial p back → after_v Npm text ≡ back ++ rest → Front text rest back
 word_front [] rest back p h e =
     let size : 0 ≡ length back + length rest = ap length e ∙ length-append back rest in
     absurd (no_text back (partial_starts p back h) (omega (arith, size))) where
@@ -215,21 +215,21 @@ word_front (b ∷ t) rest back p h e = by_test (b == 118)
     let count : length (b ∷ t) - length rest ≡ length (b ∷ back) = omega (arith, size) in
     let front : take (length (b ∷ t) - length rest) (b ∷ t) ≡ b ∷ back =
     ap (λ n. take n (b ∷ t)) count ∙ ap (λ u. take (length (b ∷ back)) (b ∷ u)) whole ∙ take_front (b ∷ back) rest in
-    record { longer = omega (arith, size); partial = ap (behind_v Npm) front ∙ rw y refl })
+    record { longer = omega (arith, size); partial = ap (after_v Npm) front ∙ rw y refl })
     (λ n. let whole : b ∷ t ≡ back ++ rest = rw n at e in
     let size : length (b ∷ t) ≡ length back + length rest = ap length whole ∙ length-append back rest in
     let front : take (length (b ∷ t) - length rest) (b ∷ t) ≡ back =
     ap (λ n. take n (b ∷ t)) (length_before (b ∷ t) back rest whole) ∙ ap (take (length back)) whole ∙ take_front back rest in
-    record { longer = omega (arith, size); partial = ap (behind_v Npm) front ∙ no_v back (partial_starts p back h) })
+    record { longer = omega (arith, size); partial = ap (after_v Npm) front ∙ no_v back (partial_starts p back h) })
 
 module _ (p : PartialTree) (text rest : Text) (w : IsBefore Npm p text rest) where
   found : Front text rest w.back
-  found = word_front text rest w.back p w.spelled w.behind_is
+  found = word_front text rest w.back p w.spelled w.after_is
 
   pub back_within : length w.back ≤ length text - length rest
   back_within = let size = found.longer in omega (arith, size)
 
-  pub front_spells : SpellsPartial p (behind_v Npm (take (length text - length rest) text))
+  pub front_spells : SpellsPartial p (after_v Npm (take (length text - length rest) text))
   front_spells = subst (SpellsPartial p) (sym found.partial) w.spelled
 
 -- what is read of a partial's text
@@ -245,8 +245,8 @@ reads_some p t h e = let same = sym (reads_itself p t h) ∙ e in none_of same w
   none_of e = cc
 
 -- a partial that is read, and one that isn't
-module _ (d : Dialect) (role : Role) (text behind rest : Text) (p : PartialTree) (e : behind ≡ behind_v d text)
-    (found : with_first (component behind) ≡ Some (p, rest)) where
+module _ (d : Dialect) (role : Role) (text after rest : Text) (p : PartialTree) (e : after ≡ after_v d text)
+    (found : with_first (component after) ≡ Some (p, rest)) where
   word_found : partial d role text ≡ whole_word d role (length text) (Some (p, rest))
   word_found = ap (λ t. whole_word d role (length text) (with_first (component t))) (sym e) ∙ ap (whole_word d role (length text)) found
 

@@ -4,16 +4,16 @@ use Rattle.std.proofs.Common.{append_assoc, append-nil, arith}
 use Rattle.std.proofs.lemmas.Bool.{or_left, or_right, and_parts, eqb-true, not_from_false}
 use Rattle.std.proofs.lemmas.Bool.Decides.{nat_tests}
 use Rattle.semver_texts.specs.declared.dialect.Dialect.{Dialect}
-use Rattle.semver_ranges.specs.RangeTree.{PartialTree, Form, bare, tilde, Simple, RangeTree, behind_form, behind_hyphen}
+use Rattle.semver_ranges.specs.RangeTree.{PartialTree, Form, bare, tilde, Simple, RangeTree, after_form, after_hyphen}
 use Rattle.semver_ranges.specs.RangeTree.{empty, hyphen, simples, SetTree, is_blank, AreBlanks, AreSomeBlanks, SpellsWord, SpellsForm}
 use Rattle.semver_ranges.specs.RangeTree.{SpellsSimple, SpellsSimples, SpellsRange, SpellsPadded, SpellsIn}
 use Rattle.semver_texts.specs.Texts.{Text}
-use Rattle.semver_ranges.specs.Steps.Reading.{behind_blanks, ends_range, ends_word, simple}
+use Rattle.semver_ranges.specs.Steps.Reading.{after_blanks, ends_range, ends_word, simple}
 use Rattle.semver_texts.specs.Texts.{begins_with}
-use Rattle.semver_ranges.specs.Steps.Reading.{all_simples, right_side, range_here, range, behind_range, read}
+use Rattle.semver_ranges.specs.Steps.Reading.{all_simples, right_side, range_here, range, after_range, read}
 use Rattle.semver_ranges.proofs.ReadingPieces.{starts, starts-append, is_word_byte, word_starts}
 use Rattle.semver_ranges.proofs.ReadingSteps.{simples_end, simples_step, read_step}
-use Rattle.semver_ranges.proofs.WrittenPieces.{apart, is_written, no_blank_byte, stops, partial_read, blanks_behind, no_blank, simple_read}
+use Rattle.semver_ranges.proofs.WrittenPieces.{apart, is_written, no_blank_byte, stops, partial_read, blanks_after, no_blank, simple_read}
 
 -- a simple begins with a byte of a word or a sign: no blank, no bar and no hyphen
 abbrev is_simple_byte : ℕ → Bool
@@ -49,7 +49,7 @@ module _ (d : Dialect) where
   simple_starts : (s : Simple) (w u : Text) → SpellsSimple d s w → starts is_simple_byte (w ++ u) ≡ true
   simple_starts s w u (sign, text, form, spelled, whole) =
       rw whole (starts-append is_simple_byte (sign ++ text) u
-      (form_starts s.form sign text form (word_starts d (behind_form s.form) s.partial text spelled)))
+      (form_starts s.form sign text form (word_starts d (after_form s.form) s.partial text spelled)))
 
   simples_start : (first : Simple) (others : List Simple) (w u : Text) → SpellsSimples d first others w
       → starts is_simple_byte (w ++ u) ≡ true
@@ -103,29 +103,29 @@ module _ (d : Dialect) where
       }
 
   -- the right side of a hyphen range
-  right_read : (p : PartialTree) (gap w blanks u : Text) → AreSomeBlanks d gap → SpellsWord d behind_hyphen p w → AreBlanks d blanks
+  right_read : (p : PartialTree) (gap w blanks u : Text) → AreSomeBlanks d gap → SpellsWord d after_hyphen p w → AreBlanks d blanks
       → ends_range u ≡ true → right_side d (45 ∷ (gap ++ (w ++ (blanks ++ u)))) ≡ Some (p, u)
   right_read p [] w blanks u (some, g) h b e = cc
   right_read p (c ∷ gap) w blanks u (some, g) h b e =
       let parts = and_parts (is_blank d c) _ g in
       rw (
         parts.0,
-        blanks_behind d gap (w ++ (blanks ++ u)) parts.1
-            (no_blank d (w ++ (blanks ++ u)) (starts-append is_word_byte w _ (word_starts d behind_hyphen p w h))),
-        partial_read d behind_hyphen p w (blanks ++ u) h (blanks_end blanks u b e),
-        blanks_behind d blanks u b (end_stops u e),
+        blanks_after d gap (w ++ (blanks ++ u)) parts.1
+            (no_blank d (w ++ (blanks ++ u)) (starts-append is_word_byte w _ (word_starts d after_hyphen p w h))),
+        partial_read d after_hyphen p w (blanks ++ u) h (blanks_end blanks u b e),
+        blanks_after d blanks u b (end_stops u e),
         e,
       )
 
   -- a range, between blanks
   range_here_read : (r : RangeTree) (inner blanks u : Text) → SpellsRange d r inner → AreBlanks d blanks → ends_range u ≡ true
-      → range_here d (behind_blanks d (inner ++ (blanks ++ u))) ≡ Some (r, u)
-  range_here_read empty inner blanks u h b e = rw (h, blanks_behind d blanks u b (end_stops u e), e)
+      → range_here d (after_blanks d (inner ++ (blanks ++ u))) ≡ Some (r, u)
+  range_here_read empty inner blanks u h b e = rw (h, blanks_after d blanks u b (end_stops u e), e)
   range_here_read (simples first others) inner blanks u h b e =
       let t = inner ++ (blanks ++ u) in
       let begins = simples_start first others inner (blanks ++ u) h in
       let found = simples_read first others inner blanks u h b e in
-      rw (blanks_behind d [] t refl (simple_stops t begins), simple_no_end t begins, found.head, found.no_hyphen, found.tail)
+      rw (blanks_after d [] t refl (simple_stops t begins), simple_no_end t begins, found.head, found.no_hyphen, found.tail)
   range_here_read (hyphen left right) inner blanks u (l, gap, gap', r, h, g, g', h', text) b e =
       let s : Simple = record { form = bare; partial = left } in
       let spelled : SpellsSimple d s l = ([], l, refl, h, refl) in
@@ -135,24 +135,24 @@ module _ (d : Dialect) where
       let begins = simple_starts s l (gap ++ rest) spelled in
       rw (
         whole,
-        blanks_behind d [] t refl (simple_stops t begins),
+        blanks_after d [] t refl (simple_stops t begins),
         simple_no_end t begins,
         simple_read d s l gap rest spelled g.1 (gap_ends gap rest g) (not_from_false _ (no_blank_byte d 45 refl)),
         right_read right gap' r blanks u g' h' b e,
       )
 
-  behind_more : (blanks t : Text) → AreBlanks d blanks → behind_blanks d (blanks ++ t) ≡ behind_blanks d t
-  behind_more [] t h = refl
-  behind_more (b ∷ blanks) t h = grind (arith, behind_more blanks t)
+  after_more : (blanks t : Text) → AreBlanks d blanks → after_blanks d (blanks ++ t) ≡ after_blanks d t
+  after_more [] t h = refl
+  after_more (b ∷ blanks) t h = grind (arith, after_more blanks t)
 
   range_read : (r : RangeTree) (w u : Text) → SpellsPadded d r w → ends_range u ≡ true → range d (w ++ u) ≡ Some (r, u)
   range_read r w u (before, inner, blanks, h, spelled, b, text) e =
-      rw text (simp append_assoc (rw (behind_more before (inner ++ (blanks ++ u)) h) (range_here_read r inner blanks u spelled b e)))
+      rw text (simp append_assoc (rw (after_more before (inner ++ (blanks ++ u)) h) (range_here_read r inner blanks u spelled b e)))
 
   -- the reader finds the tree of a text
   pub tree_read : (tree : SetTree) (t : Text) → SpellsIn d tree t → read d t ≡ Some tree
   tree_read [] t h = absurd h
-  tree_read (r ∷ []) t h = read_step d t ∙ ap (behind_range (read d)) (rw append-nil at (range_read r t [] h refl))
+  tree_read (r ∷ []) t h = read_step d t ∙ ap (after_range (read d)) (rw append-nil at (range_read r t [] h refl))
   tree_read (r ∷ next ∷ others) t (head, tail, h, more, text) =
       read_step d t ∙ rw (text, append_assoc, range_read r head (124 ∷ 124 ∷ tail) h refl, tree_read (next ∷ others) tail more)
 

@@ -13,14 +13,14 @@ use Rattle.semver_texts.specs.declared.dialect.Dialect.{Dialect}
 use Rattle.semver_texts.specs.declared.dialect.Dialect.TheVariants.{Crate, Cargo, Npm}
 use Rattle.semver_ranges.specs.RangeTree.{PartialTree, one, two, three, Form, Simple, is_blank, is_wildcard, is_component}
 use Rattle.semver_ranges.specs.RangeTree.{AreBlanks, SpellsPartial, SpellsWord, IsSignAndBlanks, SpellsForm, SpellsSimple}
-use Rattle.semver_ranges.specs.RangeTree.{Role, behind_form, is_word_of_npm}
+use Rattle.semver_ranges.specs.RangeTree.{Role, after_form, is_word_of_npm}
 use Rattle.semver_texts.specs.Texts.{is_part}
 use Rattle.semver_texts.specs.Texts.{Text, is_empty, marked, is_dot}
-use Rattle.semver_ranges.specs.Steps.Reading.{front, back, behind_blanks, ends_range, ends_word, component, parts}
+use Rattle.semver_ranges.specs.Steps.Reading.{front, back, after_blanks, ends_range, ends_word, component, parts}
 use Rattle.semver_texts.specs.Texts.{is_dotted_byte}
-use Rattle.semver_ranges.specs.Steps.Reading.{with_build, behind_pre, with_pre, behind_three, with_third, behind_two, with_second}
-use Rattle.semver_ranges.specs.Steps.Reading.{behind_one, with_first, whole_word, partial, after_less, after_greater, after_tilde, operator}
-use Rattle.semver_ranges.specs.Steps.Reading.{with_form, simple, behind_v, takes}
+use Rattle.semver_ranges.specs.Steps.Reading.{with_build, after_pre, with_pre, after_three, with_third, after_two, with_second}
+use Rattle.semver_ranges.specs.Steps.Reading.{after_one, with_first, whole_word, partial, after_less, after_greater, after_tilde, operator}
+use Rattle.semver_ranges.specs.Steps.Reading.{with_form, simple, after_v, takes}
 
 -- the longest front whose bytes pass
 pub front-back : (p : ℕ → Bool) (t : Text) → t ≡ front p t ++ back p t
@@ -64,64 +64,64 @@ PartialAt t None = Unit {0}
 PartialAt t (Some found) = (w : Text) × SpellsPartial found.0 w × (t ≡ w ++ found.1)
 
 -- after components that are joined by dots
-abbrev Behind : List Text → Text → Option (PartialTree × Text) → Type 0
-Behind cs t o = list_all is_component cs ≡ true → PartialAt (join_with_byte 46 cs ++ t) o
+abbrev After : List Text → Text → Option (PartialTree × Text) → Type 0
+After cs t o = list_all is_component cs ≡ true → PartialAt (join_with_byte 46 cs ++ t) o
 
 module _ (a b c : Text) where
   three_sound : (pre build : List Text) (u : Text) → list_all is_part pre ≡ true → list_all is_part build ≡ true
-      → Behind (a ∷ b ∷ c ∷ []) (marked (codes "-") pre ++ (marked (codes "+") build ++ u)) (Some (three a b c pre build, u))
+      → After (a ∷ b ∷ c ∷ []) (marked (codes "-") pre ++ (marked (codes "+") build ++ u)) (Some (three a b c pre build, u))
   three_sound pre build u p q h = (_, (h, (p, q), refl), simp append_assoc)
 
   build_sound : (pre : List Text) (t : Text) (o : Option (List Text × Text)) → list_all is_part pre ≡ true → PartsAt t o
-      → Behind (a ∷ b ∷ c ∷ []) (marked (codes "-") pre ++ (43 ∷ t)) (with_build a b c pre o)
+      → After (a ∷ b ∷ c ∷ []) (marked (codes "-") pre ++ (43 ∷ t)) (with_build a b c pre o)
   build_sound pre t None p q h = tt
   build_sound pre t (Some found) p (parts, text) h = rw (text 43) (three_sound pre found.0 found.1 p parts h)
 
-  behind_pre_sound : (pre : List Text) (t : Text) → list_all is_part pre ≡ true
-      → Behind (a ∷ b ∷ c ∷ []) (marked (codes "-") pre ++ t) (behind_pre a b c pre t)
-  behind_pre_sound pre [] p h = three_sound pre [] [] p refl h
-  behind_pre_sound pre (mark ∷ t) p h =
+  after_pre_sound : (pre : List Text) (t : Text) → list_all is_part pre ≡ true
+      → After (a ∷ b ∷ c ∷ []) (marked (codes "-") pre ++ t) (after_pre a b c pre t)
+  after_pre_sound pre [] p h = three_sound pre [] [] p refl h
+  after_pre_sound pre (mark ∷ t) p h =
       grind (arith, nat_tests, build_sound pre t (parts t) p (parts_sound t) h, three_sound pre [] (mark ∷ t) p refl h)
 
-  pre_sound : (t : Text) (o : Option (List Text × Text)) → PartsAt t o → Behind (a ∷ b ∷ c ∷ []) (45 ∷ t) (with_pre a b c o)
+  pre_sound : (t : Text) (o : Option (List Text × Text)) → PartsAt t o → After (a ∷ b ∷ c ∷ []) (45 ∷ t) (with_pre a b c o)
   pre_sound t None q h = tt
-  pre_sound t (Some found) (parts, text) h = rw (text 45) (behind_pre_sound found.0 found.1 parts h)
+  pre_sound t (Some found) (parts, text) h = rw (text 45) (after_pre_sound found.0 found.1 parts h)
 
-  behind_three_sound : (t : Text) → Behind (a ∷ b ∷ c ∷ []) t (behind_three a b c t)
-  behind_three_sound [] h = three_sound [] [] [] refl refl h
-  behind_three_sound (mark ∷ t) h =
-      grind (arith, nat_tests, pre_sound t (parts t) (parts_sound t) h, behind_pre_sound [] (mark ∷ t) refl h)
+  after_three_sound : (t : Text) → After (a ∷ b ∷ c ∷ []) t (after_three a b c t)
+  after_three_sound [] h = three_sound [] [] [] refl refl h
+  after_three_sound (mark ∷ t) h =
+      grind (arith, nat_tests, pre_sound t (parts t) (parts_sound t) h, after_pre_sound [] (mark ∷ t) refl h)
 
-third_sound : (a b t : Text) (o : Option (Text × Text)) → ComponentAt t o → Behind (a ∷ b ∷ []) (46 ∷ t) (with_third a b o)
+third_sound : (a b t : Text) (o : Option (Text × Text)) → ComponentAt t o → After (a ∷ b ∷ []) (46 ∷ t) (with_third a b o)
 third_sound a b t None q h = tt
 third_sound a b t (Some found) (third, text) h =
-    rw text (simp append_assoc (simp append_assoc at (behind_three_sound a b found.0 found.1 (grind arith))))
+    rw text (simp append_assoc (simp append_assoc at (after_three_sound a b found.0 found.1 (grind arith))))
 
 -- one or two components, and what follows them
-two_sound : (a b u : Text) → Behind (a ∷ b ∷ []) u (Some (two a b, u))
+two_sound : (a b u : Text) → After (a ∷ b ∷ []) u (Some (two a b, u))
 two_sound a b u h = (_, (h, tt, refl), simp append_assoc)
 
-behind_two_sound : (a b t : Text) → Behind (a ∷ b ∷ []) t (behind_two a b t)
-behind_two_sound a b [] h = two_sound a b [] h
-behind_two_sound a b (dot ∷ t) h =
+after_two_sound : (a b t : Text) → After (a ∷ b ∷ []) t (after_two a b t)
+after_two_sound a b [] h = two_sound a b [] h
+after_two_sound a b (dot ∷ t) h =
     grind (arith, nat_tests, third_sound a b t (component t) (component_sound t) h, two_sound a b (dot ∷ t) h)
 
-second_sound : (a t : Text) (o : Option (Text × Text)) → ComponentAt t o → Behind (a ∷ []) (46 ∷ t) (with_second a o)
+second_sound : (a t : Text) (o : Option (Text × Text)) → ComponentAt t o → After (a ∷ []) (46 ∷ t) (with_second a o)
 second_sound a t None q h = tt
 second_sound a t (Some found) (second, text) h =
-    rw text (simp append_assoc at (behind_two_sound a found.0 found.1 (grind arith)))
+    rw text (simp append_assoc at (after_two_sound a found.0 found.1 (grind arith)))
 
-one_sound : (a u : Text) → Behind (a ∷ []) u (Some (one a, u))
+one_sound : (a u : Text) → After (a ∷ []) u (Some (one a, u))
 one_sound a u h = (_, (h, tt, refl), simp append_assoc)
 
-behind_one_sound : (a t : Text) → Behind (a ∷ []) t (behind_one a t)
-behind_one_sound a [] h = one_sound a [] h
-behind_one_sound a (dot ∷ t) h =
+after_one_sound : (a t : Text) → After (a ∷ []) t (after_one a t)
+after_one_sound a [] h = one_sound a [] h
+after_one_sound a (dot ∷ t) h =
     grind (arith, nat_tests, second_sound a t (component t) (component_sound t) h, one_sound a (dot ∷ t) h)
 
 pub first_sound : (t : Text) (o : Option (Text × Text)) → ComponentAt t o → PartialAt t (with_first o)
 first_sound t None q = tt
-first_sound t (Some found) (first, text) = rw text (behind_one_sound found.0 found.1 (grind arith))
+first_sound t (Some found) (first, text) = rw text (after_one_sound found.0 found.1 (grind arith))
 
 -- a partial begins with a byte of a component
 abbrev pub is_component_byte : ℕ → Bool
@@ -151,23 +151,23 @@ pub record Word (d : Dialect) (role : Role) (p : PartialTree) (t : Text) : Type 
   pub back : Text
   pub spelled : SpellsPartial p back
   pub taken : takes d role p (length t) ≡ true
-  pub behind : (u : Text) → behind_v d (t ++ u) ≡ back ++ u
+  pub after : (u : Text) → after_v d (t ++ u) ≡ back ++ u
   pub text : t ≡ front ++ back
 
 -- a partial doesn't begin with a `v`
-pub no_v : (t : Text) → starts is_component_byte t ≡ true → behind_v Npm t ≡ t
+pub no_v : (t : Text) → starts is_component_byte t ≡ true → after_v Npm t ≡ t
 no_v [] e = refl
 no_v (b ∷ t) e = grind (arith, nat_tests)
 
 pub word_parts : (d : Dialect) (role : Role) (p : PartialTree) (t : Text) → SpellsWord d role p t → Word d role p t
-word_parts Crate role p t h = record { front = []; back = t; spelled = h; taken = refl; behind = λ u. refl; text = refl }
-word_parts Cargo role p t h = record { front = []; back = t; spelled = h; taken = refl; behind = λ u. refl; text = refl }
+word_parts Crate role p t h = record { front = []; back = t; spelled = h; taken = refl; after = λ u. refl; text = refl }
+word_parts Cargo role p t h = record { front = []; back = t; spelled = h; taken = refl; after = λ u. refl; text = refl }
 word_parts Npm role p t (front, back, mark, spelled, taken, text) = record {
   front = front;
   back = back;
   spelled = spelled;
   taken = taken;
-  behind = λ u. rw text (elim mark [
+  after = λ u. rw text (elim mark [
     | inl e ↦ rw e (no_v (back ++ u) (starts-append is_component_byte back u (partial_starts p back spelled)))
     | inr e ↦ rw e
   ]);
@@ -205,7 +205,7 @@ taken_word : (role : Role) (p : PartialTree) (t w u : Text) → t ≡ w ++ u →
 taken_word role p t w u e taken = subst (λ n. is_word_of_npm role p n ≡ true) (length_before t w u e) taken
 
 word_spelled : (d : Dialect) (role : Role) (p : PartialTree) (t back u : Text) → SpellsPartial p back
-    → takes d role p (length t - length u) ≡ true → behind_v d t ≡ back ++ u → (w : Text) × SpellsWord d role p w × (t ≡ w ++ u)
+    → takes d role p (length t - length u) ≡ true → after_v d t ≡ back ++ u → (w : Text) × SpellsWord d role p w × (t ≡ w ++ u)
 word_spelled Crate role p t back u spelled taken e = (back, spelled, e)
 word_spelled Cargo role p t back u spelled taken e = (back, spelled, e)
 word_spelled Npm role p [] back u spelled taken e =
@@ -217,7 +217,7 @@ word_spelled Npm role p (b ∷ t) back u spelled taken e = by_test (b == 118)
     (back, ([], back, inl refl, spelled, taken_word role p (b ∷ t) back u whole taken, refl), whole))
 
 module _ (d : Dialect) where
-  word_sound : (role : Role) (t : Text) (o : Option (PartialTree × Text)) → PartialAt (behind_v d t) o
+  word_sound : (role : Role) (t : Text) (o : Option (PartialTree × Text)) → PartialAt (after_v d t) o
       → WordAt d role t (whole_word d role (length t) o)
   word_sound role t None h = tt
   word_sound role t (Some found) (back, spelled, text) =
@@ -228,13 +228,13 @@ module _ (d : Dialect) where
       (λ e. rw e tt)
 
   pub partial_sound : (role : Role) (t : Text) → WordAt d role t (partial d role t)
-  partial_sound role t = let u = behind_v d t in word_sound role t _ (first_sound u _ (component_sound u))
+  partial_sound role t = let u = after_v d t in word_sound role t _ (first_sound u _ (component_sound u))
 
   -- an operator: its sign, and the blanks after it
   abbrev pub FormAt : Text → Form × Text → Type 0
   FormAt t found = (w : Text) × SpellsForm d found.0 w × (t ≡ w ++ found.1)
 
-  signed : (sign t : Text) → (w : Text) × IsSignAndBlanks d sign w × (sign ++ t ≡ w ++ behind_blanks d t)
+  signed : (sign t : Text) → (w : Text) × IsSignAndBlanks d sign w × (sign ++ t ≡ w ++ after_blanks d t)
   signed sign t = (
     _,
     (front (is_blank d) t, front_all (is_blank d) t, refl),
@@ -277,7 +277,7 @@ module _ (d : Dialect) where
   abbrev pub IsGap : Text → Text → Type 0
   IsGap gap t = AreBlanks d gap × ((is_empty gap ≡ false) ⊎ (ends_range t ≡ true))
 
-  gap_parts : (t : Text) → ends_word d t ≡ true → IsGap (front (is_blank d) t) (behind_blanks d t)
+  gap_parts : (t : Text) → ends_word d t ≡ true → IsGap (front (is_blank d) t) (after_blanks d t)
   gap_parts [] e = (refl, inr refl)
   gap_parts (b ∷ t) e = grind (arith, front_all (is_blank d) t)
 
@@ -287,7 +287,7 @@ module _ (d : Dialect) where
   SimpleAt t (Some found) = (w : Text) × (gap : Text) × SpellsSimple d found.0 w × IsGap gap found.1 × (t ≡ w ++ (gap ++ found.1))
 
   form_sound : (t : Text) (found : Form × Text) (o : Option (PartialTree × Text)) → FormAt t found
-      → WordAt d (behind_form found.0) found.1 o → SimpleAt t (with_form d found.0 o)
+      → WordAt d (after_form found.0) found.1 o → SimpleAt t (with_form d found.0 o)
   form_sound t found None h k = tt
   form_sound t found (Some (p, u)) (sign, form, text) (w, spelled, text', ends) = (
     sign ++ w,
@@ -298,4 +298,4 @@ module _ (d : Dialect) where
   )
 
   pub simple_sound : (t : Text) → SimpleAt t (simple d t)
-  simple_sound t = form_sound t (operator d t) _ (operator_sound t) (partial_sound (behind_form (operator d t).0) (operator d t).1)
+  simple_sound t = form_sound t (operator d t) _ (operator_sound t) (partial_sound (after_form (operator d t).0) (operator d t).1)

@@ -5,14 +5,14 @@ use Rattle.std.proofs.lemmas.Bool.{and_parts, and_from, eqb-true}
 use Rattle.std.proofs.Common.{arith}
 use Rattle.std.proofs.lemmas.Bool.Decides.{nat_tests}
 use Rattle.semver_texts.specs.declared.dialect.Dialect.{Dialect}
-use Rattle.semver_ranges.specs.RangeTree.{PartialTree, Form, bare, Simple, RangeTree, behind_form, behind_hyphen, is_bare}
+use Rattle.semver_ranges.specs.RangeTree.{PartialTree, Form, bare, Simple, RangeTree, after_form, after_hyphen, is_bare}
 use Rattle.semver_ranges.specs.RangeTree.{SetTree, is_blank, AreBlanks, AreSomeBlanks, SpellsWord, SpellsForm, SpellsSimple, SpellsSimples}
 use Rattle.semver_ranges.specs.RangeTree.{SpellsRange, SpellsPadded, SpellsIn}
 use Rattle.semver_texts.specs.Texts.{Text}
-use Rattle.semver_ranges.specs.Steps.Reading.{front, behind_blanks, ends_range, put_before}
+use Rattle.semver_ranges.specs.Steps.Reading.{front, after_blanks, ends_range, put_before}
 use Rattle.semver_texts.specs.Texts.{begins_with}
-use Rattle.semver_ranges.specs.Steps.Reading.{behind_simple, some_simples, range_end, right_side, with_right}
-use Rattle.semver_ranges.specs.Steps.Reading.{with_others, behind_first, range_here, behind_bars, onto, more_ranges, behind_range}
+use Rattle.semver_ranges.specs.Steps.Reading.{after_simple, some_simples, range_end, right_side, with_right}
+use Rattle.semver_ranges.specs.Steps.Reading.{with_others, after_first, range_here, after_bars, onto, more_ranges, after_range}
 use Rattle.semver_ranges.specs.Steps.Reading.{some_ranges, read}
 use Rattle.semver_ranges.proofs.ReadingPieces.{front-back, front_all, WordAt, partial_sound, IsGap, SimpleAt, simple_sound}
 use Rattle.semver_texts.proofs.Lists.{by_test}
@@ -23,10 +23,10 @@ form_bare bare e = refl
 form_bare _ e = cc
 
 bare_partial : (d : Dialect) (s : Simple) (w : Text) → is_bare s.form ≡ true → SpellsSimple d s w
-    → SpellsWord d (behind_form bare) s.partial w
+    → SpellsWord d (after_form bare) s.partial w
 bare_partial d s w e (sign, text, form, spelled, whole) =
     let nothing : sign ≡ [] = subst (λ f. SpellsForm d f sign) (form_bare s.form e) form in
-    rw (whole, nothing) (subst (λ f. SpellsWord d (behind_form f) s.partial text) (form_bare s.form e) spelled)
+    rw (whole, nothing) (subst (λ f. SpellsWord d (after_form f) s.partial text) (form_bare s.form e) spelled)
 
 -- a hyphen ends no range
 no_end : (t : Text) → begins_with 45 t ≡ true → ends_range t ≡ false
@@ -38,7 +38,7 @@ abbrev BarsAt : Text → Option Text → Type 0
 BarsAt t None = Unit {0}
 BarsAt t (Some u) = t ≡ codes "||" ++ u
 
-bars_sound : (t : Text) → BarsAt t (behind_bars t)
+bars_sound : (t : Text) → BarsAt t (after_bars t)
 bars_sound [] = tt
 bars_sound (b ∷ []) = tt
 bars_sound (b ∷ c ∷ t) = grind (arith, nat_tests)
@@ -62,7 +62,7 @@ module _ (d : Dialect) where
 
   next_sound : (s : Simple) (w gap t : Text) (f : Text → Option (List Simple × Text)) (o : Option (Simple × Text))
       → ((s : Simple) (w gap t : Text) → SpellsSimple d s w → IsGap d gap t → SimplesAt s (w ++ (gap ++ t)) (f t))
-      → SpellsSimple d s w → AreSomeBlanks d gap → SimpleAt d t o → SimplesAt s (w ++ (gap ++ t)) (behind_simple f o)
+      → SpellsSimple d s w → AreSomeBlanks d gap → SimpleAt d t o → SimplesAt s (w ++ (gap ++ t)) (after_simple f o)
   next_sound s w gap t f None h spelled blanks found = tt
   next_sound s w gap t f (Some (next, u)) h spelled blanks (w', gap', spelled', parts, text) =
       put_sound s next w gap t (f u) spelled blanks (rw text (h next w' gap' u spelled' parts))
@@ -84,14 +84,14 @@ module _ (d : Dialect) where
   abbrev RightAt : Text → Option (PartialTree × Text) → Type 0
   RightAt t None = Unit {0}
   RightAt t (Some found) =
-      (gap : Text) × (w : Text) × (after : Text) × AreSomeBlanks d gap × SpellsWord d behind_hyphen found.0 w
+      (gap : Text) × (w : Text) × (after : Text) × AreSomeBlanks d gap × SpellsWord d after_hyphen found.0 w
       × AreBlanks d after
       × (t ≡ codes "-" ++ (gap ++ (w ++ (after ++ found.1))))
 
   end_sound : (blank : ℕ) (t : Text) (o : Option (PartialTree × Text)) → is_blank d blank ≡ true
-      → WordAt d behind_hyphen (behind_blanks d t) o → RightAt (45 ∷ blank ∷ t) (range_end d o)
+      → WordAt d after_hyphen (after_blanks d t) o → RightAt (45 ∷ blank ∷ t) (range_end d o)
   end_sound blank t None e h = tt
-  end_sound blank t (Some (p, u)) e (w, spelled, text, ends) = by_test (ends_range (behind_blanks d u))
+  end_sound blank t (Some (p, u)) e (w, spelled, text, ends) = by_test (ends_range (after_blanks d u))
       (λ stops. rw stops (
         blank ∷ front (is_blank d) t,
         w,
@@ -108,7 +108,7 @@ module _ (d : Dialect) where
   right_sound (dash ∷ []) = tt
   right_sound (dash ∷ blank ∷ t) = by_test ((dash == 45) && is_blank d blank)
       (λ e. let p = and_parts _ _ e in
-      rw (e, eqb-true dash 45 p.0) (end_sound blank t _ p.1 (partial_sound d behind_hyphen (behind_blanks d t))))
+      rw (e, eqb-true dash 45 p.0) (end_sound blank t _ p.1 (partial_sound d after_hyphen (after_blanks d t))))
       (λ e. rw e tt)
 
   hyphen_sound : (s : Simple) (w gap t : Text) (o : Option (PartialTree × Text)) → SpellsSimple d s w → AreSomeBlanks d gap
@@ -128,7 +128,7 @@ module _ (d : Dialect) where
   others_sound s t None h = tt
   others_sound s t (Some found) h = h
 
-  first_sound : (t : Text) (o : Option (Simple × Text)) → SimpleAt d t o → RangeAt t (behind_first d o)
+  first_sound : (t : Text) (o : Option (Simple × Text)) → SimpleAt d t o → RangeAt t (after_first d o)
   first_sound t None h = tt
   first_sound t (Some (s, u)) (w, gap, spelled, parts, text) = by_test (begins_with 45 u)
       (λ e. rw (text, e) (hyphen_sound s w gap u _ spelled (some_blanks gap u parts (no_end u e)) (right_sound u)))
@@ -144,7 +144,7 @@ module _ (d : Dialect) where
   PaddedAt t None = Unit {0}
   PaddedAt t (Some found) = (w : Text) × SpellsPadded d found.0 w × (t ≡ w ++ found.1)
 
-  padded_sound : (t : Text) (o : Option (RangeTree × Text)) → RangeAt (behind_blanks d t) o → PaddedAt t o
+  padded_sound : (t : Text) (o : Option (RangeTree × Text)) → RangeAt (after_blanks d t) o → PaddedAt t o
   padded_sound t None h = tt
   padded_sound t (Some (r, u)) (inner, after, spelled, ends, text) = (
     _,
@@ -168,16 +168,16 @@ module _ (d : Dialect) where
   more_sound r w t f None h spelled bars = tt
   more_sound r w t f (Some u) h spelled bars = rw bars (onto_sound r w u (f u) spelled (h u))
 
-  behind_range_sound : (t : Text) (f : Text → Option SetTree) (o : Option (RangeTree × Text)) → ((t : Text) → SetAt t (f t))
-      → PaddedAt t o → SetAt t (behind_range f o)
-  behind_range_sound t f None h found = tt
-  behind_range_sound t f (Some (r, [])) h (w, spelled, text) = rw (text, append-nil) spelled
-  behind_range_sound t f (Some (r, b ∷ u)) h (w, spelled, text) =
+  after_range_sound : (t : Text) (f : Text → Option SetTree) (o : Option (RangeTree × Text)) → ((t : Text) → SetAt t (f t))
+      → PaddedAt t o → SetAt t (after_range f o)
+  after_range_sound t f None h found = tt
+  after_range_sound t f (Some (r, [])) h (w, spelled, text) = rw (text, append-nil) spelled
+  after_range_sound t f (Some (r, b ∷ u)) h (w, spelled, text) =
       rw text (more_sound r w (b ∷ u) f _ h spelled (bars_sound (b ∷ u)))
 
   ranges_sound : (n : ℕ) (t : Text) → SetAt t (some_ranges d n t)
   ranges_sound zero t = tt
-  ranges_sound (suc n) t = behind_range_sound t _ _ (ranges_sound n) (padded_sound t _ (range_here_sound (behind_blanks d t)))
+  ranges_sound (suc n) t = after_range_sound t _ _ (ranges_sound n) (padded_sound t _ (range_here_sound (after_blanks d t)))
 
   -- the tree that is read spells the text
   pub read_sound : (t : Text) (tree : SetTree) → read d t ≡ Some tree → SpellsIn d tree t

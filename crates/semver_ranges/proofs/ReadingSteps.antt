@@ -3,14 +3,14 @@ use Rattle.std.proofs.Common.{◌≡◌, ℕ, zero, suc, ◌<◌, ◌≤◌, Boo
 use Rattle.std.proofs.Common.{ap, Option, Some, None, arith, length-append}
 use Rattle.semver_texts.specs.declared.dialect.Dialect.{Dialect}
 use Rattle.semver_texts.specs.declared.dialect.Dialect.TheVariants.{Crate, Cargo, Npm}
-use Rattle.semver_ranges.specs.RangeTree.{PartialTree, Simple, RangeTree, SetTree, is_blank, Role, behind_form, behind_hyphen}
+use Rattle.semver_ranges.specs.RangeTree.{PartialTree, Simple, RangeTree, SetTree, is_blank, Role, after_form, after_hyphen}
 use Rattle.semver_texts.specs.Texts.{Text}
 use Rattle.semver_ranges.proofs.ReadingPieces.{front-back, WordAt, partial_sound, starts, is_word_byte, word_starts, SimpleAt}
 use Rattle.semver_ranges.proofs.ReadingPieces.{simple_sound}
-use Rattle.semver_ranges.specs.Steps.Reading.{back, behind_blanks, ends_range, partial, simple, put_before}
+use Rattle.semver_ranges.specs.Steps.Reading.{back, after_blanks, ends_range, partial, simple, put_before}
 use Rattle.semver_texts.specs.Texts.{begins_with}
-use Rattle.semver_ranges.specs.Steps.Reading.{behind_simple, some_simples, all_simples, range_end, right_side, with_right}
-use Rattle.semver_ranges.specs.Steps.Reading.{with_others, behind_first, range, behind_bars, onto, more_ranges, behind_range}
+use Rattle.semver_ranges.specs.Steps.Reading.{after_simple, some_simples, all_simples, range_end, right_side, with_right}
+use Rattle.semver_ranges.specs.Steps.Reading.{with_others, after_first, range, after_bars, onto, more_ranges, after_range}
 use Rattle.semver_ranges.specs.Steps.Reading.{some_ranges, read}
 use Rattle.semver_texts.proofs.Lists.{by_test}
 
@@ -32,7 +32,7 @@ no_simple Cargo = refl
 no_simple Npm = refl
 
 -- what follows two bars is shorter
-pub shorter_bars : (t u : Text) → behind_bars t ≡ Some u → length u < length t
+pub shorter_bars : (t u : Text) → after_bars t ≡ Some u → length u < length t
 shorter_bars [] u e = cc
 shorter_bars (b ∷ []) u e = cc
 shorter_bars (b ∷ c ∷ t) u e = grind arith
@@ -58,7 +58,7 @@ module _ (d : Dialect) where
     left : (o : Option (Simple × Text)) → SimpleAt d t o → Leaves n o
     left None k = tt
     left (Some found) (w, gap, (sign, text, form, spelled, whole), gapped, e) =
-        let some = some_bytes is_word_byte text (word_starts d (behind_form found.0.form) found.0.partial text spelled) in
+        let some = some_bytes is_word_byte text (word_starts d (after_form found.0.form) found.0.partial text spelled) in
         omega (arith, simp length-append at (ap length e), simp length-append at (ap length whole))
 
   pub shorter_simple : (t u : Text) (s : Simple) → simple d t ≡ Some (s, u) → length u < length t
@@ -70,16 +70,16 @@ module _ (d : Dialect) where
   put_stops n s None h = tt
   put_stops n s (Some found) h = h
 
-  behind_simple_stops : (n : ℕ) (f : Text → Option (List Simple × Text)) → ((t : Text) → length t ≤ n → Stops n (f t))
-      → (o : Option (Simple × Text)) → Leaves n o → Stops n (behind_simple f o)
-  behind_simple_stops n f h None l = tt
-  behind_simple_stops n f h (Some found) l = put_stops n found.0 _ (h found.1 l)
+  after_simple_stops : (n : ℕ) (f : Text → Option (List Simple × Text)) → ((t : Text) → length t ≤ n → Stops n (f t))
+      → (o : Option (Simple × Text)) → Leaves n o → Stops n (after_simple f o)
+  after_simple_stops n f h None l = tt
+  after_simple_stops n f h (Some found) l = put_stops n found.0 _ (h found.1 l)
 
   some_simples_stop : (k n : ℕ) (t : Text) → length t ≤ n → Stops n (some_simples d k t)
   some_simples_stop zero n t h = tt
   some_simples_stop (suc k) n t h = by_test (ends_range t)
       (λ e. rw e (record { short = h; ends = e }))
-      (λ e. rw e (behind_simple_stops n _ (some_simples_stop k n) _ (simple_leaves n t (omega arith))))
+      (λ e. rw e (after_simple_stops n _ (some_simples_stop k n) _ (simple_leaves n t (omega arith))))
 
   -- so does a range
   range_end_stops : (n : ℕ) (o : Option (PartialTree × Text)) → Leaves n o → Stops n (range_end d o)
@@ -92,8 +92,8 @@ module _ (d : Dialect) where
   right_side_stops n (dash ∷ blank ∷ t) h = let k = back_shorter (is_blank d) t in
       grind (
         arith,
-        range_end_stops n (partial d behind_hyphen (behind_blanks d t))
-            (partial_leaves behind_hyphen n (behind_blanks d t) (omega arith)),
+        range_end_stops n (partial d after_hyphen (after_blanks d t))
+            (partial_leaves after_hyphen n (after_blanks d t) (omega arith)),
       )
 
   right_stops : (n : ℕ) (s : Simple) (o : Option (PartialTree × Text)) → Stops n o → Stops n (with_right s o)
@@ -113,17 +113,17 @@ module _ (d : Dialect) where
   others_stop n s None h = tt
   others_stop n s (Some found) h = h
 
-  first_stops : (n : ℕ) (o : Option (Simple × Text)) → Leaves n o → Stops n (behind_first d o)
+  first_stops : (n : ℕ) (o : Option (Simple × Text)) → Leaves n o → Stops n (after_first d o)
   first_stops n None h = tt
   first_stops n (Some found) h = by_test (begins_with 45 found.1)
       (λ e. rw e (right_stops n found.0 _ (right_side_stops n found.1 h)))
       (λ e. rw e (others_stop n found.0 _ (some_simples_stop (suc (length found.1)) n found.1 h)))
 
   range_leaves : (t : Text) → Leaves (length t) (range d t)
-  range_leaves t = let k = back_shorter (is_blank d) t in by_test (ends_range (behind_blanks d t))
+  range_leaves t = let k = back_shorter (is_blank d) t in by_test (ends_range (after_blanks d t))
       (λ e. rw e k)
-      (λ e. rw e (leaves (behind_first d (simple d (behind_blanks d t)))
-      (first_stops _ _ (simple_leaves (length t) (behind_blanks d t) (omega arith)))))
+      (λ e. rw e (leaves (after_first d (simple d (after_blanks d t)))
+      (first_stops _ _ (simple_leaves (length t) (after_blanks d t) (omega arith)))))
     where
       leaves : (o : Option (RangeTree × Text)) → Stops (length t) o → Leaves (length t) o
       leaves None h = tt
@@ -131,7 +131,7 @@ module _ (d : Dialect) where
 
   -- two readers of the rest that agree on shorter texts agree after a simple
   agree_simples : (f g : Text → Option (List Simple × Text)) (t : Text) → ((u : Text) → length u < length t → f u ≡ g u)
-      → (o : Option (Simple × Text)) → simple d t ≡ o → behind_simple f o ≡ behind_simple g o
+      → (o : Option (Simple × Text)) → simple d t ≡ o → after_simple f o ≡ after_simple g o
   agree_simples f g t h None e = refl
   agree_simples f g t h (Some (s, u)) e = ap (put_before s) (h u (shorter_simple t u s e))
 
@@ -145,16 +145,16 @@ module _ (d : Dialect) where
   pub simples_end : (t : Text) → ends_range t ≡ true → all_simples d t ≡ Some ([], t)
   simples_end t e = rw e
 
-  pub simples_step : (t : Text) → ends_range t ≡ false → all_simples d t ≡ behind_simple (all_simples d) (simple d t)
+  pub simples_step : (t : Text) → ends_range t ≡ false → all_simples d t ≡ after_simple (all_simples d) (simple d t)
   simples_step t e = rw e (agree_simples _ (all_simples d) t (λ u l. enough_simples (length t) (suc (length u)) u l (omega arith)) _ refl)
 
   -- two readers of the rest that agree on shorter texts agree after a range
-  agree_behind : (f g : Text → Option SetTree) (n : ℕ) → ((t : Text) → length t < n → f t ≡ g t) → (o : Option (RangeTree × Text))
-      → Leaves n o → behind_range f o ≡ behind_range g o
-  agree_behind f g n h None l = refl
-  agree_behind f g n h (Some (r, [])) l = refl
-  agree_behind f g n h (Some (r, b ∷ t)) l = same _ refl where
-    same : (o : Option Text) → behind_bars (b ∷ t) ≡ o → more_ranges f r o ≡ more_ranges g r o
+  agree_after : (f g : Text → Option SetTree) (n : ℕ) → ((t : Text) → length t < n → f t ≡ g t) → (o : Option (RangeTree × Text))
+      → Leaves n o → after_range f o ≡ after_range g o
+  agree_after f g n h None l = refl
+  agree_after f g n h (Some (r, [])) l = refl
+  agree_after f g n h (Some (r, b ∷ t)) l = same _ refl where
+    same : (o : Option Text) → after_bars (b ∷ t) ≡ o → more_ranges f r o ≡ more_ranges g r o
     same None e = refl
     same (Some u) e = let k = shorter_bars (b ∷ t) u e in ap (onto r) (h u (omega arith))
 
@@ -162,7 +162,7 @@ module _ (d : Dialect) where
   enough_ranges zero m t h k = absurd (omega arith)
   enough_ranges (suc n) zero t h k = absurd (omega arith)
   enough_ranges (suc n) (suc m) t h k =
-      agree_behind _ _ (length t) (λ u l. enough_ranges n m u (omega arith) (omega arith)) _ (range_leaves t)
+      agree_after _ _ (length t) (λ u l. enough_ranges n m u (omega arith) (omega arith)) _ (range_leaves t)
 
-  pub read_step : (t : Text) → read d t ≡ behind_range (read d) (range d t)
-  read_step t = agree_behind _ (read d) (length t) (λ u l. enough_ranges (length t) (suc (length u)) u l (omega arith)) _ (range_leaves t)
+  pub read_step : (t : Text) → read d t ≡ after_range (read d) (range d t)
+  read_step t = agree_after _ (read d) (length t) (λ u l. enough_ranges (length t) (suc (length u)) u l (omega arith)) _ (range_leaves t)

@@ -15,11 +15,11 @@ use Rattle.semver_texts.specs.declared.dialect.Dialect.TheVariants.{Crate, Cargo
 use Rattle.semver_ranges.specs.RangeTree.{PartialTree, one, two, three, Form, bare, less, greater, tilde}
 use Rattle.semver_ranges.specs.RangeTree.{Simple, is_blank, is_component, AreBlanks}
 use Rattle.semver_texts.specs.Texts.{is_part}
-use Rattle.semver_ranges.specs.RangeTree.{Role, behind_form, SpellsPartial, SpellsWord, SpellsForm, SpellsSimple}
+use Rattle.semver_ranges.specs.RangeTree.{Role, after_form, SpellsPartial, SpellsWord, SpellsForm, SpellsSimple}
 use Rattle.semver_texts.specs.Texts.{is_part_byte, Text, marked, is_dot}
-use Rattle.semver_ranges.specs.Steps.Reading.{front, back, behind_blanks, ends_word, component, parts, behind_pre}
+use Rattle.semver_ranges.specs.Steps.Reading.{front, back, after_blanks, ends_word, component, parts, after_pre}
 use Rattle.semver_texts.specs.Texts.{is_dotted_byte}
-use Rattle.semver_ranges.specs.Steps.Reading.{with_pre, behind_three, behind_two, behind_one, with_first}
+use Rattle.semver_ranges.specs.Steps.Reading.{with_pre, after_three, after_two, after_one, with_first}
 use Rattle.semver_ranges.specs.Steps.Reading.{partial, takes, after_less, after_greater, after_tilde, operator, simple}
 use Rattle.semver_ranges.proofs.Tests.{list_all-weaker}
 use Rattle.semver_ranges.proofs.ReadingPieces.{starts, starts-append, is_word_byte, word_starts, word_parts, length_before}
@@ -113,32 +113,32 @@ parts_read x xs u e s =
 
 -- a partial: its build, its pre-release, its components
 module _ (a b c : Text) where
-  behind_pre_read : (pre build : List Text) (u : Text) → list_all is_part build ≡ true → ends_partial u ≡ true
-      → behind_pre a b c pre (marked (codes "+") build ++ u) ≡ Some (three a b c pre build, u)
-  behind_pre_read pre [] [] h e = refl
-  behind_pre_read pre [] (mark ∷ u) h e = grind arith
-  behind_pre_read pre (x ∷ xs) u h e = rw (parts_read x xs u h (no_dotted u e))
+  after_pre_read : (pre build : List Text) (u : Text) → list_all is_part build ≡ true → ends_partial u ≡ true
+      → after_pre a b c pre (marked (codes "+") build ++ u) ≡ Some (three a b c pre build, u)
+  after_pre_read pre [] [] h e = refl
+  after_pre_read pre [] (mark ∷ u) h e = grind arith
+  after_pre_read pre (x ∷ xs) u h e = rw (parts_read x xs u h (no_dotted u e))
 
   stops_at_build : (build : List Text) (u : Text) → ends_partial u ≡ true → stops is_dotted_byte (marked (codes "+") build ++ u) ≡ true
   stops_at_build [] u e = no_dotted u e
   stops_at_build (x ∷ xs) u e = refl
 
-  behind_three_read : (pre build : List Text) (u : Text) → list_all is_part pre ≡ true → list_all is_part build ≡ true
+  after_three_read : (pre build : List Text) (u : Text) → list_all is_part pre ≡ true → list_all is_part build ≡ true
       → ends_partial u ≡ true
-      → behind_three a b c (marked (codes "-") pre ++ (marked (codes "+") build ++ u)) ≡ Some (three a b c pre build, u)
-  behind_three_read [] [] [] p q e = refl
-  behind_three_read [] [] (mark ∷ u) p q e = grind (arith, nat_tests)
-  behind_three_read [] (x ∷ xs) u p q e = behind_pre_read [] (x ∷ xs) u q e
-  behind_three_read (y ∷ ys) build u p q e =
-      ap (with_pre a b c) (parts_read y ys _ p (stops_at_build build u e)) ∙ behind_pre_read (y ∷ ys) build u q e
+      → after_three a b c (marked (codes "-") pre ++ (marked (codes "+") build ++ u)) ≡ Some (three a b c pre build, u)
+  after_three_read [] [] [] p q e = refl
+  after_three_read [] [] (mark ∷ u) p q e = grind (arith, nat_tests)
+  after_three_read [] (x ∷ xs) u p q e = after_pre_read [] (x ∷ xs) u q e
+  after_three_read (y ∷ ys) build u p q e =
+      ap (with_pre a b c) (parts_read y ys _ p (stops_at_build build u e)) ∙ after_pre_read (y ∷ ys) build u q e
 
-behind_two_read : (a b u : Text) → ends_partial u ≡ true → behind_two a b u ≡ Some (two a b, u)
-behind_two_read a b [] e = refl
-behind_two_read a b (dot ∷ u) e = grind (arith, nat_tests)
+after_two_read : (a b u : Text) → ends_partial u ≡ true → after_two a b u ≡ Some (two a b, u)
+after_two_read a b [] e = refl
+after_two_read a b (dot ∷ u) e = grind (arith, nat_tests)
 
-behind_one_read : (a u : Text) → ends_partial u ≡ true → behind_one a u ≡ Some (one a, u)
-behind_one_read a [] e = refl
-behind_one_read a (dot ∷ u) e = grind (arith, nat_tests)
+after_one_read : (a u : Text) → ends_partial u ≡ true → after_one a u ≡ Some (one a, u)
+after_one_read a [] e = refl
+after_one_read a (dot ∷ u) e = grind (arith, nat_tests)
 
 stops_at_qualifier : (pre build : List Text) (u : Text) → ends_partial u ≡ true
     → stops is_ascii_digit (marked (codes "-") pre ++ (marked (codes "+") build ++ u)) ≡ true
@@ -149,16 +149,16 @@ stops_at_qualifier (y ∷ ys) build u e = refl
 -- a partial, before what no byte of one begins
 pub first_read : (p : PartialTree) (w u : Text) → SpellsPartial p w → ends_partial u ≡ true → with_first (component (w ++ u)) ≡ Some (p, u)
 first_read (one a) w u (h, k, text) e =
-    rw (text, append-nil, component_read a u (grind arith) (no_digit u e)) (behind_one_read a u e)
+    rw (text, append-nil, component_read a u (grind arith) (no_digit u e)) (after_one_read a u e)
 first_read (two a b) w u (h, k, text) e =
     rw (text, append-nil, append_assoc, component_read a (46 ∷ (b ++ u)) (grind arith) refl)
-    (rw (component_read b u (grind arith) (no_digit u e)) (behind_two_read a b u e))
+    (rw (component_read b u (grind arith) (no_digit u e)) (after_two_read a b u e))
 first_read (three a b c pre build) w u (h, k, text) e =
     let rest = marked (codes "-") pre ++ (marked (codes "+") build ++ u) in
     let whole : w ++ u ≡ a ++ (46 ∷ (b ++ (46 ∷ (c ++ rest)))) = rw text (simp append_assoc) in
     rw (whole, component_read a (46 ∷ (b ++ (46 ∷ (c ++ rest)))) (grind arith) refl)
     (rw (component_read b (46 ∷ (c ++ rest)) (grind arith) refl)
-    (rw (component_read c rest (grind arith) (stops_at_qualifier pre build u e)) (behind_three_read a b c pre build u k.0 k.1 e)))
+    (rw (component_read c rest (grind arith) (stops_at_qualifier pre build u e)) (after_three_read a b c pre build u k.0 k.1 e)))
 
 pub partial_read : (d : Dialect) (role : Role) (p : PartialTree) (w u : Text) → SpellsWord d role p w → ends_word d u ≡ true
     → partial d role (w ++ u) ≡ Some (p, u)
@@ -166,12 +166,12 @@ partial_read d role p w u h e =
     let word = word_parts d role p w h in
     let taken : takes d role p (length (w ++ u) - length u) ≡ true =
     subst (λ n. takes d role p n ≡ true) (sym (length_before (w ++ u) w u refl)) word.taken in
-    rw (word.behind u, first_read p word.back u word.spelled (word_ends_partial d u e), taken, e)
+    rw (word.after u, first_read p word.back u word.spelled (word_ends_partial d u e), taken, e)
 
 -- an operator, before a word
 module _ (d : Dialect) where
-  pub blanks_behind : (blanks t : Text) → AreBlanks d blanks → stops (is_blank d) t ≡ true → behind_blanks d (blanks ++ t) ≡ t
-  blanks_behind = back-append _
+  pub blanks_after : (blanks t : Text) → AreBlanks d blanks → stops (is_blank d) t ≡ true → after_blanks d (blanks ++ t) ≡ t
+  blanks_after = back-append _
 
   -- blanks before a word begin with no such byte
   pub no_sign : (sign : ℕ) → is_blank d sign ≡ false → is_word_byte sign ≡ false → (blanks t : Text) → AreBlanks d blanks
@@ -180,15 +180,15 @@ module _ (d : Dialect) where
   no_sign sign blank other [] (b ∷ t) h k = not_from_false _ (apart is_word_byte b sign k other)
   no_sign sign blank other (b ∷ blanks) t h k = not_from_false _ (apart (is_blank d) b sign (grind arith) blank)
 
-  less_alone : (t : Text) → stops (λ b. b == 61) t ≡ true → after_less d t ≡ (less, behind_blanks d t)
+  less_alone : (t : Text) → stops (λ b. b == 61) t ≡ true → after_less d t ≡ (less, after_blanks d t)
   less_alone [] s = refl
   less_alone (b ∷ t) s = grind arith
 
-  greater_alone : (t : Text) → stops (λ b. b == 61) t ≡ true → after_greater d t ≡ (greater, behind_blanks d t)
+  greater_alone : (t : Text) → stops (λ b. b == 61) t ≡ true → after_greater d t ≡ (greater, after_blanks d t)
   greater_alone [] s = refl
   greater_alone (b ∷ t) s = grind arith
 
-  tilde_alone : (t : Text) → stops (λ b. b == 62) t ≡ true → after_tilde d t ≡ (tilde, behind_blanks d t)
+  tilde_alone : (t : Text) → stops (λ b. b == 62) t ≡ true → after_tilde d t ≡ (tilde, after_blanks d t)
   tilde_alone [] s = refl
   tilde_alone (b ∷ t) s = grind arith
 
@@ -207,15 +207,15 @@ module _ (d : Dialect) where
       → operator d (sign ++ t) ≡ (f, t)
   operator_read bare sign t h e = rw h (bare_read t e)
   operator_read less sign t (blanks, h, text) e =
-      rw (text, less_alone _ (no_sign 61 (no_blank_byte d 61 refl) refl blanks t h e), blanks_behind blanks t h (no_blank t e))
+      rw (text, less_alone _ (no_sign 61 (no_blank_byte d 61 refl) refl blanks t h e), blanks_after blanks t h (no_blank t e))
   operator_read greater sign t (blanks, h, text) e =
-      rw (text, greater_alone _ (no_sign 61 (no_blank_byte d 61 refl) refl blanks t h e), blanks_behind blanks t h (no_blank t e))
+      rw (text, greater_alone _ (no_sign 61 (no_blank_byte d 61 refl) refl blanks t h e), blanks_after blanks t h (no_blank t e))
   operator_read tilde sign t signed e = elim signed [
     | inl (blanks, h, text) ↦
-        rw (text, tilde_alone _ (no_sign 62 (no_blank_byte d 62 refl) refl blanks t h e), blanks_behind blanks t h (no_blank t e))
-    | inr (blanks, h, text) ↦ rw (text, blanks_behind blanks t h (no_blank t e))
+        rw (text, tilde_alone _ (no_sign 62 (no_blank_byte d 62 refl) refl blanks t h e), blanks_after blanks t h (no_blank t e))
+    | inr (blanks, h, text) ↦ rw (text, blanks_after blanks t h (no_blank t e))
   ]
-  operator_read _ sign t (blanks, h, text) e = rw (text, blanks_behind blanks t h (no_blank t e))
+  operator_read _ sign t (blanks, h, text) e = rw (text, blanks_after blanks t h (no_blank t e))
 
   -- a simple, and the blanks after it
   pub simple_read : (s : Simple) (w gap u : Text) → SpellsSimple d s w → AreBlanks d gap → ends_word d (gap ++ u) ≡ true
@@ -225,6 +225,6 @@ module _ (d : Dialect) where
         whole,
         append_assoc,
         operator_read s.form sign (text ++ (gap ++ u)) form
-            (starts-append is_word_byte text (gap ++ u) (word_starts d (behind_form s.form) s.partial text spelled)),
+            (starts-append is_word_byte text (gap ++ u) (word_starts d (after_form s.form) s.partial text spelled)),
       )
-      (rw (partial_read d (behind_form s.form) s.partial text (gap ++ u) spelled ends, blanks_behind gap u blanks first))
+      (rw (partial_read d (after_form s.form) s.partial text (gap ++ u) spelled ends, blanks_after gap u blanks first))

@@ -125,16 +125,16 @@ states_three (three a b c pre build) = not (is_wildcard a || (is_wildcard b || i
 -- what a word, which is a partial's text in a range, is after: what is before it in a simple,
 -- nothing at the left of a hyphen range, and the hyphen at its right
 pub data Role : Type 0 where
-  behind_form : Form → Role
-  behind_hyphen : Role
+  after_form : Form → Role
+  after_hyphen : Role
 
 -- whether node-semver takes a word of three stated numbers over into its comparator with its `v`
 -- and its build: not after `~` and `^`, and not after a hyphen if it has a pre-release
 abbrev pub is_taken_whole : Role → PartialTree → Bool
-is_taken_whole (behind_form tilde) p = false
-is_taken_whole (behind_form caret) p = false
-is_taken_whole (behind_form _) p = true
-is_taken_whole behind_hyphen p = is_empty (pre_parts p)
+is_taken_whole (after_form tilde) p = false
+is_taken_whole (after_form caret) p = false
+is_taken_whole (after_form _) p = true
+is_taken_whole after_hyphen p = is_empty (pre_parts p)
 
 -- the version of that comparator, if the word isn't taken over whole
 abbrev pub numbers_and_pre : PartialTree → Text
@@ -179,7 +179,7 @@ SpellsForm d caret t = IsSignAndBlanks d (codes "^") t
 abbrev pub SpellsSimple : Dialect → Simple → Text → Type 0
 SpellsSimple d s t =
     (front : Text) × (back : Text) × SpellsForm d s.form front
-    × SpellsWord d (behind_form s.form) s.partial back × (t ≡ front ++ back)
+    × SpellsWord d (after_form s.form) s.partial back × (t ≡ front ++ back)
 
 -- one or more simples, separated by one or more blanks
 abbrev pub SpellsSimples : Dialect → Simple → List Simple → Text → Type 0
@@ -192,8 +192,8 @@ SpellsSimples d first (next ∷ others) t = (front : Text) × (gap : Text) × (b
 abbrev pub SpellsRange : Dialect → RangeTree → Text → Type 0
 SpellsRange d empty t = t ≡ []
 SpellsRange d (hyphen left right) t = (front : Text) × (gap : Text) × (gap' : Text)
-    × (back : Text) × SpellsWord d (behind_form bare) left front × AreSomeBlanks d gap
-    × AreSomeBlanks d gap' × SpellsWord d behind_hyphen right back
+    × (back : Text) × SpellsWord d (after_form bare) left front × AreSomeBlanks d gap
+    × AreSomeBlanks d gap' × SpellsWord d after_hyphen right back
     × (t ≡ front ++ gap ++ codes "-" ++ gap' ++ back)
 SpellsRange d (simples first others) t = SpellsSimples d first others t
 

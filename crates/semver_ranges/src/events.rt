@@ -13,12 +13,12 @@ ghost use Rattle.semver_ranges.specs.Steps.CursorViews.{AreSides, FindsSides, Ta
 ghost use Rattle.semver_ranges.specs.Steps.CursorViews.{IsSimpleOf, NextGives, size_left};
 
 use crate::grammar::{
-    Form, Simple, behind_bars, behind_blanks, ends_range, read_right_side, read_simple,
+    Form, Simple, after_bars, after_blanks, ends_range, read_right_side, read_simple,
 };
 use crate::partial::{LowerBounds, Partial};
 use crate::range_set::RangeError;
 use semver_texts::dialect::Dialect;
-use semver_texts::dotted::behind_mark;
+use semver_texts::dotted::strip_mark;
 
 /// What is next in a range text.
 #[derive(Clone, Copy)]
@@ -49,7 +49,7 @@ impl<'input> Events<'input> {
         ensures short { length result.rest.now ≤ length text.now }
     {
         Events {
-            rest: behind_blanks(text, dialect),
+            rest: after_blanks(text, dialect),
             begins_range: true,
             upper: None,
             lower,
@@ -110,7 +110,7 @@ impl<'input> Events<'input> {
         requires ends { ends_range self.old.rest.now ≡ true }
         ensures { TakesEvent dialect self.old.lower false self.old.rest.now result self.new }
     {
-        self.rest = behind_blanks(behind_bars(self.rest)?, dialect);
+        self.rest = after_blanks(after_bars(self.rest)?, dialect);
         self.begins_range = true;
         Some(Event::NextRange)
     }
@@ -126,8 +126,8 @@ impl<'input> Events<'input> {
             self.new }
     {
         let (simple, rest) = read_simple(self.rest, dialect)?;
-        match behind_mark(rest, b'-') {
-            Some(behind) if begins_range => self.read_sides(simple, behind, dialect),
+        match strip_mark(rest, b'-') {
+            Some(after) if begins_range => self.read_sides(simple, after, dialect),
             _ => {
                 self.rest = rest;
                 Some(Event::Simple(simple))
@@ -140,17 +140,17 @@ impl<'input> Events<'input> {
     fn read_sides(
         &mut self,
         left: Simple<'input>,
-        behind: &'input [u8],
+        after: &'input [u8],
         dialect: Dialect,
     ) -> Option<Event<'input>>
         requires alone { self.old.upper ≡ None }
         requires begun { self.old.begins_range ≡ false }
         requires goes_on { ends_range self.old.rest.now ≡ false }
         requires left { (s : SimpleTree) × IsSimpleOf s left
-            × (simple dialect self.old.rest.now ≡ Some (s, codes "-" ++ behind.now)) }
+            × (simple dialect self.old.rest.now ≡ Some (s, codes "-" ++ after.now)) }
         ensures { TakesEvent dialect self.old.lower true self.old.rest.now result self.new }
     {
-        let (lower, upper, rest) = read_hyphen_range(left, behind, dialect, self.lower)?;
+        let (lower, upper, rest) = read_hyphen_range(left, after, dialect, self.lower)?;
         self.rest = rest;
         self.upper = upper;
         Some(Event::Simple(lower))
@@ -160,17 +160,17 @@ impl<'input> Events<'input> {
 /// The simples of a hyphen range, of which the left side has to be bare, and what follows it.
 fn read_hyphen_range<'input>(
     left: Simple<'input>,
-    behind: &'input [u8],
+    after: &'input [u8],
     dialect: Dialect,
     lower: LowerBounds,
 ) -> Option<(Simple<'input>, Option<Simple<'input>>, &'input [u8])>
     ensures { (s : SimpleTree) → IsSimpleOf s left.entry
-        → FindsSides lower (with_right s (right_side dialect (codes "-" ++ behind.now))) result }
+        → FindsSides lower (with_right s (right_side dialect (codes "-" ++ after.now))) result }
 {
     let Form::Bare = left.form else {
         return None;
     };
-    let (right, rest) = read_right_side(behind, dialect)?;
+    let (right, rest) = read_right_side(after, dialect)?;
     let (lower, upper) = sides(left.partial, right, lower);
     Some((lower, upper, rest))
 }

@@ -12,12 +12,12 @@ ghost use Rattle.semver_texts.specs.Texts.{Text};
 ghost use Rattle.semver_ranges.specs.RangeTree.{one, two, three, is_blank as blank};
 ghost use Rattle.semver_ranges.specs.RangeTree.{PartialTree, has_no_leading_zeros, is_short_word};
 ghost use Rattle.semver_texts.specs.declared.dialect.Dialect.TheVariants as dialect;
-ghost use Rattle.semver_ranges.specs.Steps.Reading.{behind_v, takes};
+ghost use Rattle.semver_ranges.specs.Steps.Reading.{after_v, takes};
 ghost use Rattle.semver_ranges.specs.Steps.Reading.{back, ends_range, ends_word};
 ghost use Rattle.semver_ranges.specs.Steps.Reading.{component, partial, operator, simple};
 ghost use Rattle.semver_ranges.specs.Steps.Reading.{right_side};
-ghost use Rattle.semver_ranges.specs.Steps.Reading.{with_first, behind_bars};
-ghost use Rattle.semver_ranges.specs.Steps.Reading.{front, behind_blanks, begins_qualifier};
+ghost use Rattle.semver_ranges.specs.Steps.Reading.{with_first, after_bars};
+ghost use Rattle.semver_ranges.specs.Steps.Reading.{front, after_blanks, begins_qualifier};
 ghost use Rattle.semver_ranges.specs.Steps.RangeEvents.{wildcard};
 ghost use Rattle.semver_ranges.specs.Steps.PartialViews.{IsValue, IsComponentOf};
 ghost use Rattle.semver_ranges.specs.Steps.PartialViews.{AreWritten, IsPartialOf};
@@ -29,7 +29,7 @@ use crate::limits::is_short_word;
 use crate::partial::{Component, Components, Partial};
 use semver_texts::decimals;
 use semver_texts::dialect::Dialect;
-use semver_texts::dotted::{Hyphens, behind_mark, have_no_leading_zeros, marked_part};
+use semver_texts::dotted::{Hyphens, have_no_leading_zeros, marked_part, strip_mark};
 
 /// A word of so many bytes is never too long to npm.
 const SHORT: usize = 250;
@@ -59,9 +59,9 @@ pub enum Form {
 #[derive(Clone, Copy)]
 pub(crate) enum Role {
     /// What is before it in a simple, or nothing at the left of a hyphen range.
-    BehindForm(Form),
+    AfterForm(Form),
     /// The hyphen of a hyphen range.
-    BehindHyphen,
+    AfterHyphen,
 }
 
 /// A partial and what is before it.
@@ -90,13 +90,13 @@ impl<'input> Simple<'input> {
 /// The right side of a hyphen range after its hyphen, up to the end of the range, and what follows
 /// it.
 #[inline(always)]
-pub(crate) fn read_right_side(behind: &[u8], dialect: Dialect) -> Option<(Partial<'_>, &[u8])>
-    ensures { Finds IsPartialOf (right_side dialect (codes "-" ++ behind.now)) result }
+pub(crate) fn read_right_side(after: &[u8], dialect: Dialect) -> Option<(Partial<'_>, &[u8])>
+    ensures { Finds IsPartialOf (right_side dialect (codes "-" ++ after.now)) result }
 {
-    let text = behind_blank(behind, dialect)?;
-    let text = behind_blanks(text, dialect);
-    let (right, rest) = read_partial(text, dialect, Role::BehindHyphen)?;
-    let rest = behind_blanks(rest, dialect);
+    let text = after_blank(after, dialect)?;
+    let text = after_blanks(text, dialect);
+    let (right, rest) = read_partial(text, dialect, Role::AfterHyphen)?;
+    let rest = after_blanks(rest, dialect);
     if ends_range(rest) {
         Some((right, rest))
     } else {
@@ -111,8 +111,8 @@ pub(crate) fn read_simple(text: &[u8], dialect: Dialect) -> Option<(Simple<'_>, 
     ensures { Finds IsSimpleOf (simple dialect text.now) result }
 {
     let (form, rest) = read_operator(text, dialect);
-    let (partial, rest) = read_partial(rest, dialect, Role::BehindForm(form))?;
-    Some((Simple { form, partial }, behind_blanks(rest, dialect)))
+    let (partial, rest) = read_partial(rest, dialect, Role::AfterForm(form))?;
+    Some((Simple { form, partial }, after_blanks(rest, dialect)))
 }
 
 // Answer: equation.
@@ -132,7 +132,7 @@ pub fn read_operator(text: &[u8], dialect: Dialect) -> (Form, &[u8])
         [b'=', rest @ ..] => (Form::Equal, rest),
         _ => return (Form::Bare, text),
     };
-    (form, behind_blanks(rest, dialect))
+    (form, after_blanks(rest, dialect))
 }
 
 /// The partial at the front of a text, up to the end of its word, and what follows it.
@@ -140,7 +140,7 @@ pub fn read_operator(text: &[u8], dialect: Dialect) -> (Form, &[u8])
 fn read_partial(text: &[u8], dialect: Dialect, role: Role) -> Option<(Partial<'_>, &[u8])>
     ensures { Finds IsPartialOf (partial dialect (role_of role) text.now) result }
 {
-    let (written, rest) = read_components(behind_v(text, dialect))?;
+    let (written, rest) = read_components(after_v(text, dialect))?;
     if ends_word(rest, dialect) && takes(text, rest, &written, dialect, role) {
         Some((
             Partial::new(written.major, written.minor, written.patch, written.pre),
@@ -153,8 +153,8 @@ fn read_partial(text: &[u8], dialect: Dialect, role: Role) -> Option<(Partial<'_
 
 /// What follows one `v`, to npm.
 #[inline(always)]
-pub(crate) fn behind_v(text: &[u8], dialect: Dialect) -> &[u8]
-    ensures { result.now ≡ behind_v dialect text.now }
+pub(crate) fn after_v(text: &[u8], dialect: Dialect) -> &[u8]
+    ensures { result.now ≡ after_v dialect text.now }
 {
     match (dialect, text) {
         (Dialect::Npm, [b'v', rest @ ..]) => rest,
@@ -213,19 +213,19 @@ pub fn read_components(text: &[u8]) -> Option<(Components<'_>, &[u8])>
         build: &[],
         is_qualified: false,
     };
-    let Some(behind) = behind_mark(rest, b'.') else {
+    let Some(after) = strip_mark(rest, b'.') else {
         return Some((one, rest));
     };
-    let (minor, rest) = read_component(behind)?;
+    let (minor, rest) = read_component(after)?;
     let two = Components {
         minor,
         count: 2,
         ..one
     };
-    let Some(behind) = behind_mark(rest, b'.') else {
+    let Some(after) = strip_mark(rest, b'.') else {
         return Some((two, rest));
     };
-    let (patch, qualifier) = read_component(behind)?;
+    let (patch, qualifier) = read_component(after)?;
     let (pre, build, rest) = read_qualifier(qualifier)?;
     let three = Components {
         patch,
@@ -319,8 +319,8 @@ fn with_digit(value: Option<u64>, digit: u8) -> Option<u64>
 // Answer: equation.
 /// What follows the blanks at the front of a text.
 #[inline(always)]
-pub fn behind_blanks(text: &[u8], dialect: Dialect) -> &[u8]
-    ensures { result.now ≡ behind_blanks dialect text.now }
+pub fn after_blanks(text: &[u8], dialect: Dialect) -> &[u8]
+    ensures { result.now ≡ after_blanks dialect text.now }
 {
     for at in 0..text.len() {
         if !is_blank(text[at], dialect) {
@@ -332,7 +332,7 @@ pub fn behind_blanks(text: &[u8], dialect: Dialect) -> &[u8]
 
 /// What follows one blank, where the text begins with it.
 #[inline(always)]
-fn behind_blank(text: &[u8], dialect: Dialect) -> Option<&[u8]>
+fn after_blank(text: &[u8], dialect: Dialect) -> Option<&[u8]>
     ensures { MatchOption result
         ((b : ℕ) (t : Text) → text.now ≡ b ∷ t → blank dialect b ≡ false)
         (λ rest. (b : ℕ) × (blank dialect b ≡ true) × (text.now ≡ b ∷ rest.now)) }
@@ -345,8 +345,8 @@ fn behind_blank(text: &[u8], dialect: Dialect) -> Option<&[u8]>
 
 /// What follows two bars, where the text begins with them.
 #[inline(always)]
-pub(crate) fn behind_bars(text: &[u8]) -> Option<&[u8]>
-    ensures { MatchOption result (behind_bars text.now ≡ None) (λ rest. behind_bars text.now
+pub(crate) fn after_bars(text: &[u8]) -> Option<&[u8]>
+    ensures { MatchOption result (after_bars text.now ≡ None) (λ rest. after_bars text.now
         ≡ Some rest.now) }
 {
     match text {

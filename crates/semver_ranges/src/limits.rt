@@ -10,10 +10,10 @@ ghost use Rattle.semver_ranges.specs.RangeTree.{numbers_and_pre};
 ghost use Rattle.semver_ranges.specs.Steps.CursorViews.{role_of};
 ghost use Rattle.semver_ranges.specs.Steps.NpmLimits.{are_short_parts, is_short_as, marked_length};
 ghost use Rattle.semver_ranges.specs.Steps.PartialViews.{AreWritten};
-ghost use Rattle.semver_ranges.specs.Steps.Reading.{behind_v};
+ghost use Rattle.semver_ranges.specs.Steps.Reading.{after_v};
 ghost use Rattle.semver_texts.specs.declared.dialect.Dialect.TheVariants as dialect;
 
-use crate::grammar::{Form, Role, behind_v, read_components};
+use crate::grammar::{Form, Role, after_v, read_components};
 use crate::partial::{Component, Components};
 use semver_texts::dialect::Dialect;
 use semver_texts::dotted::split_at_dot;
@@ -38,11 +38,11 @@ enum Kind {
 /// where no word is long.
 #[inline(never)]
 pub(crate) fn is_short_word(word: &[u8], role: Role) -> bool
-    requires { (p : PartialTree) × SpellsPartial p (behind_v dialect.Npm word.now) }
-    ensures { (p : PartialTree) → SpellsPartial p (behind_v dialect.Npm word.now)
+    requires { (p : PartialTree) × SpellsPartial p (after_v dialect.Npm word.now) }
+    ensures { (p : PartialTree) → SpellsPartial p (after_v dialect.Npm word.now)
         → result ≡ is_short_word (role_of role) p (length word.now) }
 {
-    let partial = behind_v(word, Dialect::Npm);
+    let partial = after_v(word, Dialect::Npm);
     match read_components(partial) {
         Some((written, _)) => is_short_partial(word.len(), partial, &written, role),
         None => false,
@@ -100,8 +100,8 @@ fn is_taken_whole(written: &Components<'_>, role: Role) -> bool
         → result ≡ is_taken_whole (role_of role) p }
 {
     match role {
-        Role::BehindForm(form) => !matches!(form, Form::Tilde | Form::Caret),
-        Role::BehindHyphen => written.pre.is_empty(),
+        Role::AfterForm(form) => !matches!(form, Form::Tilde | Form::Caret),
+        Role::AfterHyphen => written.pre.is_empty(),
     }
 }
 
@@ -128,11 +128,11 @@ fn are_short(parts: &[u8], kind: Kind) -> bool
     }
     let mut rest = Some(parts);
     while let Some(bytes) = rest {
-        let (part, behind) = split_at_dot(bytes);
+        let (part, after) = split_at_dot(bytes);
         if !is_short(part, kind) {
             return false;
         }
-        rest = behind;
+        rest = after;
     }
     true
 }

@@ -84,31 +84,31 @@ found_same {X = X} {Y = Y} {x = x} {x' = x'} {y = y} {y' = y'} e =
 
 -- ---- what is left to be cut
 
-abbrev pub parts_behind : Option (Bor Text) → List Text
-parts_behind None = []
-parts_behind (Some rest) = slice_split is_dot rest.now
+abbrev pub parts_after : Option (Bor Text) → List Text
+parts_after None = []
+parts_after (Some rest) = slice_split is_dot rest.now
 
-abbrev pub ArePartsBehind : Option (Bor Text) → Type 0
-ArePartsBehind None = Unit {0}
-ArePartsBehind (Some rest) = Passes is_dotted_byte rest.now
+abbrev pub ArePartsAfter : Option (Bor Text) → Type 0
+ArePartsAfter None = Unit {0}
+ArePartsAfter (Some rest) = Passes is_dotted_byte rest.now
 
-abbrev pub size_behind : Option (Bor Text) → ℕ
-size_behind None = 0
-size_behind (Some rest) = length rest.now + 1
+abbrev pub size_after : Option (Bor Text) → ℕ
+size_after None = 0
+size_after (Some rest) = length rest.now + 1
 
 -- the bytes are a part and its dot, and what is after it, if anything is
 abbrev pub IsSplit : Text → Text → Option (Bor Text) → Type 0
-IsSplit bytes part behind = MatchOption behind ((slice_split is_dot bytes ≡ part ∷ []) × (bytes ≡ part))
-    (λ behind. (slice_split is_dot bytes ≡ part ∷ slice_split is_dot behind.now) × (bytes ≡ part ++ 46 ∷ behind.now))
+IsSplit bytes part after = MatchOption after ((slice_split is_dot bytes ≡ part ∷ []) × (bytes ≡ part))
+    (λ after. (slice_split is_dot bytes ≡ part ∷ slice_split is_dot after.now) × (bytes ≡ part ++ 46 ∷ after.now))
 
-pub split_dotted : (bytes part : Text) (behind : Option (Bor Text)) → Passes is_dotted_byte bytes → IsSplit bytes part behind
-    → Passes is_dotted_byte part × ArePartsBehind behind
+pub split_dotted : (bytes part : Text) (after : Option (Bor Text)) → Passes is_dotted_byte bytes → IsSplit bytes part after
+    → Passes is_dotted_byte part × ArePartsAfter after
 split_dotted bytes part None all h = (subst (Passes is_dotted_byte) h.1 all, tt)
-split_dotted bytes part (Some behind) all h =
-    let both = passes_apart is_dotted_byte part (46 ∷ behind.now) (subst (Passes is_dotted_byte) h.1 all) in (both.0, both.1.1)
+split_dotted bytes part (Some after) all h =
+    let both = passes_apart is_dotted_byte part (46 ∷ after.now) (subst (Passes is_dotted_byte) h.1 all) in (both.0, both.1.1)
 
-pub split_more : (bytes part : Text) (behind : Option (Bor Text)) (all cut : List Text) → IsSplit bytes part behind
-    → all ≡ cut ++ slice_split is_dot bytes → all ≡ (cut ++ part ∷ []) ++ parts_behind behind
+pub split_more : (bytes part : Text) (after : Option (Bor Text)) (all cut : List Text) → IsSplit bytes part after
+    → all ≡ cut ++ slice_split is_dot bytes → all ≡ (cut ++ part ∷ []) ++ parts_after after
 split_more bytes part None all cut h e = e ∙ ap (λ ts. cut ++ ts) h.0 ∙ sym (append-nil (cut ++ part ∷ []))
-split_more bytes part (Some behind) all cut h e =
-    e ∙ ap (λ ts. cut ++ ts) h.0 ∙ sym (append_assoc cut (part ∷ []) (slice_split is_dot behind.now))
+split_more bytes part (Some after) all cut h e =
+    e ∙ ap (λ ts. cut ++ ts) h.0 ∙ sym (append_assoc cut (part ∷ []) (slice_split is_dot after.now))

@@ -114,8 +114,8 @@ first_of_front (b ∷ text) some =
     by_test (is_ascii_digit b) (λ h. rw (h, one-add) refl) (λ h. absurd (omega (arith, rw h at some)))
 
 -- what follows so many bytes
-behind : (text rest : List ℕ) (len : ℕ) → rest ≡ take (length text - len) (drop len text) → rest ≡ drop len text
-behind text rest len is = is ∙ ap (λ k. take k (drop len text)) (sym (length-drop len text)) ∙ take-length (drop len text)
+after : (text rest : List ℕ) (len : ℕ) → rest ≡ take (length text - len) (drop len text) → rest ≡ drop len text
+after text rest len is = is ∙ ap (λ k. take k (drop len text)) (sym (length-drop len text)) ∙ take-length (drop len text)
 
 digit_some : (text : List ℕ) → is_ascii_digit (slice_index text 0) ≡ true → 0 < length text
 digit_some [] digit = cc
@@ -134,7 +134,7 @@ pub number_read : (text rest : List ℕ) (n len : ℕ) → is_ascii_digit (slice
     → BeginsWithNumber text n rest
 number_read text rest n len digit no_zero small is count left =
     let filled = front_some text digit in
-    subst (λ l. BeginsWithNumber text n l) (sym (behind text rest len left ∙ ap (λ k. drop k text) count))
+    subst (λ l. BeginsWithNumber text n l) (sym (after text rest len left ∙ ap (λ k. drop k text) count))
     (subst (λ m. BeginsWithNumber text m (drop (length (digits_front text)) text)) (sym is)
     (front_begins text filled (λ z. absurd (no_zero (sym (first_of_front text filled) ∙ z))) (subst (λ m. m < 2 ^ 64) is small)))
 
@@ -156,7 +156,7 @@ pub leading_zero : (text rest : List ℕ) → rest ≡ take (length text - 1) (d
     → is_ascii_digit (slice_index rest 0) ≡ true → (n : ℕ) (more : List ℕ) → ¬ (BeginsWithNumber text n more)
 leading_zero [] rest is zero digit n more w = absurd (omega (arith, zero))
 leading_zero (b ∷ []) rest is zero digit n more w =
-    let e : false ≡ true = sym (ap (λ t. is_ascii_digit (slice_index t 0)) (behind (b ∷ []) rest 1 is)) ∙ digit in cc
+    let e : false ≡ true = sym (ap (λ t. is_ascii_digit (slice_index t 0)) (after (b ∷ []) rest 1 is)) ∙ digit in cc
 leading_zero (b ∷ c ∷ text) rest is zero digit n more w =
     let canonical = front_canonical (b ∷ c ∷ text) n more w in
     absurd (omega (
@@ -167,7 +167,7 @@ leading_zero (b ∷ c ∷ text) rest is zero digit n more w =
     ))
   where
     second : is_ascii_digit c ≡ true
-    second = sym (ap (λ t. is_ascii_digit (slice_index t 0)) (behind (b ∷ c ∷ text) rest 1 is)) ∙ digit
+    second = sym (ap (λ t. is_ascii_digit (slice_index t 0)) (after (b ∷ c ∷ text) rest 1 is)) ∙ digit
 
     two : prefix_len is_ascii_digit (b ∷ c ∷ text) ≡ 1 + (1 + prefix_len is_ascii_digit text)
     two = rw (zero, second) refl
@@ -182,7 +182,7 @@ one_digit (b ∷ text) rest is digit other n same_n =
     decimal_digit (b - 48) (omega (arith, range.1)) ∙ ap (λ x. x ∷ []) same in
     record {
       fits = omega (arith, range.1, same_n);
-      split = (λ i. sym (ap decimal same_n ∙ alone) i ++ sym (behind (b ∷ text) rest 1 is) i);
+      split = (λ i. sym (ap decimal same_n ∙ alone) i ++ sym (after (b ∷ text) rest 1 is) i);
       ended = other;
     }
 
@@ -201,9 +201,9 @@ begins_whole text number = record { fits = number.1; split = number.2 ∙ sym (a
 pub none_whole : (text : List ℕ) → ((n : ℕ) (rest : List ℕ) → ¬ (BeginsWithNumber text n rest)) → ¬ (IsNumber text)
 none_whole text none number = none number.0 [] (begins_whole text number)
 
-pub more_behind : (text rest : List ℕ) (n : ℕ) → BeginsWithNumber text n rest → eqb (length rest) 0 ≡ false → ¬ (IsNumber text)
-more_behind text [] n begins some number = cc
-more_behind text (b ∷ rest) n begins some number =
+pub more_after : (text rest : List ℕ) (n : ℕ) → BeginsWithNumber text n rest → eqb (length rest) 0 ≡ false → ¬ (IsNumber text)
+more_after text [] n begins some number = cc
+more_after text (b ∷ rest) n begins some number =
     absurd (omega (arith, ap length (same_number text number.0 n [] (b ∷ rest) (begins_whole text number) begins).1))
 
 -- ---- three of them, joined by dots
@@ -231,8 +231,8 @@ three_apart text major minor patch rest w = record {
     grouped = simp append_assoc
 
 -- where none follows the first, or the second, there aren't three
-abbrev pub NoneBehindDot : List ℕ → Type 0
-NoneBehindDot text = (n : ℕ) (behind more : List ℕ) → text ≡ 46 ∷ behind → ¬ (BeginsWithNumber behind n more)
+abbrev pub NoneAfterDot : List ℕ → Type 0
+NoneAfterDot text = (n : ℕ) (after more : List ℕ) → text ≡ 46 ∷ after → ¬ (BeginsWithNumber after n more)
 
 abbrev pub NotThree : List ℕ → Type 0
 NotThree text = (major minor patch : ℕ) (rest : List ℕ) → ¬ (BeginsWithNumbers text major minor patch rest)
@@ -241,13 +241,13 @@ pub no_first : (text : List ℕ) → is_ascii_digit (slice_index text 0) ≡ fal
 no_first text other major minor patch more w =
     let a = three_apart text major minor patch more w in no_digit text other major (46 ∷ a.second) a.first_is
 
-pub no_second : (text rest : List ℕ) (n : ℕ) → BeginsWithNumber text n rest → NoneBehindDot rest → NotThree text
+pub no_second : (text rest : List ℕ) (n : ℕ) → BeginsWithNumber text n rest → NoneAfterDot rest → NotThree text
 no_second text rest n first none major minor patch more w =
     let a = three_apart text major minor patch more w in
     none minor a.second (46 ∷ a.third) (sym (same_number text major n _ rest a.first_is first).1) a.second_is
 
 pub no_third : (text second rest : List ℕ) (n m : ℕ) → BeginsWithNumber text n (46 ∷ second) → BeginsWithNumber second m rest
-    → NoneBehindDot rest → NotThree text
+    → NoneAfterDot rest → NotThree text
 no_third text second rest n m first next none major minor patch more w =
     let a = three_apart text major minor patch more w in
     let same : a.second ≡ second = tails (same_number text major n _ _ a.first_is first).1 in

@@ -105,13 +105,13 @@ pub fn whole_number(text: &str) -> Option<u64>
 /// The number after a dot, and what follows it.
 #[inline(always)]
 fn dot_number(bytes: &[u8]) -> Option<(u64, &[u8])>
-    ensures { MatchOption result ((n : ℕ) (behind rest : Text) → bytes.now ≡ 46 ∷ behind
-        → ¬ (BeginsWithNumber behind n rest))
-        (λ r. (behind : Text) × (bytes.now ≡ 46 ∷ behind)
-        × BeginsWithNumber behind r.0 r.1.now) }
+    ensures { MatchOption result ((n : ℕ) (after rest : Text) → bytes.now ≡ 46 ∷ after
+        → ¬ (BeginsWithNumber after n rest))
+        (λ r. (after : Text) × (bytes.now ≡ 46 ∷ after)
+        × BeginsWithNumber after r.0 r.1.now) }
 {
     match bytes {
-        [b'.', behind @ ..] => number(behind),
+        [b'.', after @ ..] => number(after),
         _ => None,
     }
 }

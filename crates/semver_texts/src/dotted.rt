@@ -72,12 +72,12 @@ fn parts_len(bytes: &[u8], hyphens: Hyphens) -> Option<usize>
 // Answer: equation.
 /// What follows the mark, where the bytes begin with it.
 #[inline(always)]
-pub fn behind_mark(bytes: &[u8], mark: u8) -> Option<&[u8]>
+pub fn strip_mark(bytes: &[u8], mark: u8) -> Option<&[u8]>
     ensures { MatchOption result (begins_with mark bytes.now ≡ false)
-        (λ behind. bytes.now ≡ mark ∷ behind.now) }
+        (λ after. bytes.now ≡ mark ∷ after.now) }
 {
     match bytes {
-        [first, behind @ ..] if *first == mark => Some(behind),
+        [first, after @ ..] if *first == mark => Some(after),
         _ => None,
     }
 }
@@ -90,11 +90,11 @@ pub fn marked_part(bytes: &[u8], mark: u8, hyphens: Hyphens) -> Option<(&[u8], &
     ensures { MatchOption result (marked_part hyphens mark bytes.now ≡ None)
         (λ r. marked_part hyphens mark bytes.now ≡ Some (r.0.now, r.1.now)) }
 {
-    let Some(behind) = behind_mark(bytes, mark) else {
+    let Some(after) = strip_mark(bytes, mark) else {
         return Some((&[], bytes));
     };
-    let len = parts_len(behind, hyphens)?;
-    Some(behind.split_at(len))
+    let len = parts_len(after, hyphens)?;
+    Some(after.split_at(len))
 }
 
 // Answer: equation.
@@ -114,8 +114,8 @@ pub fn text_of_parts(bytes: &[u8]) -> &str
 pub fn split_at_dot(bytes: &[u8]) -> (&[u8], Option<&[u8]>)
     ensures { MatchOption result.1
         ((slice_split is_dot bytes.now ≡ result.0.now ∷ []) × (bytes.now ≡ result.0.now))
-        (λ behind. (slice_split is_dot bytes.now ≡ result.0.now ∷ slice_split is_dot behind.now)
-        × (bytes.now ≡ result.0.now ++ 46 ∷ behind.now)) }
+        (λ after. (slice_split is_dot bytes.now ≡ result.0.now ∷ slice_split is_dot after.now)
+        × (bytes.now ≡ result.0.now ++ 46 ∷ after.now)) }
 {
     for at in 0..bytes.len() {
         if bytes[at] == b'.' {
@@ -174,11 +174,11 @@ fn each_has_no_leading_zero(parts: &[u8]) -> bool
 {
     let mut rest = Some(parts);
     while let Some(bytes) = rest {
-        let (part, behind) = split_at_dot(bytes);
+        let (part, after) = split_at_dot(bytes);
         if !has_no_leading_zero(part) {
             return false;
         }
-        rest = behind;
+        rest = after;
     }
     true
 }
@@ -214,9 +214,9 @@ fn cut_parts<T: Drop, F: Fn(&str) -> Result<T, AllocError>>(
     let mut made = Vec::with_capacity(alloc, count_dots(bytes).saturating_add(1))?;
     let mut rest = Some(bytes);
     while let Some(bytes) = rest {
-        let (part, behind) = split_at_dot(bytes);
+        let (part, after) = split_at_dot(bytes);
         made.push(make(text_of_parts(part))?)?;
-        rest = behind;
+        rest = after;
     }
     Ok(made)
 }

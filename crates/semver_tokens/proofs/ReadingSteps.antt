@@ -40,10 +40,10 @@ module _ {S : Type 0} (step : S → TokenValue → Option S) where
   stopped_is_longest s p q [] (t ∷ rest) (x ∷ longer) more same leads stops on =
       option_and_then_some _ (step s x) q on (λ v here _. let t_is : x ≡ t = cc in let s_is = same_Some s p leads in cc)
   stopped_is_longest s p q (t ∷ front) rest (x ∷ longer) more same leads stops on =
-      option_and_then_some _ (step s x) q on (λ v here beyond. option_and_then_some _ (step s t) p leads (λ w there behind.
+      option_and_then_some _ (step s x) q on (λ v here beyond. option_and_then_some _ (step s t) p leads (λ w there after.
       let x_is : x ≡ t = cc in
       let w_is : w ≡ v = cc in
-      let shorter = stopped_is_longest v p q front rest longer more (cc) (rw w_is at behind) stops beyond in
+      let shorter = stopped_is_longest v p q front rest longer more (cc) (rw w_is at after) stops beyond in
       omega (arith, shorter)))
 
 -- ---- what a pop gives
@@ -122,13 +122,13 @@ module _ {S : Type 0} {step : S → TokenValue → Option S} {accepts : S → Bo
           omega (arith, longer, length-append front (t ∷ []))))
 
   -- reading may run out of memory where a front that was taken holds what takes memory
-  pub runs_out_behind : {Holds : List TokenValue → Type 0}
+  pub runs_out_after : {Holds : List TokenValue → Type 0}
       → ((front : List TokenValue) (t : TokenValue) → Holds front → Holds (front ++ t ∷ [])) → {s u : ParserState}
       → (front rest : List TokenValue) (p : S) → s.remaining ≡ front ++ rest
       → run step start front ≡ Some p → Holds front → IsEndPart s u → MayRunOut Shape Holds s u
-  runs_out_behind longer {s} front [] p split leads holds left =
+  runs_out_after longer {s} front [] p split leads holds left =
       record { front = front; rest = []; longest = longest_front s.remaining front [] p split leads tt; holds = holds; left = left }
-  runs_out_behind longer {s} front (t ∷ rest) p split leads holds left =
+  runs_out_after longer {s} front (t ∷ rest) p split leads holds left =
       option_cases (step p t)
       (λ none. record {
         front = front;
@@ -137,7 +137,7 @@ module _ {S : Type 0} {step : S → TokenValue → Option S} {accepts : S → Bo
         holds = holds;
         left = left;
       })
-      (λ q on. runs_out_behind longer (front ++ t ∷ []) rest q (cc (append_assoc front (t ∷ []) rest))
+      (λ q on. runs_out_after longer (front ++ t ∷ []) rest q (cc (append_assoc front (t ∷ []) rest))
       (one_more_leads step start p q front t leads on) (longer front t holds) left)
 
   -- what was taken is whole exactly where its state accepts

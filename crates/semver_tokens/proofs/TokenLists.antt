@@ -28,24 +28,24 @@ first_token-empty place [] e = refl
 first_token-empty place (b ∷ bs) e = cc
 
 -- the same, where only the first byte is known
-behind_first : (bs : List ℕ) (b : ℕ) → slice_get bs 0 ≡ Some b → (rest : List ℕ) × (bs ≡ b ∷ rest)
-behind_first [] b e = cc
-behind_first (x ∷ bs) b e = (bs, cc)
+after_first : (bs : List ℕ) (b : ℕ) → slice_get bs 0 ≡ Some b → (rest : List ℕ) × (bs ≡ b ∷ rest)
+after_first [] b e = cc
+after_first (x ∷ bs) b e = (bs, cc)
 
 pub front_space : (place : ℕ) (bs : List ℕ) (b : ℕ) → slice_get bs 0 ≡ Some b → is_space b ≡ true
     → first_token place bs ≡ Some (Whitespace place (place + prefix_len is_space bs), prefix_len is_space bs)
-front_space place bs b e h = let w = behind_first bs b e in rw w.1 (first_token-at_space place b w.0 h)
+front_space place bs b e h = let w = after_first bs b e in rw w.1 (first_token-at_space place b w.0 h)
 
 pub front_run : (place : ℕ) (bs : List ℕ) (b : ℕ) → slice_get bs 0 ≡ Some b → is_ascii_alphanumeric b ≡ true
     → first_token place bs ≡ Some (component (take (prefix_len is_ascii_alphanumeric bs) bs), prefix_len is_ascii_alphanumeric bs)
-front_run place bs b e h = let w = behind_first bs b e in rw w.1 (first_token-at_run place b w.0 h)
+front_run place bs b e h = let w = after_first bs b e in rw w.1 (first_token-at_run place b w.0 h)
 
 pub front_other : (place : ℕ) (bs : List ℕ) (b : ℕ) → slice_get bs 0 ≡ Some b → is_space b ≡ false → is_ascii_alphanumeric b ≡ false
     → first_token place bs ≡ sign b (slice_index bs 1)
-front_other place bs b e s r = let w = behind_first bs b e in rw w.1 (first_token-at_other place b w.0 s r)
+front_other place bs b e s r = let w = after_first bs b e in rw w.1 (first_token-at_other place b w.0 s r)
 
 pub some_of_prefix : (p : ℕ → Bool) (bs : List ℕ) (b : ℕ) → slice_get bs 0 ≡ Some b → p b ≡ true → 0 < prefix_len p bs
-some_of_prefix p bs b e h = let w = behind_first bs b e in rw (w.1, h) (omega arith)
+some_of_prefix p bs b e h = let w = after_first bs b e in rw (w.1, h) (omega arith)
 
 pub first_token-run : (place : ℕ) (run more : List ℕ) → IsRun run → is_ascii_alphanumeric (slice_index more 0) ≡ false
     → first_token place (run ++ more) ≡ Some (component run, length run)
@@ -210,12 +210,12 @@ module _ (text : List ℕ) where
   pub tokens_cons : (place : ℕ) (t : TokenValue) (n : ℕ) (ts : List TokenValue) (rest : List ℕ) → IsFound text place (drop place text) t n
       → AreTokensFrom text (place + n) ts rest → AreTokensFrom text place (t ∷ ts) rest
   tokens_cons place t n ts rest f a =
-      let behind : drop n (drop place text) ≡ tokens_text text ts ++ rest = drop-drop n place text ∙ a.spelled in
+      let after : drop n (drop place text) ≡ tokens_text text ts ++ rest = drop-drop n place text ∙ a.spelled in
       let in_place : AreInPlace text (place + length (token_text text t)) ts = rw f.len a.in_place in
       record {
         spelled = cc (f.front.spelled, append_assoc (token_text text t) (tokens_text text ts) rest);
         in_place = (f.front.is_token, in_place);
-        none_merge = none_merge_more t _ ts rest (ap (continues_into t) (sym behind) ∙ f.front.stops) in_place a.none_merge;
+        none_merge = none_merge_more t _ ts rest (ap (continues_into t) (sym after) ∙ f.front.stops) in_place a.none_merge;
         ended = a.ended;
       }
 

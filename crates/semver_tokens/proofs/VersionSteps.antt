@@ -7,14 +7,14 @@ use Rattle.std.proofs.lemmas.Option.{same_Some, option_and_then_some}
 use Rattle.semver_tokens.specs.Tokens.{TokenValue, Hyphen, Dot, Plus, Whitespace, Numeric, AlphaNumeric, is_component}
 use Rattle.semver_tokens.specs.VersionReading.{IsIdentifierShape, IsPartShape, IsOuterShape, IsVersionShape}
 use Rattle.semver_tokens.specs.Steps.Taking.{run, major, minor, patch, Part, pre_release, build, Place, start, at_number}
-use Rattle.semver_tokens.specs.Steps.Taking.{behind_number, at_run, behind_run, end, step, accepts}
+use Rattle.semver_tokens.specs.Steps.Taking.{after_number, at_run, after_run, end, step, accepts}
 use Rattle.semver_tokens.proofs.ReadingSteps.{run-append, IsReadBy}
 use Rattle.semver_tokens.proofs.IdentifierSteps.{id_step, one_run, run_more, identifier_is_read}
 
 -- the place where a run of a part is wanted, and the one after it
 abbrev pub run_place : Part → Bool → Place
 run_place part false = at_run part
-run_place part true = behind_run part
+run_place part true = after_run part
 
 -- ---- identifiers joined by dots, from the left
 
@@ -72,24 +72,24 @@ data Follows (u : Place) : Part → List TokenValue → Type 0 where
   space : (part : Part) (a b : ℕ) (ts : List TokenValue) → run step end ts ≡ Some u → Follows u part (Whitespace a b ∷ ts)
   plus : (ts : List TokenValue) → run step (at_run build) ts ≡ Some u → Follows u pre_release (Plus ∷ ts)
 
-record IsPartRest (u : Place) (part : Part) (behind : Bool) (ts : List TokenValue) : Type 0 where
+record IsPartRest (u : Place) (part : Part) (after : Bool) (ts : List TokenValue) : Type 0 where
   ids : List TokenValue
   rest : List TokenValue
-  on : CompletesIds behind ids
+  on : CompletesIds after ids
   follows : Follows u part rest
   is : ts ≡ ids ++ rest
 
 rest_ends : {u : Place} {part : Part} {ts : List TokenValue} → Follows u part ts → IsPartRest u part true ts
 rest_ends {ts = ts} follows = record { ids = []; rest = ts; on = ids_one; follows = follows; is = refl }
 
-rest_more : {u : Place} {part : Part} {before behind : Bool} {ts : List TokenValue} (t : TokenValue)
-    → ((ids : List TokenValue) → CompletesIds behind ids → CompletesIds before (t ∷ ids)) → IsPartRest u part behind ts
+rest_more : {u : Place} {part : Part} {before after : Bool} {ts : List TokenValue} (t : TokenValue)
+    → ((ids : List TokenValue) → CompletesIds after ids → CompletesIds before (t ∷ ids)) → IsPartRest u part after ts
     → IsPartRest u part before (t ∷ ts)
 rest_more t on r =
     record { ids = t ∷ r.ids; rest = r.rest; on = on r.ids r.on; follows = r.follows; is = ap (λ l. t ∷ l) r.is }
 
-part_rest : (part : Part) (behind : Bool) (ts : List TokenValue) (u : Place) → accepts u ≡ true
-    → run step (run_place part behind) ts ≡ Some u → IsPartRest u part behind ts
+part_rest : (part : Part) (after : Bool) (ts : List TokenValue) (u : Place) → accepts u ≡ true
+    → run step (run_place part after) ts ≡ Some u → IsPartRest u part after ts
 part_rest part false [] u ok e = cc
 part_rest part false (Numeric n ∷ ts) u ok e = rest_more (Numeric n) (λ ids on. on (Numeric n) refl) (part_rest part true ts u ok e)
 part_rest part false (AlphaNumeric s ∷ ts) u ok e =
@@ -116,16 +116,16 @@ record IsParted (sign : TokenValue) (Rest : List TokenValue → Type 0) (ts : Li
   part : List TokenValue
   rest : List TokenValue
   shape : IsPartShape sign part
-  behind : Rest rest
+  after : Rest rest
   is : ts ≡ part ++ rest
 
 none_there : {sign : TokenValue} {Rest : List TokenValue → Type 0} {ts : List TokenValue} → Rest ts → IsParted sign Rest ts
-none_there {sign} {Rest} {ts} behind = record { part = []; rest = ts; shape = no_part sign; behind = behind; is = refl }
+none_there {sign} {Rest} {ts} after = record { part = []; rest = ts; shape = no_part sign; after = after; is = refl }
 
 one_there : {u : Place} {part : Part} {Rest : List TokenValue → Type 0} {ts : List TokenValue} (sign : TokenValue)
     (r : IsPartRest u part false ts) → Rest r.rest → IsParted sign Rest (sign ∷ ts)
-one_there sign r behind =
-    record { part = sign ∷ r.ids; rest = r.rest; shape = ids_part sign r.ids r.on; behind = behind; is = ap (λ l. sign ∷ l) r.is }
+one_there sign r after =
+    record { part = sign ∷ r.ids; rest = r.rest; shape = ids_part sign r.ids r.on; after = after; is = ap (λ l. sign ∷ l) r.is }
 
 -- the build and white space, and before them the pre-release
 build_rest : (u : Place) → accepts u ≡ true → (part : Part) (ts : List TokenValue) → Follows u part ts → IsParted Plus IsOuterShape ts
@@ -134,7 +134,7 @@ build_rest u ok _ _ (space part a b ts e) = none_there (space_rest u a b ts e)
 build_rest u ok _ _ (plus ts e) =
     let r = part_rest build false ts u ok e in one_there Plus r (outer_rest u build r.rest r.follows refl)
 
-patch_rest : (ts : List TokenValue) (u : Place) → accepts u ≡ true → run step (behind_number patch) ts ≡ Some u
+patch_rest : (ts : List TokenValue) (u : Place) → accepts u ≡ true → run step (after_number patch) ts ≡ Some u
     → IsParted Hyphen (IsParted Plus IsOuterShape) ts
 patch_rest (Hyphen ∷ ts) u ok e =
     let r = part_rest pre_release false ts u ok e in one_there Hyphen r (build_rest u ok pre_release r.rest r.follows)
@@ -146,7 +146,7 @@ patch_rest (_ ∷ ts) u ok e = cc
 -- three numbers, and what is after them
 numbers_rest : (ts : List TokenValue) (u : Place) → accepts u ≡ true → run step (at_number major) ts ≡ Some u
     → (a b c : ℕ) × (rest : List TokenValue) × (ts ≡ Numeric a ∷ Dot ∷ Numeric b ∷ Dot ∷ Numeric c ∷ rest)
-    × (run step (behind_number patch) rest ≡ Some u)
+    × (run step (after_number patch) rest ≡ Some u)
 numbers_rest (Numeric a ∷ Dot ∷ Numeric b ∷ Dot ∷ Numeric c ∷ rest) u ok e = (a, b, c, rest, refl, e)
 numbers_rest _ u ok e = cc
 
@@ -164,13 +164,13 @@ major_rest before outer ts u ok e =
       minor = n.1;
       patch = n.2;
       pre = r.part;
-      build = r.behind.part;
-      after = r.behind.rest;
+      build = r.after.part;
+      after = r.after.rest;
       space_before = outer;
       pre_shape = r.shape;
-      build_shape = r.behind.shape;
-      space_after = r.behind.behind;
-      joined = cc (regroup before (Numeric n.0 ∷ Dot ∷ Numeric n.1 ∷ Dot ∷ Numeric n.2 ∷ []) r.part r.behind.part r.behind.rest);
+      build_shape = r.after.shape;
+      space_after = r.after.after;
+      joined = cc (regroup before (Numeric n.0 ∷ Dot ∷ Numeric n.1 ∷ Dot ∷ Numeric n.2 ∷ []) r.part r.after.part r.after.rest);
     }
 
 -- what is accepted has the shape
@@ -196,22 +196,22 @@ identifier_leads part b v (t ∷ ts) e =
     token_leads true w _ e = cc
 
 module _ (part : Part) where
-  id_leads : (id : List TokenValue) → IsIdentifierShape id → run step (at_run part) id ≡ Some (behind_run part)
+  id_leads : (id : List TokenValue) → IsIdentifierShape id → run step (at_run part) id ≡ Some (after_run part)
   id_leads id shape = let w = identifier_is_read.read id shape in identifier_leads part false true id (w.1 ∙ ap (λ b. Some b) w.2)
 
   dotted_lead : (ids : List (List TokenValue)) → AllByRecursion IsIdentifierShape ids
-      → run step (behind_run part) (dotted ids) ≡ Some (behind_run part)
+      → run step (after_run part) (dotted ids) ≡ Some (after_run part)
   dotted_lead [] all = refl
-  dotted_lead (id ∷ ids) all = run-append step (at_run part) (behind_run part) id (dotted ids) (id_leads id all.0) ∙ dotted_lead ids all.1
+  dotted_lead (id ∷ ids) all = run-append step (at_run part) (after_run part) id (dotted ids) (id_leads id all.0) ∙ dotted_lead ids all.1
 
   ids_lead : (ids : List (List TokenValue)) → 0 < length ids → AllByRecursion IsIdentifierShape ids
-      → run step (at_run part) (join_by (λ id. id) (Dot ∷ []) ids) ≡ Some (behind_run part)
+      → run step (at_run part) (join_by (λ id. id) (Dot ∷ []) ids) ≡ Some (after_run part)
   ids_lead [] some all = absurd (omega (arith, some))
-  ids_lead (id ∷ ids) some all = run-append step (at_run part) (behind_run part) id (dotted ids) (id_leads id all.0) ∙ dotted_lead ids all.1
+  ids_lead (id ∷ ids) some all = run-append step (at_run part) (after_run part) id (dotted ids) (id_leads id all.0) ∙ dotted_lead ids all.1
 
   -- a part leads on after its last run, or nothing is there
   part_leads : (sign : TokenValue) (from : Place) (ts : List TokenValue) → step from sign ≡ Some (at_run part) → IsPartShape sign ts
-      → (run step from ts ≡ Some from) ⊎ (run step from ts ≡ Some (behind_run part))
+      → (run step from ts ≡ Some from) ⊎ (run step from ts ≡ Some (after_run part))
   part_leads sign from ts leads w =
       ⊎_elim (λ none. inl (rw none.1 refl)) (λ some. inr (rw (some.1, leads) (ids_lead w.ids some.0 w.each))) w.parted
 
@@ -230,7 +230,7 @@ outer_ends from leads ok ((Whitespace a b) ∷ []) outer = (end, rw (leads a b) 
 outer_ends from leads ok (t ∷ []) outer = cc (outer.1.0)
 outer_ends from leads ok (t ∷ x ∷ ts) outer = absurd (omega (arith, outer.0))
 
-numbers_end : (before : List TokenValue) → IsOuterShape before → (a b c : ℕ) (rest : List TokenValue) → Ends (behind_number patch) rest
+numbers_end : (before : List TokenValue) → IsOuterShape before → (a b c : ℕ) (rest : List TokenValue) → Ends (after_number patch) rest
     → Ends start (before ++ (Numeric a ∷ Dot ∷ Numeric b ∷ Dot ∷ Numeric c ∷ rest))
 numbers_end [] outer a b c rest ends = ends
 numbers_end ((Whitespace x y) ∷ []) outer a b c rest ends = ends
@@ -241,29 +241,29 @@ version_ends : (ts : List TokenValue) → IsVersionShape ts → Ends start ts
 version_ends ts w =
     rw (w.joined, ← regroup w.before (Numeric w.major ∷ Dot ∷ Numeric w.minor ∷ Dot ∷ Numeric w.patch ∷ []) w.pre w.build w.after)
     (numbers_end w.before w.space_before w.major w.minor w.patch _ (⊎_elim
-    (λ no_pre. ends_more _ (behind_number patch) w.pre _ no_pre (build_ends w (behind_number patch) refl (λ a b. refl) refl))
-    (λ pre. ends_more _ (behind_run pre_release) w.pre _ pre (build_ends w (behind_run pre_release) refl (λ a b. refl) refl))
-    (part_leads pre_release Hyphen (behind_number patch) w.pre refl w.pre_shape)))
+    (λ no_pre. ends_more _ (after_number patch) w.pre _ no_pre (build_ends w (after_number patch) refl (λ a b. refl) refl))
+    (λ pre. ends_more _ (after_run pre_release) w.pre _ pre (build_ends w (after_run pre_release) refl (λ a b. refl) refl))
+    (part_leads pre_release Hyphen (after_number patch) w.pre refl w.pre_shape)))
   where
     build_ends : {ts : List TokenValue} (w : IsVersionShape ts) (p : Place) → step p Plus ≡ Some (at_run build)
         → ((a b : ℕ) → step p (Whitespace a b) ≡ Some end) → accepts p ≡ true → Ends p (w.build ++ w.after)
     build_ends w p sign white ok =
         ⊎_elim
         (λ no_build. ends_more p p w.build w.after no_build (outer_ends p white ok w.after w.space_after))
-        (λ there. ends_more p (behind_run build) w.build w.after there
-        (outer_ends (behind_run build) (λ a b. refl) refl w.after w.space_after))
+        (λ there. ends_more p (after_run build) w.build w.after there
+        (outer_ends (after_run build) (λ a b. refl) refl w.after w.space_after))
         (part_leads build Plus p w.build sign w.build_shape)
 
 version_live : (s : Place) → (more : List TokenValue) × (u : Place) × (run step s more ≡ Some u) × (accepts u ≡ true)
-version_live start = (Numeric 0 ∷ Dot ∷ Numeric 0 ∷ Dot ∷ Numeric 0 ∷ [], behind_number patch, refl, refl)
-version_live (at_number major) = (Numeric 0 ∷ Dot ∷ Numeric 0 ∷ Dot ∷ Numeric 0 ∷ [], behind_number patch, refl, refl)
-version_live (at_number minor) = (Numeric 0 ∷ Dot ∷ Numeric 0 ∷ [], behind_number patch, refl, refl)
-version_live (at_number patch) = (Numeric 0 ∷ [], behind_number patch, refl, refl)
-version_live (behind_number major) = (Dot ∷ Numeric 0 ∷ Dot ∷ Numeric 0 ∷ [], behind_number patch, refl, refl)
-version_live (behind_number minor) = (Dot ∷ Numeric 0 ∷ [], behind_number patch, refl, refl)
-version_live (behind_number patch) = ([], behind_number patch, refl, refl)
-version_live (at_run part) = (Numeric 0 ∷ [], behind_run part, refl, refl)
-version_live (behind_run part) = ([], behind_run part, refl, refl)
+version_live start = (Numeric 0 ∷ Dot ∷ Numeric 0 ∷ Dot ∷ Numeric 0 ∷ [], after_number patch, refl, refl)
+version_live (at_number major) = (Numeric 0 ∷ Dot ∷ Numeric 0 ∷ Dot ∷ Numeric 0 ∷ [], after_number patch, refl, refl)
+version_live (at_number minor) = (Numeric 0 ∷ Dot ∷ Numeric 0 ∷ [], after_number patch, refl, refl)
+version_live (at_number patch) = (Numeric 0 ∷ [], after_number patch, refl, refl)
+version_live (after_number major) = (Dot ∷ Numeric 0 ∷ Dot ∷ Numeric 0 ∷ [], after_number patch, refl, refl)
+version_live (after_number minor) = (Dot ∷ Numeric 0 ∷ [], after_number patch, refl, refl)
+version_live (after_number patch) = ([], after_number patch, refl, refl)
+version_live (at_run part) = (Numeric 0 ∷ [], after_run part, refl, refl)
+version_live (after_run part) = ([], after_run part, refl, refl)
 version_live end = ([], end, refl, refl)
 
 -- the shape of a version is read from the start on

@@ -17,9 +17,9 @@ use Rattle.semver_tokens.specs.VersionReading.{IsIdentifierShape, IsVersionShape
 use Rattle.semver_tokens.specs.VersionReading.{HoldsRun, HoldsIdentifierRun, IsEndPart, MayRunOutInIdentifier, MayRunOutInVersion}
 use Rattle.semver_tokens.specs.VersionReading.{inner_text, inner_texts, last_alone, IsWhole}
 use Rattle.semver_tokens.specs.Steps.Taking.{run, IsTaken, Gives, Number, major, minor, patch, Part, pre_release, build, Place, start}
-use Rattle.semver_tokens.specs.Steps.Taking.{at_number, behind_number, at_run, behind_run, end, step, accepts, IsTakenTo, IsAtMark}
+use Rattle.semver_tokens.specs.Steps.Taking.{at_number, after_number, at_run, after_run, end, step, accepts, IsTakenTo, IsAtMark}
 use Rattle.semver_tokens.specs.Steps.Taking.{ArePassed, AtMark, TakesPart, PartMayRunOut, skip_at, skip_whitespace, numbers}
-use Rattle.semver_tokens.proofs.ReadingSteps.{run-append, runs_out_behind, longest_stops, not_whole, Stops}
+use Rattle.semver_tokens.proofs.ReadingSteps.{run-append, runs_out_after, longest_stops, not_whole, Stops}
 use Rattle.semver_tokens.proofs.ReadingSteps.{none_taken, reads_value, reads_error, next_given, expected_given, then_given}
 use Rattle.semver_tokens.proofs.IdentifierSteps.{id_step, identifier_is_read, identifier_stops}
 use Rattle.semver_tokens.proofs.FirstToken.{by_test}
@@ -77,7 +77,7 @@ number_text : (x : TokenValue) (n : ℕ) → number_of x ≡ Some n → inner_te
 number_text (Numeric m) n e = cc
 number_text _ n e = cc
 
-number_leads : (k : Number) (x : TokenValue) → step (at_number k) x ≡ option_map (λ (n : ℕ). behind_number k) (number_of x)
+number_leads : (k : Number) (x : TokenValue) → step (at_number k) x ≡ option_map (λ (n : ℕ). after_number k) (number_of x)
 number_leads k (Numeric n) = refl
 number_leads k _ = refl
 
@@ -90,20 +90,20 @@ abbrev following : Number → Number
 following major = minor
 following _ = patch
 
-dot_leads : (k : Number) → accepts (behind_number k) ≡ false → (x : TokenValue)
-    → step (behind_number k) x ≡ option_map (λ (d : Unit {0}). at_number (following k)) (dot_of x)
+dot_leads : (k : Number) → accepts (after_number k) ≡ false → (x : TokenValue)
+    → step (after_number k) x ≡ option_map (λ (d : Unit {0}). at_number (following k)) (dot_of x)
 dot_leads major wants Dot = refl
 dot_leads major wants _ = refl
 dot_leads minor wants Dot = refl
 dot_leads minor wants _ = refl
 dot_leads patch wants x = cc
 
-dot_number_given : {s t : ParserState} {k : Number} {text : Text} → IsTakenTo s (behind_number k) text t → accepts (behind_number k) ≡ false
-    → Gives (RefusesVersion s) (λ n u. IsTakenTo s (behind_number (following k)) ((text ++ codes ".") ++ decimal n) u) (dot_numeric t)
+dot_number_given : {s t : ParserState} {k : Number} {text : Text} → IsTakenTo s (after_number k) text t → accepts (after_number k) ≡ false
+    → Gives (RefusesVersion s) (λ n u. IsTakenTo s (after_number (following k)) ((text ++ codes ".") ++ decimal n) u) (dot_numeric t)
 dot_number_given {t = t} {k = k} taken wants =
     then_given _ _ _ (expect dot_of t) (λ x. numeric)
     (valued_given taken dot_of (λ d. codes ".") (at_number (following k)) dot_text wants (λ x looked. dot_leads k wants x))
-    (λ x u behind. valued_given behind number_of decimal (behind_number (following k)) number_text refl
+    (λ x u after. valued_given after number_of decimal (after_number (following k)) number_text refl
     (λ y looked. number_leads (following k) y))
 
 -- their text
@@ -112,7 +112,7 @@ numbers_text n = join_with_byte 46 (map decimal (n.0 ∷ n.1 ∷ n.2 ∷ []))
 
 -- all three were taken, or the first comes next
 abbrev pub HasNumbers : ParserState → ℕ × ℕ × ℕ → ParserState → Type 0
-HasNumbers s n u = IsTakenTo s (behind_number patch) (numbers_text n) u
+HasNumbers s n u = IsTakenTo s (after_number patch) (numbers_text n) u
 
 pub numbers_given : (s : ParserState) (d : Step (ℕ × ℕ × ℕ)) → d ≡ numbers s → Gives (RefusesVersion s) (HasNumbers s) d
 numbers_given s d e =
@@ -122,10 +122,10 @@ numbers_given s d e =
     (λ b v taken. then_given _ _ _ (dot_numeric v) _ (dot_number_given taken refl) (λ c w taken. simp append_assoc at taken)))))
   where
     GivesMajor : ParserState → Type 0
-    GivesMajor t = Gives (RefusesVersion s) (λ a u. IsTakenTo s (behind_number major) (decimal a) u) (numeric t)
+    GivesMajor t = Gives (RefusesVersion s) (λ a u. IsTakenTo s (after_number major) (decimal a) u) (numeric t)
 
     start_leads : (x : TokenValue) → ((a b : ℕ) → ¬ (x ≡ Whitespace a b))
-        → step start x ≡ option_map (λ (n : ℕ). behind_number major) (number_of x)
+        → step start x ≡ option_map (λ (n : ℕ). after_number major) (number_of x)
     start_leads (Numeric n) none = refl
     start_leads (Whitespace a b) none = absurd (none a b refl)
     start_leads _ none = refl
@@ -133,8 +133,8 @@ numbers_given s d e =
     first : Gives (RefusesVersion s) (λ (x : Unit {0}) t. GivesMajor t) (skip_whitespace s)
     first =
         space_given (nothing_taken s) GivesMajor (at_number major) (λ a b looked. refl)
-        (λ t taken. valued_given taken number_of decimal (behind_number major) number_text refl (λ x looked. number_leads major x))
-        (λ none. valued_given (nothing_taken s) number_of decimal (behind_number major) number_text refl
+        (λ t taken. valued_given taken number_of decimal (after_number major) number_text refl (λ x looked. number_leads major x))
+        (λ none. valued_given (nothing_taken s) number_of decimal (after_number major) number_text refl
         (λ x looked. start_leads x (λ a b e. none a b (cc))))
 
 -- ---- an identifier of a part
@@ -152,7 +152,7 @@ module _ {part : Part} {s t : ParserState} {text : Text} (k : IsTakenTo s (at_ru
   pub record IsIdentifierTaken (v : IdentifierValue) (u : ParserState) : Type 0 where
     pub id : Text
     pub spells : SpellsIdentifier v id
-    pub taken : IsTakenTo s (behind_run part) (text ++ id) u
+    pub taken : IsTakenTo s (after_run part) (text ++ id) u
     pub no_hyphen : ¬ (look u ≡ Some Hyphen)
 
   pub identifier_taken : (v : IdentifierValue) (u : ParserState) → ReadsIdentifier t (Ok v) u → IsIdentifierTaken v u
@@ -183,19 +183,19 @@ module _ {part : Part} {s t : ParserState} {text : Text} (k : IsTakenTo s (at_ru
       let stop = longest_stops identifier_is_read t.remaining w.front w.rest w.longest in
       at_place stop.0 stop.1 stop.2
     where
-      last_behind : (front ts : List TokenValue) → 0 < length ts → last_alone (front ++ ts) ≡ last_alone ts
-      last_behind [] ts some = refl
-      last_behind (x ∷ []) [] some = absurd (omega (arith, some))
-      last_behind (x ∷ []) (y ∷ ts) some = refl
-      last_behind (x ∷ y ∷ front) ts some = last_behind (y ∷ front) ts some
+      last_after : (front ts : List TokenValue) → 0 < length ts → last_alone (front ++ ts) ≡ last_alone ts
+      last_after [] ts some = refl
+      last_after (x ∷ []) [] some = absurd (omega (arith, some))
+      last_after (x ∷ []) (y ∷ ts) some = refl
+      last_after (x ∷ y ∷ front) ts some = last_after (y ∷ front) ts some
 
       refuses_more : (front ts : List TokenValue) (pending : Option ℕ) (rest : List TokenValue) (left : List TokenValue)
           → (front ≡ []) ⊎ ((0 < length ts) ⊎ (pending ≡ None)) → Refuses ts pending rest e left → Refuses (front ++ ts) pending rest e left
       refuses_more front ts pending rest left (inl empty) w = rw empty w
       refuses_more front ts None [] left (inr known) w = w
       refuses_more front ts None (x ∷ rest) left (inr known) w = w
-      refuses_more front ts (Some c) [] left (inr (inl some)) w = (w.0, cc (last_behind front ts some))
-      refuses_more front ts (Some c) (x ∷ []) left (inr (inl some)) w = (w.0, cc (last_behind front ts some))
+      refuses_more front ts (Some c) [] left (inr (inl some)) w = (w.0, cc (last_after front ts some))
+      refuses_more front ts (Some c) (x ∷ []) left (inr (inl some)) w = (w.0, cc (last_after front ts some))
       refuses_more front ts (Some c) (x ∷ y ∷ rest) left (inr (inl some)) w = w
       refuses_more front ts (Some c) rest left (inr (inr none)) w = absurd (none-some c (sym none))
 
@@ -213,7 +213,7 @@ module _ {part : Part} {s t : ParserState} {text : Text} (k : IsTakenTo s (at_ru
       stops_at_run (AlphaNumeric n ∷ rest) stops = cc
       stops_at_run (_ ∷ rest) stops = refl
 
-      stops_at_none : (rest : List TokenValue) → ¬ (0 < length rest) → Stops step (behind_run part) rest
+      stops_at_none : (rest : List TokenValue) → ¬ (0 < length rest) → Stops step (after_run part) rest
       stops_at_none [] none = tt
       stops_at_none (x ∷ rest) none = absurd (none (omega arith))
 
@@ -268,32 +268,32 @@ sign_holds sign is_sign part (t ∷ ts) last e ok =
 abbrev is_before : Place → Bool
 is_before start = true
 is_before (at_number k) = true
-is_before (behind_number k) = true
+is_before (after_number k) = true
 is_before _ = false
 
-holds_from : (p : Place) → is_before p ≡ true → (ts : List TokenValue) (part : Part) → run step p ts ≡ Some (behind_run part)
+holds_from : (p : Place) → is_before p ≡ true → (ts : List TokenValue) (part : Part) → run step p ts ≡ Some (after_run part)
     → HoldsIdentifierRun ts
 holds_from p before [] part e = cc
 holds_from start before (Whitespace a b ∷ ts) part e = holds_later _ ts (holds_from (at_number major) refl ts part e)
-holds_from start before (Numeric n ∷ ts) part e = holds_later _ ts (holds_from (behind_number major) refl ts part e)
-holds_from (at_number k) before (Numeric n ∷ ts) part e = holds_later _ ts (holds_from (behind_number k) refl ts part e)
-holds_from (behind_number major) before (Dot ∷ ts) part e = holds_later _ ts (holds_from (at_number minor) refl ts part e)
-holds_from (behind_number minor) before (Dot ∷ ts) part e = holds_later _ ts (holds_from (at_number patch) refl ts part e)
-holds_from (behind_number patch) before (Hyphen ∷ ts) part e = sign_holds Hyphen (inl refl) pre_release ts (behind_run part) e refl
-holds_from (behind_number patch) before (Plus ∷ ts) part e = sign_holds Plus (inr refl) build ts (behind_run part) e refl
-holds_from (behind_number patch) before (Whitespace a b ∷ []) part e = cc
-holds_from (behind_number patch) before (Whitespace a b ∷ t ∷ ts) part e = cc
+holds_from start before (Numeric n ∷ ts) part e = holds_later _ ts (holds_from (after_number major) refl ts part e)
+holds_from (at_number k) before (Numeric n ∷ ts) part e = holds_later _ ts (holds_from (after_number k) refl ts part e)
+holds_from (after_number major) before (Dot ∷ ts) part e = holds_later _ ts (holds_from (at_number minor) refl ts part e)
+holds_from (after_number minor) before (Dot ∷ ts) part e = holds_later _ ts (holds_from (at_number patch) refl ts part e)
+holds_from (after_number patch) before (Hyphen ∷ ts) part e = sign_holds Hyphen (inl refl) pre_release ts (after_run part) e refl
+holds_from (after_number patch) before (Plus ∷ ts) part e = sign_holds Plus (inr refl) build ts (after_run part) e refl
+holds_from (after_number patch) before (Whitespace a b ∷ []) part e = cc
+holds_from (after_number patch) before (Whitespace a b ∷ t ∷ ts) part e = cc
 holds_from p before (_ ∷ ts) part e = cc
 
 module _ {part : Part} {s : ParserState} where
   -- a front after a run, taken as far as it goes
-  runs_out : {u : ParserState} (front rest : List TokenValue) → s.remaining ≡ front ++ rest → run step start front ≡ Some (behind_run part)
+  runs_out : {u : ParserState} (front rest : List TokenValue) → s.remaining ≡ front ++ rest → run step start front ≡ Some (after_run part)
       → IsEndPart s u → MayRunOutInVersion s u
   runs_out front rest split leads left =
-      runs_out_behind version_is_read holds_longer front rest (behind_run part) split leads (holds_from start refl front part leads) left
+      runs_out_after version_is_read holds_longer front rest (after_run part) split leads (holds_from start refl front part leads) left
 
   -- after a run
-  taken_runs_out : {t : ParserState} {text : Text} → IsTakenTo s (behind_run part) text t → MayRunOutInVersion s t
+  taken_runs_out : {t : ParserState} {text : Text} → IsTakenTo s (after_run part) text t → MayRunOutInVersion s t
   taken_runs_out {t} k =
       runs_out k.front t.remaining k.taken.split k.taken.leads
       (record { taken = k.front; split = k.taken.split; pending = k.taken.pending })
@@ -345,8 +345,8 @@ AreBeforeMark t ids u =
     AtMark t (λ s part text. (texts : List Text) × AllZip SpellsIdentifier ids texts × IsAtMark s part (text ++ dotted texts) u)
 
 -- and it was taken
-abbrev pub AreBehindMark : ParserState → List IdentifierValue → ParserState → Type 0
-AreBehindMark t ids u =
+abbrev pub AreAfterMark : ParserState → List IdentifierValue → ParserState → Type 0
+AreAfterMark t ids u =
     AtMark t (λ s part text. (texts : List Text) × AllZip SpellsIdentifier ids texts × IsTakenTo s (at_run part) (text ++ dotted texts) u)
 
 mark_given : {s t : ParserState} {part : Part} {text : Text} → IsAtMark s part text t → (d : Step TokenValue) → d ≡ pop t
@@ -354,11 +354,11 @@ mark_given : {s t : ParserState} {part : Part} {text : Text} → IsAtMark s part
 mark_given {part = part} at d e = rw (e, ← at.text_is) (next_taken at.taken (at_run part) at.mark at.next at.leads)
 
 pub mark_popped : (t u : ParserState) (ids : List IdentifierValue) → AreBeforeMark t ids u → (d : Step TokenValue) → d ≡ pop u
-    → Gives (λ e v. TakesPart true t (Err e, v)) (λ x v. AreBehindMark t ids v) d
+    → Gives (λ e v. TakesPart true t (Err e, v)) (λ x v. AreAfterMark t ids v) d
 mark_popped t u ids k (Ok x, v) e = λ s part text at. let m = k s part text at in (m.0, m.1, mark_given m.2 _ e)
 mark_popped t u ids k (Err f, v) e = λ s part text at. mark_given (k s part text at).2 _ e
 
-module _ (t v w : ParserState) (ids : List IdentifierValue) (k : AreBehindMark t ids v) where
+module _ (t v w : ParserState) (ids : List IdentifierValue) (k : AreAfterMark t ids v) where
   pub part_refused : (e : ErrorValue) → ReadsIdentifier v (Err e) w → TakesPart true t (Err e, w)
   part_refused e reads s part text at = identifier_refused (k s part text at).2 e w reads
 
@@ -366,8 +366,8 @@ module _ (t v w : ParserState) (ids : List IdentifierValue) (k : AreBehindMark t
   part_runs_out out s part text at = identifier_runs_out (k s part text at).2 out
 
   module _ (id : IdentifierValue) (reads : ReadsIdentifier v (Ok id) w) where
-    pub part_runs_out_behind : PartMayRunOut true t w
-    part_runs_out_behind s part text at = taken_runs_out (identifier_taken (k s part text at).2 id w reads).taken
+    pub part_runs_out_after : PartMayRunOut true t w
+    part_runs_out_after s part text at = taken_runs_out (identifier_taken (k s part text at).2 id w reads).taken
 
     -- a dot comes next
     pub part_before_dot : look w ≡ Some Dot → AreBeforeMark t (ids ++ id ∷ []) w
@@ -377,7 +377,7 @@ module _ (t v w : ParserState) (ids : List IdentifierValue) (k : AreBehindMark t
           m.0 ++ q.id ∷ [],
           all_zipped_more SpellsIdentifier ids m.0 id q.id m.1 q.spells,
           record {
-            from = behind_run part;
+            from = after_run part;
             mark = Dot;
             before = (text ++ dotted m.0) ++ q.id;
             taken = q.taken;
@@ -414,7 +414,7 @@ way_on pre_release Plus = Some (at_run build)
 way_on _ _ = None
 
 -- after a part or its absence: the version may end here
-pub record IsBehind (s : ParserState) (part : Part) (text : Text) (t : ParserState) : Type 0 where
+pub record IsAfter (s : ParserState) (part : Part) (text : Text) (t : ParserState) : Type 0 where
   pub place : Place
   pub taken : IsTakenTo s place text t
   pub may_end : accepts place ≡ true
@@ -428,15 +428,15 @@ ReadsAll s text u = (v : VersionValue) → SpellsCore v text → ReadsVersion s 
 pub record IsPart (s : ParserState) (part : Part) (text : Text) (ids : List IdentifierValue) (t : ParserState) : Type 0 where
   pub part_text : Text
   pub spells : SpellsPart (inner_text (mark_of part)) ids part_text
-  pub behind : IsBehind s part (text ++ part_text) t
+  pub after : IsAfter s part (text ++ part_text) t
 
 passed_part : (s t : ParserState) (part : Part) (text : Text) (ids : List IdentifierValue)
     → ArePassed s part (text ++ inner_text (mark_of part)) ids t → IsPart s part text ids t
 passed_part s t part text ids w = record {
   part_text = marked (inner_text (mark_of part)) w.texts;
   spells = record { texts = w.texts; each = w.each; joined = refl };
-  behind = record {
-    place = behind_run part;
+  after = record {
+    place = after_run part;
     taken = rw (← marked_text (inner_text (mark_of part)) w.texts w.some) w.taken;
     may_end = refl;
     leads = λ x looked. run_leads part x (λ e. w.no_hyphen (cc)) (λ e. w.no_dot (cc));
@@ -448,7 +448,7 @@ passed_part s t part text ids w = record {
     marked_text mark [] some = absurd (omega (arith, some))
     marked_text mark (x ∷ texts) some = append_assoc text mark (join_with_byte 46 (x ∷ texts))
 
-    run_leads : (part : Part) (x : TokenValue) → ¬ (x ≡ Hyphen) → ¬ (x ≡ Dot) → step (behind_run part) x ≡ way_on part x
+    run_leads : (part : Part) (x : TokenValue) → ¬ (x ≡ Hyphen) → ¬ (x ≡ Dot) → step (after_run part) x ≡ way_on part x
     run_leads part Hyphen hyphen dot = absurd (hyphen refl)
     run_leads part Dot hyphen dot = absurd (dot refl)
     run_leads pre_release Plus hyphen dot = refl
@@ -462,7 +462,7 @@ module _ {s t : ParserState} {from : Place} {text : Text} (k : IsTakenTo s from 
       record { from = from; mark = mark_of part; before = text; taken = k; next = looked; leads = leads looked; text_is = refl }
 
   part_given : (there : Bool) → IsTrue there ↔ (look t ≡ Some (mark_of part)) → (d : Step (List IdentifierValue)) → TakesPart there t d
-      → (¬ (look t ≡ Some (mark_of part)) → IsBehind s part text t) → Gives (RefusesVersion s) (IsPart s part text) d
+      → (¬ (look t ≡ Some (mark_of part)) → IsAfter s part text t) → Gives (RefusesVersion s) (IsPart s part text) d
   part_given true here (Ok ids, u) w none =
       passed_part s u part text ids (w s part (text ++ inner_text (mark_of part)) (at_mark (here.0 refl)))
   part_given true here (Err e, u) w none = w s part (text ++ inner_text (mark_of part)) (at_mark (here.0 refl))
@@ -470,7 +470,7 @@ module _ {s t : ParserState} {from : Place} {text : Text} (k : IsTakenTo s from 
       rw w (record {
         part_text = [];
         spells = record { texts = []; each = tt; joined = refl };
-        behind = rw append-nil (none (λ looked. let there_is = here.1 looked in cc));
+        after = rw append-nil (none (λ looked. let there_is = here.1 looked in cc));
       })
 
   part_out : (there : Bool) → IsTrue there ↔ (look t ≡ Some (mark_of part)) → (u : ParserState) → PartMayRunOut there t u
@@ -479,20 +479,20 @@ module _ {s t : ParserState} {from : Place} {text : Text} (k : IsTakenTo s from 
   part_out false here u w = absurd w
 
 module _ {s t : ParserState} {text : Text} where
-  module _ (k : IsTakenTo s (behind_number patch) text t) (there : Bool) (here : IsTrue there ↔ (look t ≡ Some Hyphen)) where
+  module _ (k : IsTakenTo s (after_number patch) text t) (there : Bool) (here : IsTrue there ↔ (look t ≡ Some Hyphen)) where
     pub pre_given : (d : Step (List IdentifierValue)) → TakesPart there t d → Gives (RefusesVersion s) (IsPart s pre_release text) d
     pre_given d takes =
         part_given k pre_release (λ looked. refl) there here d takes
-        (λ none. record { place = behind_number patch; taken = k; may_end = refl; leads = λ x looked. no_pre x (λ e. none (cc)) })
+        (λ none. record { place = after_number patch; taken = k; may_end = refl; leads = λ x looked. no_pre x (λ e. none (cc)) })
       where
-        no_pre : (x : TokenValue) → ¬ (x ≡ Hyphen) → step (behind_number patch) x ≡ way_on pre_release x
+        no_pre : (x : TokenValue) → ¬ (x ≡ Hyphen) → step (after_number patch) x ≡ way_on pre_release x
         no_pre Hyphen hyphen = absurd (hyphen refl)
         no_pre _ hyphen = refl
 
     pub pre_out : (u : ParserState) → PartMayRunOut there t u → MayRunOutInVersion s u
     pre_out u out = part_out k pre_release (λ looked. refl) there here u out
 
-  module _ (b : IsBehind s pre_release text t) (there : Bool) (here : IsTrue there ↔ (look t ≡ Some Plus)) where
+  module _ (b : IsAfter s pre_release text t) (there : Bool) (here : IsTrue there ↔ (look t ≡ Some Plus)) where
     pub build_given : (d : Step (List IdentifierValue)) → TakesPart there t d → Gives (RefusesVersion s) (IsPart s build text) d
     build_given d takes =
         part_given b.taken build (b.leads Plus) there here d takes
@@ -510,7 +510,7 @@ module _ {s t : ParserState} {text : Text} where
     pub build_out : (u : ParserState) → PartMayRunOut there t u → MayRunOutInVersion s u
     build_out u out = part_out b.taken build (b.leads Plus) there here u out
 
-  pub end_given : IsBehind s build text t → (d : Step (Unit {0})) → d ≡ skip_whitespace t
+  pub end_given : IsAfter s build text t → (d : Step (Unit {0})) → d ≡ skip_whitespace t
       → Gives (RefusesVersion s) (λ x u. ReadsAll s text u) d
   end_given b d e =
       rw e (space_given b.taken (ReadsAll s text) end (λ x y looked. b.leads (Whitespace x y) looked)

@@ -234,10 +234,8 @@ pub fn copy<'input>(lexer: &Lexer<'input>) -> Lexer<'input>
 }
 
 // Answer: free, which text: must-fail/rest_begins_at_the_start_of_the_text.edit.
-/// What stands from the first token that is left on: a text with the tokens that are left, and with
-/// the bad character after them. Nothing once the error was given.
-///
-/// Of `1.2` it is `.2` after the first token.
+/// Returns the text from the first remaining token on, up to the end of the input; empty once the
+/// error was returned. On `1.2`, after the first token, it is `.2`.
 #[inline(always)]
 pub fn rest<'input>(lexer: &Lexer<'input>) -> &'input str
     ensures { IsStateFrom result.now lexer.now }

@@ -161,12 +161,12 @@ impl<'input> Parser<'input> {
     {
         let rest = rest(&self.lexer);
         let mut lexer = copy(&self.lexer);
-        let behind = lexer.next().transpose()?;
+        let after = lexer.next().transpose()?;
         let Some(first) = self.lookahead.take() else {
             return Err(Error::UnexpectedEnd);
         };
         self.lexer = lexer;
-        self.lookahead = behind;
+        self.lookahead = after;
         self.rest = rest;
         Ok(first)
     }

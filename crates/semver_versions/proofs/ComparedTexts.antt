@@ -17,7 +17,7 @@ use Rattle.semver_texts.specs.ToolVersions.{IsKeptAs}
 use Rattle.semver_texts.specs.VersionViews.{identifier_value}
 use Rattle.semver_texts.specs.Versions.{IdentifierValue, PlainVersion}
 use Rattle.semver_texts.specs.declared.version.Identifier.{Identifier}
-use Rattle.semver_texts.proofs.DottedParts.{parts_behind, IsSplit}
+use Rattle.semver_texts.proofs.DottedParts.{parts_after, IsSplit}
 
 -- what identifiers compare as with some others
 abbrev pub compared : List IdentifierValue → List Identifier → Ordering
@@ -25,9 +25,9 @@ compared ids others = slice_cmp identifier_cmp ids (map identifier_value others)
 
 -- what is left of the text and of the others decides
 pub record IsLeft (text : Text) (others : List Identifier) (rest : Option (Bor Text)) (left : List Identifier) : Type 0 where
-  pub each : IsTrue (list_all is_part (parts_behind rest))
+  pub each : IsTrue (list_all is_part (parts_after rest))
   pub decides : (ids : List IdentifierValue) → AllZip IsKeptAs ids (slice_split is_dot text)
-      → (behind : List IdentifierValue) × AllZip IsKeptAs behind (parts_behind rest) × (compared ids others ≡ compared behind left)
+      → (after : List IdentifierValue) × AllZip IsKeptAs after (parts_after rest) × (compared ids others ≡ compared after left)
 
 -- one of them and those after it
 pub at_item : (others : List Identifier) (i : ℕ) (x : Identifier) → i < length others → x ≡ get_or others i x
@@ -35,10 +35,10 @@ pub at_item : (others : List Identifier) (i : ℕ) (x : Identifier) → i < leng
 at_item others i x inside is = drop_more others i x inside ∙ rw (← is)
 
 -- a text in parts is its first part, and those after it
-pub split_parts : (bytes part : Text) (behind : Option (Bor Text)) → IsSplit bytes part behind
-    → slice_split is_dot bytes ≡ part ∷ parts_behind behind
+pub split_parts : (bytes part : Text) (after : Option (Bor Text)) → IsSplit bytes part after
+    → slice_split is_dot bytes ≡ part ∷ parts_after after
 split_parts bytes part None h = h.0
-split_parts bytes part (Some behind) h = h.0
+split_parts bytes part (Some after) h = h.0
 
 -- after all of them there is none
 pub all_compared : {text : Text} (others : List Identifier) (rest : Option (Bor Text)) (i : ℕ) → length others ≤ i
@@ -51,10 +51,10 @@ module _ {text : Text} {others : List Identifier} where
       → AllZip IsKeptAs ids (slice_split is_dot text) → compared [] left ≡ compared ids others
   ended left w ids all = at (w.decides ids all).0 (w.decides ids all).1 (w.decides ids all).2
     where
-      at : (behind : List IdentifierValue) → AllZip IsKeptAs behind [] → compared ids others ≡ compared behind left
+      at : (after : List IdentifierValue) → AllZip IsKeptAs after [] → compared ids others ≡ compared after left
           → compared [] left ≡ compared ids others
       at [] none e = sym e
-      at (id ∷ behind) none e = absurd none
+      at (id ∷ after) none e = absurd none
 
   -- the others have ended before it
   pub longer : (rest : Bor Text) → IsLeft text others (Some rest) [] → (ids : List IdentifierValue)
@@ -69,12 +69,12 @@ module _ {text : Text} {others : List Identifier} where
       at [] (part ∷ parts) some none e = absurd none
       at (id ∷ left) (part ∷ parts) some both e = sym e
 
-  module _ (bytes : Bor Text) (part : Text) (behind : Option (Bor Text)) (split : IsSplit bytes.now part behind) {first : Identifier}
+  module _ (bytes : Bor Text) (part : Text) (after : Option (Bor Text)) (split : IsSplit bytes.now part after) {first : Identifier}
       {left : List Identifier} (w : IsLeft text others (Some bytes) (first ∷ left)) where
-    cut : slice_split is_dot bytes.now ≡ part ∷ parts_behind behind
-    cut = split_parts bytes.now part behind split
+    cut : slice_split is_dot bytes.now ≡ part ∷ parts_after after
+    cut = split_parts bytes.now part after split
 
-    parts : (is_part part ≡ true) × (list_all is_part (parts_behind behind) ≡ true)
+    parts : (is_part part ≡ true) × (list_all is_part (parts_after after) ≡ true)
     parts = and_parts (is_part part) _ (rw cut at w.each)
 
     pub first_part : is_part part ≡ true
@@ -88,22 +88,22 @@ module _ {text : Text} {others : List Identifier} where
       decided unequal ids all =
           at (w.decides ids all).0 (subst (AllZip IsKeptAs (w.decides ids all).0) cut (w.decides ids all).1) (w.decides ids all).2
         where
-          at : (ids' : List IdentifierValue) → AllZip IsKeptAs ids' (part ∷ parts_behind behind)
+          at : (ids' : List IdentifierValue) → AllZip IsKeptAs ids' (part ∷ parts_after after)
               → compared ids others ≡ compared ids' (first ∷ left) → ordering ≡ compared ids others
           at [] none e = absurd none
           at (id ∷ more) both e = let first_is = is id both.0 in grind arith
 
       -- it doesn't
-      pub goes_on : ordering ≡ Equal → IsLeft text others behind left
+      pub goes_on : ordering ≡ Equal → IsLeft text others after left
       goes_on equal = record {
         each = parts.1;
         decides = λ ids all. at ids (w.decides ids all).0
             (rw cut at (w.decides ids all).1) (w.decides ids all).2;
       }
         where
-          at : (ids ids' : List IdentifierValue) → AllZip IsKeptAs ids' (part ∷ parts_behind behind)
+          at : (ids ids' : List IdentifierValue) → AllZip IsKeptAs ids' (part ∷ parts_after after)
               → compared ids others ≡ compared ids' (first ∷ left)
-              → (more : List IdentifierValue) × AllZip IsKeptAs more (parts_behind behind)
+              → (more : List IdentifierValue) × AllZip IsKeptAs more (parts_after after)
               × (compared ids others ≡ compared more left)
           at ids [] none e = absurd none
           at ids (id ∷ more) both e =

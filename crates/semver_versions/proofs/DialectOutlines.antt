@@ -14,7 +14,7 @@ use Rattle.semver_texts.specs.declared.dialect.Dialect.{Dialect}
 use Rattle.semver_texts.specs.declared.dialect.Dialect.TheVariants.{Crate}
 use Rattle.semver_texts.proofs.Lists.{prefix_is}
 use Rattle.semver_texts.proofs.SpelledVersions.{kept_texts}
-use Rattle.semver_versions.specs.Outlines.{OutlineValue, IsOutlineIn, IsOutlineOf, StandsAt, behind_mark, dotted_text, outline_behind}
+use Rattle.semver_versions.specs.Outlines.{OutlineValue, IsOutlineIn, IsOutlineOf, StandsAt, strip_mark, dotted_text, outline_after}
 use Rattle.semver_versions.specs.Outlines.{version_of}
 use Rattle.semver_versions.specs.Steps.Reading.{IsOutlinedBy}
 use Rattle.semver_versions.proofs.KeptTexts.{dotted_kept, kept_is}
@@ -25,23 +25,23 @@ use Rattle.semver_versions.proofs.ReadVersions.{its_numbers}
 -- ---- the version that an outline is of
 
 -- it is the version whose outline it is
-behind_is : (before : ℕ) (v : VersionValue) (ts us : List Text) → AllZip IsKeptAs v.plain.pre ts → AllZip IsKeptAs v.build us
-    → v ≡ version_of (outline_behind before v)
-behind_is before v ts us pre build =
-    let pre_is : v.plain.pre ≡ (version_of (outline_behind before v)).plain.pre = kept_is v.plain.pre _
+after_is : (before : ℕ) (v : VersionValue) (ts us : List Text) → AllZip IsKeptAs v.plain.pre ts → AllZip IsKeptAs v.build us
+    → v ≡ version_of (outline_after before v)
+after_is before v ts us pre build =
+    let pre_is : v.plain.pre ≡ (version_of (outline_after before v)).plain.pre = kept_is v.plain.pre _
     (dotted_kept v.plain.pre ts pre).1 in
-    let build_is : v.build ≡ (version_of (outline_behind before v)).build = kept_is v.build _ (dotted_kept v.build us build).1 in
+    let build_is : v.build ≡ (version_of (outline_after before v)).build = kept_is v.build _ (dotted_kept v.build us build).1 in
     (λ i. record {
       plain = record { major = v.plain.major; minor = v.plain.minor; patch = v.plain.patch; pre = pre_is i };
       build = build_is i;
     })
 
 pub outlined_version : (d : Dialect) (before : ℕ) (o : OutlineValue) (u v : VersionValue) (text : Text) → SpellsIn d u text
-    → o ≡ outline_behind before u → SpellsIn d v text → v ≡ version_of o
+    → o ≡ outline_after before u → SpellsIn d v text → v ≡ version_of o
 outlined_version d before o u v text a is b =
     let read = (read_of d v text b).2 in
-    behind_is before v read.pre_texts read.build_texts read.pre read.build
-    ∙ ap version_of (ap (outline_behind before) (one_version_in d v u text b a) ∙ sym is)
+    after_is before v read.pre_texts read.build_texts read.pre read.build
+    ∙ ap version_of (ap (outline_after before) (one_version_in d v u text b a) ∙ sym is)
 
 pub its_version_in : (d : Dialect) (o : OutlineValue) (v : VersionValue) (text : Text) → IsOutlineIn d text o → SpellsIn d v text
     → v ≡ version_of o
@@ -63,15 +63,15 @@ spaces_before v text w =
 
 pub same_outline : (o : OutlineValue) (text : Text) → IsOutlineIn Crate text o ↔ IsOutlineOf text o
 same_outline o text = (
-  λ is. (is.0, is.1, is.2 ∙ ap (λ k. outline_behind k is.0) (sym (spaces_before is.0 text is.1))),
-  λ is. (is.0, is.1, is.2 ∙ ap (λ k. outline_behind k is.0) (spaces_before is.0 text is.1)),
+  λ is. (is.0, is.1, is.2 ∙ ap (λ k. outline_after k is.0) (sym (spaces_before is.0 text is.1))),
+  λ is. (is.0, is.1, is.2 ∙ ap (λ k. outline_after k is.0) (spaces_before is.0 text is.1)),
 )
 
 -- ---- where its parts are
 
 -- a part is after its mark
 stands : (mark place : ℕ) (part lead rest text : Text) → text ≡ lead ++ ((mark ∷ part) ++ rest) → place ≡ length lead
-    → StandsAt (behind_mark place part) part text
+    → StandsAt (strip_mark place part) part text
 stands mark place [] lead rest text whole at = refl
 stands mark place (b ∷ part) lead rest text whole at =
     rw (whole ∙ regroup lead (b ∷ part) rest) (ap (take (length (b ∷ part)))
@@ -84,7 +84,7 @@ stands mark place (b ∷ part) lead rest text whole at =
 -- the identifiers of a part are after their mark, which is at the place
 part_stands : (mark place : ℕ) (ids : List IdentifierValue) (ts : List Text) (lead rest text : Text) → AllZip IsKeptAs ids ts
     → text ≡ lead ++ (marked (mark ∷ []) ts ++ rest) → place ≡ length lead
-    → StandsAt (behind_mark place (dotted_text ids)) (dotted_text ids) text
+    → StandsAt (strip_mark place (dotted_text ids)) (dotted_text ids) text
 part_stands mark place [] [] lead rest text all whole at = refl
 part_stands mark place [] (t ∷ ts) lead rest text all whole at = absurd all
 part_stands mark place (id ∷ ids) [] lead rest text all whole at = absurd all
@@ -127,7 +127,7 @@ module _ (d : Dialect) (text : Text) where
   exactly_in None none o = (λ e. cc, λ w. absurd (none (w.0, w.1)))
   exactly_in (Some found) is o = (
     λ e. subst (IsOutlineIn d text) (same e) is,
-    λ w. rw (is.2 ∙ ap (outline_behind _) (one_version_in d is.0 w.0 text is.1 w.1) ∙ sym w.2),
+    λ w. rw (is.2 ∙ ap (outline_after _) (one_version_in d is.0 w.0 text is.1 w.1) ∙ sym w.2),
   )
     where
       same : {x y : OutlineValue} → Some x ≡ Some y → x ≡ y

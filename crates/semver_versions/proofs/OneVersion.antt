@@ -10,7 +10,7 @@ use Rattle.semver_texts.proofs.SpelledVersions.{spelled_kept_all}
 use Rattle.semver_versions.proofs.DialectOutlines.{no_space}
 use Rattle.semver_versions.proofs.ReadTexts.{crate_read, digit_begins, one_version_in}
 use Rattle.semver_versions.proofs.KeptTexts.{begins_marked, kept_parts, part_bytes, each_passes, same_kept}
-use Rattle.semver_versions.proofs.ReadVersions.{behind, its_numbers}
+use Rattle.semver_versions.proofs.ReadVersions.{marked_rest, its_numbers}
 use Rattle.semver_texts.specs.Texts.{is_part}
 
 pub same_identifier : (id other : IdentifierValue) (text : List ℕ) → SpellsIdentifier id text → SpellsIdentifier other text → id ≡ other
@@ -44,13 +44,13 @@ module _ {v : VersionValue} {text : List ℕ} (w : SpellsVersion v text) where
   abbrev pub at_numbers : List ℕ
   at_numbers = w.core ++ w.after
 
-  abbrev pub behind_numbers : List ℕ
-  behind_numbers = w.spells.pre_text ++ (w.spells.build_text ++ w.after)
+  abbrev pub after_numbers : List ℕ
+  after_numbers = w.spells.pre_text ++ (w.spells.build_text ++ w.after)
 
-  pub behind_spaces : text ≡ w.before ++ at_numbers
-  behind_spaces = w.whole ∙ append_assoc w.before w.core w.after
+  pub after_spaces : text ≡ w.before ++ at_numbers
+  after_spaces = w.whole ∙ append_assoc w.before w.core w.after
 
-  pub core_begins : BeginsWithNumbers at_numbers v.plain.major v.plain.minor v.plain.patch (behind (crate_read w))
+  pub core_begins : BeginsWithNumbers at_numbers v.plain.major v.plain.minor v.plain.patch (marked_rest (crate_read w))
   core_begins = its_numbers (crate_read w)
 
   -- a test that white space and the marks fail
@@ -61,7 +61,7 @@ module _ {v : VersionValue} {text : List ℕ} (w : SpellsVersion v text) where
     pub pre_ends : p 43 ≡ false → p (slice_index (w.spells.build_text ++ w.after) 0) ≡ false
     pre_ends plus = part_begins p 43 w.after w.spells.build plus build_ends
 
-    pub numbers_end : p 43 ≡ false → p 45 ≡ false → p (slice_index behind_numbers 0) ≡ false
+    pub numbers_end : p 43 ≡ false → p 45 ≡ false → p (slice_index after_numbers 0) ≡ false
     numbers_end plus hyphen = part_begins p 45 _ w.spells.pre hyphen (pre_ends plus)
 
 pub one_version : (v w : VersionValue) (text : List ℕ) → SpellsVersion v text → SpellsVersion w text → v ≡ w

@@ -288,21 +288,21 @@ spells_of Npm v text rest at w short = record {
 -- ---- a text spells one version
 
 module _ (d : Dialect) (v : VersionValue) (text rest : Text) (at : IsBefore d text rest) (w : SpellsIn d v text) where
-  pub read_behind : IsRead d v rest
-  read_behind = let read = read_of d v text w in subst (IsRead d v) (one_before d text read.0 rest read.1 at) read.2
+  pub read_after : IsRead d v rest
+  read_after = let read = read_of d v text w in subst (IsRead d v) (one_before d text read.0 rest read.1 at) read.2
 
 pub short_of : (d : Dialect) (v : VersionValue) (text : Text) → SpellsIn d v text → IsShort d (characters text)
 short_of d v text w = (read_of d v text w).3
 
 pub one_version_in : (d : Dialect) (v u : VersionValue) (text : Text) → SpellsIn d v text → SpellsIn d u text → v ≡ u
 one_version_in d v u text a b =
-    let read = read_of d v text a in one_read d v u read.0 read.2 (read_behind d u text read.0 read.1 b)
+    let read = read_of d v text a in one_read d v u read.0 read.2 (read_after d u text read.0 read.1 b)
 
 -- ---- its outline
 
 pub whole_outlined : (d : Dialect) (text rest : Text) (found : Option OutlineValue) → IsBefore d text rest
     → IsShort d (characters text) → IsOutlinedAt d (before_numbers text) rest found → IsOutlinedBy d text found
-whole_outlined d text rest None at short none = λ w. none w.0 (read_behind d w.0 text rest at w.1)
+whole_outlined d text rest None at short none = λ w. none w.0 (read_after d w.0 text rest at w.1)
 whole_outlined d text rest (Some o) at short is = (is.0, spells_of d is.0 text rest at is.1 short, is.2)
 
 -- ---- a text whose numbers are known

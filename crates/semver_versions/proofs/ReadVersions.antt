@@ -16,7 +16,7 @@ use Rattle.semver_texts.specs.Steps.DottedParts.{marked_part}
 use Rattle.semver_texts.proofs.DottedParts.{found_same}
 use Rattle.semver_texts.proofs.Numbers.{same_numbers}
 use Rattle.semver_texts.proofs.SpelledVersions.{kept_texts}
-use Rattle.semver_versions.specs.Outlines.{behind_mark, identifier_of, outline_behind, version_of}
+use Rattle.semver_versions.specs.Outlines.{strip_mark, identifier_of, outline_after, version_of}
 use Rattle.semver_versions.specs.Steps.Reading.{AreAround, AreIdentifiers, AreParts, IsOutlinedAt, IsRead, NumbersFit, ZerosFit, hyphens_of}
 use Rattle.semver_versions.specs.Steps.Reading.{outline_with}
 use Rattle.semver_versions.proofs.CutIdentifiers.{part_found, part_is}
@@ -138,14 +138,14 @@ module _ (d : Dialect) (text rest pre build : Text) (major minor patch : ℕ) (n
   }
 
   its_outline : (before numbers_end : ℕ) → numbers_end + length rest ≡ before + length text
-      → outline_with major minor patch numbers_end pre build ≡ outline_behind before (version_with major minor patch pre build)
+      → outline_with major minor patch numbers_end pre build ≡ outline_after before (version_with major minor patch pre build)
   its_outline before numbers_end at =
       let ids = map identifier_of (cut_at_dots pre) in
       let pre_is = kept_dotted ids pre pre_kept in
       let build_is = kept_dotted (map identifier_of (cut_at_dots build)) build build_kept in
       let place : numbers_end ≡ before + length three = omega (arith, at, ap length n.split, length-append three rest) in
       let part : Text = marked (codes "-") (map identifier_text ids) in
-      let place_behind : numbers_end + length (marked (codes "-") (cut_at_dots pre)) ≡ before + length (three ++ part) =
+      let place_after : numbers_end + length (marked (codes "-") (cut_at_dots pre)) ≡ before + length (three ++ part) =
       omega (
         arith,
         place,
@@ -158,8 +158,8 @@ module _ (d : Dialect) (text rest pre build : Text) (major minor patch : ℕ) (n
         patch = patch;
         pre = pre_is i;
         build = build_is i;
-        pre_offset = behind_mark (place i) (pre_is i);
-        build_offset = behind_mark (place_behind i) (build_is i);
+        pre_offset = strip_mark (place i) (pre_is i);
+        build_offset = strip_mark (place_after i) (build_is i);
       })
 
   pub has_outline : NumbersFit d major minor patch → (before numbers_end : ℕ) → numbers_end + length rest ≡ before + length text
@@ -187,8 +187,8 @@ no_parts d (b ∷ text) e = absurd (omega (arith, eqb-true (length (b ∷ text))
 -- ---- and its numbers and its parts, from a version
 
 module _ {d : Dialect} {v : VersionValue} {text : Text} (w : IsRead d v text) where
-  abbrev pub behind : Text
-  behind = marked (codes "-") w.pre_texts ++ (marked (codes "+") w.build_texts ++ w.after)
+  abbrev pub marked_rest : Text
+  marked_rest = marked (codes "-") w.pre_texts ++ (marked (codes "+") w.build_texts ++ w.after)
 
   abbrev pub pre_of : Text
   pre_of = join_with_byte 46 w.pre_texts
@@ -202,7 +202,7 @@ module _ {d : Dialect} {v : VersionValue} {text : Text} (w : IsRead d v text) wh
   build_cut : cut_at_dots build_of ≡ w.build_texts
   build_cut = parts_cut w.build_texts (kept_parts v.build _ w.build)
 
-  pub its_numbers : BeginsWithNumbers text v.plain.major v.plain.minor v.plain.patch behind
+  pub its_numbers : BeginsWithNumbers text v.plain.major v.plain.minor v.plain.patch marked_rest
   its_numbers = record {
     major_fits = w.major;
     minor_fits = w.minor;
@@ -212,7 +212,7 @@ module _ {d : Dialect} {v : VersionValue} {text : Text} (w : IsRead d v text) wh
         (begins_marked is_ascii_digit 43 w.build_texts w.after refl (no_digit (slice_index w.after 0) (after_outer d w.after w.around)));
   }
 
-  its_parts : AreParts d behind pre_of build_of
+  its_parts : AreParts d marked_rest pre_of build_of
   its_parts = record {
     after = w.after;
     pre_each = subst (AreIdentifiers (hyphens_of d)) (sym pre_cut) w.pre_each;
@@ -235,7 +235,7 @@ module _ {d : Dialect} {v : VersionValue} {text : Text} (w : IsRead d v text) wh
 
   -- so none is read where the numbers don't fit, or where there are no parts
   module _ (rest : Text) (major minor patch : ℕ) (n : BeginsWithNumbers text major minor patch rest) where
-    same : (v.plain.major ≡ major) × (v.plain.minor ≡ minor) × (v.plain.patch ≡ patch) × (behind ≡ rest)
+    same : (v.plain.major ≡ major) × (v.plain.minor ≡ minor) × (v.plain.patch ≡ patch) × (marked_rest ≡ rest)
     same = same_numbers text _ _ _ major minor patch _ rest its_numbers n
 
     pub they_fit : NumbersFit d major minor patch

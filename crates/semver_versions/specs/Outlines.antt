@@ -28,30 +28,30 @@ abbrev pub dotted_text : List IdentifierValue → Text
 dotted_text ids = join_with_byte (code ".") (map identifier_text ids)
 
 -- where a part begins whose mark is at the place: after it; 0 where there is no part
-abbrev pub behind_mark : ℕ → Text → ℕ
-behind_mark place [] = 0
-behind_mark place (byte ∷ part) = suc place
+abbrev pub strip_mark : ℕ → Text → ℕ
+strip_mark place [] = 0
+strip_mark place (byte ∷ part) = suc place
 
 -- the outline of a version that is after so many bytes: its numbers, and the texts of its
 -- identifiers, each after its mark; that of the pre-release is after the numbers, and that of
 -- the build after the version without it
-abbrev pub outline_behind : ℕ → VersionValue → OutlineValue
-outline_behind before v = record {
+abbrev pub outline_after : ℕ → VersionValue → OutlineValue
+outline_after before v = record {
   major = v.plain.major;
   minor = v.plain.minor;
   patch = v.plain.patch;
   pre = dotted_text v.plain.pre;
   build = dotted_text v.build;
-  pre_offset = behind_mark
+  pre_offset = strip_mark
       (before + length (join_with_byte (code ".") (map decimal (numbers v.plain))))
       (dotted_text v.plain.pre);
-  build_offset = behind_mark (before + length (plain_text v.plain)) (dotted_text v.build);
+  build_offset = strip_mark (before + length (plain_text v.plain)) (dotted_text v.build);
 }
 
 -- it is the outline of a version that the text spells and that is after so many bytes
 abbrev pub IsOutlineAfter : ℕ → Text → OutlineValue → Type 0
 IsOutlineAfter before text o =
-    (v : VersionValue) × SpellsVersion v text × (o ≡ outline_behind before v)
+    (v : VersionValue) × SpellsVersion v text × (o ≡ outline_after before v)
 
 -- it is the outline of a version that the text spells, after the white space at its front
 abbrev pub IsOutlineOf : Text → OutlineValue → Type 0
@@ -60,7 +60,7 @@ IsOutlineOf text o = IsOutlineAfter (prefix_len is_space text) text o
 -- it is the outline of a version that the text spells in a dialect
 abbrev pub IsOutlineIn : Dialect → Text → OutlineValue → Type 0
 IsOutlineIn dialect text o = (v : VersionValue) × SpellsIn dialect v text
-    × (o ≡ outline_behind (before_numbers text) v)
+    × (o ≡ outline_after (before_numbers text) v)
 
 -- the identifier that a text of letters, digits and hyphens is kept as
 abbrev pub identifier_of : Text → IdentifierValue

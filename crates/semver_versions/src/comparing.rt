@@ -41,12 +41,12 @@ fn compare_identifiers(text: &[u8], other: &[Identifier]) -> Ordering
         let Some(bytes) = rest else {
             return Ordering::Less;
         };
-        let (part, behind) = split_at_dot(bytes);
+        let (part, after) = split_at_dot(bytes);
         let ordering = compare_with(text_of_parts(part), first);
         if ordering.is_ne() {
             return ordering;
         }
-        rest = behind;
+        rest = after;
     }
     match rest {
         Some(_) => Ordering::Greater,

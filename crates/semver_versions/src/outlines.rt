@@ -7,7 +7,7 @@ ghost use Rattle.semver_texts.specs.Versions.{VersionValue};
 ghost use Rattle.semver_texts.specs.Precedence.{precedence};
 ghost use Rattle.semver_texts.specs.VersionGrammar.{SpellsVersion};
 ghost use Rattle.semver_texts.specs.VersionViews.{identifier_value, version_value};
-ghost use Rattle.semver_versions.specs.Outlines.{IsOutlineOf, behind_mark};
+ghost use Rattle.semver_versions.specs.Outlines.{IsOutlineOf, strip_mark};
 ghost use Rattle.semver_versions.specs.Outlines.{version_of};
 ghost use Rattle.semver_versions.specs.Steps.Reading.{ArePartTexts, outline_with};
 
@@ -238,9 +238,9 @@ fn marked_len(part: &[u8]) -> usize
 
 /// Where a part begins whose mark is at the place; 0 where there is no part.
 #[inline(always)]
-fn behind_mark_at(place: usize, part: &[u8]) -> usize
+fn after_mark_at(place: usize, part: &[u8]) -> usize
     requires { place + length part.now < 2 ^ 64 }
-    ensures { result ≡ behind_mark place part.now }
+    ensures { result ≡ strip_mark place part.now }
 {
     if part.is_empty() { 0 } else { place + 1 }
 }
@@ -269,7 +269,7 @@ pub(crate) fn with_parts<'t>(
         patch,
         pre: text_of_parts(pre),
         build: text_of_parts(build),
-        before_pre: behind_mark_at(numbers_end, pre),
-        before_build: behind_mark_at(pre_end, build),
+        before_pre: after_mark_at(numbers_end, pre),
+        before_build: after_mark_at(pre_end, build),
     }
 }

@@ -19,7 +19,7 @@ ghost use Rattle.semver_versions.specs.Steps.Reading.{around_size, hyphens_of};
 use crate::outlines::{Outline, with_parts};
 use semver_texts::decimals::{begins_with_digit, numbers_at_digit};
 use semver_texts::dialect::Dialect;
-use semver_texts::dotted::{Hyphens, behind_mark, have_no_leading_zeros, marked_part};
+use semver_texts::dotted::{Hyphens, have_no_leading_zeros, marked_part, strip_mark};
 
 /// No number of a version of npm is above this, the greatest that JavaScript has exactly.
 const GREATEST: u64 = 9_007_199_254_740_991;
@@ -55,7 +55,7 @@ fn around_len(bytes: &[u8], dialect: Dialect) -> usize
 
 /// What follows the characters at the front that may be before and after a version.
 #[inline(never)]
-fn behind_around(bytes: &[u8], dialect: Dialect) -> &[u8]
+fn after_around(bytes: &[u8], dialect: Dialect) -> &[u8]
     ensures { (spaces : Text) × AreAround dialect spaces × (bytes.now ≡ spaces ++ result.now)
         × (around_size dialect result.now ≡ 0) }
 {
@@ -71,14 +71,14 @@ fn behind_around(bytes: &[u8], dialect: Dialect) -> &[u8]
 
 /// What follows all that is taken before the numbers, by npm one `v` too.
 #[inline(never)]
-fn behind_front(bytes: &[u8], dialect: Dialect) -> &[u8]
+fn after_front(bytes: &[u8], dialect: Dialect) -> &[u8]
     ensures { IsBefore dialect bytes.now result.now }
 {
-    let rest = behind_around(bytes, dialect);
+    let rest = after_around(bytes, dialect);
     match dialect {
         Dialect::Crate | Dialect::Cargo => rest,
-        Dialect::Npm => match behind_mark(rest, b'v') {
-            Some(behind) => behind,
+        Dialect::Npm => match strip_mark(rest, b'v') {
+            Some(after) => after,
             None => rest,
         },
     }
@@ -96,7 +96,7 @@ fn at_digit(bytes: &[u8], dialect: Dialect) -> Option<&[u8]>
     if begins_with_digit(bytes) {
         return Some(bytes);
     }
-    let rest = behind_front(bytes, dialect);
+    let rest = after_front(bytes, dialect);
     if begins_with_digit(rest) {
         Some(rest)
     } else {
@@ -110,7 +110,7 @@ fn may_end(bytes: &[u8], dialect: Dialect) -> bool
     ensures yes { result ≡ true → AreAround dialect bytes.now }
     ensures no { result ≡ false → ¬ (AreAround dialect bytes.now) }
 {
-    bytes.is_empty() || behind_around(bytes, dialect).is_empty()
+    bytes.is_empty() || after_around(bytes, dialect).is_empty()
 }
 
 /// Whether the numbers of a version are within npm's limit.
@@ -236,7 +236,7 @@ fn with_rest(
 /// and what follows them, if the text spells one. For speed, numbers alone are seen first, and what
 /// follows them is read by a function of its own: so nothing is made ready for it here.
 #[inline(always)]
-fn behind_numbers(
+fn after_numbers(
     major: u64,
     minor: u64,
     patch: u64,
@@ -268,7 +268,7 @@ pub(crate) fn outline(input: &[u8], dialect: Dialect) -> Option<Outline<'_>>
     }
     let at = at_digit(input, dialect)?;
     let (major, minor, patch, rest) = numbers_at_digit(at)?;
-    behind_numbers(major, minor, patch, input.len() - rest.len(), rest, dialect)
+    after_numbers(major, minor, patch, input.len() - rest.len(), rest, dialect)
 }
 
 /// The outline of the version that a text spells, if it spells one, and if the text begins with
@@ -289,5 +289,5 @@ pub(crate) fn outline_of_numbers(
     if !rest.is_empty() && !is_short(numbers_end, rest, dialect) {
         return None;
     }
-    behind_numbers(major, minor, patch, numbers_end, rest, dialect)
+    after_numbers(major, minor, patch, numbers_end, rest, dialect)
 }

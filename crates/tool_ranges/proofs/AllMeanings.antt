@@ -37,7 +37,7 @@ use Rattle.tool_ranges.specs.declared.cargo.judging.JudgedVersions.TheVariants.{
 use Rattle.tool_ranges.specs.Steps.CargoPreReleases.{judging, judging_one}
 use Rattle.tool_ranges.specs.Steps.LowerBounds.{begins_lowest, begun, lower_where, range_begun, set_begun, written_for}
 use Rattle.tool_ranges.proofs.NpmMeanings.{past_minor, past_major, lowest_ge, minor_ge, major_ge, below_none}
-use Rattle.tool_ranges.proofs.ReadMeanings.{step, behind, not_less, is_less, is_caret, is_above, is_above_behind, every_equal, all_meet}
+use Rattle.tool_ranges.proofs.ReadMeanings.{step, after, not_less, is_less, is_caret, is_above, is_above_after, every_equal, all_meet}
 
 -- what is from the lowest pre-release of its numbers on is so by its numbers
 is_from : {g : Ordering → Ordering} {e m : Bool} → Step g e m → (o : Ordering) → is_ge o ≡ true → is_ge (g o) ≡ is_ge (g Equal)
@@ -77,11 +77,11 @@ module _ (v : PlainVersion) where
   low_row mode form shape = exact_row v mode form shape lowest_pre_release
 
   same_one : (x : ℕ) → (is_ge (ordering_then (nat_cmp v.major x) (past_major v)) && agrees 1 (x ∷ []) v) ≡ agrees 1 (x ∷ []) v
-  same_one x = is_same (behind (step v.major x) Step.level) _ (major_ge v)
+  same_one x = is_same (after (step v.major x) Step.level) _ (major_ge v)
 
   same_two : (x y : ℕ) → (is_ge (ordering_then (nat_cmp v.major x) (ordering_then (nat_cmp v.minor y) (past_minor v)))
       && agrees 2 (x ∷ y ∷ []) v) ≡ agrees 2 (x ∷ y ∷ []) v
-  same_two x y = is_same (behind (step v.major x) (behind (step v.minor y) Step.level)) _ (minor_ge v)
+  same_two x y = is_same (after (step v.major x) (after (step v.minor y) Step.level)) _ (minor_ge v)
 
   row_one : (mode : Compat) (form : Form) (x : ℕ) → RowMeans mode form (x ∷ []) []
   row_one Npm less x = and-true _ ∙ is_less (step v.major x) _ (major_ge v)
@@ -102,7 +102,7 @@ module _ (v : PlainVersion) where
   row_one Cargo caret x = low_row Cargo caret (Shape.one x) ∙ is_caret (step v.major x) _ (major_ge v) _
 
   row_two : (mode : Compat) (form : Form) (x y : ℕ) → RowMeans mode form (x ∷ y ∷ []) []
-  row_two Npm less x y = and-true _ ∙ is_less (behind (step v.major x) (step v.minor y)) _ (minor_ge v)
+  row_two Npm less x y = and-true _ ∙ is_less (after (step v.major x) (step v.minor y)) _ (minor_ge v)
   row_two Cargo less x y = and-true _
   row_two Npm tilde x y = exact_row v Npm tilde (Shape.two x y) []
   row_two Cargo tilde x y = low_row Cargo tilde (Shape.two x y) ∙ same_two x y
@@ -112,21 +112,21 @@ module _ (v : PlainVersion) where
   row_two Cargo equal x y = low_row Cargo equal (Shape.two x y) ∙ same_two x y
   row_two Npm at_most x y = exact_row v Npm at_most (Shape.two x y) []
   row_two Cargo at_most x y = exact_row v Cargo at_most (Shape.two x y) []
-  row_two Npm greater x y = and-true _ ∙ is_above_behind (step v.major x) _ _ (is_above v.minor y _ (minor_ge v))
-  row_two Cargo greater x y = and-true _ ∙ is_above_behind (step v.major x) _ _ (is_above v.minor y _ (minor_ge v))
-  row_two Npm at_least x y = and-true _ ∙ is_from (behind (step v.major x) (step v.minor y)) _ (minor_ge v)
-  row_two Cargo at_least x y = and-true _ ∙ is_from (behind (step v.major x) (step v.minor y)) _ (minor_ge v)
-  row_two Npm caret x y = low_row Npm caret (Shape.two x y) ∙ is_caret (behind (step v.major x) (step v.minor y)) _ (minor_ge v) _
-  row_two Cargo caret x y = low_row Cargo caret (Shape.two x y) ∙ is_caret (behind (step v.major x) (step v.minor y)) _ (minor_ge v) _
+  row_two Npm greater x y = and-true _ ∙ is_above_after (step v.major x) _ _ (is_above v.minor y _ (minor_ge v))
+  row_two Cargo greater x y = and-true _ ∙ is_above_after (step v.major x) _ _ (is_above v.minor y _ (minor_ge v))
+  row_two Npm at_least x y = and-true _ ∙ is_from (after (step v.major x) (step v.minor y)) _ (minor_ge v)
+  row_two Cargo at_least x y = and-true _ ∙ is_from (after (step v.major x) (step v.minor y)) _ (minor_ge v)
+  row_two Npm caret x y = low_row Npm caret (Shape.two x y) ∙ is_caret (after (step v.major x) (step v.minor y)) _ (minor_ge v) _
+  row_two Cargo caret x y = low_row Cargo caret (Shape.two x y) ∙ is_caret (after (step v.major x) (step v.minor y)) _ (minor_ge v) _
 
   -- three numbers and the lowest pre-release
   from_three : (x y w : ℕ) → is_ge (precedence v (filled (x ∷ y ∷ w ∷ []) lowest_pre_release)) ≡ is_ge (against (x ∷ y ∷ w ∷ []) v)
-  from_three x y w = is_from (behind (step v.major x) (behind (step v.minor y) (step v.patch w))) _ (lowest_ge v)
+  from_three x y w = is_from (after (step v.major x) (after (step v.minor y) (step v.patch w))) _ (lowest_ge v)
 
   row_caret : (x y w : ℕ) (p : List IdentifierValue) → RowMeans Npm caret (x ∷ y ∷ w ∷ []) p
   row_caret x y w [] = by_test (x == 0)
       (λ z. let row = rw z at (low_row Npm caret (Shape.three x y w)) in
-      rw z (row ∙ is_caret (behind (step v.major x) (behind (step v.minor y) (step v.patch w))) _ (lowest_ge v) _))
+      rw z (row ∙ is_caret (after (step v.major x) (after (step v.minor y) (step v.patch w))) _ (lowest_ge v) _))
       (λ n. let row = rw n at (exact_row v Npm caret (Shape.three x y w) []) in rw n row)
   row_caret x y w (i ∷ p) = by_test (x == 0)
       (λ z. let row = rw z at (exact_row v Npm caret (Shape.three x y w) (i ∷ p)) in rw z row)

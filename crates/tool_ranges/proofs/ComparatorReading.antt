@@ -7,10 +7,10 @@ use Rattle.semver_texts.specs.Texts.{Text}
 use Rattle.semver_texts.specs.declared.dialect.Dialect.TheVariants.{Cargo}
 use Rattle.semver_ranges.specs.RangeTree.{PartialTree, Form, bare, equal, less, at_most, greater, at_least, tilde, caret, Simple}
 use Rattle.semver_ranges.specs.RangeTree.{is_blank, AreBlanks, SpellsPartial, SpellsForm}
-use Rattle.semver_ranges.specs.Steps.Reading.{front, behind_blanks, operator, with_first, component}
+use Rattle.semver_ranges.specs.Steps.Reading.{front, after_blanks, operator, with_first, component}
 use Rattle.semver_ranges.proofs.ReadingPieces.{front-back, front_all, operator_sound, first_sound, component_sound, PartialAt, FormAt}
 use Rattle.semver_ranges.proofs.ReadingPieces.{starts, starts-append, is_word_byte, component_word, partial_starts}
-use Rattle.semver_ranges.proofs.WrittenPieces.{stops, ends_partial, first_read, operator_read, blanks_behind, no_blank, no_sign}
+use Rattle.semver_ranges.proofs.WrittenPieces.{stops, ends_partial, first_read, operator_read, blanks_after, no_blank, no_sign}
 use Rattle.semver_texts.proofs.Lists.{by_test}
 use Rattle.tool_ranges.specs.CargoGrammar.{sign, is_of_cargo, SpellsComparator}
 use Rattle.tool_ranges.specs.Steps.CargoReading.{begins_with_tilde_greater, at_end, with_operator, comparator_here, comparator_at}
@@ -67,7 +67,7 @@ partial_made : (before gap t u : Text) (f : Form) (o : Option (PartialTree × Te
     → t ≡ before ++ ((sign f ++ gap) ++ u) → PartialAt u o → ComparatorAt t (with_operator f o)
 partial_made before gap t u f None b g text h = tt
 partial_made before gap t u f (Some (p, v)) b g text (word, spelled, whole) = by_test (is_of_cargo (record { form = f; partial = p }))
-    (λ e. rw e (made _ before gap word _ (behind_blanks Cargo v) t b g
+    (λ e. rw e (made _ before gap word _ (after_blanks Cargo v) t b g
     (front_all (is_blank Cargo) v) spelled e
     (text ∙ ap (λ x. before ++ ((sign f ++ gap) ++ x)) (whole ∙ ap (λ x. word ++ x) (front-back (is_blank Cargo) v)))))
     (λ e. rw e tt)
@@ -82,7 +82,7 @@ here_sound before u t found b text m (w, form, whole) =
 
 pub comparator_sound : (t : Text) → ComparatorAt t (comparator_at t)
 comparator_sound t =
-    let u = behind_blanks Cargo t in
+    let u = after_blanks Cargo t in
     by_test (begins_with_tilde_greater u)
     (λ e. rw e tt)
     (λ e. rw e (here_sound _ u t _
@@ -143,15 +143,15 @@ bare_form bare e = refl
 bare_form _ e = cc
 
 reads : (f : Form) (before gap x : Text) → AreBlanks Cargo before → AreBlanks Cargo gap → starts is_word_byte x ≡ true
-    → Reads f (behind_blanks Cargo (before ++ ((sign f ++ gap) ++ x))) x
+    → Reads f (after_blanks Cargo (before ++ ((sign f ++ gap) ++ x))) x
 reads f before gap x b g e = by_test (is_bare_form f)
     (λ y. let is = bare_form f y in rw is (rw (
       sym (append_assoc before gap x),
-      blanks_behind Cargo (before ++ gap) x (list_all-append (is_blank Cargo) before gap
+      blanks_after Cargo (before ++ gap) x (list_all-append (is_blank Cargo) before gap
           ∙ and_from _ _ b g) (no_blank Cargo x e),
     )
     (starts_no_tilde x e, operator_read Cargo bare [] x refl e)))
-    (λ n. rw (blanks_behind Cargo before _ b (signs_stop f gap x n))
+    (λ n. rw (blanks_after Cargo before _ b (signs_stop f gap x n))
     (begins_with f gap x g e (λ is. absurd (cc))))
 
 spaces_end : (after v : Text) → AreBlanks Cargo after → ends_partial v ≡ true → ends_partial (after ++ v) ≡ true
@@ -166,7 +166,7 @@ comparator_here_read s word after v u a p r e n (other, form) =
       form,
       first_read s.partial word _ p (spaces_end after v a e),
       r,
-      blanks_behind Cargo after v
+      blanks_after Cargo after v
           a n,
     ) refl
 
@@ -176,7 +176,7 @@ comparator_read s w v has e n =
     let x = has.word ++ _ in
     let whole : w ++ v ≡ has.before ++ ((sign s.form ++ has.gap) ++ x) = ap (λ y. y ++ v) has.text ∙ simp append_assoc in
     ap comparator_at whole
-    ∙ comparator_here_read s has.word has.after v (behind_blanks Cargo (has.before ++
+    ∙ comparator_here_read s has.word has.after v (after_blanks Cargo (has.before ++
     ((sign s.form ++ has.gap) ++ x))) has.after_is has.partial has.is_read e n
     (reads s.form has.before has.gap x has.before_is has.gap_is (starts-append is_word_byte has.word (has.after ++ v) (component_word
     has.word (partial_starts s.partial has.word has.partial))))

@@ -11,7 +11,7 @@ use Rattle.semver_texts.proofs.Lists.{by_test}
 use Rattle.semver_ranges.specs.declared.range.Compat.{Compat}
 use Rattle.semver_ranges.specs.RangeTree.{PartialTree, one, two, three, Simple, RangeTree, empty, hyphen, simples, SetTree}
 use Rattle.semver_ranges.specs.RangeTree.{components, is_wildcard}
-use Rattle.semver_ranges.specs.RangeTree.{Form, bare, at_most, at_least, behind_form, behind_hyphen, SpellsIn, SpellsWord, AreBlanks}
+use Rattle.semver_ranges.specs.RangeTree.{Form, bare, at_most, at_least, after_form, after_hyphen, SpellsIn, SpellsWord, AreBlanks}
 use Rattle.semver_ranges.specs.RangeTree.{Role, SpellsPartial}
 use Rattle.semver_ranges.specs.Partials.{stated, states_nothing}
 use Rattle.semver_ranges.specs.Terms.{of_simple, left_side, right_side, terms}
@@ -143,15 +143,15 @@ module _ (f : ℕ → Bool) (limit : IsLimit f) (two_fits : f 2 ≡ true) (tool 
       (front_fits tree p shape (stated_fit f limit tool mode at_least (stated p) (to_fits (left_side p) right))))
 
   left_plain : (d : Dialect) (p : PartialTree) (front rest : Text) → is_empty front ≡ false
-      → SpellsWord d (behind_form bare) p (front ++ rest) → Right (left_side p)
-      → WordGoesOn IsPlainRest (λ tree. Right (left_side tree)) d (behind_form bare) front
+      → SpellsWord d (after_form bare) p (front ++ rest) → Right (left_side p)
+      → WordGoesOn IsPlainRest (λ tree. Right (left_side tree)) d (after_form bare) front
   left_plain d p front rest some h right =
-      plain_word (λ tree. Right (left_side tree)) (right_star at_least) (behind_form bare) p (λ tree shape. left_kept p tree right shape)
+      plain_word (λ tree. Right (left_side tree)) (right_star at_least) (after_form bare) p (λ tree shape. left_kept p tree right shape)
       d front rest some h
 
   -- ---- ranges
 
-  left_on : (d : Dialect) (front : Text) → WordGoesOn IsPlainRest (λ tree. Right (left_side tree)) d (behind_form bare) front
+  left_on : (d : Dialect) (front : Text) → WordGoesOn IsPlainRest (λ tree. Right (left_side tree)) d (after_form bare) front
       → RangeGoesOn d IsFittingRest Right front
   left_on d front w = record {
     tree = hyphen w.tree (one (codes "1"));
@@ -165,7 +165,7 @@ module _ (f : ℕ → Bool) (limit : IsLimit f) (two_fits : f 2 ≡ true) (tool 
     right = (w.right, right_one at_most);
   }
 
-  blanks_on : (d : Dialect) (p : PartialTree) (front blanks : Text) → SpellsWord d (behind_form bare) p front → AreBlanks d blanks
+  blanks_on : (d : Dialect) (p : PartialTree) (front blanks : Text) → SpellsWord d (after_form bare) p front → AreBlanks d blanks
       → Right (left_side p) → RangeGoesOn d IsFittingRest Right (front ++ blanks)
   blanks_on d p front blanks word are right = record {
     tree = hyphen p (one (codes "1"));
@@ -185,8 +185,8 @@ module _ (f : ℕ → Bool) (limit : IsLimit f) (two_fits : f 2 ≡ true) (tool 
     bar = (8, omega arith, refl);
     number = (9, omega arith, refl);
     right_number = right_one;
-    word = λ form p front rest some h right. fitting_word d form (behind_form form) p front rest some h right;
-    right_word = λ p front rest some h right. fitting_word d at_most behind_hyphen p front rest some h right;
+    word = λ form p front rest some h right. fitting_word d form (after_form form) p front rest some h right;
+    right_word = λ p front rest some h right. fitting_word d at_most after_hyphen p front rest some h right;
     left_word = λ p front rest some h right. left_on d front (left_plain d p front rest some h right);
     left_alone = λ p front blanks word are right. blanks_on d p front blanks word are right;
   }

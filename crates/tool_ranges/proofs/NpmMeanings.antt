@@ -30,7 +30,7 @@ use Rattle.tool_ranges.specs.NpmMeaning.{meets_npm}
 use Rattle.tool_ranges.specs.NpmTable.{rewritten_npm}
 use Rattle.tool_ranges.specs.Steps.NpmReading.{is_from_zero}
 use Rattle.version_sets.specs.SetRanges.{is_at_least}
-use Rattle.tool_ranges.proofs.ReadMeanings.{step, behind, not_less, no_lower, is_less}
+use Rattle.tool_ranges.proofs.ReadMeanings.{step, after, not_less, no_lower, is_less}
 use Rattle.tool_ranges.proofs.ToolRows.{npm_table}
 
 abbrev pub written_by : Form → List ℕ → List IdentifierValue → List PlainComparator
@@ -132,7 +132,7 @@ module _ (v : PlainVersion) where
       (exact_row v Npm bare (Shape.two x y) []) (exact_row released Npm bare (Shape.two x y) [])
   row_two equal x y = between (filled (x ∷ y ∷ []) []) (up 2 (x ∷ y ∷ [])) (agrees 2 (x ∷ y ∷ []) v)
       (exact_row v Npm equal (Shape.two x y) []) (exact_row released Npm equal (Shape.two x y) [])
-  row_two less x y = and-true _ ∙ is_less (behind (step v.major x) (step v.minor y)) past_minor minor_ge
+  row_two less x y = and-true _ ∙ is_less (after (step v.major x) (step v.minor y)) past_minor minor_ge
   row_two at_most x y = exact_row v Npm at_most (Shape.two x y) []
   row_two greater x y = rw (ne_eqb (y + 1) 0 (λ e. omega arith), and-false (x == 0)) (and-true _)
   row_two at_least x y = and-true _

@@ -27,7 +27,7 @@ use Rattle.tool_ranges.specs.CargoMeaning.{has_wildcard, as_read, meets_by_count
 use Rattle.tool_ranges.specs.declared.cargo.judging.JudgedVersions.TheVariants.{PreReleases}
 use Rattle.tool_ranges.specs.Steps.CargoPreReleases.{below_all, counting, counting_one, greatest, judged_by_count, judging, judging_one}
 use Rattle.tool_ranges.specs.Steps.CargoPreReleases.{pre_releases_of}
-use Rattle.tool_ranges.proofs.ReadMeanings.{step, behind, not_less, no_lower, is_less, is_caret, never_bare}
+use Rattle.tool_ranges.proofs.ReadMeanings.{step, after, not_less, no_lower, is_less, is_caret, never_bare}
 
 -- ---- numbers of a version against stated ones, where the order of what follows is one of these
 
@@ -120,15 +120,15 @@ module _ (v : PlainVersion) (small : Fits v) (pre : is_empty v.pre ≡ false) wh
   judges_two : (form : Form) (x y : ℕ) (p : List IdentifierValue) → is_bare form ≡ false → RowJudges form (x ∷ y ∷ []) p
   judges_two bare x y p named = cc
   judges_two equal x y p named = none_below ∙ sym (no_release _)
-  judges_two less x y p named = and-true _ ∙ is_less (behind (step v.major x) (step v.minor y)) past_minor minor_ge
+  judges_two less x y p named = and-true _ ∙ is_less (after (step v.major x) (step v.minor y)) past_minor minor_ge
   judges_two at_most x y p named =
-      and-true _ ∙ is_less (behind (step v.major x) (step v.minor y)) past_minor minor_ge ∙ sym (or_release _ _)
-  judges_two greater x y p named = and-true _ ∙ is_over (behind (step v.major x) (step v.minor y)) last_minor minor_gt
+      and-true _ ∙ is_less (after (step v.major x) (step v.minor y)) past_minor minor_ge ∙ sym (or_release _ _)
+  judges_two greater x y p named = and-true _ ∙ is_over (after (step v.major x) (step v.minor y)) last_minor minor_gt
   judges_two at_least x y p named =
-      and-true _ ∙ is_over (behind (step v.major x) (step v.minor y)) last_minor minor_gt ∙ sym (or_release _ _)
+      and-true _ ∙ is_over (after (step v.major x) (step v.minor y)) last_minor minor_gt ∙ sym (or_release _ _)
   judges_two tilde x y p named = none_below ∙ sym (no_release _)
   judges_two caret x y p named = exact_row v Cargo caret (Shape.two x y) lowest_pre_release
-      ∙ is_caret (behind (step v.major x) (step v.minor y)) past_minor minor_ge _
+      ∙ is_caret (after (step v.major x) (step v.minor y)) past_minor minor_ge _
 
   any_judges : (form : Form) {s : List ℕ} → Shape s → (p : List IdentifierValue) → is_bare form ≡ false → RowJudges form s p
   any_judges form Shape.none p named = none_below ∙ sym pre

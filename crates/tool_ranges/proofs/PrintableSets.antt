@@ -16,7 +16,7 @@ use Rattle.semver_ranges.specs.ExactBounds.{exact_bound, lowest_pre_release}
 use Rattle.semver_ranges.specs.Partials.{fits_u64, leading_place, pre_release, stated, states_nothing, zero_filled}
 use Rattle.semver_ranges.specs.PrintedRanges.{is_kept, is_printable_version}
 use Rattle.semver_ranges.specs.RangeTree.{Form, bare, equal, less, at_most, greater, at_least, tilde, caret, HasParts, PartialTree}
-use Rattle.semver_ranges.specs.RangeTree.{one, two, three, behind_form, behind_hyphen, empty, hyphen, simples, RangeTree, Role, SetTree}
+use Rattle.semver_ranges.specs.RangeTree.{one, two, three, after_form, after_hyphen, empty, hyphen, simples, RangeTree, Role, SetTree}
 use Rattle.semver_ranges.specs.RangeTree.{Simple, SpellsIn, SpellsPadded, SpellsRange, SpellsSimples, SpellsWord}
 use Rattle.semver_ranges.specs.RewritingTable.{PlainComparator, PlainRange, bound_fits, cell, cell_raised, simple_fits}
 use Rattle.semver_ranges.specs.RewritingTable.{term_fits_by, up, written_cell}
@@ -95,10 +95,10 @@ module _ (lower : LowerBounds) where
       → list_all (term_fits_by is_safe_simple) (map of_simple (first ∷ others)) ≡ true
       → are_printable (flat_map rows (first ∷ others)) ≡ true
   simples_print first [] t (head, tail, f, p, eq) e =
-      one_row first (each first (word_has (behind_form first.form) first.partial tail p) (and_parts _ _ e).0)
+      one_row first (each first (word_has (after_form first.form) first.partial tail p) (and_parts _ _ e).0)
   simples_print first (next ∷ others) t (front, gap, back, (head, tail, f, p, eq), g, more, eq') e =
       let parts = and_parts _ _ e in
-      both (rows first) (flat_map rows (next ∷ others)) (each first (word_has (behind_form first.form) first.partial tail p) parts.0)
+      both (rows first) (flat_map rows (next ∷ others)) (each first (word_has (after_form first.form) first.partial tail p) parts.0)
       (simples_print next others back more parts.1)
 
   range_prints : (r : RangeTree) (t : Text) → SpellsRange dialect.Npm r t → list_all (term_fits_by is_safe_simple) (terms r) ≡ true
@@ -106,8 +106,8 @@ module _ (lower : LowerBounds) where
   range_prints empty t h e = one_row wildcard (each wildcard tt npm_table.empty_fits)
   range_prints (simples first others) t h e = simples_print first others t h e
   range_prints (hyphen l r) t (front, gap, back, after, h, g, g', h', eq) e =
-      let here = word_has (behind_form bare) l front h in
-      let there = word_has behind_hyphen r after h' in
+      let here = word_has (after_form bare) l front h in
+      let there = word_has after_hyphen r after h' in
       by_test (states_nothing r)
       (λ y. by_test (states_nothing l)
       (λ z. rw y (one_row (left_side (begun_as lower l)) (left l here (and_parts _ _ (rw (z, y) at e)).0)))

@@ -42,10 +42,10 @@ step a x = elim (cases_order a x) [
   ]
 ]
 
-pub behind : {g h : Ordering → Ordering} {e m e' m' : Bool} → Step g e m → Step h e' m' → Step (λ o. g (h o)) (e && e') (m && m')
-behind Step.lower b = Step.lower
-behind Step.level b = b
-behind Step.higher b = Step.higher
+pub after : {g h : Ordering → Ordering} {e m e' m' : Bool} → Step g e m → Step h e' m' → Step (λ o. g (h o)) (e && e') (m && m')
+after Step.lower b = Step.lower
+after Step.level b = b
+after Step.higher b = Step.higher
 
 -- what isn't stated is 0
 pub not_less : (n : ℕ) (o : Ordering) → is_ge o ≡ true → is_ge (ordering_then (nat_cmp n 0) o) ≡ true
@@ -99,11 +99,11 @@ is_above a x o h = elim (cases_order a x) [
   ]
 ]
 
-pub is_above_behind : {g : Ordering → Ordering} {e m : Bool} → Step g e m → (o o' : Ordering) → is_ge o ≡ is_gt o'
+pub is_above_after : {g : Ordering → Ordering} {e m : Bool} → Step g e m → (o o' : Ordering) → is_ge o ≡ is_gt o'
     → is_ge (g o) ≡ is_gt (g o')
-is_above_behind Step.lower o o' h = refl
-is_above_behind Step.level o o' h = h
-is_above_behind Step.higher o o' h = refl
+is_above_after Step.lower o o' h = refl
+is_above_after Step.level o o' h = h
+is_above_after Step.higher o o' h = refl
 
 -- ---- the rows, on releases
 
@@ -144,32 +144,32 @@ module _ (v : PlainVersion) (release : v.pre ≡ []) where
   row_one : (form : Form) (x : ℕ) → is_bare form ≡ false → RowMeans form (x ∷ []) []
   row_one bare x named = cc
   row_one equal x named = exact_row v Cargo equal (Shape.one x) []
-      ∙ is_equal (behind (step v.major x) Step.level) past_major major_ge _ is_release
+      ∙ is_equal (after (step v.major x) Step.level) past_major major_ge _ is_release
   row_one less x named = exact_row v Cargo less (Shape.one x) [] ∙ is_less (step v.major x) past_major major_ge
   row_one at_most x named = exact_row v Cargo at_most (Shape.one x) [] ∙ is_at_most (step v.major x) _ is_release
   row_one greater x named = and-true _ ∙ is_above v.major x past_major major_ge
   row_one at_least x named = exact_row v Cargo at_least (Shape.one x) []
       ∙ is_at_least (step v.major x) past_major major_ge _ is_release
   row_one tilde x named = exact_row v Cargo tilde (Shape.one x) []
-      ∙ is_equal (behind (step v.major x) Step.level) past_major major_ge _ is_release
+      ∙ is_equal (after (step v.major x) Step.level) past_major major_ge _ is_release
   row_one caret x named = exact_row v Cargo caret (Shape.one x) [] ∙ is_caret (step v.major x) past_major major_ge _
 
   row_two : (form : Form) (x y : ℕ) → is_bare form ≡ false → RowMeans form (x ∷ y ∷ []) []
   row_two bare x y named = cc
   row_two equal x y named = exact_row v Cargo equal (Shape.two x y) []
-      ∙ is_equal (behind (step v.major x) (behind (step v.minor y) Step.level)) past_minor minor_ge _ is_release
+      ∙ is_equal (after (step v.major x) (after (step v.minor y) Step.level)) past_minor minor_ge _ is_release
   row_two less x y named = exact_row v Cargo less (Shape.two x y) []
-      ∙ is_less (behind (step v.major x) (step v.minor y)) past_minor minor_ge
+      ∙ is_less (after (step v.major x) (step v.minor y)) past_minor minor_ge
   row_two at_most x y named = exact_row v Cargo at_most (Shape.two x y) []
-      ∙ is_at_most (behind (step v.major x) (step v.minor y)) _ is_release
+      ∙ is_at_most (after (step v.major x) (step v.minor y)) _ is_release
   row_two greater x y named = and-true _
-      ∙ is_above_behind (step v.major x) _ _ (is_above v.minor y past_minor minor_ge)
+      ∙ is_above_after (step v.major x) _ _ (is_above v.minor y past_minor minor_ge)
   row_two at_least x y named = exact_row v Cargo at_least (Shape.two x y) []
-      ∙ is_at_least (behind (step v.major x) (step v.minor y)) past_minor minor_ge _ is_release
+      ∙ is_at_least (after (step v.major x) (step v.minor y)) past_minor minor_ge _ is_release
   row_two tilde x y named = exact_row v Cargo tilde (Shape.two x y) []
-      ∙ is_equal (behind (step v.major x) (behind (step v.minor y) Step.level)) past_minor minor_ge _ is_release
+      ∙ is_equal (after (step v.major x) (after (step v.minor y) Step.level)) past_minor minor_ge _ is_release
   row_two caret x y named = exact_row v Cargo caret (Shape.two x y) []
-      ∙ is_caret (behind (step v.major x) (step v.minor y)) past_minor minor_ge _
+      ∙ is_caret (after (step v.major x) (step v.minor y)) past_minor minor_ge _
 
   row_three : (form : Form) (x y w : ℕ) (p : List IdentifierValue) → RowMeans form (x ∷ y ∷ w ∷ []) p
   row_three form x y w p = rw (and-false (is_greater form)) (exact_row v Cargo form (Shape.three x y w) p)

@@ -39,18 +39,18 @@ abbrev pub Left : List Simple → Option Text → Type 0
 Left others None = others ≡ []
 Left others (Some u) = SpellsComparators others u
 
-same_comparator : (s s' : Simple) (behind behind' : Option Text) (rest : Text) → comparator_at rest ≡ Some (s, behind)
-    → comparator_at rest ≡ Some (s', behind') → (s ≡ s') × (behind ≡ behind')
-same_comparator s s' behind behind' rest e e' = found_same (sym e ∙ e')
+same_comparator : (s s' : Simple) (after after' : Option Text) (rest : Text) → comparator_at rest ≡ Some (s, after)
+    → comparator_at rest ≡ Some (s', after') → (s ≡ s') × (after ≡ after')
+same_comparator s s' after after' rest e e' = found_same (sym e ∙ e')
 
-pub first_left : (s : Simple) (rest : Text) (behind : Option Text) (left : List Simple) → comparator_at rest ≡ Some (s, behind)
-    → SpellsComparators left rest → (others : List Simple) × (left ≡ s ∷ others) × Left others behind
-first_left s rest behind [] e h = absurd h
-first_left s rest behind (s' ∷ []) e h =
-    let same = same_comparator s s' behind None rest e (ended_read s' rest h) in
+pub first_left : (s : Simple) (rest : Text) (after : Option Text) (left : List Simple) → comparator_at rest ≡ Some (s, after)
+    → SpellsComparators left rest → (others : List Simple) × (left ≡ s ∷ others) × Left others after
+first_left s rest after [] e h = absurd h
+first_left s rest after (s' ∷ []) e h =
+    let same = same_comparator s s' after None rest e (ended_read s' rest h) in
     ([], ap (λ x. x ∷ []) (sym same.0), subst (Left []) (sym same.1) refl)
-first_left s rest behind (s' ∷ next ∷ others) e (front, back, h, more, text) =
-    let same = same_comparator s s' behind (Some back) rest e (ap comparator_at text ∙ parted_read s' front back h) in
+first_left s rest after (s' ∷ next ∷ others) e (front, back, h, more, text) =
+    let same = same_comparator s s' after (Some back) rest e (ap comparator_at text ∙ parted_read s' front back h) in
     (next ∷ others, ap (λ x. x ∷ next ∷ others) (sym same.0), subst (Left (next ∷ others)) (sym same.1) more)
 
 -- one more that is followed by a comma
@@ -62,9 +62,9 @@ goes_on : (s : Simple) (front rest u : Text) (left : List Simple) → SpellsComp
 goes_on s front rest u [] spelled text h = absurd h
 goes_on s front rest u (next ∷ others) spelled text h = (front, u, spelled, h, text)
 
-found_here : (s : Simple) (rest : Text) (behind : Option Text) → comparator_at rest ≡ Some (s, behind)
-    → (front : Text) × SpellsComparator s front × Follows front rest behind
-found_here s rest behind e = let h : ComparatorAt rest (Some (s, behind)) = subst (ComparatorAt rest) e (comparator_sound rest) in h
+found_here : (s : Simple) (rest : Text) (after : Option Text) → comparator_at rest ≡ Some (s, after)
+    → (front : Text) × SpellsComparator s front × Follows front rest after
+found_here s rest after e = let h : ComparatorAt rest (Some (s, after)) = subst (ComparatorAt rest) e (comparator_sound rest) in h
 
 pub at_next : (text : Text) (done : List Simple) (rest : Text) (s : Simple) (u : Text) → IsAt text done rest
     → comparator_at rest ≡ Some (s, Some u) → IsAt text (done ++ s ∷ []) u
@@ -204,12 +204,12 @@ module _ (text : Text) (done : List Simple) (rest : Text) (at : ℕ) (states_all
       (done ++ s ∷ [], spelled h.0, sym (more read_fits done s fit f is.fitting fits) ∙ h.1)
   surveyed_end x (Err OutOfMemory) h = absurd h
 
-  pub surveyed_as : (x : Surveyed) → FindsComparator (comparator_at text) (Some (x.first, x.behind)) → (r : Result Surveyed RangeError)
+  pub surveyed_as : (x : Surveyed) → FindsComparator (comparator_at text) (Some (x.first, x.after)) → (r : Result Surveyed RangeError)
       → EndsAs ((states_all && n) || (at == 0)) (fit && f) x r
       → MatchResult r (λ surveyed. (tree : List Simple) × IsSurveyedAs text tree surveyed) (λ e. IsRefusal text e)
   surveyed_as x finds (Ok surveyed) h = let end = surveyed_end x (Ok surveyed) h in (
     done ++ s ∷ [],
-    (end.0, end.1, subst (λ (y : Surveyed). FindsComparator (comparator_at text) (Some (y.first, y.behind))) (sym end.2) finds),
+    (end.0, end.1, subst (λ (y : Surveyed). FindsComparator (comparator_at text) (Some (y.first, y.after))) (sym end.2) finds),
   )
   surveyed_as x finds (Err e) h = surveyed_end x (Err e) h
 

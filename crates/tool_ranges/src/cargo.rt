@@ -165,7 +165,7 @@ fn in_one_range(alloc: Global, comparator_set: Vec<Comparator>) -> Result<Vec<Ra
 #[derive(Clone, Copy)]
 struct Surveyed<'t> {
     first: Simple<'t>,
-    behind: Option<&'t [u8]>,
+    after: Option<&'t [u8]>,
     count: usize,
 }
 
@@ -179,7 +179,7 @@ fn survey(requirement: &str) -> Result<Surveyed<'_>, RangeError>
         return Err(RangeError::NotARange);
     };
     let mut simple = first;
-    let mut behind = after_first;
+    let mut after = after_first;
     let mut count = 0usize;
     let mut states_all = true;
     let mut fit = true;
@@ -188,10 +188,10 @@ fn survey(requirement: &str) -> Result<Surveyed<'_>, RangeError>
         let cell = rows::cell_of(&simple, Compat::Cargo);
         fit &= cell.fits(&simple.partial);
         count = count.saturating_add(cell.count());
-        let Some(rest) = behind else {
+        let Some(rest) = after else {
             let surveyed = Surveyed {
                 first,
-                behind: after_first,
+                after: after_first,
                 count,
             };
             return ended(states_all | (at == 0), fit, surveyed);
@@ -200,7 +200,7 @@ fn survey(requirement: &str) -> Result<Surveyed<'_>, RangeError>
             return Err(RangeError::NotARange);
         };
         simple = next.0;
-        behind = next.1;
+        after = next.1;
     }
     Err(RangeError::NotARange)
 }
@@ -252,18 +252,18 @@ fn build_comparators(
     let mut comparators = Vec::with_capacity(alloc, surveyed.count)?;
     let mut counting = Vec::new(alloc);
     let mut simple = surveyed.first;
-    let mut behind = surveyed.behind;
+    let mut after = surveyed.after;
     for _ in 0..MOST_COMPARATORS {
         push_judging(alloc, judged, &simple, &mut comparators)?;
         pre_releases::push_counting(alloc, counts, &simple.partial, &mut counting)?;
-        let Some(rest) = behind else {
+        let Some(rest) = after else {
             return Ok((comparators, counting));
         };
         let Some(next) = read_comparator(rest) else {
             return Ok((comparators, counting));
         };
         simple = next.0;
-        behind = next.1;
+        after = next.1;
     }
     Ok((comparators, counting))
 }

@@ -36,7 +36,8 @@ pub struct Refusal {
 ///
 /// # Errors
 ///
-/// Out of memory: it needs memory for the text once more, where that gives no range.
+/// `AllocError` if an allocation fails. It allocates only if the text gives no range, and then one
+/// buffer of about its length.
 pub fn refused(alloc: Global, reading: Reading, text: &str) -> Result<Option<Refusal>, AllocError>
     // Nothing is refused of a text that gives a range.
     ensures range { IfOk result (λ found. (found ≡ None) ↔ HasSetAs reading text.now) }

@@ -13,7 +13,7 @@ use Rattle.semver_texts.specs.declared.dialect.Dialect.TheVariants.{Crate, Cargo
 use Rattle.semver_texts.proofs.Lists.{by_test}
 use Rattle.version_fronts.proofs.Cases.{by_option, not_none}
 use Rattle.version_fronts.proofs.Suffixes.{no_truth}
-use Rattle.version_fronts.specs.Steps.Scanning.{accepts, after, after_if, before_or, begins, behind_number, first_digit}
+use Rattle.version_fronts.specs.Steps.Scanning.{accepts, after, after_if, before_or, begins, after_number, first_digit}
 use Rattle.version_fronts.specs.Steps.Scanning.{identifier, in_part, is_complete, is_cut, is_refused, is_sign, may_end, more_space, need}
 use Rattle.version_fronts.specs.Steps.Scanning.{number, state_from, step, greatest}
 use Rattle.version_fronts.specs.declared.states.Part.{Part}
@@ -256,12 +256,12 @@ before_lessens : (d : Dialect) (space : Space) (b : ℕ) (o : Option Space) → 
 before_lessens d space b None = begins_lessens d space b
 before_lessens d space b (Some more) = λ go. omega arith
 
-behind_lessens : (d : Dialect) (which : Which) (n b : ℕ) → Lessens (Number which n) b (behind_number d which b)
-behind_lessens d Major n b =
+after_lessens : (d : Dialect) (which : Which) (n b : ℕ) → Lessens (Number which n) b (after_number d which b)
+after_lessens d Major n b =
     by_test (b == 46) (λ y. rw y (λ go. omega (arith, same_size b 46 y refl))) (λ o. rw o (of_refused (Number Major n) b))
-behind_lessens d Minor n b =
+after_lessens d Minor n b =
     by_test (b == 46) (λ y. rw y (λ go. omega (arith, same_size b 46 y refl))) (λ o. rw o (of_refused (Number Minor n) b))
-behind_lessens d Patch n b = none_needed (Number Patch n) b (behind_number d Patch b) refl
+after_lessens d Patch n b = none_needed (Number Patch n) b (after_number d Patch b) refl
 
 number_lessens : (d : Dialect) (which : Which) (n b : ℕ) → Lessens (Number which n) b (number d which n b)
 number_lessens d which n b =
@@ -270,7 +270,7 @@ number_lessens d which n b =
     (λ some. by_test (nat_le (n * 10 + (b - 48)) (greatest d))
     (λ small. rw (y, some, small) (λ go. omega (arith, same_number which n (n * 10 + (b - 48)))))
     (λ large. rw (y, some, large) (of_refused (Number which n) b))))
-    (λ o. rw o (behind_lessens d which n b))
+    (λ o. rw o (after_lessens d which n b))
 
 part_size : (d : Dialect) (section : Section) (part p : Part) (b : ℕ) → in_part d section part b ≡ Some p → size b ≡ 1
 part_size d section part p b e =

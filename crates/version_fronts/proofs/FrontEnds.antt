@@ -15,7 +15,7 @@ use Rattle.semver_texts.proofs.Lists.{by_test}
 use Rattle.version_fronts.proofs.Cases.{by_option, not_none, some_if_is}
 use Rattle.version_fronts.proofs.Suffixes.{no_truth}
 use Rattle.version_fronts.specs.Reasons.{ends_in_digit, ends_in_part, ends_in_zero, from_end, has_no_digit, is_blank}
-use Rattle.version_fronts.specs.Steps.Scanning.{after, before, begins, behind_identifier, behind_number, first_digit}
+use Rattle.version_fronts.specs.Steps.Scanning.{after, before, begins, after_identifier, after_number, first_digit}
 use Rattle.version_fronts.specs.Steps.Scanning.{greatest, identifier, in_part, may_end, more_space, number}
 use Rattle.version_fronts.specs.Steps.Scanning.{opened, state_after, state_from, step}
 use Rattle.version_fronts.specs.declared.states.Part.{Part}
@@ -227,10 +227,10 @@ module _ (t : Text) (b : ℕ) where
   not_begun : has_no_digit t ≡ false → EndsInIdentifier NotBegun (t ++ b ∷ [])
   not_begun some = record { some_digit = still_digits some; last = λ e. no_truth e }
 
-  behind_goes : (d : Dialect) (which : Which) → has_no_digit t ≡ false → EndsIn (behind_number d which b) (t ++ b ∷ [])
-  behind_goes d Major some = by_test (b == 46) (λ y. rw y (a_dot some y)) (λ n. rw n tt)
-  behind_goes d Minor some = by_test (b == 46) (λ y. rw y (a_dot some y)) (λ n. rw n tt)
-  behind_goes d Patch some =
+  after_goes : (d : Dialect) (which : Which) → has_no_digit t ≡ false → EndsIn (after_number d which b) (t ++ b ∷ [])
+  after_goes d Major some = by_test (b == 46) (λ y. rw y (a_dot some y)) (λ n. rw n tt)
+  after_goes d Minor some = by_test (b == 46) (λ y. rw y (a_dot some y)) (λ n. rw n tt)
+  after_goes d Patch some =
       by_test (b == 45) (λ y. rw y (not_begun some))
       (λ n. by_test (b == 43) (λ y. rw (n, y) (not_begun some)) (λ o. rw (n, o) (after_white d Complete some)))
 
@@ -245,7 +245,7 @@ module _ (t : Text) (b : ℕ) where
         zero = zero_is t b ∙ no_zero (ends_in_digit t) w.digit some;
       }))
       (λ large. rw (y, some, large) tt)))
-      (λ o. rw o (behind_goes d which w.some_digit))
+      (λ o. rw o (after_goes d which w.some_digit))
     where
       no_zero : (x : Bool) → x ≡ true → (n == 0) ≡ false → ((b == 48) && not x) ≡ (n * 10 + (b - 48) == 0)
       no_zero x e some = grind (arith, nat_tests)
@@ -255,19 +255,19 @@ module _ (t : Text) (b : ℕ) where
       by_test (is_ascii_alphanumeric b) (λ y. alphanumeric_part b y)
       (λ n. by_test (b == 45) (λ y. rw (n, y) refl) (λ o. absurd (not_none p (rw (n, o) at e))))
 
-  behind_identifier_goes : (d : Dialect) (section : Section) → has_no_digit t ≡ false
-      → EndsIn (behind_identifier d section b) (t ++ b ∷ [])
-  behind_identifier_goes d Pre some =
+  after_identifier_goes : (d : Dialect) (section : Section) → has_no_digit t ≡ false
+      → EndsIn (after_identifier d section b) (t ++ b ∷ [])
+  after_identifier_goes d Pre some =
       by_test (b == 46) (λ y. rw y (not_begun some))
       (λ n. by_test (b == 43) (λ y. rw (n, y) (not_begun some)) (λ o. rw (n, o) (after_white d Complete some)))
-  behind_identifier_goes d Build some =
+  after_identifier_goes d Build some =
       by_test (b == 46) (λ y. rw y (not_begun some)) (λ n. rw n (after_white d Complete some))
 
   identifier_goes : (d : Dialect) (section : Section) (part : Part) → has_no_digit t ≡ false
       → EndsIn (identifier d section part b) (t ++ b ∷ [])
   identifier_goes d section part some =
       by_option (in_part d section part b)
-      (λ none. by_test (may_end part) (λ y. rw (none, y) (behind_identifier_goes d section some)) (λ n. rw (none, n) tt))
+      (λ none. by_test (may_end part) (λ y. rw (none, y) (after_identifier_goes d section some)) (λ n. rw (none, n) tt))
       (λ p e. rw e (record {
         some_digit = still_digits some;
         last = λ may. ap is_part_byte (last_is t b) ∙ part_goes d section part p e;

@@ -10,7 +10,7 @@ use Rattle.semver_texts.specs.Texts.{Text, is_empty}
 use Rattle.semver_texts.specs.declared.dialect.Dialect.{Dialect}
 use Rattle.semver_texts.specs.declared.dialect.Dialect.TheVariants.{Crate, Cargo, Npm}
 use Rattle.semver_ranges.specs.RangeTree.{PartialTree, one, Simple, RangeTree, empty, hyphen, simples, SetTree, Form, bare, equal}
-use Rattle.semver_ranges.specs.RangeTree.{less, at_most, greater, at_least, tilde, caret, Role, behind_form, behind_hyphen, is_blank}
+use Rattle.semver_ranges.specs.RangeTree.{less, at_most, greater, at_least, tilde, caret, Role, after_form, after_hyphen, is_blank}
 use Rattle.semver_ranges.specs.RangeTree.{AreBlanks, AreSomeBlanks, SpellsPartial, SpellsWord, IsSignAndBlanks, SpellsForm, SpellsSimple}
 use Rattle.semver_ranges.specs.RangeTree.{SpellsSimples, SpellsRange, SpellsPadded, SpellsIn, is_word_of_npm}
 use Rattle.version_fronts.proofs.FrontPartials.{Rest, nothing, wildcard, letter, rest_text, IsFrontOf, partial_goes_on}
@@ -211,7 +211,7 @@ module _ (d : Dialect) where
   ]
 
   -- a hyphen range whose right side is `1`
-  pub one_right : (left : PartialTree) (f gap k : Text) → SpellsWord d (behind_form bare) left f → AreSomeBlanks d gap → AreBlanks d k
+  pub one_right : (left : PartialTree) (f gap k : Text) → SpellsWord d (after_form bare) left f → AreSomeBlanks d gap → AreBlanks d k
       → SpellsRange d (hyphen left (one (codes "1"))) (f ++ (gap ++ (45 ∷ ((k ++ codes " ") ++ codes "1"))))
   one_right left f gap k word blanks are = (
     f,
@@ -221,7 +221,7 @@ module _ (d : Dialect) where
     word,
     blanks,
     (ap not (some_space k), one_space k are),
-    number_word d behind_hyphen,
+    number_word d after_hyphen,
     simp append_assoc,
   )
 
@@ -260,13 +260,13 @@ module _ (d : Dialect) (IsRest : Text → Type 0) (Right : Simple → Type 0) wh
     pub number : IsRest (codes " 1")
     pub right_number : (form : Form) → Right (record { form = form; partial = one (codes "1") })
     pub word : (form : Form) (p : PartialTree) (front rest : Text) → is_empty front ≡ false
-        → SpellsWord d (behind_form form) p (front ++ rest) → Right (record { form = form; partial = p })
-        → WordGoesOn IsRest (λ tree. Right (record { form = form; partial = tree })) d (behind_form form) front
-    pub right_word : (p : PartialTree) (front rest : Text) → is_empty front ≡ false → SpellsWord d behind_hyphen p (front ++ rest)
-        → Right (right_side p) → WordGoesOn IsRest (λ tree. Right (right_side tree)) d behind_hyphen front
-    pub left_word : (p : PartialTree) (front rest : Text) → is_empty front ≡ false → SpellsWord d (behind_form bare) p (front ++ rest)
+        → SpellsWord d (after_form form) p (front ++ rest) → Right (record { form = form; partial = p })
+        → WordGoesOn IsRest (λ tree. Right (record { form = form; partial = tree })) d (after_form form) front
+    pub right_word : (p : PartialTree) (front rest : Text) → is_empty front ≡ false → SpellsWord d after_hyphen p (front ++ rest)
+        → Right (right_side p) → WordGoesOn IsRest (λ tree. Right (right_side tree)) d after_hyphen front
+    pub left_word : (p : PartialTree) (front rest : Text) → is_empty front ≡ false → SpellsWord d (after_form bare) p (front ++ rest)
         → Right (left_side p) → RangeGoesOn front
-    pub left_alone : (p : PartialTree) (front blanks : Text) → SpellsWord d (behind_form bare) p front → AreBlanks d blanks
+    pub left_alone : (p : PartialTree) (front blanks : Text) → SpellsWord d (after_form bare) p front → AreBlanks d blanks
         → Right (left_side p) → RangeGoesOn (front ++ blanks)
 
 module _ (d : Dialect) (IsRest : Text → Type 0) (Right : Simple → Type 0) (rests : AreRests d IsRest Right) where
@@ -286,12 +286,12 @@ module _ (d : Dialect) (IsRest : Text → Type 0) (Right : Simple → Type 0) (r
       tree = record { form = f.0; partial = one (codes "1") };
       more = codes " 1";
       is_rest = rests.number;
-      spelled = (front ++ codes " ", codes "1", f.1, number_word d (behind_form f.0), sym (append_assoc front _ _));
+      spelled = (front ++ codes " ", codes "1", f.1, number_word d (after_form f.0), sym (append_assoc front _ _));
       right = rests.right_number f.0;
     })
     | inr w ↦ (
         let k = rests.word s.form s.partial (w.0 ∷ w.1) rest refl
-        (subst (SpellsWord d (behind_form s.form) s.partial) (w.3) word) right in record {
+        (subst (SpellsWord d (after_form s.form) s.partial) (w.3) word) right in record {
           tree = record { form = s.form; partial = k.tree };
           more = k.more;
           is_rest = k.is_rest;
@@ -387,7 +387,7 @@ module _ (d : Dialect) (IsRest : Text → Type 0) (Right : Simple → Type 0) (r
   }
 
   -- what is before the right word
-  module _ (left : PartialTree) (f gap : Text) (word : SpellsWord d (behind_form bare) left f) (blanks : AreSomeBlanks d gap)
+  module _ (left : PartialTree) (f gap : Text) (word : SpellsWord d (after_form bare) left f) (blanks : AreSomeBlanks d gap)
       (left_right : Right (left_side left)) where
     before_right : (k : Text) → AreBlanks d k → RangeGoesOn d IsRest Right (f ++ (gap ++ (45 ∷ k)))
     before_right k are = record {
@@ -402,7 +402,7 @@ module _ (d : Dialect) (IsRest : Text → Type 0) (Right : Simple → Type 0) (r
       right = (left_right, rests.right_number at_most);
     }
 
-    within_right : (gap' m : Text) → AreSomeBlanks d gap' → WordGoesOn IsRest (λ tree. Right (right_side tree)) d behind_hyphen m
+    within_right : (gap' m : Text) → AreSomeBlanks d gap' → WordGoesOn IsRest (λ tree. Right (right_side tree)) d after_hyphen m
         → RangeGoesOn d IsRest Right (f ++ (gap ++ (45 ∷ (gap' ++ m))))
     within_right gap' m blanks' w = record {
       tree = hyphen left w.tree;
@@ -416,12 +416,12 @@ module _ (d : Dialect) (IsRest : Text → Type 0) (Right : Simple → Type 0) (r
       right = (left_right, w.right);
     }
 
-    after_hyphen : (right : PartialTree) (gap' back k rest : Text) → AreSomeBlanks d gap' → SpellsWord d behind_hyphen right back
+    right_goes : (right : PartialTree) (gap' back k rest : Text) → AreSomeBlanks d gap' → SpellsWord d after_hyphen right back
         → Right (right_side right) → k ++ rest ≡ gap' ++ back → RangeGoesOn d IsRest Right (f ++ (gap ++ (45 ∷ k)))
-    after_hyphen right gap' back k rest blanks' word' is_right text = elim (cut_at gap' back k rest text) [
+    right_goes right gap' back k rest blanks' word' is_right text = elim (cut_at gap' back k rest text) [
       | inl w ↦ before_right k (blanks_front d k w.0 (subst (AreBlanks d) (w.1) (blanks'.1)))
       | inr w ↦ (
-          let goes = rests.right_word right (w.0 ∷ w.1) rest refl (subst (SpellsWord d behind_hyphen right) (w.3) word') is_right in
+          let goes = rests.right_word right (w.0 ∷ w.1) rest refl (subst (SpellsWord d after_hyphen right) (w.3) word') is_right in
           subst (λ t. RangeGoesOn d IsRest Right (f ++ (gap ++ (45 ∷ t)))) (sym (w.2)) (within_right gap' (w.0 ∷ w.1) blanks' goes))
     ]
 
@@ -443,7 +443,7 @@ module _ (d : Dialect) (IsRest : Text → Type 0) (Right : Simple → Type 0) (r
       }
   range_goes_on (hyphen left right) (b ∷ m) rest (f, gap, gap', back, word, blanks, blanks', word', text) are_right =
       elim (cut_at f (gap ++ (45 ∷ (gap' ++ back))) (b ∷ m) rest (text ∙ simp append_assoc)) [
-        | inl w ↦ rests.left_word left (b ∷ m) w.0 refl (subst (SpellsWord d (behind_form bare) left) (w.1) word) are_right.0
+        | inl w ↦ rests.left_word left (b ∷ m) w.0 refl (subst (SpellsWord d (after_form bare) left) (w.1) word) are_right.0
         | inr w ↦ elim (cut_at gap (45 ∷ (gap' ++ back)) (w.0 ∷ w.1) rest (sym (w.3))) [
           | inl g ↦ subst (RangeGoesOn d IsRest Right) (sym (w.2))
               (rests.left_alone left f (w.0 ∷ w.1) word
@@ -453,7 +453,7 @@ module _ (d : Dialect) (IsRest : Text → Type 0) (Right : Simple → Type 0) (r
               let tail : g.1 ++ rest ≡ gap' ++ back = (let e = g.3 in cc) in
               let whole : f ++ (gap ++ (45 ∷ g.1)) ≡ b ∷ m = (let e = w.2 in let k = g.2 in cc) in
               subst (RangeGoesOn d IsRest Right) whole
-              (after_hyphen left f gap word blanks are_right.0 right gap' back g.1 rest blanks' word' are_right.1 tail))
+              (right_goes left f gap word blanks are_right.0 right gap' back g.1 rest blanks' word' are_right.1 tail))
         ]
       ]
 
@@ -580,9 +580,9 @@ plain_rests d = record {
   bar = (3, omega arith, refl);
   number = (4, omega arith, refl);
   right_number = λ form. tt;
-  word = λ form p front rest some h right. as_rest (behind_form form) front (goes (behind_form form) p front rest some h);
-  right_word = λ p front rest some h right. as_rest behind_hyphen front (goes behind_hyphen p front rest some h);
-  left_word = λ p front rest some h right. left_cut front (goes (behind_form bare) p front rest some h);
+  word = λ form p front rest some h right. as_rest (after_form form) front (goes (after_form form) p front rest some h);
+  right_word = λ p front rest some h right. as_rest after_hyphen front (goes after_hyphen p front rest some h);
+  left_word = λ p front rest some h right. left_cut front (goes (after_form bare) p front rest some h);
   left_alone = λ p front blanks word are right. record {
     tree = simples (record { form = bare; partial = p }) [];
     inner = front;
@@ -604,7 +604,7 @@ plain_rests d = record {
         → WordGoesOn IsTextRest (λ tree. Unit {0}) d role front
     as_rest role front w = record { tree = w.tree; more = w.more; is_rest = text_rest w.more w.is_rest; spelled = w.spelled; right = tt }
 
-    left_cut : (front : Text) → WordGoesOn IsPlainRest (λ tree. Unit {0}) d (behind_form bare) front
+    left_cut : (front : Text) → WordGoesOn IsPlainRest (λ tree. Unit {0}) d (after_form bare) front
         → RangeGoesOn d IsTextRest (λ s. Unit {0}) front
     left_cut front w = record {
       tree = simples (record { form = bare; partial = w.tree }) [];

@@ -14,7 +14,7 @@ use Rattle.semver_texts.specs.Texts.{Text, has_no_leading_zero, is_empty, marked
 use Rattle.semver_texts.proofs.Lists.{by_test}
 use Rattle.semver_ranges.specs.NpmLengths.{is_short_number, is_short_pre, is_short_build, is_short_version, leading_digits}
 use Rattle.semver_ranges.specs.RangeTree.{PartialTree, one, two, three, is_wildcard, components}
-use Rattle.semver_ranges.specs.RangeTree.{Role, behind_form, behind_hyphen, Form, bare}
+use Rattle.semver_ranges.specs.RangeTree.{Role, after_form, after_hyphen, Form, bare}
 use Rattle.semver_ranges.specs.RangeTree.{is_taken_whole, qualifier, has_short_version, is_word_of_npm}
 use Rattle.semver_ranges.specs.RangeTree.{has_no_leading_zeros, has_short_parts}
 use Rattle.version_fronts.proofs.FrontPartials.{IsFrontOfComponent, IsFrontOfPart}
@@ -167,14 +167,14 @@ word_length v p = v + length (join_with_byte 46 (components p) ++ qualifier p)
 
 -- whether it is taken over whole depends on the pre-release alone
 same_form : (form : Form) (a b c : Text) (pre build : List Text) (a' b' c' : Text) (pre' build' : List Text)
-    → is_taken_whole (behind_form form) (three a' b' c' pre' build') ≡ is_taken_whole (behind_form form) (three a b c pre build)
+    → is_taken_whole (after_form form) (three a' b' c' pre' build') ≡ is_taken_whole (after_form form) (three a b c pre build)
 same_form bare a b c pre build a' b' c' pre' build' = refl
 same_form _ a b c pre build a' b' c' pre' build' = refl
 
 same_whole : (role : Role) (a b c : Text) (pre build : List Text) (a' b' c' : Text) (pre' build' : List Text)
     → is_empty pre' ≡ is_empty pre → is_taken_whole role (three a' b' c' pre' build') ≡ is_taken_whole role (three a b c pre build)
-same_whole (behind_form form) a b c pre build a' b' c' pre' build' e = same_form form a b c pre build a' b' c' pre' build'
-same_whole behind_hyphen a b c pre build a' b' c' pre' build' e = e
+same_whole (after_form form) a b c pre build a' b' c' pre' build' e = same_form form a b c pre build a' b' c' pre' build'
+same_whole after_hyphen a b c pre build a' b' c' pre' build' e = e
 
 -- the same length is tested, or not a greater one
 kept_whole : (whole : Bool) (n n' k k' : ℕ) → n' ≤ n → k' ≤ k → is_short_version (if whole then n else k) ≡ true
@@ -202,13 +202,13 @@ bare_end : (role : Role) (a b c c' : Text) (pre build : List Text) (v n n' : ℕ
     → n' ≡ v + length (numbers_text a b c') → IsShortEnd role a b c pre build n → IsShortEnd role a b c' [] [] n'
 bare_end role a b c c' [] build v n n' fewer small shorter is h =
     same_end role a b c c' [] build [] [] n n' refl fewer (simp length-append (omega arith)) h
-bare_end behind_hyphen a b c c' (x ∷ xs) build v n n' fewer small shorter is h =
+bare_end after_hyphen a b c c' (x ∷ xs) build v n n' fewer small shorter is h =
     let k : length (numbers_text a b c') ≤ length (numbers_text a b c) = simp length-append (omega arith) in
     let m = length-append (numbers_text a b c) (marked (codes "-") (x ∷ xs)) in
     grind (arith, nat_tests)
-bare_end (behind_form form) a b c c' (x ∷ xs) build v n n' fewer small shorter is h =
+bare_end (after_form form) a b c c' (x ∷ xs) build v n n' fewer small shorter is h =
     rw (same_form form a b c (x ∷ xs) build a b c' [] [])
-    (kept_whole (is_taken_whole (behind_form form) (three a b c (x ∷ xs) build)) n n' _ _ fewer (simp length-append (omega arith)) h)
+    (kept_whole (is_taken_whole (after_form form) (three a b c (x ∷ xs) build)) n n' _ _ fewer (simp length-append (omega arith)) h)
 
 -- the version of a front
 stated : (a b c c' : Text) → is_wildcard c' ≡ is_wildcard c → not (is_wildcard a || (is_wildcard b || is_wildcard c')) ≡ true

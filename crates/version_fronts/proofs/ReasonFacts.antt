@@ -86,12 +86,12 @@ zero_begins Cargo Build = refl
 zero_begins Npm Pre = refl
 zero_begins Npm Build = refl
 
-no_letter_behind : (d : Dialect) (which : Which) (n : ℕ) → letter_after d (Number which n) ≡ false
-no_letter_behind d Major n = refl
-no_letter_behind d Minor n = refl
-no_letter_behind Crate Patch n = refl
-no_letter_behind Cargo Patch n = refl
-no_letter_behind Npm Patch n = refl
+no_letter_after : (d : Dialect) (which : Which) (n : ℕ) → letter_after d (Number which n) ≡ false
+no_letter_after d Major n = refl
+no_letter_after d Minor n = refl
+no_letter_after Crate Patch n = refl
+no_letter_after Cargo Patch n = refl
+no_letter_after Npm Patch n = refl
 
 end_is : (d : Dialect) (s : State) (t : Text) (too_long : Bool) → EndsIn s t → is_refused s ≡ false → accepts s ≡ false → is_cut s ≡ false
     → at_end s ≡ reason_by (accepts s) (letter_after d s) (zero_after d s) too_long t None
@@ -102,7 +102,7 @@ end_is d (NoDigit Minor) t too_long w alive no_version uncut =
 end_is d (NoDigit Patch) t too_long w alive no_version uncut =
     numbers_end d t too_long (NoDigit Patch) (not_blank t w.some_digit) refl
 end_is d (Number which n) t too_long w alive no_version uncut =
-    numbers_end d t too_long (Number which n) (not_blank t w.some_digit) (no_letter_behind d which n)
+    numbers_end d t too_long (Number which n) (not_blank t w.some_digit) (no_letter_after d which n)
 end_is d (Identifier section NotBegun) t too_long w alive no_version uncut =
     identifier_end d t too_long (Identifier section NotBegun) (not_blank t w.some_digit) (letter_begins d section NotBegun)
     reason.EmptyIdentifier (rw (zero_begins d section) refl)
@@ -220,7 +220,7 @@ module _ (d : Dialect) (t : Text) (b : ℕ) where
       if_either (is_ascii_digit b) _ _ _ (λ y. in_number (Number Minor n) n refl w.digit w.zero y)
       (λ o. numbers_are (Number Minor n) refl refl w.some_digit (no_digit_row _ o))
   byte_is (Number Patch n) w alive uncut =
-      if_either (is_ascii_digit b) _ _ _ (λ y. in_number (Number Patch n) n (no_letter_behind d Patch n) w.digit w.zero y)
+      if_either (is_ascii_digit b) _ _ _ (λ y. in_number (Number Patch n) n (no_letter_after d Patch n) w.digit w.zero y)
       (λ o. versions_are (Number Patch n) refl (digit_is_part t w.digit) (no_digit_row _ o))
   byte_is (Identifier section NotBegun) w alive uncut =
       identifiers_are (Identifier section NotBegun) reason.EmptyIdentifier refl (letter_begins d section NotBegun)

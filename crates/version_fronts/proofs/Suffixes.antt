@@ -18,7 +18,7 @@ use Rattle.semver_texts.proofs.SpelledVersions.{all_passes}
 use Rattle.version_fronts.proofs.Cases.{by_option}
 use Rattle.version_fronts.proofs.Identifiers.{at_part, finishes, is_good, joined_cons}
 use Rattle.version_fronts.proofs.Spaces.{Closed, Fill, Outer, filled_more, none_outer, outer_closed}
-use Rattle.version_fronts.specs.Steps.Scanning.{accepts, after, after_if, before, before_or, begins, behind_identifier, behind_number}
+use Rattle.version_fronts.specs.Steps.Scanning.{accepts, after, after_if, before, before_or, begins, after_identifier, after_number}
 use Rattle.version_fronts.specs.Steps.Scanning.{first_digit, greatest, identifier, identifier_or, in_part, may_end}
 use Rattle.version_fronts.specs.Steps.Scanning.{more_space, number, state_from, step}
 use Rattle.version_fronts.specs.declared.states.Part.{Part}
@@ -58,9 +58,9 @@ BuildTail d t = AreMarked d Build 43 (Outer d) t
 abbrev pub Tail : Dialect → Text → Type 0
 Tail d t = AreMarked d Pre 45 (BuildTail d) t
 
-abbrev pub BehindSection : Dialect → Section → Text → Type 0
-BehindSection d Pre t = BuildTail d t
-BehindSection d Build t = Outer d t
+abbrev pub AfterSection : Dialect → Section → Text → Type 0
+AfterSection d Pre t = BuildTail d t
+AfterSection d Build t = Outer d t
 
 -- a number, and then such a text
 pub record AtNumber (d : Dialect) (L : Text → Type 0) (t : Text) : Type 0 where
@@ -75,13 +75,13 @@ pub record Dotted (L : Text → Type 0) (t : Text) : Type 0 where
   pub whole : t ≡ 46 ∷ rest
   pub next : L rest
 
-abbrev pub BehindNumber : Dialect → Which → Text → Type 0
-BehindNumber d Major t = Dotted (AtNumber d (Dotted (AtNumber d (Tail d)))) t
-BehindNumber d Minor t = Dotted (AtNumber d (Tail d)) t
-BehindNumber d Patch t = Tail d t
+abbrev pub AfterNumber : Dialect → Which → Text → Type 0
+AfterNumber d Major t = Dotted (AtNumber d (Dotted (AtNumber d (Tail d)))) t
+AfterNumber d Minor t = Dotted (AtNumber d (Tail d)) t
+AfterNumber d Patch t = Tail d t
 
 abbrev pub Ahead : Dialect → Which → Text → Type 0
-Ahead d which t = AtNumber d (BehindNumber d which) t
+Ahead d which t = AtNumber d (AfterNumber d which) t
 
 -- more digits of a number, and then such a text
 pub record InDigits (d : Dialect) (n : ℕ) (L : Text → Type 0) (t : Text) : Type 0 where
@@ -111,8 +111,8 @@ pub record Fresh (d : Dialect) (t : Text) : Type 0 where
 abbrev pub Suffix : Dialect → State → Text → Type 0
 Suffix d (Before space) t = Fill space (Fresh d) t
 Suffix d (NoDigit which) t = Ahead d which t
-Suffix d (Number which n) t = n ≤ greatest d → InDigits d n (BehindNumber d which) t
-Suffix d (Identifier section part) t = InIdentifiers d section part (BehindSection d section) t
+Suffix d (Number which n) t = n ≤ greatest d → InDigits d n (AfterNumber d which) t
+Suffix d (Identifier section part) t = InIdentifiers d section part (AfterSection d section) t
 Suffix d (After space) t = Fill space (Outer d) t
 Suffix d Refused t = ⊥
 
@@ -130,11 +130,11 @@ no_parts d t w = record { parts = []; rest = t; each = refl; whole = refl; next 
 outer_tail : (d : Dialect) (t : Text) → Outer d t → Tail d t
 outer_tail d t w = no_parts d t (no_build d t w)
 
-outer_behind : (d : Dialect) (section : Section) (t : Text) → Outer d t → BehindSection d section t
-outer_behind d Pre t w = no_build d t w
-outer_behind d Build t w = w
+outer_after : (d : Dialect) (section : Section) (t : Text) → Outer d t → AfterSection d section t
+outer_after d Pre t w = no_build d t w
+outer_after d Build t w = w
 
-last_identifier : (d : Dialect) (section : Section) (part : Part) (t : Text) → may_end part ≡ true → BehindSection d section t
+last_identifier : (d : Dialect) (section : Section) (part : Part) (t : Text) → may_end part ≡ true → AfterSection d section t
     → Suffix d (Identifier section part) t
 last_identifier d section part t e w = record { first = []; others = []; rest = t; ends = e; each = refl; whole = refl; next = w }
 
@@ -147,7 +147,7 @@ nothing_more d (NoDigit which) e = no_truth e
 nothing_more d (Number Major n) e = no_truth e
 nothing_more d (Number Minor n) e = no_truth e
 nothing_more d (Number Patch n) e = no_digits d n (Tail d) [] (outer_tail d [] (none_outer d))
-nothing_more d (Identifier section part) e = last_identifier d section part [] e (outer_behind d section [] (none_outer d))
+nothing_more d (Identifier section part) e = last_identifier d section part [] e (outer_after d section [] (none_outer d))
 nothing_more d (After Complete) e = none_outer d
 nothing_more d (After C2) e = no_truth e
 nothing_more d (After E1) e = no_truth e
@@ -217,7 +217,7 @@ first_more : (d : Dialect) (which : Which) (b : ℕ) (t : Text) → Suffix d (fi
 first_more d which b t w =
     by_test (is_ascii_digit b)
     (λ y. let digits : Suffix d (Number which (b - 48)) t = rw y at w in
-    begin_number d (BehindNumber d which) b t y (digits (small_digit d b y)))
+    begin_number d (AfterNumber d which) b t y (digits (small_digit d b y)))
     (λ n. absurd (rw n at w))
 
 -- ---- identifiers
@@ -341,11 +341,11 @@ before_more d space b t w =
 dotted : (L : Text → Type 0) (b : ℕ) (t : Text) → (b == 46) ≡ true → L t → Dotted L (b ∷ t)
 dotted L b t y w = record { rest = t; whole = ap (λ x. x ∷ t) (eqb-true b 46 y); next = w }
 
-behind_number_more : (d : Dialect) (which : Which) (b : ℕ) (t : Text) → Suffix d (behind_number d which b) t
-    → BehindNumber d which (b ∷ t)
-behind_number_more d Major b t w = by_test (b == 46) (λ y. dotted _ b t y (rw y at w)) (λ n. absurd (rw n at w))
-behind_number_more d Minor b t w = by_test (b == 46) (λ y. dotted _ b t y (rw y at w)) (λ n. absurd (rw n at w))
-behind_number_more d Patch b t w =
+after_number_more : (d : Dialect) (which : Which) (b : ℕ) (t : Text) → Suffix d (after_number d which b) t
+    → AfterNumber d which (b ∷ t)
+after_number_more d Major b t w = by_test (b == 46) (λ y. dotted _ b t y (rw y at w)) (λ n. absurd (rw n at w))
+after_number_more d Minor b t w = by_test (b == 46) (λ y. dotted _ b t y (rw y at w)) (λ n. absurd (rw n at w))
+after_number_more d Patch b t w =
     by_test (b == 45)
     (λ y. subst (λ x. Tail d (x ∷ t)) (sym (eqb-true b 45 y)) (begin_marked d Pre 45 (BuildTail d) t (rw y at w)))
     (λ n. by_test (b == 43)
@@ -359,19 +359,19 @@ number_more d which n b t w = λ fits.
     (λ y. by_test (n == 0) (λ z. absurd (rw (y, z) at w))
     (λ some. by_test (nat_le (n * 10 + (b - 48)) (greatest d))
     (λ small. let more : Suffix d (Number which (n * 10 + (b - 48))) t = rw (y, some, small) at w in
-    more_digits d (BehindNumber d which) b t y n some (more (leb-true _ _ small)))
+    more_digits d (AfterNumber d which) b t y n some (more (leb-true _ _ small)))
     (λ large. absurd (rw (y, some, large) at w))))
-    (λ other. no_digits d n (BehindNumber d which) (b ∷ t) (behind_number_more d which b t (rw other at w)) fits)
+    (λ other. no_digits d n (AfterNumber d which) (b ∷ t) (after_number_more d which b t (rw other at w)) fits)
 
-behind_identifier_more : (d : Dialect) (section : Section) (part : Part) (b : ℕ) (t : Text) → may_end part ≡ true
-    → Suffix d (behind_identifier d section b) t → Suffix d (Identifier section part) (b ∷ t)
-behind_identifier_more d section part b t e w =
+after_identifier_more : (d : Dialect) (section : Section) (part : Part) (b : ℕ) (t : Text) → may_end part ≡ true
+    → Suffix d (after_identifier d section b) t → Suffix d (Identifier section part) (b ∷ t)
+after_identifier_more d section part b t e w =
     by_test (b == 46)
     (λ y. subst (λ x. Suffix d (Identifier section part) (x ∷ t)) (sym (eqb-true b 46 y))
-    (next_identifier d section (BehindSection d section) part t e (rw y at w)))
+    (next_identifier d section (AfterSection d section) part t e (rw y at w)))
     (λ n. others section n w)
   where
-    others : (section : Section) → (b == 46) ≡ false → Suffix d (behind_identifier d section b) t
+    others : (section : Section) → (b == 46) ≡ false → Suffix d (after_identifier d section b) t
         → Suffix d (Identifier section part) (b ∷ t)
     others Pre n w =
         by_test (b == 43)
@@ -383,12 +383,12 @@ behind_identifier_more d section part b t e w =
 identifier_more : (d : Dialect) (section : Section) (part : Part) (b : ℕ) (t : Text) → Suffix d (identifier d section part b) t
     → Suffix d (Identifier section part) (b ∷ t)
 identifier_more d section part b t w =
-    let other : State = if may_end part then behind_identifier d section b else Refused in
+    let other : State = if may_end part then after_identifier d section b else Refused in
     by_option (in_part d section part b)
     (λ none. by_test (may_end part)
-    (λ y. behind_identifier_more d section part b t y (rw y at (subst (λ o. Suffix d (identifier_or section o other) t) none w)))
+    (λ y. after_identifier_more d section part b t y (rw y at (subst (λ o. Suffix d (identifier_or section o other) t) none w)))
     (λ n. absurd (rw n at (subst (λ o. Suffix d (identifier_or section o other) t) none w))))
-    (λ p e. in_identifier d section (BehindSection d section) part b t p e (subst (λ o. Suffix d (identifier_or section o other) t) e w))
+    (λ p e. in_identifier d section (AfterSection d section) part b t p e (subst (λ o. Suffix d (identifier_or section o other) t) e w))
 
 one_more : (d : Dialect) (s : State) (b : ℕ) (t : Text) → Suffix d (step d s b) t → Suffix d s (b ∷ t)
 one_more d (Before space) b t w = before_more d space b t w

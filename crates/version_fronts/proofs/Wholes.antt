@@ -18,9 +18,9 @@ use Rattle.semver_texts.proofs.Numbers.{IsCanonical, all_digits, canonical_decim
 use Rattle.version_fronts.proofs.Cases.{by_option}
 use Rattle.version_fronts.proofs.Identifiers.{at_part, finishes, is_good}
 use Rattle.version_fronts.proofs.Spaces.{Outer, is_outer, outer_first}
-use Rattle.version_fronts.proofs.Suffixes.{Ahead, AtNumber, BehindNumber, BuildTail, Dotted, Fresh, IsSign, Tail}
+use Rattle.version_fronts.proofs.Suffixes.{Ahead, AtNumber, AfterNumber, BuildTail, Dotted, Fresh, IsSign, Tail}
 use Rattle.version_fronts.proofs.Suffixes.{digit_is, first_value, greatest_fits, no_truth}
-use Rattle.version_fronts.specs.Steps.Scanning.{accepts, after, after_if, before_or, begins, behind_identifier, first_digit, greatest}
+use Rattle.version_fronts.specs.Steps.Scanning.{accepts, after, after_if, before_or, begins, after_identifier, first_digit, greatest}
 use Rattle.version_fronts.specs.Steps.Scanning.{identifier_or, in_part}
 use Rattle.version_fronts.specs.Steps.Scanning.{may_end, more_space, opened, state_from, step}
 use Rattle.version_fronts.specs.declared.states.Part.{Part}
@@ -155,13 +155,13 @@ not_hyphen b e = grind (arith, nat_tests)
 not_plus : (b : ℕ) → is_outer b ≡ true → (b == 43) ≡ false
 not_plus b e = grind (arith, nat_tests)
 
-behind_part : (d : Dialect) (section : Section) (part : Part) (b : ℕ) → may_end part ≡ true → is_outer b ≡ true
+after_part : (d : Dialect) (section : Section) (part : Part) (b : ℕ) → may_end part ≡ true → is_outer b ≡ true
     → step d (Identifier section part) b ≡ after d Complete b
-behind_part d Pre part b e o = rw (not_part b o, not_hyphen b o, e, not_dot b o, not_plus b o) refl
-behind_part d Build part b e o = rw (not_part b o, not_hyphen b o, e, not_dot b o) refl
+after_part d Pre part b e o = rw (not_part b o, not_hyphen b o, e, not_dot b o, not_plus b o) refl
+after_part d Build part b e o = rw (not_part b o, not_hyphen b o, e, not_dot b o) refl
 
-behind_patch : (d : Dialect) (n b : ℕ) → is_outer b ≡ true → step d (Number Patch n) b ≡ after d Complete b
-behind_patch d n b o = rw (not_digit b o, not_hyphen b o, not_plus b o) refl
+after_patch : (d : Dialect) (n b : ℕ) → is_outer b ≡ true → step d (Number Patch n) b ≡ after d Complete b
+after_patch d n b o = rw (not_digit b o, not_hyphen b o, not_plus b o) refl
 
 after_accepts : (d : Dialect) (s : State) → accepts s ≡ true → ((b : ℕ) → is_outer b ≡ true → step d s b ≡ after d Complete b) → (t : Text)
     → Outer d t → accepts (state_from d s t) ≡ true
@@ -173,7 +173,7 @@ after_accepts d s e same (b ∷ t) w =
 -- ---- identifiers
 
 abbrev at_end : Dialect → Section → Part → ℕ → State
-at_end d section part b = if may_end part then behind_identifier d section b else Refused
+at_end d section part b = if may_end part then after_identifier d section b else Refused
 
 module _ (d : Dialect) (section : Section) (rest : Text)
     (next : (part : Part) → may_end part ≡ true → accepts (state_from d (Identifier section part) rest) ≡ true) where
@@ -216,7 +216,7 @@ through_build d s e same plus t w =
         let both = and_parts (is_good d Build p) _ all in
         ap (λ x. accepts (state_from d x (join_with_byte 46 (p ∷ parts) ++ w.rest))) plus
         ∙ through_identifiers d Build w.rest
-        (λ part may. after_accepts d (Identifier Build part) may (λ b o. behind_part d Build part b may o) w.rest w.next)
+        (λ part may. after_accepts d (Identifier Build part) may (λ b o. after_part d Build part b may o) w.rest w.next)
         NotBegun p parts both.0 both.1
 
 through_tail : (d : Dialect) (n : ℕ) (t : Text) → Tail d t → accepts (state_from d (Number Patch n) t) ≡ true
@@ -225,11 +225,11 @@ through_tail d n t w =
   where
     by_parts : (parts : List Text) → list_all (is_good d Pre) parts ≡ true
         → accepts (state_from d (Number Patch n) (marked (45 ∷ []) parts ++ w.rest)) ≡ true
-    by_parts [] all = through_build d (Number Patch n) refl (behind_patch d n) refl w.rest w.next
+    by_parts [] all = through_build d (Number Patch n) refl (after_patch d n) refl w.rest w.next
     by_parts (p ∷ parts) all =
         let both = and_parts (is_good d Pre p) _ all in
         through_identifiers d Pre w.rest
-        (λ part may. through_build d (Identifier Pre part) may (λ b o. behind_part d Pre part b may o)
+        (λ part may. through_build d (Identifier Pre part) may (λ b o. after_part d Pre part b may o)
         (rw may refl) w.rest w.next)
         NotBegun p parts both.0 both.1
 
@@ -302,15 +302,15 @@ ahead_begins d which b y = refl
 patch_ahead : (d : Dialect) (t : Text) → AtNumber d (Tail d) t → accepts (state_from d (NoDigit Patch) t) ≡ true
 patch_ahead d t w = at_number d (NoDigit Patch) Patch (ahead_begins d Patch) (Tail d) (through_tail d) t w
 
-minor_behind : (d : Dialect) (n : ℕ) (t : Text) → Dotted (AtNumber d (Tail d)) t → accepts (state_from d (Number Minor n) t) ≡ true
-minor_behind d n t w = ap (λ x. accepts (state_from d (Number Minor n) x)) w.whole ∙ patch_ahead d w.rest w.next
+minor_after : (d : Dialect) (n : ℕ) (t : Text) → Dotted (AtNumber d (Tail d)) t → accepts (state_from d (Number Minor n) t) ≡ true
+minor_after d n t w = ap (λ x. accepts (state_from d (Number Minor n) x)) w.whole ∙ patch_ahead d w.rest w.next
 
 minor_ahead : (d : Dialect) (t : Text) → AtNumber d (Dotted (AtNumber d (Tail d))) t → accepts (state_from d (NoDigit Minor) t) ≡ true
 minor_ahead d t w =
-    at_number d (NoDigit Minor) Minor (ahead_begins d Minor) (Dotted (AtNumber d (Tail d))) (minor_behind d) t w
+    at_number d (NoDigit Minor) Minor (ahead_begins d Minor) (Dotted (AtNumber d (Tail d))) (minor_after d) t w
 
-major_behind : (d : Dialect) (n : ℕ) (t : Text) → BehindNumber d Major t → accepts (state_from d (Number Major n) t) ≡ true
-major_behind d n t w = ap (λ x. accepts (state_from d (Number Major n) x)) w.whole ∙ minor_ahead d w.rest w.next
+major_after : (d : Dialect) (n : ℕ) (t : Text) → AfterNumber d Major t → accepts (state_from d (Number Major n) t) ≡ true
+major_after d n t w = ap (λ x. accepts (state_from d (Number Major n) x)) w.whole ∙ minor_ahead d w.rest w.next
 
 -- ---- before the version
 
@@ -329,7 +329,7 @@ version_begins Cargo b y = refl
 version_begins Npm b y = ap (λ o. before_or o (begins Npm Complete b)) (none_opened b y) ∙ rw (no_sign b y) refl
 
 through_major : (d : Dialect) (s : State) → BeginsNumber d s Major → (t : Text) → Ahead d Major t → accepts (state_from d s t) ≡ true
-through_major d s start t w = at_number d s Major start (BehindNumber d Major) (major_behind d) t w
+through_major d s start t w = at_number d s Major start (AfterNumber d Major) (major_after d) t w
 
 through_sign : (d : Dialect) (sign t : Text) → IsSign d sign → Ahead d Major t
     → accepts (state_from d (Before Complete) (sign ++ t)) ≡ true

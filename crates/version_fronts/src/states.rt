@@ -1,8 +1,8 @@
 //! Where in a version a text ends: a state, and the state after one more byte.
 ghost use Rattle.std.specs.Prelude.{◌≡◌, ◌<◌, ◌-◌, true};
 ghost use Rattle.std.specs.Char.{is_ascii_digit};
-ghost use Rattle.version_fronts.specs.Steps.Scanning.{accepts, after, before, behind_identifier};
-ghost use Rattle.version_fronts.specs.Steps.Scanning.{behind_number, begins, first_digit, greatest};
+ghost use Rattle.version_fronts.specs.Steps.Scanning.{accepts, after, before, after_identifier};
+ghost use Rattle.version_fronts.specs.Steps.Scanning.{after_number, begins, first_digit, greatest};
 ghost use Rattle.version_fronts.specs.Steps.Scanning.{identifier, in_part, is_cut, is_refused};
 ghost use Rattle.version_fronts.specs.Steps.Scanning.{may_end, more_space, need, new_space, number};
 ghost use Rattle.version_fronts.specs.Steps.Scanning.{opened, step, with_alphanumeric, with_hyphen};
@@ -199,8 +199,8 @@ fn after(space: Space, byte: u8, dialect: Dialect) -> State
 
 /// The state after a byte that ends a number.
 #[inline(always)]
-fn behind_number(which: Which, byte: u8, dialect: Dialect) -> State
-    ensures { result ≡ behind_number dialect which byte }
+fn after_number(which: Which, byte: u8, dialect: Dialect) -> State
+    ensures { result ≡ after_number dialect which byte }
 {
     match (which, byte) {
         (Which::Major, b'.') => State::NoDigit(Which::Minor),
@@ -218,7 +218,7 @@ fn number(which: Which, value: u64, byte: u8, dialect: Dialect) -> State
     ensures { result ≡ number dialect which value byte }
 {
     if !byte.is_ascii_digit() {
-        return behind_number(which, byte, dialect);
+        return after_number(which, byte, dialect);
     }
     let digit = u64::from(byte - b'0');
     if value == 0 || value > (greatest(dialect) - digit) / 10 {
@@ -286,8 +286,8 @@ fn in_part(section: Section, part: Part, byte: u8, dialect: Dialect) -> Option<P
 
 /// The state after a byte that ends an identifier.
 #[inline(always)]
-fn behind_identifier(section: Section, byte: u8, dialect: Dialect) -> State
-    ensures { result ≡ behind_identifier dialect section byte }
+fn after_identifier(section: Section, byte: u8, dialect: Dialect) -> State
+    ensures { result ≡ after_identifier dialect section byte }
 {
     match (section, byte) {
         (_, b'.') => State::Identifier(section, Part::NotBegun),
@@ -303,7 +303,7 @@ fn identifier(section: Section, part: Part, byte: u8, dialect: Dialect) -> State
 {
     match in_part(section, part, byte, dialect) {
         Some(more) => State::Identifier(section, more),
-        None if may_end(part) => behind_identifier(section, byte, dialect),
+        None if may_end(part) => after_identifier(section, byte, dialect),
         None => State::Refused,
     }
 }

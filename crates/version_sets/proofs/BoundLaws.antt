@@ -68,18 +68,18 @@ from_lowest : (xs : List IdentifierValue) → is_empty xs ≡ false → is_ge Eq
 from_lowest [] e = absurd (search rules)
 from_lowest (x ∷ xs) e = sym (zero_least x xs)
 
-pub right_behind : (xs ws : List IdentifierValue) → is_empty xs ≡ false → is_empty ws ≡ false
+pub right_after : (xs ws : List IdentifierValue) → is_empty xs ≡ false → is_empty ws ≡ false
     → is_ge (pre_cmp xs (ws ++ numeric 0 ∷ [])) ≡ is_gt (pre_cmp xs ws)
-right_behind [] ws e f = absurd (search rules)
-right_behind (x ∷ xs) [] e f = absurd (search rules)
-right_behind (x ∷ xs) (w ∷ ws) e f = nothing_between (x ∷ xs) (w ∷ ws)
+right_after [] ws e f = absurd (search rules)
+right_after (x ∷ xs) [] e f = absurd (search rules)
+right_after (x ∷ xs) (w ∷ ws) e f = nothing_between (x ∷ xs) (w ∷ ws)
 
 -- what is at or above it, with one more identifier, the number 0, is above it
 pub right_above : (w v : PlainVersion) → is_empty w.pre ≡ false → is_empty v.pre ≡ false
     → is_ge (precedence v (record w { pre = w.pre ++ numeric 0 ∷ [] })) ≡ is_gt (precedence v w)
 right_above w v f e =
     ap is_ge (by_numbers v (record w { pre = w.pre ++ numeric 0 ∷ [] }))
-    ∙ then_alike is_ge is_gt (numbers_cmp v w) _ _ refl refl (right_behind v.pre w.pre e f) ∙ sym (ap is_gt (by_numbers v w))
+    ∙ then_alike is_ge is_gt (numbers_cmp v w) _ _ refl refl (right_after v.pre w.pre e f) ∙ sym (ap is_gt (by_numbers v w))
 
 -- where the pre-releases at or above a version begin, or those above it
 pub past : (above : Bool) (w v : PlainVersion) → is_empty w.pre ≡ false → is_empty v.pre ≡ false

@@ -116,11 +116,11 @@ first_map f (x ∷ xs) = refl
 -- the first item by reference
 pub first_copied : {X : Type 0} (f : X → PlainVersion) (o : Option (Bor X)) (xs ys : List X) → option_copied o ≡ slice_get xs 0 → xs ≡ ys
     → option_map (λ x. f x.now) o ≡ slice_get (map f ys) 0
-first_copied {X = X} f o xs ys e is = behind o ∙ ap (option_map f) e ∙ ap (λ l. option_map f (slice_get l 0)) is ∙ first_map f ys
+first_copied {X = X} f o xs ys e is = after o ∙ ap (option_map f) e ∙ ap (λ l. option_map f (slice_get l 0)) is ∙ first_map f ys
   where
-    behind : (o : Option (Bor X)) → option_map (λ x. f x.now) o ≡ option_map f (option_copied o)
-    behind None = refl
-    behind (Some x) = refl
+    after : (o : Option (Bor X)) → option_map (λ x. f x.now) o ≡ option_map f (option_copied o)
+    after None = refl
+    after (Some x) = refl
 
 -- what is told of it as a version without a build
 pub record IsTold (set : SetValue) (least : Option Version) : Type 0 where

@@ -102,15 +102,15 @@ are_written bytes before at [] prints is at_is =
 are_written bytes before at (v ∷ vs) prints is at_is =
     let both = and_parts (is_printable_version v) _ prints in
     let ids = (and_parts (list_all fits_u64 (numbers v)) _ both.0).1 in
-    let behind : Text = flat_map pre_text vs in
+    let after : Text = flat_map pre_text vs in
     let here : text_at bytes (flat_switch at v) ≡ pre_text v =
     simp (is, at_is, drop-append_seam, take-append_seam) in
     let within : length (pre_text v) ≤ length bytes - at =
-    omega (arith, at_is, ap length is, length-append before (pre_text v ++ behind), length-append (pre_text v) behind) in
+    omega (arith, at_is, ap length is, length-append before (pre_text v ++ after), length-append (pre_text v) after) in
     let inside : nat_le (length (pre_text v)) (length bytes - at) ≡ true = grind (arith, nat_tests, within) in
     let text : is_text (text_at bytes (flat_switch at v)) ≡ true = ap is_text here ∙ is_a_text v.pre ids in
     let others = are_written bytes (before ++ pre_text v) (at + length (pre_text v)) vs both.1
-    (is ∙ sym (append_assoc before (pre_text v) behind))
+    (is ∙ sym (append_assoc before (pre_text v) after))
     (omega (arith, at_is, length-append before (pre_text v))) in
     record {
       placed = rw (eq-eqb at at refl, inside, text) others.placed;

@@ -58,8 +58,8 @@ module _ (next : PlainVersion → Option PlainVersion) where
       All-cons (IsPrintableRange Npm) _ [] (range_prints a None (and_parts _ _ e).0 refl) (All-nil (IsPrintableRange Npm))
   ranges_print (a ∷ b ∷ xs) e =
       let here = and_parts _ _ e in
-      let behind = and_parts _ _ here.1 in
-      All-cons (IsPrintableRange Npm) _ (intervals next xs) (range_prints a (Some b) here.0 behind.0) (ranges_print xs behind.1)
+      let after = and_parts _ _ here.1 in
+      All-cons (IsPrintableRange Npm) _ (intervals next xs) (range_prints a (Some b) here.0 after.0) (ranges_print xs after.1)
 
 release_prints : (v : PlainVersion) → IsRelease v → is_printable_version v ≡ true
 release_prints v p = grind (arith, nat_tests)

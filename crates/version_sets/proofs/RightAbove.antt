@@ -39,10 +39,10 @@ by_identifiers (x ∷ xs) [] w = refl
 by_identifiers (x ∷ xs) (v ∷ ws) w = refl
 
 -- they are where the last is the number 0, and those before it are the others
-pub zero_behind : (xs others below : List Identifier) (last : Identifier) (zero answer : Bool) → xs ≡ others ++ last ∷ []
+pub zero_after : (xs others below : List Identifier) (last : Identifier) (zero answer : Bool) → xs ≡ others ++ last ∷ []
     → zero ≡ is_eq (identifier_cmp (identifier_value last) (numeric 0)) → answer ≡ (zero && is_eq (slice_cmp cmp-value.it others below))
     → answer ≡ is_eq (pre_cmp (map identifier_value xs) (map identifier_value below ++ numeric 0 ∷ []))
-zero_behind xs others below last zero answer e z a =
+zero_after xs others below last zero answer e z a =
     a ∙ (λ i. z i && is_eq (derived_is_precedence others below i))
     ∙ sym (ends (map identifier_value others) (map identifier_value below) (identifier_value last) (numeric 0))
     ∙ ap (λ l. is_eq (slice_cmp identifier_cmp l (map identifier_value below ++ numeric 0 ∷ [])))

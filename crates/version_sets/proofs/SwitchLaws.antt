@@ -45,9 +45,9 @@ module _ {T : Type 0} (cmp : T → T → Ordering) where
     switched-first b ys h = switched-at b b ys (ap is_ge (tied_itself o b)) ∙ ap not (switched-below b ys h)
 
     -- what lists with one first element switch alike, they switch alike after it
-    alike_behind : (v b : T) (xs ys : List T) → IsBelowFirst cmp b xs → IsBelowFirst cmp b ys
+    alike_after : (v b : T) (xs ys : List T) → IsBelowFirst cmp b xs → IsBelowFirst cmp b ys
         → switched cmp (b ∷ xs) v ≡ switched cmp (b ∷ ys) v → switched cmp xs v ≡ switched cmp ys v
-    alike_behind v b xs ys s t h =
+    alike_after v b xs ys s t h =
         by_place (cmp v b) (λ l. switched-below v xs (below-first v b xs l s) ∙ sym (switched-below v ys (below-first v b ys l t)))
         (λ g. not_once _ _ (sym (switched-at v b xs g) ∙ h ∙ switched-at v b ys g))
 
@@ -64,5 +64,5 @@ module _ {T : Type 0} (cmp : T → T → Ordering) where
           (λ e. let is : a ≡ b = same a b e in
           let t2 = subst (λ w. IsBelowFirst cmp w ys) (sym is) t.0 in
           ap₂ (λ w ws. w ∷ ws) is (one_list xs ys s.1 t.1 p.1 q.1 (λ v pv.
-          alike_behind v a xs ys s.0 t2 (h v pv ∙ ap (λ w. switched cmp (w ∷ ys) v) (sym is)))))
+          alike_after v a xs ys s.0 t2 (h v pv ∙ ap (λ w. switched cmp (w ∷ ys) v) (sym is)))))
           (λ g. absurd (true≢false (sym (switched-first b ys t.0) ∙ sym (h b q.0) ∙ switched-below b (a ∷ xs) (turned_below a b g))))

@@ -88,20 +88,20 @@ module _ {T : Type 0} (cmp : T → T → Ordering) (o : IsTotalOrder cmp) (P : T
   }
   walk_alone-is x y (b ∷ ys) = second_turns x y b [] ys (walk_alone x (not y) ys) tt (walk_alone-is x (not y) ys)
 
-  module _ (a : T) (xs : List T) (behind : WalkWith T) (is : (x y : Bool) (ys : List T) → IsWalk x y xs ys (behind x y ys)) where
+  module _ (a : T) (xs : List T) (after : WalkWith T) (is : (x y : Bool) (ys : List T) → IsWalk x y xs ys (after x y ys)) where
     walk_step-by : (x y : Bool) (b : T) (ys : List T) (r : Ordering) → cmp a b ≡ r
-        → IsWalk x (not y) (a ∷ xs) ys (walk_step cmp a behind x (not y) ys)
+        → IsWalk x (not y) (a ∷ xs) ys (walk_step cmp a after x (not y) ys)
         → IsWalk x y (a ∷ xs) (b ∷ ys)
-        (match_ordering r (record { from = a; in_first = not x; in_second = y } ∷ behind (not x) y (b ∷ ys))
-        (record { from = a; in_first = not x; in_second = not y } ∷ behind (not x) (not y) ys)
-        (record { from = b; in_first = x; in_second = not y } ∷ walk_step cmp a behind x (not y) ys))
-    walk_step-by x y b ys Less e w = first_turns x y a xs (b ∷ ys) (behind (not x) y (b ∷ ys)) e (is (not x) y (b ∷ ys))
-    walk_step-by x y b ys Equal e w = both_turn x y a b xs ys (behind (not x) (not y) ys) e (is (not x) (not y) ys)
+        (match_ordering r (record { from = a; in_first = not x; in_second = y } ∷ after (not x) y (b ∷ ys))
+        (record { from = a; in_first = not x; in_second = not y } ∷ after (not x) (not y) ys)
+        (record { from = b; in_first = x; in_second = not y } ∷ walk_step cmp a after x (not y) ys))
+    walk_step-by x y b ys Less e w = first_turns x y a xs (b ∷ ys) (after (not x) y (b ∷ ys)) e (is (not x) y (b ∷ ys))
+    walk_step-by x y b ys Equal e w = both_turn x y a b xs ys (after (not x) (not y) ys) e (is (not x) (not y) ys)
     walk_step-by x y b ys Greater e w =
-        second_turns x y b (a ∷ xs) ys (walk_step cmp a behind x (not y) ys) (turned_below cmp o a b e) w
+        second_turns x y b (a ∷ xs) ys (walk_step cmp a after x (not y) ys) (turned_below cmp o a b e) w
 
-    walk_step-is : (x y : Bool) (ys : List T) → IsWalk x y (a ∷ xs) ys (walk_step cmp a behind x y ys)
-    walk_step-is x y [] = first_turns x y a xs [] (behind (not x) y []) tt (is (not x) y [])
+    walk_step-is : (x y : Bool) (ys : List T) → IsWalk x y (a ∷ xs) ys (walk_step cmp a after x y ys)
+    walk_step-is x y [] = first_turns x y a xs [] (after (not x) y []) tt (is (not x) y [])
     walk_step-is x y (b ∷ ys) = walk_step-by x y b ys (cmp a b) refl (walk_step-is x (not y) ys)
 
   pub walk-is : (xs : List T) (x y : Bool) (ys : List T) → IsWalk x y xs ys (walk cmp xs x y ys)

@@ -66,8 +66,8 @@ impl<'t> Place<'t> {
 pub(crate) fn text_at<'t>(bytes: &'t [u8], switch: &FlatSwitch) -> &'t [u8]
     ensures { result.now ≡ text_at bytes.now switch.now }
 {
-    let behind = &bytes[switch.pre_offset.min(bytes.len())..];
-    &behind[..switch.pre_length.min(behind.len())]
+    let after = &bytes[switch.pre_offset.min(bytes.len())..];
+    &after[..switch.pre_length.min(after.len())]
 }
 
 /// Whether an odd number of increasing switches are at or below a place: those up to the first that

@@ -134,11 +134,11 @@ fn are_split_parts(text: &[u8]) -> bool
 {
     let mut rest = Some(text);
     while let Some(bytes) = rest {
-        let (part, behind) = split_at_dot(bytes);
+        let (part, after) = split_at_dot(bytes);
         if !is_part(part) {
             return false;
         }
-        rest = behind;
+        rest = after;
     }
     true
 }

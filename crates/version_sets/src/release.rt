@@ -59,12 +59,12 @@ impl Release {
         ensures { result ≡ is_lt (precedence (release_value self.now) (release_value other.now)) }
     {
         (self.major < other.major)
-            | ((self.major == other.major) & (self.behind_major() < other.behind_major()))
+            | ((self.major == other.major) & (self.after_major() < other.after_major()))
     }
 
     /// The second and the third number as one, which two words compare as it.
     #[inline(always)]
-    fn behind_major(&self) -> u128
+    fn after_major(&self) -> u128
         ensures value { result ≡ self.now.minor * 18446744073709551616 + self.now.patch }
         ensures fit { self.now.patch < 18446744073709551616 }
     {

@@ -45,13 +45,13 @@ fn compare_parts(version: &[u8], stated: &[u8]) -> Ordering
         let Some(other) = others else {
             return Ordering::Greater;
         };
-        let (part, behind) = split_at_dot(bytes);
+        let (part, following) = split_at_dot(bytes);
         let (beside, after) = split_at_dot(other);
         let ordering = compare_part(part, beside);
         if ordering.is_ne() {
             return ordering;
         }
-        rest = behind;
+        rest = following;
         others = after;
     }
     match others {

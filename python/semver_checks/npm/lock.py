@@ -17,7 +17,7 @@ OF_PROJECT = (*ASKS_OF_TOPS, "peerDependenciesMeta")
 
 
 class Package(NamedTuple):
-    """What is found: its place, behind its links, and its name and its version, where it has them.
+    """What is found: its place, after its links, and its name and its version, where it has them.
     A link that leads nowhere has neither."""
 
     place: str
@@ -131,7 +131,7 @@ def of_this_day(old: Entry, place: str) -> Entry:
     return entry
 
 
-def behind_links(packages: Packages, place: str) -> Optional[str]:
+def after_links(packages: Packages, place: str) -> Optional[str]:
     """The place to which the links from a place lead; None where that is nowhere."""
     seen = set()
     while packages[place].get("link"):
@@ -144,7 +144,7 @@ def behind_links(packages: Packages, place: str) -> Optional[str]:
 
 def package_at(packages: Packages, place: str) -> Package:
     """The package at a place."""
-    end = behind_links(packages, place)
+    end = after_links(packages, place)
     if end is None:
         return Package(place, None, None)
     entry = packages[end]

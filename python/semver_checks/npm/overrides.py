@@ -63,7 +63,7 @@ def name_and_range(key: str, where: str) -> Tuple[str, str]:
     try:
         Filter(within, Reading.NPM)
     except RangeError:
-        raise WrongShape(f": {where} has no range behind its name") from None
+        raise WrongShape(f": {where} has no range after its name") from None
     return name, within
 
 

@@ -21,7 +21,7 @@ use Rattle.semver_ranges.specs.RangeTree as tree
 use Rattle.semver_ranges.specs.RangeTree.{three}
 use Rattle.semver_texts.specs.Texts.{is_part}
 use Rattle.semver_texts.specs.Texts.{Text}
-use Rattle.semver_ranges.specs.Steps.Reading.{parts, behind_three}
+use Rattle.semver_ranges.specs.Steps.Reading.{parts, after_three}
 use Rattle.semver_ranges.specs.Steps.RangeEvents as list
 use Rattle.semver_ranges.specs.Steps.RangeEvents.{one_simple, next_range, yielded, put, events_left}
 use Rattle.semver_ranges.specs.Steps.PartialViews.{IsPartialOf}
@@ -41,9 +41,9 @@ marked_parts mark (b ∷ t) = if b == mark then parts t else Some ([], b ∷ t)
 -- the parts of a pre-release and of a build that are after three components, and what follows
 -- them
 abbrev pub FindsPre : Text → Option (Bor Text × Bor Text × Bor Text) → Type 0
-FindsPre t None = (a b c : Text) → behind_three a b c t ≡ None
+FindsPre t None = (a b c : Text) → after_three a b c t ≡ None
 FindsPre t (Some found) =
-    ((a b c : Text) → behind_three a b c t
+    ((a b c : Text) → after_three a b c t
     ≡ Some (three a b c (cut_at_dots found.0.now) (cut_at_dots found.1.now), found.2.now))
     × (list_all is_part (cut_at_dots found.0.now) ≡ true)
 
@@ -60,8 +60,8 @@ form_of form.Caret = tree.caret
 
 -- what a word is after
 abbrev pub role_of : Role → tree.Role
-role_of (role.BehindForm f) = tree.behind_form (form_of f)
-role_of role.BehindHyphen = tree.behind_hyphen
+role_of (role.AfterForm f) = tree.after_form (form_of f)
+role_of role.AfterHyphen = tree.after_hyphen
 
 -- the simple that was read
 abbrev pub IsSimpleOf : tree.Simple → Simple → Type 0
@@ -88,19 +88,19 @@ IsEventOf _ _ = ⊥
 
 -- the events that a cursor has left: an upper side, and those of the text from there on, or none
 -- where that isn't in the grammar
-abbrev pub HasBehind : Option Simple → Option (List list.Event) → Option (List list.Event) → Type 0
-HasBehind None behind o = o ≡ behind
-HasBehind (Some upper) behind o =
-    (s : tree.Simple) × IsSimpleOf s upper × (o ≡ put (one_simple s) behind)
+abbrev pub HasAfter : Option Simple → Option (List list.Event) → Option (List list.Event) → Type 0
+HasAfter None after o = o ≡ after
+HasAfter (Some upper) after o =
+    (s : tree.Simple) × IsSimpleOf s upper × (o ≡ put (one_simple s) after)
 
 abbrev pub HasLeft : Dialect → Events → Option (List list.Event) → Type 0
 HasLeft d cursor o =
-    HasBehind cursor.upper (events_left d cursor.lower cursor.begins_range cursor.rest.now) o
+    HasAfter cursor.upper (events_left d cursor.lower cursor.begins_range cursor.rest.now) o
 
 -- the first of the events that are left, and a cursor after it
 abbrev pub IsFirst : Dialect → Option (List list.Event) → Event → Events → Type 0
-IsFirst d o e behind =
-    (x : list.Event) × (left : Option (List list.Event)) × IsEventOf x e × HasLeft d behind left
+IsFirst d o e after =
+    (x : list.Event) × (left : Option (List list.Event)) × IsEventOf x e × HasLeft d after left
     × (o ≡ put x left)
 
 -- how many bytes an event takes at least: it may be an upper side
@@ -121,25 +121,25 @@ size_left cursor = size_at cursor.begins_range cursor.rest.now + flag (is_some c
 
 -- the event at the front of a text that is left, and the cursor after it
 abbrev pub TakesEvent : Dialect → LowerBounds → Bool → Text → Option Event → Events → Type 0
-TakesEvent d lower begins_range t None behind = (events_left d lower begins_range t ≡ None)
-    × (behind.begins_range ≡ false) × (behind.upper ≡ None) × (behind.rest.now ≡ t)
-TakesEvent d lower begins_range t (Some e) behind =
-    IsFirst d (events_left d lower begins_range t) e behind
-    × (size_left behind < size_at begins_range t) × (length behind.rest.now + bytes_of e ≤ length t)
+TakesEvent d lower begins_range t None after = (events_left d lower begins_range t ≡ None)
+    × (after.begins_range ≡ false) × (after.upper ≡ None) × (after.rest.now ≡ t)
+TakesEvent d lower begins_range t (Some e) after =
+    IsFirst d (events_left d lower begins_range t) e after
+    × (size_left after < size_at begins_range t) × (length after.rest.now + bytes_of e ≤ length t)
 
 -- what `next` gives: the first of the events that are left; an error where the text isn't in the
 -- grammar; None where no event is left
 abbrev pub Gives : Dialect → Option (List list.Event) → Option (Result Event RangeError) → Events
     → Type 0
-Gives d o None behind = (o ≡ Some []) × HasLeft d behind o
-Gives d o (Some (Ok e)) behind = IsFirst d o e behind
-Gives d o (Some (Err e)) behind = (o ≡ None) × (e ≡ NotARange)
+Gives d o None after = (o ≡ Some []) × HasLeft d after o
+Gives d o (Some (Ok e)) after = IsFirst d o e after
+Gives d o (Some (Err e)) after = (o ≡ None) × (e ≡ NotARange)
 
 abbrev pub given_bytes : Option (Result Event RangeError) → ℕ
 given_bytes (Some (Ok e)) = bytes_of e
 given_bytes _ = 0
 
 abbrev pub NextGives : Dialect → Events → Option (Result Event RangeError) → Events → Type 0
-NextGives d before given behind =
-    ((o : Option (List list.Event)) → HasLeft d before o → Gives d o given behind)
-    × (length behind.rest.now + given_bytes given ≤ length before.rest.now)
+NextGives d before given after =
+    ((o : Option (List list.Event)) → HasLeft d before o → Gives d o given after)
+    × (length after.rest.now + given_bytes given ≤ length before.rest.now)

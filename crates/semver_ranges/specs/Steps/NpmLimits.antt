@@ -6,7 +6,7 @@ use Rattle.semver_ranges.specs.declared.limits.Kind.TheVariants.{Number, PreRele
 use Rattle.semver_texts.specs.declared.dialect.Dialect.{Dialect}
 use Rattle.semver_texts.specs.Texts.{Text, cut_at_dots, is_empty}
 use Rattle.semver_ranges.specs.RangeTree.{PartialTree, SpellsPartial}
-use Rattle.semver_ranges.specs.Steps.Reading.{behind_v}
+use Rattle.semver_ranges.specs.Steps.Reading.{after_v}
 use Rattle.semver_ranges.specs.NpmLengths.{is_short_number, is_short_pre, is_short_build}
 
 -- whether a part isn't too long
@@ -29,4 +29,4 @@ marked_length t = if is_empty t then 0 else length t + 1
 pub record IsBefore (d : Dialect) (p : PartialTree) (text rest : Text) : Type 0 where
   pub back : Text
   pub spelled : SpellsPartial p back
-  pub behind_is : behind_v d text ≡ back ++ rest
+  pub after_is : after_v d text ≡ back ++ rest

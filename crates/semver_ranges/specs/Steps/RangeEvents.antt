@@ -9,7 +9,7 @@ use Rattle.semver_ranges.specs.RangeTree.{SetTree}
 use Rattle.semver_texts.specs.Texts.{Text}
 use Rattle.semver_ranges.specs.Partials.{states_nothing}
 use Rattle.semver_ranges.specs.Terms.{left_side, right_side}
-use Rattle.semver_ranges.specs.Steps.Reading.{all_simples, range_here, behind_range, behind_bars}
+use Rattle.semver_ranges.specs.Steps.Reading.{all_simples, range_here, after_range, after_bars}
 use Rattle.semver_ranges.specs.Steps.Reading.{read}
 use Rattle.semver_ranges.specs.Steps.PartialViews.{begun_as}
 
@@ -74,7 +74,7 @@ at_bars d lower (Some t) = put next_range (events d lower t)
 
 abbrev pub others_left : Dialect → LowerBounds → Text → Option (List Event)
 others_left d lower [] = Some []
-others_left d lower (b ∷ t) = at_bars d lower (behind_bars (b ∷ t))
+others_left d lower (b ∷ t) = at_bars d lower (after_bars (b ∷ t))
 
 -- what is left after simples
 abbrev pub simples_left : Dialect → LowerBounds → Option (List Simple × Text) → Option (List Event)
@@ -83,5 +83,5 @@ simples_left d lower (Some (ss, end)) = put_simples ss (others_left d lower end)
 
 -- what is left at the begin of a range, after its blanks, and in a range
 abbrev pub events_left : Dialect → LowerBounds → Bool → Text → Option (List Event)
-events_left d lower true t = set_events lower (behind_range (read d) (range_here d t))
+events_left d lower true t = set_events lower (after_range (read d) (range_here d t))
 events_left d lower false t = simples_left d lower (all_simples d t)

@@ -9,7 +9,7 @@ use Rattle.std.specs.List.{list_all, slice_split}
 use Rattle.semver_ranges.specs.RangeTree.{PartialTree, one, two, three, Form, bare, equal, less}
 use Rattle.semver_ranges.specs.RangeTree.{at_most, greater, at_least, tilde, caret, Simple}
 use Rattle.semver_ranges.specs.RangeTree.{RangeTree, empty, hyphen, simples, SetTree, is_blank}
-use Rattle.semver_ranges.specs.RangeTree.{Role, behind_form, behind_hyphen, is_bare, is_wildcard}
+use Rattle.semver_ranges.specs.RangeTree.{Role, after_form, after_hyphen, is_bare, is_wildcard}
 use Rattle.semver_ranges.specs.RangeTree.{is_word_of_npm}
 use Rattle.semver_texts.specs.Texts.{is_part}
 use Rattle.semver_texts.specs.declared.dialect.Dialect.{Dialect}
@@ -26,8 +26,8 @@ back p [] = []
 back p (b ∷ t) = if p b then back p t else b ∷ t
 
 -- what follows the blanks at the front
-abbrev pub behind_blanks : Dialect → Text → Text
-behind_blanks d t = back (is_blank d) t
+abbrev pub after_blanks : Dialect → Text → Text
+after_blanks d t = back (is_blank d) t
 
 -- whether a word or a range ends here: at the end of the text, at a bar, and a word at a blank
 abbrev pub is_bar : ℕ → Bool
@@ -61,55 +61,55 @@ abbrev pub with_build : Text → Text → Text → List Text → Option (List Te
 with_build a b c pre None = None
 with_build a b c pre (Some found) = Some (three a b c pre found.0, found.1)
 
-abbrev pub behind_pre : Text → Text → Text → List Text → Text → Option (PartialTree × Text)
-behind_pre a b c pre [] = Some (three a b c pre [], [])
-behind_pre a b c pre (mark ∷ t) =
+abbrev pub after_pre : Text → Text → Text → List Text → Text → Option (PartialTree × Text)
+after_pre a b c pre [] = Some (three a b c pre [], [])
+after_pre a b c pre (mark ∷ t) =
     if mark == code "+" then with_build a b c pre (parts t) else Some (three a b c pre [], mark ∷ t)
 
 -- a pre-release, where one is there, and then a build
 abbrev pub with_pre : Text → Text → Text → Option (List Text × Text) → Option (PartialTree × Text)
 with_pre a b c None = None
-with_pre a b c (Some found) = behind_pre a b c found.0 found.1
+with_pre a b c (Some found) = after_pre a b c found.0 found.1
 
 -- whether one of them is there
 abbrev pub begins_qualifier : Text → Bool
 begins_qualifier [] = false
 begins_qualifier (mark ∷ t) = (mark == code "-") || (mark == code "+")
 
-abbrev pub behind_three : Text → Text → Text → Text → Option (PartialTree × Text)
-behind_three a b c [] = Some (three a b c [] [], [])
-behind_three a b c (mark ∷ t) =
-    if mark == code "-" then with_pre a b c (parts t) else behind_pre a b c [] (mark ∷ t)
+abbrev pub after_three : Text → Text → Text → Text → Option (PartialTree × Text)
+after_three a b c [] = Some (three a b c [] [], [])
+after_three a b c (mark ∷ t) =
+    if mark == code "-" then with_pre a b c (parts t) else after_pre a b c [] (mark ∷ t)
 
 -- the third, second and first component
 abbrev pub with_third : Text → Text → Option (Text × Text) → Option (PartialTree × Text)
 with_third a b None = None
-with_third a b (Some found) = behind_three a b found.0 found.1
+with_third a b (Some found) = after_three a b found.0 found.1
 
-abbrev pub behind_two : Text → Text → Text → Option (PartialTree × Text)
-behind_two a b [] = Some (two a b, [])
-behind_two a b (dot ∷ t) =
+abbrev pub after_two : Text → Text → Text → Option (PartialTree × Text)
+after_two a b [] = Some (two a b, [])
+after_two a b (dot ∷ t) =
     if dot == code "." then with_third a b (component t) else Some (two a b, dot ∷ t)
 
 abbrev pub with_second : Text → Option (Text × Text) → Option (PartialTree × Text)
 with_second a None = None
-with_second a (Some found) = behind_two a found.0 found.1
+with_second a (Some found) = after_two a found.0 found.1
 
-abbrev pub behind_one : Text → Text → Option (PartialTree × Text)
-behind_one a [] = Some (one a, [])
-behind_one a (dot ∷ t) =
+abbrev pub after_one : Text → Text → Option (PartialTree × Text)
+after_one a [] = Some (one a, [])
+after_one a (dot ∷ t) =
     if dot == code "." then with_second a (component t) else Some (one a, dot ∷ t)
 
 abbrev pub with_first : Option (Text × Text) → Option (PartialTree × Text)
 with_first None = None
-with_first (Some found) = behind_one found.0 found.1
+with_first (Some found) = after_one found.0 found.1
 
 -- what follows one `v`, to npm; and whether a partial is read of a word of so many bytes
-abbrev pub behind_v : Dialect → Text → Text
-behind_v Crate t = t
-behind_v Cargo t = t
-behind_v Npm [] = []
-behind_v Npm (b ∷ t) = if b == code "v" then t else b ∷ t
+abbrev pub after_v : Dialect → Text → Text
+after_v Crate t = t
+after_v Cargo t = t
+after_v Npm [] = []
+after_v Npm (b ∷ t) = if b == code "v" then t else b ∷ t
 
 abbrev pub takes : Dialect → Role → PartialTree → ℕ → Bool
 takes Crate role p n = true
@@ -124,58 +124,58 @@ whole_word d role n (Some found) =
     if takes d role found.0 (n - length found.1) && ends_word d found.1 then Some found else None
 
 abbrev pub partial : Dialect → Role → Text → Option (PartialTree × Text)
-partial d role t = whole_word d role (length t) (with_first (component (behind_v d t)))
+partial d role t = whole_word d role (length t) (with_first (component (after_v d t)))
 
 -- the operator at the front of a text, and what follows it and its blanks
 abbrev pub after_less : Dialect → Text → Form × Text
 after_less d [] = (less, [])
 after_less d (b ∷ t) =
-    if b == code "=" then (at_most, behind_blanks d t) else (less, behind_blanks d (b ∷ t))
+    if b == code "=" then (at_most, after_blanks d t) else (less, after_blanks d (b ∷ t))
 
 abbrev pub after_greater : Dialect → Text → Form × Text
 after_greater d [] = (greater, [])
 after_greater d (b ∷ t) =
-    if b == code "=" then (at_least, behind_blanks d t) else (greater, behind_blanks d (b ∷ t))
+    if b == code "=" then (at_least, after_blanks d t) else (greater, after_blanks d (b ∷ t))
 
 abbrev pub after_tilde : Dialect → Text → Form × Text
 after_tilde d [] = (tilde, [])
 after_tilde d (b ∷ t) =
-    if b == code ">" then (tilde, behind_blanks d t) else (tilde, behind_blanks d (b ∷ t))
+    if b == code ">" then (tilde, after_blanks d t) else (tilde, after_blanks d (b ∷ t))
 
 abbrev pub operator : Dialect → Text → Form × Text
 operator d [] = (bare, [])
 operator d (b ∷ t) =
-    if b == code "=" then (equal, behind_blanks d t)
+    if b == code "=" then (equal, after_blanks d t)
     else (if b == code "<" then after_less d t
     else (if b == code ">" then after_greater d t
     else (if b == code "~" then after_tilde d t
-    else (if b == code "^" then (caret, behind_blanks d t)
+    else (if b == code "^" then (caret, after_blanks d t)
     else (bare, b ∷ t)))))
 
 -- a simple, and what follows it and the blanks after it
 abbrev pub with_form : Dialect → Form → Option (PartialTree × Text) → Option (Simple × Text)
 with_form d form None = None
 with_form d form (Some found) =
-    Some (record { form = form; partial = found.0 }, behind_blanks d found.1)
+    Some (record { form = form; partial = found.0 }, after_blanks d found.1)
 
 abbrev pub simple : Dialect → Text → Option (Simple × Text)
 simple d t =
-    with_form d (operator d t).0 (partial d (behind_form (operator d t).0) (operator d t).1)
+    with_form d (operator d t).0 (partial d (after_form (operator d t).0) (operator d t).1)
 
 -- simples up to the end of their range; the number bounds how many are looked for
 abbrev pub put_before : Simple → Option (List Simple × Text) → Option (List Simple × Text)
 put_before s None = None
 put_before s (Some found) = Some (s ∷ found.0, found.1)
 
-abbrev pub behind_simple : (Text → Option (List Simple × Text)) → Option (Simple × Text)
+abbrev pub after_simple : (Text → Option (List Simple × Text)) → Option (Simple × Text)
     → Option (List Simple × Text)
-behind_simple others None = None
-behind_simple others (Some found) = put_before found.0 (others found.1)
+after_simple others None = None
+after_simple others (Some found) = put_before found.0 (others found.1)
 
 abbrev pub some_simples : Dialect → ℕ → Text → Option (List Simple × Text)
 some_simples d zero t = None
 some_simples d (suc n) t =
-    if ends_range t then Some ([], t) else behind_simple (some_simples d n) (simple d t)
+    if ends_range t then Some ([], t) else after_simple (some_simples d n) (simple d t)
 
 abbrev pub all_simples : Dialect → Text → Option (List Simple × Text)
 all_simples d t = some_simples d (suc (length t)) t
@@ -185,14 +185,14 @@ all_simples d t = some_simples d (suc (length t)) t
 abbrev pub range_end : Dialect → Option (PartialTree × Text) → Option (PartialTree × Text)
 range_end d None = None
 range_end d (Some found) =
-    if ends_range (behind_blanks d found.1) then Some (found.0, behind_blanks d found.1) else None
+    if ends_range (after_blanks d found.1) then Some (found.0, after_blanks d found.1) else None
 
 abbrev pub right_side : Dialect → Text → Option (PartialTree × Text)
 right_side d [] = None
 right_side d (dash ∷ []) = None
 right_side d (dash ∷ blank ∷ t) =
     if (dash == code "-") && is_blank d blank
-    then range_end d (partial d behind_hyphen (behind_blanks d t))
+    then range_end d (partial d after_hyphen (after_blanks d t))
     else None
 
 -- a hyphen range of a first simple, which has to be bare, and a right side
@@ -206,24 +206,24 @@ abbrev pub with_others : Simple → Option (List Simple × Text) → Option (Ran
 with_others s None = None
 with_others s (Some found) = Some (simples s found.0, found.1)
 
-abbrev pub behind_first : Dialect → Option (Simple × Text) → Option (RangeTree × Text)
-behind_first d None = None
-behind_first d (Some found) =
+abbrev pub after_first : Dialect → Option (Simple × Text) → Option (RangeTree × Text)
+after_first d None = None
+after_first d (Some found) =
     if begins_with (code "-") found.1 then with_right found.0 (right_side d found.1)
     else with_others found.0 (all_simples d found.1)
 
 -- a range and what follows it
 abbrev pub range_here : Dialect → Text → Option (RangeTree × Text)
-range_here d t = if ends_range t then Some (empty, t) else behind_first d (simple d t)
+range_here d t = if ends_range t then Some (empty, t) else after_first d (simple d t)
 
 abbrev pub range : Dialect → Text → Option (RangeTree × Text)
-range d t = range_here d (behind_blanks d t)
+range d t = range_here d (after_blanks d t)
 
 -- what follows two bars
-abbrev pub behind_bars : Text → Option Text
-behind_bars [] = None
-behind_bars (bar ∷ []) = None
-behind_bars (bar ∷ bar' ∷ t) = if is_bar bar && is_bar bar' then Some t else None
+abbrev pub after_bars : Text → Option Text
+after_bars [] = None
+after_bars (bar ∷ []) = None
+after_bars (bar ∷ bar' ∷ t) = if is_bar bar && is_bar bar' then Some t else None
 
 -- one more range in front
 abbrev pub onto : RangeTree → Option SetTree → Option SetTree
@@ -235,14 +235,14 @@ abbrev pub more_ranges : (Text → Option SetTree) → RangeTree → Option Text
 more_ranges others r None = None
 more_ranges others r (Some t) = onto r (others t)
 
-abbrev pub behind_range : (Text → Option SetTree) → Option (RangeTree × Text) → Option SetTree
-behind_range others None = None
-behind_range others (Some (r, [])) = Some (r ∷ [])
-behind_range others (Some (r, b ∷ t)) = more_ranges others r (behind_bars (b ∷ t))
+abbrev pub after_range : (Text → Option SetTree) → Option (RangeTree × Text) → Option SetTree
+after_range others None = None
+after_range others (Some (r, [])) = Some (r ∷ [])
+after_range others (Some (r, b ∷ t)) = more_ranges others r (after_bars (b ∷ t))
 
 abbrev pub some_ranges : Dialect → ℕ → Text → Option SetTree
 some_ranges d zero t = None
-some_ranges d (suc n) t = behind_range (some_ranges d n) (range d t)
+some_ranges d (suc n) t = after_range (some_ranges d n) (range d t)
 
 -- the tree that a text spells
 abbrev pub read : Dialect → Text → Option SetTree

@@ -81,9 +81,9 @@ pub data Part : Type 0 where
 pub data Place : Type 0 where
   start : Place
   at_number : Number → Place
-  behind_number : Number → Place
+  after_number : Number → Place
   at_run : Part → Place
-  behind_run : Part → Place
+  after_run : Part → Place
   end : Place
 
 abbrev pub if_component : Place → TokenValue → Option Place
@@ -92,24 +92,24 @@ if_component next t = if is_component t then Some next else None
 -- where a token leads from a place, if it may be there
 abbrev pub step : Place → TokenValue → Option Place
 step start (Whitespace a b) = Some (at_number major)
-step start (Numeric n) = Some (behind_number major)
-step (at_number k) (Numeric n) = Some (behind_number k)
-step (behind_number major) Dot = Some (at_number minor)
-step (behind_number minor) Dot = Some (at_number patch)
-step (behind_number patch) Hyphen = Some (at_run pre_release)
-step (behind_number patch) Plus = Some (at_run build)
-step (behind_number patch) (Whitespace a b) = Some end
-step (at_run part) t = if_component (behind_run part) t
-step (behind_run part) Hyphen = Some (at_run part)
-step (behind_run part) Dot = Some (at_run part)
-step (behind_run part) (Whitespace a b) = Some end
-step (behind_run pre_release) Plus = Some (at_run build)
+step start (Numeric n) = Some (after_number major)
+step (at_number k) (Numeric n) = Some (after_number k)
+step (after_number major) Dot = Some (at_number minor)
+step (after_number minor) Dot = Some (at_number patch)
+step (after_number patch) Hyphen = Some (at_run pre_release)
+step (after_number patch) Plus = Some (at_run build)
+step (after_number patch) (Whitespace a b) = Some end
+step (at_run part) t = if_component (after_run part) t
+step (after_run part) Hyphen = Some (at_run part)
+step (after_run part) Dot = Some (at_run part)
+step (after_run part) (Whitespace a b) = Some end
+step (after_run pre_release) Plus = Some (at_run build)
 step _ _ = None
 
 -- a version may end at the place
 abbrev pub accepts : Place → Bool
-accepts (behind_number patch) = true
-accepts (behind_run part) = true
+accepts (after_number patch) = true
+accepts (after_run part) = true
 accepts end = true
 accepts _ = false
 
@@ -136,7 +136,7 @@ pub record ArePassed (s : ParserState) (part : Part) (text : Text) (ids : List I
   pub texts : List Text
   pub some : 0 < length texts
   pub each : AllZip SpellsIdentifier ids texts
-  pub taken : IsTakenTo s (behind_run part) (text ++ join_with_byte (code ".") texts) t
+  pub taken : IsTakenTo s (after_run part) (text ++ join_with_byte (code ".") texts) t
   pub no_hyphen : ¬ (look t ≡ Some Hyphen)
   pub no_dot : ¬ (look t ≡ Some Dot)
 

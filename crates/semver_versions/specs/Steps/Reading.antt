@@ -15,7 +15,7 @@ use Rattle.semver_texts.specs.declared.dialect.Dialect.{Dialect}
 use Rattle.semver_texts.specs.declared.dialect.Dialect.TheVariants.{Crate, Cargo, Npm}
 use Rattle.semver_texts.specs.declared.dotted.Hyphens.{Hyphens}
 use Rattle.semver_texts.specs.declared.dotted.Hyphens.TheVariants.{Any, BetweenRuns}
-use Rattle.semver_versions.specs.Outlines.{OutlineValue, IsOutlineIn, behind_mark, outline_behind}
+use Rattle.semver_versions.specs.Outlines.{OutlineValue, IsOutlineIn, strip_mark, outline_after}
 
 -- ---- what differs by dialect
 
@@ -107,8 +107,8 @@ outline_with major minor patch numbers_end pre build = record {
   patch = patch;
   pre = pre;
   build = build;
-  pre_offset = behind_mark numbers_end pre;
-  build_offset = behind_mark (numbers_end + length (marked (codes "-") (cut_at_dots pre))) build;
+  pre_offset = strip_mark numbers_end pre;
+  build_offset = strip_mark (numbers_end + length (marked (codes "-") (cut_at_dots pre))) build;
 }
 
 -- ---- the whole
@@ -136,7 +136,7 @@ pub record IsRead (dialect : Dialect) (v : VersionValue) (text : Text) : Type 0 
 abbrev pub IsOutlinedAt : Dialect → ℕ → Text → Option OutlineValue → Type 0
 IsOutlinedAt dialect before text None = (v : VersionValue) → ¬ (IsRead dialect v text)
 IsOutlinedAt dialect before text (Some o) =
-    (v : VersionValue) × IsRead dialect v text × (o ≡ outline_behind before v)
+    (v : VersionValue) × IsRead dialect v text × (o ≡ outline_after before v)
 
 -- the outline of a version that the text spells, or none where it spells none
 abbrev pub IsOutlinedBy : Dialect → Text → Option OutlineValue → Type 0

@@ -12,7 +12,7 @@ use Rattle.semver_ranges.specs.declared.range_set.RangeError.TheVariants.{OutOfM
 use Rattle.semver_ranges.specs.declared.grammar.Simple as read
 use Rattle.semver_texts.specs.Texts.{Text}
 use Rattle.semver_ranges.specs.RangeTree.{Form, PartialTree, Simple}
-use Rattle.semver_ranges.specs.Steps.Reading.{behind_blanks, operator, with_first, component}
+use Rattle.semver_ranges.specs.Steps.Reading.{after_blanks, operator, with_first, component}
 use Rattle.semver_ranges.specs.declared.range.Compat.TheVariants.{Cargo}
 use Rattle.semver_ranges.specs.declared.range.Range.{Range}
 use Rattle.semver_ranges.specs.RangeViews.{range_of, set_of}
@@ -35,7 +35,7 @@ at_end s [] = Some (s, None)
 at_end s (b ∷ t) = if b == code "," then Some (s, Some t) else None
 
 abbrev pub if_read : Simple → Text → Option (Simple × Option Text)
-if_read s t = if is_of_cargo s then at_end s (behind_blanks dialect.Cargo t) else None
+if_read s t = if is_of_cargo s then at_end s (after_blanks dialect.Cargo t) else None
 
 abbrev pub with_operator : Form → Option (PartialTree × Text) → Option (Simple × Option Text)
 with_operator form None = None
@@ -48,19 +48,19 @@ comparator_here t =
     (with_first (component (operator dialect.Cargo t).1))
 
 abbrev pub comparator_at : Text → Option (Simple × Option Text)
-comparator_at t = comparator_here (behind_blanks dialect.Cargo t)
+comparator_at t = comparator_here (after_blanks dialect.Cargo t)
 
 -- what is after a comma, where one is there
-abbrev pub behind_comma : Option (Bor Text) → Option Text
-behind_comma None = None
-behind_comma (Some rest) = Some rest.now
+abbrev pub after_comma : Option (Bor Text) → Option Text
+after_comma None = None
+after_comma (Some rest) = Some rest.now
 
 -- the comparator that was found, as it is read, and what follows its comma
 abbrev pub FindsComparator : Option (Simple × Option Text)
     → Option (read.Simple × Option (Bor Text)) → Type 0
 FindsComparator o None = o ≡ None
 FindsComparator o (Some found) =
-    (s : Simple) × (o ≡ Some (s, behind_comma found.1)) × IsSimpleOf (as_read s) found.0
+    (s : Simple) × (o ≡ Some (s, after_comma found.1)) × IsSimpleOf (as_read s) found.0
 
 -- why there is no set of a text
 abbrev pub IsRefusal : Text → RangeError → Type 0
@@ -73,7 +73,7 @@ IsRefusal t OutOfMemory =
 -- a requirement that was surveyed: it has this tree, which fits, and this first comparator
 abbrev pub IsSurveyedAs : Text → List Simple → Surveyed → Type 0
 IsSurveyedAs t tree surveyed = SpellsRequirement tree t × IsTrue (requirement_fits tree)
-    × FindsComparator (comparator_at t) (Some (surveyed.first, surveyed.behind))
+    × FindsComparator (comparator_at t) (Some (surveyed.first, surveyed.after))
 
 -- the set that a text is rewritten to
 abbrev pub IsSetOf : Text → PlainSet → Type 0

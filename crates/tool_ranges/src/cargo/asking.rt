@@ -64,15 +64,15 @@ fn ask_comparators(
     let mut met = true;
     let mut stated = counts;
     for at in 0..MOST_COMPARATORS {
-        let Some((simple, behind)) = read_comparator(rest) else {
+        let Some((simple, after)) = read_comparator(rest) else {
             return Err(RangeError::NotARange);
         };
         states_all &= !simple.partial.states_nothing();
         fit &= rows::cell_of(&simple, Compat::Cargo).fits(&simple.partial);
         met &= meets(&simple, version, takes_all);
         stated |= version.is_stated_by(&simple.partial);
-        if let Some(behind) = behind {
-            rest = behind;
+        if let Some(after) = after {
+            rest = after;
             continue;
         }
         return ended(states_all | (at == 0), fit, met & stated);

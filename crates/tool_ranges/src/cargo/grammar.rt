@@ -12,7 +12,7 @@ ghost use Rattle.tool_ranges.specs.CargoMeaning.{has_wildcard, named};
 ghost use Rattle.tool_ranges.specs.Steps.CargoReading.{comparator_at, FindsComparator};
 ghost use Rattle.tool_ranges.specs.Steps.CargoReading.{begins_with_tilde_greater};
 
-use semver_ranges::grammar::{Form, Simple, behind_blanks, read_components, read_operator};
+use semver_ranges::grammar::{Form, Simple, after_blanks, read_components, read_operator};
 use semver_ranges::partial::{Component, Components, Partial};
 use semver_texts::dialect::Dialect;
 use semver_texts::dotted::have_no_leading_zeros;
@@ -23,7 +23,7 @@ use semver_texts::dotted::have_no_leading_zeros;
 pub(crate) fn read_comparator(text: &[u8]) -> Option<(Simple<'_>, Option<&[u8]>)>
     ensures { FindsComparator (comparator_at text.now) result }
 {
-    let text = behind_blanks(text, Dialect::Cargo);
+    let text = after_blanks(text, Dialect::Cargo);
     if begins_with_tilde_greater(text) {
         return None;
     }
@@ -36,9 +36,9 @@ pub(crate) fn read_comparator(text: &[u8]) -> Option<(Simple<'_>, Option<&[u8]>)
         form: named(form, has_wildcard(&written)),
         partial: Partial::new(written.major, written.minor, written.patch, written.pre),
     };
-    match behind_blanks(rest, Dialect::Cargo) {
+    match after_blanks(rest, Dialect::Cargo) {
         [] => Some((simple, None)),
-        [b',', behind @ ..] => Some((simple, Some(behind))),
+        [b',', after @ ..] => Some((simple, Some(after))),
         _ => None,
     }
 }

@@ -97,16 +97,16 @@ after_if None = Refused
 abbrev pub after : Dialect → Space → ℕ → State
 after d space b = after_if (more_space d space b)
 
-abbrev pub behind_number : Dialect → Which → ℕ → State
-behind_number d Major b = if b == code "." then NoDigit Minor else Refused
-behind_number d Minor b = if b == code "." then NoDigit Patch else Refused
-behind_number d Patch b = if b == code "-" then Identifier Pre NotBegun
+abbrev pub after_number : Dialect → Which → ℕ → State
+after_number d Major b = if b == code "." then NoDigit Minor else Refused
+after_number d Minor b = if b == code "." then NoDigit Patch else Refused
+after_number d Patch b = if b == code "-" then Identifier Pre NotBegun
     else (if b == code "+" then Identifier Build NotBegun else after d Complete b)
 
 abbrev pub number : Dialect → Which → ℕ → ℕ → State
 number d which n b = if is_ascii_digit b then (if n == 0 then Refused
     else (if nat_le (n * 10 + (b - 48)) (greatest d) then Number which (n * 10 + (b - 48))
-    else Refused)) else behind_number d which b
+    else Refused)) else after_number d which b
 
 abbrev pub zeros_count : Dialect → Section → Bool
 zeros_count Crate section = false
@@ -141,8 +141,8 @@ abbrev pub is_pre : Section → Bool
 is_pre Pre = true
 is_pre Build = false
 
-abbrev pub behind_identifier : Dialect → Section → ℕ → State
-behind_identifier d section b = if b == code "." then Identifier section NotBegun
+abbrev pub after_identifier : Dialect → Section → ℕ → State
+after_identifier d section b = if b == code "." then Identifier section NotBegun
     else (if is_pre section && (b == code "+") then Identifier Build NotBegun
     else after d Complete b)
 
@@ -152,7 +152,7 @@ identifier_or section None other = other
 
 abbrev pub identifier : Dialect → Section → Part → ℕ → State
 identifier d section part b = identifier_or section (in_part d section part b)
-    (if may_end part then behind_identifier d section b else Refused)
+    (if may_end part then after_identifier d section b else Refused)
 
 abbrev pub step : Dialect → State → ℕ → State
 step d (Before space) b = before d space b

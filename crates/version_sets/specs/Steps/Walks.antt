@@ -20,16 +20,16 @@ walk_alone x y [] = []
 walk_alone x y (b ∷ ys) =
     record { from = b; in_first = x; in_second = not y } ∷ walk_alone x (not y) ys
 
--- the first list has the switch a, and then those that `behind` walks
+-- the first list has the switch a, and then those that `after` walks
 abbrev pub walk_step : {T : Type 0} → (T → T → Ordering) → T → WalkWith T → WalkWith T
-walk_step cmp a behind x y [] =
-    record { from = a; in_first = not x; in_second = y } ∷ behind (not x) y []
-walk_step cmp a behind x y (b ∷ ys) =
+walk_step cmp a after x y [] =
+    record { from = a; in_first = not x; in_second = y } ∷ after (not x) y []
+walk_step cmp a after x y (b ∷ ys) =
     match_ordering (cmp a b)
-    (record { from = a; in_first = not x; in_second = y } ∷ behind (not x) y (b ∷ ys))
-    (record { from = a; in_first = not x; in_second = not y } ∷ behind (not x) (not y) ys)
+    (record { from = a; in_first = not x; in_second = y } ∷ after (not x) y (b ∷ ys))
+    (record { from = a; in_first = not x; in_second = not y } ∷ after (not x) (not y) ys)
     (record { from = b; in_first = x; in_second = not y }
-    ∷ walk_step cmp a behind x (not y) ys)
+    ∷ walk_step cmp a after x (not y) ys)
 
 abbrev pub walk : {T : Type 0} → (T → T → Ordering) → List T → WalkWith T
 walk cmp [] = walk_alone

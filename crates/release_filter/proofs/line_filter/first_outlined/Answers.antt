@@ -4,16 +4,16 @@ use Rattle.release_filter.proofs.Passing.{outlined_as}
 use Rattle.release_filter.proofs.line_filter.first_outlined.Goals as goal
 use Rattle.std.proofs.lemmas.Grind.{common_steps}
 
-pub returns-in_err-behind-clause-none : goal.returns-in_err-behind-clause-none
-returns-in_err-behind-clause-none c = λ _. none_before c.in-Some.ensures (c.in_err-behind.ensures.none refl)
+pub returns-in_err-after-clause-none : goal.returns-in_err-after-clause-none
+returns-in_err-after-clause-none c = λ _. none_before c.in-Some.ensures (c.in_err-after.ensures.none refl)
 
 pub returns-in-Some-clause-whole : goal.returns-in-Some-clause-whole
 returns-in-Some-clause-whole c = grind (arith, common_steps, is_whole)
 
 pub returns-in-Some-clause-outlined : goal.returns-in-Some-clause-outlined
 returns-in-Some-clause-outlined c =
-    outlined c.args.bytes.now c.in-Some.rest.now c.in_ok-behind.behind.now c.in-Some.ensures c.in_ok-behind.ensures.front
-    c.in_ok-behind.ensures.whole c.text_of-text.result.now c.text_of-text.ensures c.args.dialect c.outline_of_numbers-outline.result
+    outlined c.args.bytes.now c.in-Some.rest.now c.in_ok-after.after.now c.in-Some.ensures c.in_ok-after.ensures.front
+    c.in_ok-after.ensures.whole c.text_of-text.result.now c.text_of-text.ensures c.args.dialect c.outline_of_numbers-outline.result
     c.outline_of_numbers-outline.ensures.outlined c.outline_of_numbers-outline.ensures.none
 
 pub returns-clause-outlined : goal.returns-clause-outlined

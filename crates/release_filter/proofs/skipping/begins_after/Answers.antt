@@ -1,5 +1,5 @@
 use Rattle.std.proofs.Common.{subst}
-use Rattle.release_filter.proofs.Prefixes.{Strips, behind}
+use Rattle.release_filter.proofs.Prefixes.{Strips, after}
 use Rattle.release_filter.proofs.SkippedFronts.{begins_none, begins_some}
 use Rattle.release_filter.proofs.skipping.begins_after.Goals as goal
 
@@ -7,7 +7,7 @@ pub returns-in-Some : goal.returns-in-Some
 returns-in-Some c =
     let prefix = c.args.prefix.now in
     let front = c.args.front.now in
-    let found = rw c.in-Some.is at (behind prefix front c.strip_prefix.result (subst (λ p. Strips p front c.strip_prefix.result)
+    let found = rw c.in-Some.is at (after prefix front c.strip_prefix.result (subst (λ p. Strips p front c.strip_prefix.result)
     c.as_bytes-prefix.ensures.value c.strip_prefix.ensures.cases)) in
     begins_some c.args.dialect prefix front c.in-Some.text.now c.is_front.result found c.is_front.ensures
 
@@ -15,10 +15,10 @@ pub returns-in-None : goal.returns-in-None
 returns-in-None c =
     let prefix = c.args.prefix.now in
     let front = c.args.front.now in
-    let never = rw c.in-None.is at (behind prefix front c.strip_prefix.result (subst (λ p. Strips p front c.strip_prefix.result)
+    let never = rw c.in-None.is at (after prefix front c.strip_prefix.result (subst (λ p. Strips p front c.strip_prefix.result)
     c.as_bytes-prefix.ensures.value c.strip_prefix.ensures.cases)) in
     let other : Strips front prefix c.strip_prefix-in-None.result =
     subst (λ p. Strips front p c.strip_prefix-in-None.result) c.as_bytes-prefix.ensures.value c.strip_prefix-in-None.ensures.cases in
     begins_none c.args.dialect prefix front c.strip_prefix-in-None.result c.is_some.result never
-    (behind front prefix c.strip_prefix-in-None.result other)
+    (after front prefix c.strip_prefix-in-None.result other)
     c.is_some.ensures

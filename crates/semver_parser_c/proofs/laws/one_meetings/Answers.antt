@@ -70,7 +70,7 @@ returns c =
     rw (as_it_is, as_it_is') (record {
       one = are_one (number.ok ∷ named_errors) range_exact refl refl p.numbers q.numbers (range_once p.refusals q.refusals)
           (range_once q.refusals p.refusals)
-          (λ b b' some some'. answered _ b some ∙ sym (answered _ b' some')) (λ _ _. p.behind ∙ ap (drop _) c.requires ∙ sym q.behind);
+          (λ b b' some some'. answered _ b some ∙ sym (answered _ b' some')) (λ _ _. p.after ∙ ap (drop _) c.requires ∙ sym q.after);
       each = λ ok ok' k within room.
           let (meaning, named, read) = p.read ok in
           both_some _ _ c.args.versions.now k within (p.answers ok meaning named k within room)

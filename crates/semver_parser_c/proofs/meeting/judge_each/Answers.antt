@@ -23,6 +23,6 @@ loop-at-preserved c = record {
       c.loop-at.at c.byte_for.result (search rules) (c.loop-at.invariant.said m range filter)
       (subst (λ o. IfSome o (λ text. IsAnswer m range text.now c.byte_for.result))
       (sym (slice_get-get_or c.args.versions.now c.loop-at.at _ (search rules))) (c.byte_for.ensures m range filter));
-  behind = drop-set-lt (length c.args.versions.now) c.loop-at.answers c.loop-at.at c.byte_for.result (search rules)
-      ∙ c.loop-at.invariant.behind;
+  after = drop-set-lt (length c.args.versions.now) c.loop-at.answers c.loop-at.at c.byte_for.result (search rules)
+      ∙ c.loop-at.invariant.after;
 }

@@ -9,5 +9,5 @@ abbrev pub invariant-loop-at : goal.invariant-loop-at
 invariant-loop-at l = record {
   said : (m : Meaning) (range : Text) → IsQuestionOf l.fn.question m range → (k : ℕ) → k < l.at
       → IfSome (slice_get l.versions k) (λ text. IsAnswer m range text.now (get_or l.answers k 0));
-  behind : drop (length l.versions) l.answers ≡ drop (length l.versions) l.initial.answers;
+  after : drop (length l.versions) l.answers ≡ drop (length l.versions) l.initial.answers;
 }

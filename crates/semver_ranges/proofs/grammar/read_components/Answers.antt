@@ -13,12 +13,12 @@ returns-in_default c =
       record { stand = (major.2, refl, refl); pre = refl; build = refl; parts = refl; count = refl; is_qualified = refl },
     )
 
-pub returns-in_default-behind_mark : goal.returns-in_default-behind_mark
-returns-in_default-behind_mark c =
+pub returns-in_default-strip_mark : goal.returns-in_default-strip_mark
+returns-in_default-strip_mark c =
     let major = c.in_ok-major.ensures in
     let minor = c.in_ok-minor.ensures in (
       two major.0 minor.0,
-      rw (major.1, c.in-Some.ensures, minor.1) (minor_end major.0 minor.0 c.in_ok-minor.rest.now c.in_default-behind_mark.ensures),
+      rw (major.1, c.in-Some.ensures, minor.1) (minor_end major.0 minor.0 c.in_ok-minor.rest.now c.in_default-strip_mark.ensures),
       record { stand = (major.2, minor.2, refl); pre = refl; build = refl; parts = refl; count = refl; is_qualified = refl },
     )
 
@@ -27,11 +27,11 @@ returns c =
     let major = c.in_ok-major.ensures in
     let minor = c.in_ok-minor.ensures in
     let patch = c.in_ok-patch.ensures in
-    let behind = c.in_ok-pre.ensures.0 major.0 minor.0 patch.0 in
+    let after = c.in_ok-pre.ensures.0 major.0 minor.0 patch.0 in
     let pre = cut_at_dots c.in_ok-pre.pre.now in
     let build = cut_at_dots c.in_ok-pre.build.now in (
       three major.0 minor.0 patch.0 pre build,
-      rw (major.1, c.in-Some.ensures, minor.1, c.in-Some-behind_mark.ensures, patch.1) behind,
+      rw (major.1, c.in-Some.ensures, minor.1, c.in-Some-strip_mark.ensures, patch.1) after,
       record {
         stand = (major.2, minor.2, patch.2, refl);
         pre = refl;
@@ -39,6 +39,6 @@ returns c =
         parts = c.in_ok-pre.ensures.1;
         count = refl;
         is_qualified = c.begins_qualifier.ensures
-            ∙ qualified major.0 minor.0 patch.0 pre build c.in_ok-patch.qualifier.now c.in_ok-pre.rest.now behind;
+            ∙ qualified major.0 minor.0 patch.0 pre build c.in_ok-patch.qualifier.now c.in_ok-pre.rest.now after;
       },
     )

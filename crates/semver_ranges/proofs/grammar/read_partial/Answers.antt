@@ -8,16 +8,16 @@ use Rattle.semver_ranges.proofs.grammar.read_partial.Goals.{else-ends_word-via-t
 pub takes-requires : goal.takes-requires
 takes-requires c =
     let found = c.in_ok-written.ensures in
-    (found.0, before_rest c.args.dialect c.args.text.now c.behind_v.result.now c.in_ok-written.rest.now found.0 c.behind_v.ensures found.1)
+    (found.0, before_rest c.args.dialect c.args.text.now c.after_v.result.now c.in_ok-written.rest.now found.0 c.after_v.ensures found.1)
 
 pub returns-then-takes : goal.returns-then-takes
 returns-then-takes c =
     let d = c.args.dialect in
     let found = c.in_ok-written.ensures in
-    let before = before_rest d c.args.text.now c.behind_v.result.now c.in_ok-written.rest.now found.0 c.behind_v.ensures found.1 in (
+    let before = before_rest d c.args.text.now c.after_v.result.now c.in_ok-written.rest.now found.0 c.after_v.ensures found.1 in (
       found.0,
-      word_is_read d (role_of c.args.role) c.args.text.now c.behind_v.result.now c.in_ok-written.rest.now found.0
-          c.behind_v.ensures found.1 (sym (c.takes.ensures found.0 before found.2) ∙ c.if-takes.true)
+      word_is_read d (role_of c.args.role) c.args.text.now c.after_v.result.now c.in_ok-written.rest.now found.0
+          c.after_v.ensures found.1 (sym (c.takes.ensures found.0 before found.2) ∙ c.if-takes.true)
           (sym c.ends_word.ensures ∙ c.if-ends_word.true),
       c.new.ensures found.0 found.2.stand,
     )
@@ -26,9 +26,9 @@ pub returns-else-ends_word : goal.returns-else-ends_word
 returns-else-ends_word c =
     let d = c.args.dialect in
     let found = c.in_ok-written.ensures in
-    let before = before_rest d c.args.text.now c.behind_v.result.now c.in_ok-written.rest.now found.0 c.behind_v.ensures found.1 in
-    let none = word_is_no_word d (role_of c.args.role) c.args.text.now c.behind_v.result.now c.in_ok-written.rest.now found.0
-    c.behind_v.ensures found.1 in
+    let before = before_rest d c.args.text.now c.after_v.result.now c.in_ok-written.rest.now found.0 c.after_v.ensures found.1 in
+    let none = word_is_no_word d (role_of c.args.role) c.args.text.now c.after_v.result.now c.in_ok-written.rest.now found.0
+    c.after_v.ensures found.1 in
     elim c.else-ends_word.branch [
       | else-ends_word-via-then-ends_word+else-takes w ↦
           none (rw (sym (w.takes.ensures found.0 before found.2) ∙ w.if-takes.false) refl)

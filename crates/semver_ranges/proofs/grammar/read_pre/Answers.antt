@@ -1,4 +1,4 @@
-use Rattle.semver_ranges.proofs.CursorSteps.{qualifier_found, no_pre, no_build_behind}
+use Rattle.semver_ranges.proofs.CursorSteps.{qualifier_found, no_pre, no_build_after}
 use Rattle.semver_ranges.proofs.PartRuns.{parts_found, parts_not_found}
 use Rattle.semver_ranges.proofs.grammar.read_pre.Goals as goal
 
@@ -9,7 +9,7 @@ returns-in_err-pre c =
 pub returns-in_err-build : goal.returns-in_err-build
 returns-in_err-build c =
     let pre = parts_found 45 c.args.text.now c.in_ok-pre.pre.now c.in_ok-pre.rest.now c.in_ok-pre.ensures in
-    rw c.from_residual-in_err-build.ensures (λ a b d. no_build_behind a b d _ c.args.text.now c.in_ok-pre.rest.now pre.0
+    rw c.from_residual-in_err-build.ensures (λ a b d. no_build_after a b d _ c.args.text.now c.in_ok-pre.rest.now pre.0
     (parts_not_found 43 c.in_ok-pre.rest.now c.in_err-build.ensures))
 
 pub returns : goal.returns

@@ -20,11 +20,11 @@ loop-event-preserved-in-Continue-branch-3 g c =
     (rw (c.in-Ok.is, c.in-Simple.is) at (c.in-Some.ensures.gives.0 _ so_far.3)) in
     let fit = and_parts _ _ (rw first.whole at so_far.4) in (
       so_far.0,
-      first.behind,
+      first.after,
       so_far.2,
       first.has,
       fit.1,
-      ap (λ cs. map range_of c.loop-event.ranges.items ++ ranges_by (g.T.Table.written c.args.table.now) c.args.compat cs first.behind)
+      ap (λ cs. map range_of c.loop-event.ranges.items ++ ranges_by (g.T.Table.written c.args.table.now) c.args.compat cs first.after)
           (c.in_ok-push-in-Simple.ensures first.s first.is fit.0)
           ∙ rw first.whole at so_far.5,
     )

@@ -1,5 +1,5 @@
 use Rattle.std.proofs.Common.{sym, ◌∙◌}
-use Rattle.semver_texts.proofs.Numbers.{none_whole, more_behind}
+use Rattle.semver_texts.proofs.Numbers.{none_whole, more_after}
 use Rattle.semver_texts.proofs.decimals.whole_number.Goals as goal
 
 pub returns-in_err-number : goal.returns-in_err-number
@@ -8,5 +8,5 @@ returns-in_err-number c =
 
 pub returns-else-is_empty : goal.returns-else-is_empty
 returns-else-is_empty c =
-    rw c.as_bytes.ensures.value at (more_behind c.as_bytes.result.now c.in_ok-number.rest.now c.in_ok-number.number
+    rw c.as_bytes.ensures.value at (more_after c.as_bytes.result.now c.in_ok-number.rest.now c.in_ok-number.number
     c.in_ok-number.ensures (sym c.is_empty.ensures ∙ c.if-is_empty.false))

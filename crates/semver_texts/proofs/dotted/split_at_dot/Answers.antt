@@ -27,12 +27,12 @@ pub returns-then-bytes-at-eq46 : goal.returns-then-bytes-at-eq46
 returns-then-bytes-at-eq46 c =
     let t : Text = c.args.bytes.now in
     let i : ℕ = c.loop-at.at in
-    let behind : Text = drop (i + 1) t in
-    let left : take (length t - (i + 1)) behind ≡ behind = ap (λ n. take n behind) (sym (length-drop (i + 1) t)) ∙ take-length behind in
-    let whole : t ≡ take i t ++ 46 ∷ behind =
+    let after : Text = drop (i + 1) t in
+    let left : take (length t - (i + 1)) after ≡ after = ap (λ n. take n after) (sym (length-drop (i + 1) t)) ∙ take-length after in
+    let whole : t ≡ take i t ++ 46 ∷ after =
     sym (take-append-drop i t)
-    ∙ ap (λ u. take i t ++ u) (drop_more t i 0 c.loop-at-test.true ∙ ap (λ b. b ∷ behind) c.if-bytes-at-eq46.true) in
-    rw left (ap (slice_split is_dot) whole ∙ slice_split_at is_dot (take i t) 46 behind c.loop-at.invariant refl, whole)
+    ∙ ap (λ u. take i t ++ u) (drop_more t i 0 c.loop-at-test.true ∙ ap (λ b. b ∷ after) c.if-bytes-at-eq46.true) in
+    rw left (ap (slice_split is_dot) whole ∙ slice_split_at is_dot (take i t) 46 after c.loop-at.invariant refl, whole)
 
 pub returns : goal.returns
 returns c =

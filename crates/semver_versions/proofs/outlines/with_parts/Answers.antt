@@ -8,18 +8,18 @@ text_of_parts-requires c = parts_pass c.args.pre.now c.requires.pre
 pub text_of_parts-requires-2 : goal.text_of_parts-requires-2
 text_of_parts-requires-2 c = parts_pass c.args.build.now c.requires.build
 
-pub behind_mark_at-requires : goal.behind_mark_at-requires
-behind_mark_at-requires c = omega (arith, c.requires.fits, part_fits 45 c.args.pre.now)
+pub after_mark_at-requires : goal.after_mark_at-requires
+after_mark_at-requires c = omega (arith, c.requires.fits, part_fits 45 c.args.pre.now)
 
-pub behind_mark_at-requires-2 : goal.behind_mark_at-requires-2
-behind_mark_at-requires-2 c =
+pub after_mark_at-requires-2 : goal.after_mark_at-requires-2
+after_mark_at-requires-2 c =
     omega (arith, c.requires.fits, c.marked_len.ensures 45, part_fits 43 c.args.build.now)
 
 pub returns : goal.returns
 returns c = rw (
   c.text_of_parts.ensures,
   c.text_of_parts-2.ensures,
-  c.behind_mark_at.ensures,
-  c.behind_mark_at-2.ensures,
+  c.after_mark_at.ensures,
+  c.after_mark_at-2.ensures,
   c.marked_len.ensures 45,
 )

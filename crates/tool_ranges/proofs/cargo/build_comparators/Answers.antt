@@ -7,7 +7,7 @@ use Rattle.semver_ranges.specs.RangeViews.{comparator_of, range_of}
 use Rattle.semver_ranges.specs.declared.range.Compat.TheVariants.{Cargo}
 use Rattle.tool_ranges.specs.CargoMeaning.{as_read}
 use Rattle.tool_ranges.specs.Steps.CargoPreReleases.{counting_one, judging_one}
-use Rattle.tool_ranges.specs.Steps.CargoReading.{behind_comma, IsSurveyedAs}
+use Rattle.tool_ranges.specs.Steps.CargoReading.{after_comma, IsSurveyedAs}
 use Rattle.tool_ranges.proofs.ReadRows.{fit_numbers}
 use Rattle.tool_ranges.proofs.RequirementSteps.{Left, count_more, first_left, held_fits, none_left, one_more, written_more}
 use Rattle.tool_ranges.proofs.cargo.build_comparators.Goals as goal
@@ -57,7 +57,7 @@ built c t tree is =
 pub returns-in_default : goal.returns-in_default
 returns-in_default c = λ t tree is.
     let so_far = c.loop.invariant t tree is in
-    let last = subst (λ b. Left so_far.2 (behind_comma b)) c.in_default.is so_far.4 in
+    let last = subst (λ b. Left so_far.2 (after_comma b)) c.in_default.is so_far.4 in
     subst (AreBuilt (goal.at.returns-in_default c).In_ok-push_counting) (sym (so_far.3 ∙ ap (λ x. so_far.0 ++ so_far.1 ∷ x) last))
     (built (goal.at.returns-in_default c).In_ok-push_counting t tree is)
 
@@ -72,7 +72,7 @@ loop-preserved c = λ t tree is.
     let so_far = c.loop.invariant t tree is in
     let found = c.in-Some-read_comparator.ensures in
     let next = first_left found.0 c.in-Some.rest.now _ so_far.2 found.1
-    (subst (λ b. Left so_far.2 (behind_comma b)) c.in-Some.is so_far.4) in
+    (subst (λ b. Left so_far.2 (after_comma b)) c.in-Some.is so_far.4) in
     let pushed = built (goal.at.loop-preserved c).In_ok-push_counting t tree is in (
       so_far.0 ++ so_far.1 ∷ [],
       found.0,

@@ -1,7 +1,7 @@
 use Rattle.std.proofs.Common.{ap, sym, ◌∙◌, not, ◌∷◌, ◌++◌, [], Some}
 use Rattle.semver_ranges.proofs.StatedNumbers.{states_kind}
 use Rattle.tool_ranges.specs.CargoMeaning.{as_read}
-use Rattle.tool_ranges.specs.Steps.CargoReading.{behind_comma, comparator_at}
+use Rattle.tool_ranges.specs.Steps.CargoReading.{after_comma, comparator_at}
 use Rattle.tool_ranges.proofs.RequirementSteps.{at_next, at_none, at_start, surveyed_as, surveyed_next, surveyed_start}
 use Rattle.tool_ranges.proofs.cargo.survey.Goals as goal
 
@@ -24,12 +24,12 @@ loop-at-init c =
 pub fits-fit-requires : goal.fits-fit-requires
 fits-fit-requires c = let seen = c.loop-at.invariant in (c.cell_of-cell.ensures (as_read seen.2) seen.5).0
 
-pub returns-in_default-behind : goal.returns-in_default-behind
-returns-in_default-behind c =
+pub returns-in_default-after : goal.returns-in_default-after
+returns-in_default-after c =
     let seen = c.loop-at.invariant in
     let s = seen.2 in
     surveyed_as c.args.requirement.now seen.0 seen.1 c.loop-at.at c.loop-at.states_all c.loop-at.fit (not c.states_nothing.result)
-    c.fits-fit.result s seen.3 (seen.4 ∙ ap (λ b. Some (s, behind_comma b)) c.in_default-behind.is) c.loop-at-test.true
+    c.fits-fit.result s seen.3 (seen.4 ∙ ap (λ b. Some (s, after_comma b)) c.in_default-after.is) c.loop-at-test.true
     (ap not (c.states_nothing.ensures ∙ sym (states_kind s.partial c.loop-at.simple.partial seen.5.1)))
     (c.fits-fit.ensures ∙ (c.cell_of-cell.ensures (as_read s) seen.5).1) _
     (let found = c.in-Some.ensures in (found.0, ap comparator_at (sym c.as_bytes.ensures.value) ∙ found.1, found.2))
@@ -38,9 +38,9 @@ returns-in_default-behind c =
 pub returns-in_default-read_comparator : goal.returns-in_default-read_comparator
 returns-in_default-read_comparator c =
     let seen = c.loop-at.invariant in
-    at_none c.args.requirement.now _ c.in-Some-behind.rest.now
-    (at_next c.args.requirement.now seen.0 seen.1 seen.2 c.in-Some-behind.rest.now seen.3.place
-    (seen.4 ∙ ap (λ b. Some (seen.2, behind_comma b)) c.in-Some-behind.is))
+    at_none c.args.requirement.now _ c.in-Some-after.rest.now
+    (at_next c.args.requirement.now seen.0 seen.1 seen.2 c.in-Some-after.rest.now seen.3.place
+    (seen.4 ∙ ap (λ b. Some (seen.2, after_comma b)) c.in-Some-after.is))
     c.in_default-read_comparator.ensures
 
 pub loop-at-preserved : goal.loop-at-preserved
@@ -49,10 +49,10 @@ loop-at-preserved c =
     let s = seen.2 in
     let found = c.in-Some-read_comparator.ensures in (
       seen.0 ++ s ∷ [],
-      c.in-Some-behind.rest.now,
+      c.in-Some-after.rest.now,
       found.0,
       surveyed_next c.args.requirement.now seen.0 seen.1 c.loop-at.at c.loop-at.states_all c.loop-at.fit (not c.states_nothing.result)
-          c.fits-fit.result s c.in-Some-behind.rest.now seen.3 (seen.4 ∙ ap (λ b. Some (s, behind_comma b)) c.in-Some-behind.is)
+          c.fits-fit.result s c.in-Some-after.rest.now seen.3 (seen.4 ∙ ap (λ b. Some (s, after_comma b)) c.in-Some-after.is)
           (ap not (c.states_nothing.ensures ∙ sym (states_kind s.partial c.loop-at.simple.partial seen.5.1)))
           (c.fits-fit.ensures ∙ (c.cell_of-cell.ensures (as_read s) seen.5).1),
       found.1,

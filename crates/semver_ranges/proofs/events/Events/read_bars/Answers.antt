@@ -10,16 +10,16 @@ pub returns : goal.returns
 returns c =
     let d = c.args.dialect in
     let t : Text = c.args.self.now.rest.now in
-    let u : Text = c.in_ok-behind_bars.field-0.now in
-    let short : length c.behind_blanks-self.result.now ≤ length u = rw c.behind_blanks-self.ensures (back_shorter (is_blank d) u) in
-    let less = shorter_bars t u c.in_ok-behind_bars.ensures in
+    let u : Text = c.in_ok-after_bars.field-0.now in
+    let short : length c.after_blanks-self.result.now ≤ length u = rw c.after_blanks-self.ensures (back_shorter (is_blank d) u) in
+    let less = shorter_bars t u c.in_ok-after_bars.ensures in
     rw c.requires.alone (
       (
         next_range,
         events d c.args.self.now.lower u,
         tt,
-        begin_left d c.args.self.now.lower u c.behind_blanks-self.result.now c.behind_blanks-self.ensures,
-        bars_left d c.args.self.now.lower t (Some u) c.requires.some c.requires.ends c.in_ok-behind_bars.ensures,
+        begin_left d c.args.self.now.lower u c.after_blanks-self.result.now c.after_blanks-self.ensures,
+        bars_left d c.args.self.now.lower t (Some u) c.requires.some c.requires.ends c.in_ok-after_bars.ensures,
       ),
       omega (arith, short, less),
       omega (arith, short, less),

@@ -21,8 +21,8 @@ token_here : (c : In-Some)
     ≡ Some (token_value c.in-Some.token, c.in-Some.len)
 token_here c = ap (first_token c.self.inside.position) (sym c.range_from-rest.ensures.value) ∙ sym c.in-Some.ensures
 
-cut_behind : (c : In-Some) → IsCharBoundary c.self.inside.input.now (c.self.inside.position + c.in-Some.len)
-cut_behind c =
+cut_after : (c : In-Some) → IsCharBoundary c.self.inside.input.now (c.self.inside.position + c.in-Some.len)
+cut_after c =
     cut_after_token c.self.inside.input.now c.self.inside.position _ _ c.self.invariant.0
     (subst IsUtf8 c.range_from-rest.ensures.value c.range_from-rest.utf8) (token_here c)
 
@@ -33,10 +33,10 @@ item_here : (c : In-Some)
 item_here c = rw (← c.self.view_is, c.if-self.false) (items_left-token _ _ _ _ (token_here c))
 
 pub overflow_add-self : goal.overflow_add-self
-overflow_add-self c = omega (arith, (cut_behind c).0)
+overflow_add-self c = omega (arith, (cut_after c).0)
 
 pub invariant_of-self : goal.invariant_of-self
-invariant_of-self c = cut_behind (goal.at.invariant_of-self c).In-Some
+invariant_of-self c = cut_after (goal.at.invariant_of-self c).In-Some
 
 pub returns-in-Some-clause-steps : goal.returns-in-Some-clause-steps
 returns-in-Some-clause-steps c = rw c.if-self.false (item_here (goal.at.returns-in-Some-clause-steps c).In-Some)

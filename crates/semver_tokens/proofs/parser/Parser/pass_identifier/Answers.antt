@@ -23,27 +23,27 @@ returns-in_err-pop c =
     (c.at_hyphen.ensures.0 c.loop-number-test.true) _ c.in_err-pop.ensures))
 
 -- the hyphen was taken
-behind_hyphen : (c : In_ok-pop) → ReadsMore c.args.self.now c.loop-number.self c.loop-number.invariant.front Hyphen false c.pop.new.self
-behind_hyphen c =
+after_hyphen : (c : In_ok-pop) → ReadsMore c.args.self.now c.loop-number.self c.loop-number.invariant.front Hyphen false c.pop.new.self
+after_hyphen c =
     let k = c.loop-number.invariant in hyphen_given c.args.self.now c.loop-number.self k.front k.taken
     (c.at_hyphen.ensures.0 c.loop-number-test.true) _ c.in_ok-pop.ensures
 
 pub returns-in_err-run : goal.returns-in_err-run
 returns-in_err-run c =
     let p = err_from_is_err_and c.from_residual-in_err-run.result c.from_residual-in_err-run.ensures.1 in
-    let k = behind_hyphen (goal.at.returns-in_err-run c).In_ok-pop in
+    let k = after_hyphen (goal.at.returns-in_err-run c).In_ok-pop in
     rw (p.1, p.2) (takes_none _ _ _ (run_given c.args.self.now c.pop.new.self _ k.taken _ c.in_err-run.ensures))
 
 pub loop-number-preserved : goal.loop-number-preserved
 loop-number-preserved c =
     let front = c.loop-number.invariant.front in
-    let r = run_given c.args.self.now c.pop.new.self _ (behind_hyphen (goal.at.loop-number-preserved c).In_ok-pop).taken _
+    let r = run_given c.args.self.now c.pop.new.self _ (after_hyphen (goal.at.loop-number-preserved c).In_ok-pop).taken _
     c.in_ok-run.ensures in
     record { front = (front ++ Hyphen ∷ []) ++ r.0 ∷ []; taken = r.1.taken; number = sym (not_alone front Hyphen r.0) }
 
 pub loop-number-smaller : goal.loop-number-smaller
 loop-number-smaller c =
-    let k = behind_hyphen (goal.at.loop-number-smaller c).In_ok-pop in
+    let k = after_hyphen (goal.at.loop-number-smaller c).In_ok-pop in
     let r = run_given c.args.self.now c.pop.new.self _ k.taken _ c.in_ok-run.ensures in
     omega (arith, k.shorter, r.1.shorter)
 

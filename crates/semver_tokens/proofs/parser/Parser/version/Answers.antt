@@ -45,7 +45,7 @@ pub returns-in_err-build-clause-answer : goal.returns-in_err-build-clause-answer
 returns-in_err-build-clause-answer c =
     let p = err_from_is_err_and c.from_residual-in_err-build.result c.from_residual-in_err-build.ensures.1 in
     let at = goal.at.returns-in_err-build-clause-answer c in
-    let b = (pre at.In_ok-pre (numbers at.In_ok-major)).behind in
+    let b = (pre at.In_ok-pre (numbers at.In_ok-major)).after in
     rw (p.1, p.2) (unless_err c.in_err-build.field-0.0 (build_given b c.at_plus-has_build.result
     c.at_plus-has_build.ensures _) c.in_err-build.ensures.answer)
 
@@ -53,7 +53,7 @@ pub returns-in_err-build-clause-out_of_memory : goal.returns-in_err-build-clause
 returns-in_err-build-clause-out_of_memory c =
     let p = err_from_is_err_and c.from_residual-in_err-build.result c.from_residual-in_err-build.ensures.1 in
     let at = goal.at.returns-in_err-build-clause-out_of_memory c in
-    let b = (pre at.In_ok-pre (numbers at.In_ok-major)).behind in
+    let b = (pre at.In_ok-pre (numbers at.In_ok-major)).after in
     rw (p.1, p.2) (if_err c.in_err-build.field-0.0 (build_out b c.at_plus-has_build.result c.at_plus-has_build.ensures c.part-2.new.self)
     c.in_err-build.ensures.out_of_memory)
 
@@ -63,17 +63,17 @@ pub returns-in_err-skip_whitespace-clause-answer : goal.returns-in_err-skip_whit
 returns-in_err-skip_whitespace-clause-answer c =
     let p = err_from_is_err_and c.from_residual-in_err-skip_whitespace.result c.from_residual-in_err-skip_whitespace.ensures.1 in
     let at = goal.at.returns-in_err-skip_whitespace-clause-answer c in
-    let b = (pre at.In_ok-pre (numbers at.In_ok-major)).behind in
+    let b = (pre at.In_ok-pre (numbers at.In_ok-major)).after in
     let d = build_given b c.at_plus-has_build.result c.at_plus-has_build.ensures _
     c.in_ok-build.ensures.answer in
     unless_out_of_memory c.from_residual-in_err-skip_whitespace.result
-    (rw (p.1, p.2) (end_given d.behind _ c.in_err-skip_whitespace.ensures))
+    (rw (p.1, p.2) (end_given d.after _ c.in_err-skip_whitespace.ensures))
 
 pub returns-clause-answer : goal.returns-clause-answer
 returns-clause-answer c =
     let at = goal.at.returns-clause-answer c in
     let b = pre at.In_ok-pre (numbers at.In_ok-major) in
-    let d = build_given b.behind c.at_plus-has_build.result c.at_plus-has_build.ensures _
+    let d = build_given b.after c.at_plus-has_build.result c.at_plus-has_build.ensures _
     c.in_ok-build.ensures.answer in
     let v : VersionValue = version_value (record {
       major = c.in_ok-major.major;
@@ -82,7 +82,7 @@ returns-clause-answer c =
       pre = c.in_ok-pre.pre;
       build = c.in_ok-build.build;
     }) in
-    end_given d.behind _ c.in_ok-skip_whitespace.ensures v (record {
+    end_given d.after _ c.in_ok-skip_whitespace.ensures v (record {
       pre_text = b.part_text;
       build_text = d.part_text;
       major = search rules;

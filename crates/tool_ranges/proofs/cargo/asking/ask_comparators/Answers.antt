@@ -3,7 +3,7 @@ use Rattle.semver_ranges.specs.declared.range.Compat.TheVariants.{Cargo}
 use Rattle.semver_ranges.proofs.StatedNumbers.{states_kind}
 use Rattle.tool_ranges.specs.CargoMeaning.{as_read}
 use Rattle.tool_ranges.specs.Steps.Asking.{asked_of}
-use Rattle.tool_ranges.specs.Steps.CargoReading.{behind_comma}
+use Rattle.tool_ranges.specs.Steps.CargoReading.{after_comma}
 use Rattle.tool_ranges.proofs.AskedRequirements.{asked_end, asked_next}
 use Rattle.tool_ranges.proofs.AskedTerms.{stated_at}
 use Rattle.tool_ranges.proofs.ToolRows.{numbers_fit}
@@ -35,7 +35,7 @@ loop-at-preserved c =
           (c.meets-met.ensures (as_read s) found.2)
           (λ fit. stated_at (as_read s) c.in-Some.simple found.2 (numbers_fit Cargo (as_read s) fit) v c.is_stated_by-stated.result
           c.is_stated_by-stated.ensures)
-          c.in-Some-behind.behind.now (found.1 ∙ ap (λ b. Some (s, behind_comma b)) c.in-Some-behind.is),
+          c.in-Some-after.after.now (found.1 ∙ ap (λ b. Some (s, after_comma b)) c.in-Some-after.is),
     )
 
 pub returns-in-loop-at : goal.returns-in-loop-at
@@ -51,7 +51,7 @@ returns-in-loop-at c =
     (c.meets-met.ensures (as_read s) found.2)
     (λ fit. stated_at (as_read s) c.in-Some.simple found.2 (numbers_fit Cargo (as_read s) fit) v c.is_stated_by-stated.result
     c.is_stated_by-stated.ensures)
-    (found.1 ∙ ap (λ b. Some (s, behind_comma b)) c.in_default-behind.is) c.loop-at-test.true c.ended.result c.ended.ensures
+    (found.1 ∙ ap (λ b. Some (s, after_comma b)) c.in_default-after.is) c.loop-at-test.true c.ended.result c.ended.ensures
 
 pub returns : goal.returns
 returns c = grind (arith, common_steps)

@@ -10,8 +10,8 @@ pub returns-then-not-is_read : goal.returns-then-not-is_read
 returns-then-not-is_read c =
     let found = c.in_ok-written.ensures in
     let s : Simple = record { form = form_of c.read_operator-form.result.0; partial = found.0 } in
-    pieces_found c.args.text.now c.behind_blanks-text.result.now c.read_operator-form.result.1.now c.in_ok-written.rest.now s.form found.0
-    c.behind_blanks-text.ensures (cc)
+    pieces_found c.args.text.now c.after_blanks-text.result.now c.read_operator-form.result.1.now c.in_ok-written.rest.now s.form found.0
+    c.after_blanks-text.ensures (cc)
     c.read_operator-form.ensures found.1
     ∙ not_read s c.in_ok-written.rest.now (sym (c.is_read.ensures s refl found.2) ∙ c.if-not-is_read.true)
 
@@ -20,11 +20,11 @@ returns-in-empty c =
     let found = c.in_ok-written.ensures in
     let s : Simple = record { form = form_of c.read_operator-form.result.0; partial = found.0 } in (
       s,
-      pieces_found c.args.text.now c.behind_blanks-text.result.now c.read_operator-form.result.1.now c.in_ok-written.rest.now s.form found.0
-          c.behind_blanks-text.ensures (sym c.if-begins_with_tilde_greater.false ∙ c.begins_with_tilde_greater.ensures)
+      pieces_found c.args.text.now c.after_blanks-text.result.now c.read_operator-form.result.1.now c.in_ok-written.rest.now s.form found.0
+          c.after_blanks-text.ensures (sym c.if-begins_with_tilde_greater.false ∙ c.begins_with_tilde_greater.ensures)
           c.read_operator-form.ensures found.1
-          ∙ ends s c.in_ok-written.rest.now c.behind_blanks.result.now (sym (c.is_read.ensures s refl found.2) ∙ c.if-not-is_read.false)
-          c.behind_blanks.ensures (omega arith),
+          ∙ ends s c.in_ok-written.rest.now c.after_blanks.result.now (sym (c.is_read.ensures s refl found.2) ∙ c.if-not-is_read.false)
+          c.after_blanks.ensures (omega arith),
       (
         c.named.ensures ∙ ap (λ b. named b s.form) (c.has_wildcard.ensures found.0 found.2),
         c.new.ensures found.0 found.2.stand,
@@ -36,11 +36,11 @@ returns-in-44 c =
     let found = c.in_ok-written.ensures in
     let s : Simple = record { form = form_of c.read_operator-form.result.0; partial = found.0 } in (
       s,
-      pieces_found c.args.text.now c.behind_blanks-text.result.now c.read_operator-form.result.1.now c.in_ok-written.rest.now s.form found.0
-          c.behind_blanks-text.ensures (sym c.if-begins_with_tilde_greater.false ∙ c.begins_with_tilde_greater.ensures)
+      pieces_found c.args.text.now c.after_blanks-text.result.now c.read_operator-form.result.1.now c.in_ok-written.rest.now s.form found.0
+          c.after_blanks-text.ensures (sym c.if-begins_with_tilde_greater.false ∙ c.begins_with_tilde_greater.ensures)
           c.read_operator-form.ensures found.1
-          ∙ parted s c.in_ok-written.rest.now c.behind_blanks.result.now (sym (c.is_read.ensures s refl found.2) ∙ c.if-not-is_read.false)
-          c.behind_blanks.ensures c.in-44.len_at_least (omega arith),
+          ∙ parted s c.in_ok-written.rest.now c.after_blanks.result.now (sym (c.is_read.ensures s refl found.2) ∙ c.if-not-is_read.false)
+          c.after_blanks.ensures c.in-44.len_at_least (omega arith),
       (
         c.named.ensures ∙ ap (λ b. named b s.form) (c.has_wildcard.ensures found.0 found.2),
         c.new.ensures found.0 found.2.stand,
@@ -51,8 +51,8 @@ pub returns-in_default : goal.returns-in_default
 returns-in_default c =
     let found = c.in_ok-written.ensures in
     let s : Simple = record { form = form_of c.read_operator-form.result.0; partial = found.0 } in
-    pieces_found c.args.text.now c.behind_blanks-text.result.now c.read_operator-form.result.1.now c.in_ok-written.rest.now s.form found.0
-    c.behind_blanks-text.ensures (sym c.if-begins_with_tilde_greater.false ∙ c.begins_with_tilde_greater.ensures)
+    pieces_found c.args.text.now c.after_blanks-text.result.now c.read_operator-form.result.1.now c.in_ok-written.rest.now s.form found.0
+    c.after_blanks-text.ensures (sym c.if-begins_with_tilde_greater.false ∙ c.begins_with_tilde_greater.ensures)
     c.read_operator-form.ensures found.1
-    ∙ other_byte s c.in_ok-written.rest.now c.behind_blanks.result.now (sym (c.is_read.ensures s refl found.2) ∙ c.if-not-is_read.false)
-    c.behind_blanks.ensures c.in_default.len_at_least (grind (arith, nat_tests))
+    ∙ other_byte s c.in_ok-written.rest.now c.after_blanks.result.now (sym (c.is_read.ensures s refl found.2) ∙ c.if-not-is_read.false)
+    c.after_blanks.ensures c.in_default.len_at_least (grind (arith, nat_tests))

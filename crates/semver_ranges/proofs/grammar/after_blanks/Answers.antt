@@ -1,6 +1,6 @@
 use Rattle.std.proofs.Common.{sym, ◌∙◌}
 use Rattle.semver_ranges.proofs.Fronts.{back_more}
-use Rattle.semver_ranges.proofs.grammar.behind_blanks.Goals as goal
+use Rattle.semver_ranges.proofs.grammar.after_blanks.Goals as goal
 
 pub loop-at-preserved : goal.loop-at-preserved
 loop-at-preserved c =

@@ -1,6 +1,6 @@
 use Rattle.std.proofs.Common.{[], sym, ◌∙◌}
 use Rattle.semver_versions.proofs.ReadVersions.{has_outline, no_parts, they_fit}
-use Rattle.semver_versions.proofs.reader.behind_numbers.Goals as goal
+use Rattle.semver_versions.proofs.reader.after_numbers.Goals as goal
 
 pub returns-then-not-fit : goal.returns-then-not-fit
 returns-then-not-fit c = λ text before n at v w.

@@ -1,6 +1,6 @@
 use Rattle.std.proofs.Common.{[], arith, refl, sym, ◌∙◌, length, length-drop, ap}
 use Rattle.semver_versions.proofs.WhiteSpaces.{goes_on, left_is, none_around}
-use Rattle.semver_versions.proofs.reader.behind_around.Goals as goal
+use Rattle.semver_versions.proofs.reader.after_around.Goals as goal
 
 pub loop-dialect-init : goal.loop-dialect-init
 loop-dialect-init c = ([], none_around c.args.dialect, refl)

@@ -1,11 +1,11 @@
 use Rattle.std.proofs.Common.{◌++◌, ap, codes, inl, refl, sym, ◌∙◌}
 use Rattle.semver_texts.specs.declared.dialect.Dialect.TheVariants.{Npm}
 use Rattle.semver_versions.specs.Steps.Reading.{around_size}
-use Rattle.semver_versions.proofs.reader.behind_front.Goals as goal
+use Rattle.semver_versions.proofs.reader.after_front.Goals as goal
 
 pub returns-in-Some : goal.returns-in-Some
 returns-in-Some c =
-    let w = rw c.in-Npm.is at c.behind_around-rest.ensures in
+    let w = rw c.in-Npm.is at c.after_around-rest.ensures in
     rw c.in-Npm.is (
       w.0,
       codes "v",
