@@ -107,9 +107,7 @@ SpellsPartial p t =
 
 -- whether no part of a partial's pre-release has a leading zero
 abbrev pub has_no_leading_zeros : PartialTree → Bool
-has_no_leading_zeros (one a) = true
-has_no_leading_zeros (two a b) = true
-has_no_leading_zeros (three a b c pre build) = list_all has_no_leading_zero pre
+has_no_leading_zeros p = list_all has_no_leading_zero (pre_parts p)
 
 -- whether none of its numbers and identifiers is too long
 abbrev pub has_short_parts : PartialTree → Bool

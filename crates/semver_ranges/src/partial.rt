@@ -1,7 +1,7 @@
 //! Partials: the numbers that one states, and its pre-release as a slice of the text.
 
 ghost use Rattle.std.specs.Prelude.{◌≡◌, ◌+◌, ◌-◌, ◌<◌, ◌≤◌, Some, true, [], map};
-ghost use Rattle.std.specs.Prelude.{length, IfOk, ◌&&◌, ◌==◌, nat_le, not};
+ghost use Rattle.std.specs.Prelude.{length, IfErr, IfOk, ◌&&◌, ◌==◌, nat_le, not, false};
 ghost use Rattle.std.specs.List.{list_all};
 ghost use Rattle.semver_texts.specs.Texts.{is_empty};
 ghost use Rattle.semver_ranges.specs.RangeTree.{PartialTree, one, two};
@@ -329,7 +329,9 @@ impl<'input> Partial<'input> {
     #[inline(always)]
     pub fn as_comparator(&self, alloc: Global, op: Op) -> Result<Comparator, AllocError>
         requires { PartsPass self.now }
-        ensures { IfOk result (λ c. comparator_of c ≡ comparator op (version_of self.now)) }
+        ensures value { IfOk result (λ c. comparator_of c ≡ comparator op (version_of self.now)) }
+        // Memory runs out only if there is a pre-release.
+        ensures out_of_memory { IfErr result (λ _. is_empty (version_of self.now).pre ≡ false) }
     {
         let pre = if self.pre.is_empty() {
             Vec::new(alloc)
@@ -357,9 +359,11 @@ impl<'input> Partial<'input> {
     ) -> Result<Comparator, AllocError>
         requires stated { place_number place ≤ length (stated_of self.now) }
         requires fits { bound_fits (Some (up (place_number place) (stated_of self.now))) ≡ true }
-        ensures { IfOk result (λ c. comparator_of c
+        ensures value { IfOk result (λ c. comparator_of c
             ≡ comparator Op.Lt (up_with (pre_of raised) (place_number place)
             (stated_of self.now))) }
+        // Memory runs out only for the lowest pre-release.
+        ensures out_of_memory { IfErr result (λ _. raised ≡ RaisedBounds.Exact) }
     {
         let (major, minor, patch) = match place {
             Place::Major => (self.major + 1, 0, 0),
@@ -379,7 +383,8 @@ impl<'input> Partial<'input> {
 /// The pre-release of a bound that is raised: none, or the lowest.
 #[inline(always)]
 fn raised_pre(alloc: Global, raised: RaisedBounds) -> Result<Vec<Identifier>, AllocError>
-    ensures { IfOk result (λ pre. map identifier_of pre.items ≡ pre_of raised) }
+    ensures value { IfOk result (λ pre. map identifier_of pre.items ≡ pre_of raised) }
+    ensures out_of_memory { IfErr result (λ _. raised ≡ RaisedBounds.Exact) }
 {
     match raised {
         RaisedBounds::Plain => Ok(Vec::new(alloc)),

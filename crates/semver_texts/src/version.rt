@@ -3,8 +3,9 @@
 //! What is printed are three numbers separated by dots, then where there is a pre-release `-` and
 //! its identifiers, then where there is a build `+` and its identifiers, each list separated by
 //! dots: `1.2.3-rc.1+5aedf`.
-ghost use Rattle.std.specs.Prelude.{◌≡◌, ◌++◌, Some, IfOk, IfErr, decimal, string_bytes};
-ghost use Rattle.semver_texts.specs.Versions.{alphanumeric};
+ghost use Rattle.std.specs.Prelude.{◌≡◌, ◌<◌, ◌++◌, ◌⊎◌, ℕ, Some, IfOk, IfErr, decimal, length};
+ghost use Rattle.std.specs.Prelude.{string_bytes};
+ghost use Rattle.semver_texts.specs.Versions.{alphanumeric, numeric};
 ghost use Rattle.semver_texts.specs.PrintedText.{identifier_text};
 ghost use Rattle.semver_texts.specs.VersionViews.{identifier_value};
 
@@ -50,13 +51,16 @@ impl Identifier {
     /// `Numeric(7)` and `"a"` give `AlphaNumeric("7a")`, and `Numeric(7)` and `""` give
     /// `AlphaNumeric("7")`.
     ///
-    /// It takes memory once, for all of the new text. `Err` is out of memory, and gives the
-    /// unchanged identifier back.
+    /// It allocates once, for all of the new text, and not at all if an empty text is added to an
+    /// `AlphaNumeric`. `Err` is out of memory, and gives the unchanged identifier back.
     pub fn concat(self, alloc: Global, add_str: &str) -> Result<Identifier, Identifier>
         ensures joined { IfOk result (λ id.
             identifier_value id ≡ alphanumeric
             (identifier_text (identifier_value self) ++ add_str.now)) }
         ensures unchanged { IfErr result (λ id. identifier_value id ≡ identifier_value self) }
+        // Memory runs out only if there is text to add, or for the decimal of a number.
+        ensures out_of_memory { IfErr result (λ id. (0 < length add_str.now)
+            ⊎ ((n : ℕ) × (identifier_value id ≡ numeric n))) }
     {
         match self {
             Identifier::Numeric(number) => match number_and(alloc, number, add_str) {

@@ -6,10 +6,10 @@ use Rattle.semver_texts.specs.Texts.{Text, is_empty}
 use Rattle.semver_texts.specs.declared.dialect.Dialect.TheVariants.{Cargo}
 use Rattle.semver_ranges.specs.RangeTree.{Form, is_bare, bare, equal, less, at_most, greater}
 use Rattle.semver_ranges.specs.RangeTree.{at_least, tilde, caret, PartialTree, one, Simple}
-use Rattle.semver_ranges.specs.RangeTree.{AreBlanks, components, qualifier, is_wildcard}
-use Rattle.semver_texts.specs.Texts.{has_no_leading_zero}
+use Rattle.semver_ranges.specs.RangeTree.{AreBlanks, components, has_no_leading_zeros, qualifier}
+use Rattle.semver_ranges.specs.RangeTree.{is_wildcard}
 use Rattle.semver_ranges.specs.RangeTree.{SpellsPartial}
-use Rattle.semver_ranges.specs.Partials.{stated, states_nothing, pre_parts}
+use Rattle.semver_ranges.specs.Partials.{stated, states_nothing}
 
 -- the sign of an operator
 abbrev pub sign : Form → Text
@@ -33,7 +33,7 @@ wildcards_are_last (c ∷ cs) =
 abbrev pub is_partial_of_cargo : PartialTree → Bool
 is_partial_of_cargo p = wildcards_are_last (components p)
     && ((is_empty (qualifier p) || length (stated p) == 3)
-    && list_all has_no_leading_zero (pre_parts p))
+    && has_no_leading_zeros p)
 
 -- a wildcard that stands for every release: one without operator and dots
 abbrev pub is_one : PartialTree → Bool

@@ -6,8 +6,8 @@ use Rattle.semver_ranges.specs.RangeViews.{identifier_of}
 use Rattle.semver_ranges.specs.Steps.PartialViews.{pre_of}
 use Rattle.semver_ranges.proofs.partial.raised_pre.Goals as goal
 
-pub returns-in_ok-pre-in-Exact : goal.returns-in_ok-pre-in-Exact
-returns-in_ok-pre-in-Exact c =
+pub returns-in_ok-pre-in-Exact-clause-value : goal.returns-in_ok-pre-in-Exact-clause-value
+returns-in_ok-pre-in-Exact-clause-value c =
     ap (map identifier_of) (c.push_reserved.ensures.items
     ∙ ap (λ (front : List Identifier). front ++ Numeric 0 ∷ []) c.in_ok-pre-in-Exact.ensures.items)
     ∙ sym (ap pre_of c.in-Exact.is)

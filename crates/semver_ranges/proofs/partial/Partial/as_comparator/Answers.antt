@@ -6,8 +6,8 @@ use Rattle.semver_ranges.proofs.StatedNumbers.{none_kept}
 use Rattle.semver_ranges.proofs.partial.Partial.as_comparator.Goals as goal
 use Rattle.semver_ranges.proofs.partial.Partial.as_comparator.Goals.{then-is_empty, else-is_empty+in_ok-pre}
 
-pub returns : goal.returns
-returns c = rw pre refl where
+pub returns-clause-value : goal.returns-clause-value
+returns-clause-value c = rw pre refl where
   pre : map identifier_of c.if-is_empty.pre.items ≡ map kept (cut_at_dots c.args.self.now.pre.now)
   pre = elim c.if-is_empty.branch [
     | then-is_empty w ↦ ap (λ v. map identifier_of v.items) w.pre-is ∙ ap (map identifier_of) w.new-pre.ensures.items
