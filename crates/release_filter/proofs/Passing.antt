@@ -45,7 +45,7 @@ passes_as_in filter v fits = search rules
 pub spelled_fit : (dialect : Dialect) (v : VersionValue) (text : Text) → SpellsIn dialect v text → Fits v.plain
 spelled_fit Crate v text spells = (spells.spells.major, spells.spells.minor, spells.spells.patch)
 spelled_fit Cargo v text spells = (spells.major, spells.minor, spells.patch)
-spelled_fit Npm v text spells = (spells.spells.major, spells.spells.minor, spells.spells.patch)
+spelled_fit Npm v text spells = (spells.0.spells.major, spells.0.spells.minor, spells.0.spells.patch)
 
 pub no_pre_release_meant : (mode : Compat) (tree : SetTree) (v : VersionValue) → is_empty v.plain.pre ≡ false
     → meant_with Excluded mode tree v ≡ false

@@ -104,7 +104,7 @@ enum {
     SEMVER_PARSER_VERSION_CHARACTER = 26,
     /* above 2^64 - 1, to npm above 2^53 - 1; */
     SEMVER_PARSER_VERSION_NUMBER_TOO_LARGE = 27,
-    /* more than npm's 256 characters; */
+    /* only versions of more than npm's 256 characters begin so; */
     SEMVER_PARSER_VERSION_TOO_LONG = 28,
     /* `1.2.3 x`. */
     SEMVER_PARSER_VERSION_TEXT_AFTER = 29,

@@ -153,7 +153,7 @@ crate_utf8 v text w =
     (IsUtf8-append w.before w.core (spaces_utf8 w.before w.spaces_before) core) (spaces_utf8 w.after w.spaces_after))
 
 npm_utf8 : (v : VersionValue) (text : Text) → SpellsNpm v text → IsUtf8 text
-npm_utf8 v text w =
+npm_utf8 v text (w, _) =
     subst IsUtf8 (sym w.whole) (IsUtf8-append w.before _ (white_spaces_utf8 w.before w.spaces_before)
     (IsUtf8-append w.sign _ sign (IsUtf8-append w.core w.after (semver_utf8 v w.core w.spells) (white_spaces_utf8 w.after w.spaces_after))))
   where

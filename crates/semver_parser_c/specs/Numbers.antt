@@ -86,7 +86,7 @@ no_such_reading = pos 20
 abbrev pub not_a_version : ℤ
 not_a_version = pos 21
 
--- why a text is no version: the version text is empty, or white space alone
+-- why a text is no version: it is empty, or only white space that the dialect takes before one
 abbrev pub version_empty : ℤ
 version_empty = pos 22
 
@@ -110,7 +110,7 @@ version_character = pos 26
 abbrev pub version_number_too_large : ℤ
 version_number_too_large = pos 27
 
--- it is longer than npm's 256 characters
+-- each version that begins so is longer than npm's 256 characters
 abbrev pub version_too_long : ℤ
 version_too_long = pos 28
 

@@ -137,7 +137,7 @@ pub struct ComparedRanges {
 }
 
 // Answer: law semver_parser_c::laws::one_parsed_version.
-/// Reads a version text by the reading of a number: `OK` with the version in `out`, or the number
+/// Reads a version text in the dialect `reading`: `OK` with the version in `out`, or the number
 /// of an error with `out` as it was. By `CARGO` the versions are those of SemVer 2.0.0, by `NPM`
 /// those of node-semver, and by `CRATE_CARGO` and `CRATE_NPM` the crate's.
 ///
@@ -209,7 +209,7 @@ pub extern "C" fn semver_parser_proved_parse_version(
 }
 
 // Answer: law semver_parser_c::laws::one_explanation.
-/// Where and why a text is no version by the reading of a number: `OK` if it is one, else the
+/// Where and why a text is no version in the dialect `reading`: `OK` if it is one, else the
 /// number of the reason, and `place` is the byte offset of the first character that no version has
 /// there, or the length of the text if something is missing at its end. Does not allocate.
 ///
@@ -251,7 +251,7 @@ pub extern "C" fn semver_parser_proved_explain_version(
 }
 
 // Answer: free, the hint (else law laws::one_range_explanation): ../replayed_cases/stdin.
-/// Where and why a text gives no range by the reading of a number: `OK` if it gives one, else the
+/// Where and why a text gives no range in the dialect `reading`: `OK` if it gives one, else the
 /// number of its error. After `NOT_A_RANGE` `place` is the byte offset of the first character that
 /// no range has there, or the length of the text if something is missing at its end, and `hint` the
 /// number of what may have been meant, or 0. After `NUMBER_TOO_LARGE` `place` is that of the first

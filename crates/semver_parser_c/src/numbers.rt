@@ -26,9 +26,9 @@ pub const NOT_A_RANGE: i32 = 11;
 pub const NUMBER_TOO_LARGE: i32 = 12;
 /// Memory ran out at the range.
 pub const RANGE_OUT_OF_MEMORY: i32 = 13;
-/// A room is too small for what is put there.
+/// A buffer is too small.
 pub const NO_ROOM: i32 = 14;
-/// The reading has no rule for pre-releases of that number.
+/// The dialect has no rule for pre-releases with this number.
 pub const NO_SUCH_RULE: i32 = 15;
 /// The bytes of the new range aren't UTF-8, where two are compared.
 pub const NEW_RANGE_NOT_UTF8: i32 = 16;
@@ -40,12 +40,12 @@ pub const NEW_NUMBER_TOO_LARGE: i32 = 18;
 /// Memory ran out where two ranges are compared, at either of them or later.
 pub const NEW_RANGE_OUT_OF_MEMORY: i32 = 19;
 
-/// No reading of range texts has that number.
+/// No dialect has this number.
 pub const NO_SUCH_READING: i32 = 20;
 /// The dialect has no such version.
 pub const NOT_A_VERSION: i32 = 21;
 
-/// The text is empty, or white space only.
+/// The text is empty, or only white space that the dialect takes before a version.
 pub const VERSION_EMPTY: i32 = 22;
 /// One of the three numbers of the version is missing.
 pub const VERSION_NOT_THREE_NUMBERS: i32 = 23;
@@ -57,7 +57,7 @@ pub const VERSION_EMPTY_IDENTIFIER: i32 = 25;
 pub const VERSION_CHARACTER: i32 = 26;
 /// A number of the version is too large.
 pub const VERSION_NUMBER_TOO_LARGE: i32 = 27;
-/// The version is longer than npm's 256 characters.
+/// Each version that begins so is longer than npm's 256 characters.
 pub const VERSION_TOO_LONG: i32 = 28;
 /// Text follows the version.
 pub const VERSION_TEXT_AFTER: i32 = 29;
@@ -96,13 +96,13 @@ pub const HINT_LIMIT: i32 = 43;
 /// The hint that npm's numbers and raised bounds are at most 2^53 - 1.
 pub const HINT_NPM_LIMIT: i32 = 44;
 
-/// Cargo's own reading of a range text.
+/// Cargo's dialect.
 pub const CARGO: i32 = 0;
-/// npm's own reading.
+/// npm's dialect.
 pub const NPM: i32 = 1;
-/// The crate's reading in Cargo mode.
+/// The crate's dialect in Cargo mode.
 pub const CRATE_CARGO: i32 = 2;
-/// The crate's reading in npm mode.
+/// The crate's dialect in npm mode.
 pub const CRATE_NPM: i32 = 3;
 
 /// The rule for pre-releases by which none meets a range.
@@ -111,7 +111,7 @@ pub const RELEASES_ALONE: i32 = 0;
 pub const STATED_PRE_RELEASES: i32 = 1;
 /// The rule by which each within the bounds meets the range.
 pub const ALL_PRE_RELEASES: i32 = 2;
-/// The rule that a tool has by its own reading.
+/// The rule of the tool itself, in Cargo's and npm's dialects.
 pub const PRE_RELEASES_OF_TOOL: i32 = 3;
 
 /// The operator `<`.

@@ -54,21 +54,23 @@ no_white_space = record { each = []; are = refl; whole = refl }
 
 pub semver_is_npm : (v : VersionValue) (text : Text) → SpellsSemver v text → v.plain.major < 2 ^ 53 → v.plain.minor < 2 ^ 53
     → v.plain.patch < 2 ^ 53 → characters text ≤ 256 → SpellsNpm v text
-semver_is_npm v text w major minor patch short = record {
-  before = [];
-  sign = [];
-  core = text;
-  after = [];
-  spaces_before = no_white_space;
-  is_sign = inl refl;
-  spells = w;
-  spaces_after = no_white_space;
-  major = major;
-  minor = minor;
-  patch = patch;
-  short = short;
-  whole = sym (append-nil text);
-}
+semver_is_npm v text w major minor patch short = (
+  record {
+    before = [];
+    sign = [];
+    core = text;
+    after = [];
+    spaces_before = no_white_space;
+    is_sign = inl refl;
+    spells = w;
+    spaces_after = no_white_space;
+    major = major;
+    minor = minor;
+    patch = patch;
+    whole = sym (append-nil text);
+  },
+  short,
+)
 
 -- ---- the crate's
 

@@ -62,9 +62,9 @@ goes_on b = is_in_range 0x80 0xBF b
 abbrev pub characters : Text → ℕ
 characters text = count_by (λ b. not (goes_on b)) text
 
--- the text is the version as npm reads it: at most 256 characters; between any white space, and
--- after `v` or nothing, a version of SemVer 2.0.0 whose numbers are below 2^53
-pub record SpellsNpm (v : VersionValue) (text : Text) : Type 0 where
+-- the text is the version as npm reads it, of any length: between any white space, and after `v` or
+-- nothing, a version of SemVer 2.0.0 whose numbers are below 2^53
+pub record SpellsNpmAtAnyLength (v : VersionValue) (text : Text) : Type 0 where
   pub before : Text
   pub sign : Text
   pub core : Text
@@ -76,8 +76,11 @@ pub record SpellsNpm (v : VersionValue) (text : Text) : Type 0 where
   pub major : v.plain.major < 2 ^ 53
   pub minor : v.plain.minor < 2 ^ 53
   pub patch : v.plain.patch < 2 ^ 53
-  pub short : characters text ≤ 256
   pub whole : text ≡ before ++ (sign ++ (core ++ after))
+
+-- it has at most 256 characters
+abbrev pub SpellsNpm : VersionValue → Text → Type 0
+SpellsNpm v text = SpellsNpmAtAnyLength v text × (characters text ≤ 256)
 
 -- the text spells the version in a dialect
 abbrev pub SpellsIn : Dialect → VersionValue → Text → Type 0

@@ -226,7 +226,7 @@ read_of Cargo v text w =
     let read = subst (IsRead Cargo v) (append-nil text)
     (semver_read Cargo (λ ts h. h) (λ ts h. h) v text [] w tt (none_around Cargo)) in
     (text, at_front Cargo text (digit_begins (its_numbers read)), read, tt)
-read_of Npm v text w =
+read_of Npm v text (w, short) =
     let read = semver_read Npm (λ ts h. h) (λ ts h. h) v w.core w.after w.spells (w.major, w.minor, w.patch)
     (white_spaces w.after w.spaces_after) in
     let digit = digit_begins (its_numbers read) in (
@@ -240,7 +240,7 @@ read_of Npm v text w =
         ⊎_elim (λ e. rw e (no_around Npm (w.core ++ w.after) digit)) (λ e. rw e (no_size Npm 118 (w.core ++ w.after) refl)) w.is_sign,
       ),
       read,
-      w.short,
+      short,
     )
 
 -- and a text that is read as it spells it
@@ -269,21 +269,23 @@ spells_of Cargo v text rest at w short =
     (sym (at.4 ∙ (λ i. nothing_around at.0 at.2 i ++ (at.3 i ++ rest)) ∙ core_then w
     ∙ ap (λ t. core_of w ++ t) (nothing_around w.after w.around) ∙ append-nil (core_of w)))
     (semver_core w w.zeros)
-spells_of Npm v text rest at w short = record {
-  before = at.0;
-  sign = at.1;
-  core = core_of w;
-  after = w.after;
-  spaces_before = are_white_spaces at.0 at.2;
-  is_sign = ⊎_elim (λ e. inr e) (λ e. inl e.0) at.3;
-  spells = semver_core w w.zeros;
-  spaces_after = are_white_spaces w.after w.around;
-  major = w.fits.0;
-  minor = w.fits.1;
-  patch = w.fits.2;
-  short = short;
-  whole = at.4 ∙ ap (λ t. at.0 ++ (at.1 ++ t)) (core_then w);
-}
+spells_of Npm v text rest at w short = (
+  record {
+    before = at.0;
+    sign = at.1;
+    core = core_of w;
+    after = w.after;
+    spaces_before = are_white_spaces at.0 at.2;
+    is_sign = ⊎_elim (λ e. inr e) (λ e. inl e.0) at.3;
+    spells = semver_core w w.zeros;
+    spaces_after = are_white_spaces w.after w.around;
+    major = w.fits.0;
+    minor = w.fits.1;
+    patch = w.fits.2;
+    whole = at.4 ∙ ap (λ t. at.0 ++ (at.1 ++ t)) (core_then w);
+  },
+  short,
+)
 
 -- ---- a text spells one version
 

@@ -337,47 +337,9 @@ IsShort Npm t = characters t ≤ 256
 pub limited : (d : Dialect) (t : Text) → (v : VersionValue) × SpellsAtAnyLength d v t → IsShort d t → IsVersionTextIn d t
 limited Crate t w short = w
 limited Cargo t w short = w
-limited Npm t w short =
-    let s = w.1 in (
-      w.0,
-      record {
-        before = s.before;
-        sign = s.sign;
-        core = s.core;
-        after = s.after;
-        spaces_before = s.spaces_before;
-        is_sign = s.is_sign;
-        spells = s.spells;
-        spaces_after = s.spaces_after;
-        major = s.major;
-        minor = s.minor;
-        patch = s.patch;
-        short = short;
-        whole = s.whole;
-      },
-    )
+limited Npm t w short = (w.0, (w.1, short))
 
 pub unlimited : (d : Dialect) (t : Text) → IsVersionTextIn d t → ((v : VersionValue) × SpellsAtAnyLength d v t) × IsShort d t
 unlimited Crate t w = (w, tt)
 unlimited Cargo t w = (w, tt)
-unlimited Npm t w =
-    let s = w.1 in (
-      (
-        w.0,
-        record {
-          before = s.before;
-          sign = s.sign;
-          core = s.core;
-          after = s.after;
-          spaces_before = s.spaces_before;
-          is_sign = s.is_sign;
-          spells = s.spells;
-          spaces_after = s.spaces_after;
-          major = s.major;
-          minor = s.minor;
-          patch = s.patch;
-          whole = s.whole;
-        },
-      ),
-      s.short,
-    )
+unlimited Npm t w = ((w.0, w.1.0), w.1.1)

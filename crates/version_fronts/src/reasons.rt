@@ -14,7 +14,7 @@ use semver_texts::dialect::Dialect;
 /// Why a text is no version.
 #[derive(Clone, Copy, PartialEq, Eq)]
 pub enum Reason {
-    /// The text is empty, or white space only.
+    /// The text is empty, or only white space that the dialect takes before a version.
     Empty,
     /// One of the three numbers is missing: `1.2`, `1..3`, `1.2-rc`.
     NotThreeNumbers,
@@ -28,10 +28,10 @@ pub enum Reason {
     UnexpectedCharacter,
     /// A number is too large.
     TooLarge,
-    /// The text is longer than npm's 256 characters.
+    /// Each version that begins so is longer than npm's 256 characters.
     TooLong,
     /// Text follows a version and white space: `1.2.3 x`. In Cargo's dialect also the white space
-    /// itself.
+    /// itself, and in the crate's a vertical tab or a form feed.
     TextAfter,
 }
 

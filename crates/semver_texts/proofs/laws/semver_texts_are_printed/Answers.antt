@@ -7,4 +7,4 @@ pub returns-clause-semver : goal.returns-clause-semver
 returns-clause-semver c = semver_printed
 
 pub returns-clause-npm : goal.returns-clause-npm
-returns-clause-npm c = λ v text w. subst (SpellsSemver v) (semver_printed v w.core w.spells) w.spells
+returns-clause-npm c = λ v text w. subst (SpellsSemver v) (semver_printed v w.0.core w.0.spells) w.0.spells
