@@ -1,4 +1,4 @@
-// Compares npm's own reading with node-semver, by PROGRAM, which is the built `replayed_cases`.
+// Compares npm's dialect with node-semver, by PROGRAM, which is the built `replayed_cases`.
 //
 // `node npm-with-node-semver.js PROGRAM COUNT SEED` makes COUNT texts by the grammar, COUNT that are
 // changed at a place, COUNT at the limits of lengths and numbers, and all texts of a few characters.

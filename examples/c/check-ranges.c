@@ -4,16 +4,14 @@
  *     make
  *     printf '^1.2.0\t1.4.0\n^1.2.0\t2.0.0\n' | out/check-ranges [READING]
  *
- * prints the second. What stands after another tab is left alone, and is printed with its line. A
- * line that can't be checked is told on standard error with its number. The status is 0 where all
- * lines hold, 1 where some doesn't, and 2 where some can't be checked, or where the input can't be
- * read to its end or the output can't be written: then what is after is left unchecked, and that
- * is told.
+ * prints the second. Text after another tab is ignored, and printed with its line. A line that
+ * can't be checked is reported on standard error with its number. The status is 0 if all lines
+ * hold, 1 if one doesn't, and 2 if one can't be checked, the input can't be read to its end, or the
+ * output can't be written: then the rest is left unchecked, and that is reported.
  *
- * The reading is `npm` or `cargo`, by which a line holds where this tool itself takes the version;
- * or `crate-npm` or `crate-cargo`, those of the Rust crate semver-parser, by which a pre-release
- * meets a range by precedence: 1.3.0-rc meets `^1.2.0`, and 2.0.0-rc doesn't. It is npm's own if
- * none is named. */
+ * READING is a dialect: `npm`, the default, or `cargo`, with the pre-releases that the tool takes;
+ * or `crate-npm` or `crate-cargo`, those of the Rust crate semver-parser, with each pre-release
+ * within the bounds: 1.3.0-rc meets `^1.2.0`, and 2.0.0-rc doesn't. */
 #define _POSIX_C_SOURCE 200809L
 #include "semver_parser.h"
 

@@ -2,14 +2,13 @@
 
     printf '^1.2.0\\t1.4.0\\n^1.2.0\\t2.0.0\\n' | python3 check_ranges.py [READING]
 
-It prints each line whose version doesn't meet its range, and tells on standard error of each line
-that can't be checked. What stands after another tab is left alone, and is printed with its line.
+It prints each line whose version doesn't meet its range, and reports on standard error each line
+that can't be checked. Text after another tab is ignored, and printed with its line.
 
-The reading is `npm` or `cargo`, by which a line holds where this tool itself takes the version; or
-`crate-npm` or `crate-cargo`, those of the Rust crate semver-parser, by which a pre-release meets a
-range by precedence: 1.3.0-rc meets `^1.2.0`, and 2.0.0-rc doesn't. It is npm's own if none is
-named. The status is the greatest of all lines: 0 for one that holds, 1 for one that doesn't, and 2
-for one that can't be checked.
+READING is a dialect: `npm`, the default, or `cargo`, with the pre-releases that the tool takes; or
+`crate-npm` or `crate-cargo`, those of the Rust crate semver-parser, with each pre-release within
+the bounds: 1.3.0-rc meets `^1.2.0`, and 2.0.0-rc doesn't. The status is 0 if all lines hold, 1 if
+one doesn't, and 2 if one can't be checked.
 """
 
 import sys

@@ -34,7 +34,7 @@ PAGE = """\
 usage: check-lock-file [--strict] [--package-json FILE] LOCK-FILE
 
 Lists the versions of a lock file that are not what is asked for, as the tool
-that wrote it reads ranges and versions. What the file is, its content says:
+that wrote it reads ranges and versions. The content shows which tool that is:
 
     package-lock.json, npm-shrinkwrap.json    npm, lockfileVersion 1, 2 and 3
     yarn.lock                                 yarn 1 and later
@@ -44,8 +44,8 @@ that wrote it reads ranges and versions. What the file is, its content says:
 
 - is standard input.
 
-    --strict             count and list what is asked for by a tag, an address or
-                         a path, and what is not there
+    --strict             also list what is asked for by a tag, an address or a
+                         path, and what is missing
     --package-json FILE  take this package.json, and not that beside the lock file
                          of npm or yarn
     -h, --help           print this

@@ -58,7 +58,7 @@ class VersionError(_TextError):
     given, counted from 0, and else None, and `name` is the name of its error:
 
     - `not-utf8`: the bytes aren't UTF-8, or the `str` has a surrogate by itself.
-    - `not-a-version`: by Cargo's own reading or npm's own, the text is no version, as `1.2.3-01`.
+    - `not-a-version`: in Cargo's dialect or npm's, the text is no version, as `1.2.3-01`.
 
     By the crate's two readings there are these in place of `not-a-version`:
 
@@ -154,7 +154,7 @@ def _index(text: Text, place: int) -> int:
 
 
 def _explained(error: VersionError, reading: int) -> VersionError:
-    """The error, with where and why its text is no version by the reading of a number."""
+    """The error, with where and why its text is no version in the dialect of a number."""
     text_bytes, place = encoded(error.text), ctypes.c_size_t()
     answer = LIBRARY.semver_parser_explain_version(text_bytes, len(text_bytes), reading, place)
     error.reason, error.place = _REASONS.get(answer), _index(error.text, place.value)
@@ -162,7 +162,7 @@ def _explained(error: VersionError, reading: int) -> VersionError:
 
 
 def _explained_range(error: RangeError, reading: int) -> RangeError:
-    """The error, with where and why its text gives no range by the reading of a number."""
+    """The error, with where and why its text gives no range in the dialect of a number."""
     text_bytes, place, hint = encoded(error.text), ctypes.c_size_t(), ctypes.c_int32()
     answer = LIBRARY.semver_parser_explain_range(text_bytes, len(text_bytes), reading, place, hint)
     if answer == RANGE_OUT_OF_MEMORY:

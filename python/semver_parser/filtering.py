@@ -67,7 +67,7 @@ def meets(
 class Filter:
     """A text of a range (`range`), the `reading` by which it and the versions are read, and the
     rule for pre-releases (`pre_releases`), to be asked about many versions. Where no rule is given,
-    it becomes the reading's own: `OF_TOOL` for the tools' own readings, and `STATED` for the
+    it becomes the dialect's: `OF_TOOL` for those of the tools, and `STATED` for the
     crate's.
 
     Raises `RangeError` where the range is none. `kept` and `greatest` read it once for all versions
@@ -96,7 +96,7 @@ class Filter:
     def kept(self, versions: Iterable[_Given], pass_over: bool = False) -> List[_Given]:
         """Those versions that meet the range, in their order and with repeats.
 
-        A text that is no version raises `VersionError`, whose `index` tells its place among the
+        A text that is no version raises `VersionError`, whose `index` is its place among the
         versions; with `pass_over=True` it counts as one that doesn't meet the range. What is no
         text raises `TypeError`, and out of memory is `MemoryError`, also then.
         """
@@ -170,6 +170,6 @@ def greatest(
     pass_over: bool = False,
 ) -> Optional[_Given]:
     """The greatest of the versions that meet a range: what `Filter.greatest` answers. A text that
-    is no version raises `VersionError` with its `index`, or is passed over with `pass_over=True`.
+    is no version raises `VersionError` with its `index`, or is skipped with `pass_over=True`.
     """
     return Filter(range, reading, pre_releases).greatest(versions, pass_over)

@@ -33,7 +33,7 @@ class ReadVersion(ctypes.Structure):
 
 
 class ReadComparator(ctypes.Structure):
-    """A comparator of a range that was rewritten, whose pre-release lies in the room of these."""
+    """A comparator of a range that was rewritten, whose pre-release is in the buffer of these."""
 
     _fields_ = [
         ("range", ctypes.c_size_t),
@@ -104,7 +104,7 @@ def load() -> ctypes.CDLL:
     raise ImportError(
         "semver_parser needs its shared library, and found none that can be loaded. It looked for\n"
         + "\n".join(refusals)
-        + f"\nWhere the library is elsewhere, set {VARIABLE} to its path."
+        + f"\nIf the library is elsewhere, set {VARIABLE} to its path."
     )
 
 
@@ -115,7 +115,7 @@ def _refuse_another_version(library: ctypes.CDLL, path: str) -> None:
         call = library.semver_parser_library_version
     except AttributeError:
         raise ImportError(
-            f"{path} doesn't tell its version, and semver_parser needs version {wanted} of it"
+            f"{path} doesn't report its version, and semver_parser needs version {wanted} of it"
         ) from None
     call.argtypes, call.restype = [], ctypes.c_char_p
     version = call().decode("ascii", "replace")

@@ -19,12 +19,12 @@ from .values import (
 
 _OPS = (Op.LT, Op.LTE, Op.GT, Op.GTE, Op.EQ)
 
-# The rooms for comparators and for the bytes of their pre-releases that are tried first.
+# The buffers for comparators and for the bytes of their pre-releases that are tried first.
 _COMPARATORS = 8
 _BYTES = 64
 
 
-# The rules for pre-releases that a tool's own reading has, and those of the crate's two: first the
+# The rules for pre-releases that a tool's dialect has, and those of the crate's two: first the
 # one that is taken where none is named.
 _OF_TOOLS = (PreReleases.OF_TOOL, PreReleases.EXCLUDED, PreReleases.INCLUDED)
 _OF_CRATE = (PreReleases.STATED, PreReleases.EXCLUDED, PreReleases.INCLUDED)
@@ -68,7 +68,7 @@ def _identifiers(text: bytes, part: Part) -> Tuple[Identifier, ...]:
 def parse_version(text: Text, reading: Reading = Reading.CARGO) -> Version:
     """Reads a version, as Cargo itself reads it unless another reading is given.
 
-    By Cargo's own reading versions are those of SemVer 2.0.0. By npm's own their numbers go up to
+    In Cargo's dialect versions are those of SemVer 2.0.0. In npm's their numbers go up to
     2**53 - 1, and there may be a `v` before them and white space around them, in at most 256
     characters. The crate's two readings have one grammar (docs/GRAMMAR.md).
 
@@ -105,7 +105,7 @@ def parse_range(text: Text, reading: Reading = Reading.CARGO, exact: bool = Fals
 
 
 def _comparators(text: Text, reading: int, exact: bool) -> Tuple[List[ReadComparator], bytes]:
-    """The comparators of a range and the bytes of their pre-releases, in rooms that are large
+    """The comparators of a range and the bytes of their pre-releases, in buffers that are large
     enough."""
     text_bytes = encoded(text)
     count, length = ctypes.c_size_t(_COMPARATORS), ctypes.c_size_t(_BYTES)

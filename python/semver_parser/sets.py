@@ -11,7 +11,7 @@ from .library import LIBRARY
 from .reading import numbers_of
 from .values import PreReleases, Reading, Version, identifier_of
 
-# The room for printed versions that is tried first.
+# The buffer for printed versions that is tried first.
 _BYTES = 64
 
 

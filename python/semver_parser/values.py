@@ -72,8 +72,8 @@ class Reading(enum.Enum):
     (docs/MEANING.md, "Which dialect?")."""
 
     CARGO = 0
-    """Cargo's own: `1.2` is `>=1.2.0 <2.0.0`, and commas part what a version has to meet. Versions
-    are those of SemVer 2.0.0."""
+    """Cargo's own: `1.2` is `>=1.2.0 <2.0.0`, and commas separate comparators. Versions are those
+    of SemVer 2.0.0."""
     NPM = 1
     """npm's own: `1.2` is `>=1.2.0 <1.3.0`, and `>1.2` is `>=1.3.0`. Versions are those of SemVer
     2.0.0 with numbers up to 2**53 - 1, after a `v` or without, and between white space, in at most
@@ -95,7 +95,7 @@ class Reading(enum.Enum):
 class PreReleases(enum.Enum):
     """The rules by which versions with a pre-release meet a range. Others count by each of them.
 
-    Each reading has `EXCLUDED` and `INCLUDED`. A tool's own reading has besides the rule of that
+    Each dialect has `EXCLUDED` and `INCLUDED`. A tool's has besides the rule of that
     tool, `OF_TOOL`, and the crate's readings have `STATED`: these two are taken where no rule is
     named. A rule that a reading hasn't raises `ValueError`.
     """
@@ -107,7 +107,7 @@ class PreReleases(enum.Enum):
     numbers and a pre-release. 1.2.3-rc meets `^1.2.3-beta`, and 1.3.0-rc doesn't."""
     INCLUDED = 2
     """Each that meets the range by precedence: 1.3.0-rc meets `^1.2.0`, and 2.0.0-rc doesn't. By a
-    tool's own reading each version meets `*`."""
+    tool's dialect each version meets `*`."""
     OF_TOOL = 3
     """Those that Cargo or npm itself takes. Mostly these are those of `STATED`; docs/MEANING.md has
     the others."""
@@ -229,13 +229,11 @@ class RangeSet:
     """A range set: ranges of which a version meets one (`ranges`), and the mode of the reading by
     which it was read (`compat`).
 
-    `version in range_set` tells whether a version meets the comparators, with pre-releases as they
-    state them (`PreReleases.STATED`): what `meets` answers of the printed set by the crate's
-    reading. It is what the text means that was read, but for some pre-releases: those of a raised
-    bound, unless bounds are exact; and by a tool's own reading those that the tool takes by a rule
-    that comparators can't tell (docs/MEANING.md). So ask `meets` or `Filter`, where the text is
-    there. A version is given as its text or as a `Version`; one that the crate's readings don't
-    take raises `VersionError`.
+    `version in range_set` is whether a version meets the comparators by `PreReleases.STATED`: what
+    `meets` returns for the printed set in the crate's dialect. The text may mean other
+    pre-releases: those of a raised bound, unless bounds are exact, and those that a tool takes by
+    its own rule (docs/MEANING.md). So use `meets` or `Filter` if you have the text. A version is a
+    text or a `Version`; one that the crate's dialects don't have raises `VersionError`.
     """
 
     ranges: Tuple[Range, ...]

@@ -111,4 +111,4 @@ class Loading(unittest.TestCase):
     def test_another_library(self) -> None:
         path = self.make_library("other.so", "int other;")
         said = self.refused(SEMVER_PARSER_LIBRARY=path)
-        self.assertTrue(said.startswith(f"{path} doesn't tell its version"), said)
+        self.assertTrue(said.startswith(f"{path} doesn't report its version"), said)

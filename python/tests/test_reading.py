@@ -35,7 +35,7 @@ MOST_OF_NPM = 2**53 - 1
 CRATE = (Reading.CRATE_CARGO, Reading.CRATE_NPM)
 
 # A version text, and what docs/GRAMMAR.md has of it under "Versions of Cargo and npm" and under
-# "Version texts": the version by Cargo's own reading, by npm's own, and by the crate's two, or None
+# "Version texts": the version in Cargo's dialect, in npm's, and in the crate's two, or None
 # where it is none.
 VERSIONS: List[Tuple[Text, Tuple[Optional[Version], Optional[Version], Optional[Version]]]] = [
     ("1.2.3", 3 * (Version(1, 2, 3),)),
@@ -96,7 +96,7 @@ class ByReading(unittest.TestCase):
                     self.assertIs(is_none, reading not in CRATE)
 
     def test_default(self) -> None:
-        """It is Cargo's own reading."""
+        """It is Cargo's dialect."""
         for text, (by_cargo, _, _) in VERSIONS:
             if by_cargo is not None:
                 self.assertEqual(parse_version(text), by_cargo)
@@ -259,7 +259,7 @@ class Ranges(unittest.TestCase):
         self.assertEqual([reading.compat for reading in Reading], wanted)
 
     def test_default(self) -> None:
-        """It is Cargo's own reading."""
+        """It is Cargo's dialect."""
         self.assertEqual(parse_range("1.2"), parse_range("1.2", Reading.CARGO))
         self.assertEqual(str(parse_range("1.2")), ">=1.2.0 <2.0.0-0")
         self.assertIs(parse_range("1.2").compat, Compat.CARGO)
@@ -290,7 +290,7 @@ class Ranges(unittest.TestCase):
                 value.compat = Compat.NPM
 
     def test_rooms(self) -> None:
-        """The rooms that are tried first are too small from some count and length on."""
+        """The buffers that are tried first are too small from some count and length on."""
         for count in (*range(1, 40), 1000):
             text = "||".join(["^1.2.3-rc.1"] * count)
             one = Range((Comparator(Op.GTE, 1, 2, 3, ("rc", 1)), Comparator(Op.LT, 2, 0, 0)), NPM)

@@ -140,7 +140,7 @@ class Tools(unittest.TestCase):
         self.assertEqual(checksum(answered) if call.startswith(_SUM) else answered, wanted)
 
     def check_rewriting(self, text: str, reading: Reading, wanted: str) -> None:
-        """By a tool's own reading bounds are exact, whatever is asked for."""
+        """In a tool's dialect bounds are exact, whatever is asked for."""
         for exact in (False, True):
             try:
                 self.assertEqual(str(parse_range(text, reading, exact)), wanted)

@@ -198,7 +198,7 @@ static void free_rooms(rooms *some) {
     free(some->comparators);
 }
 
-/* Which call is made: the first leaves the room of comparators alone. */
+/* Which call is made: the first leaves the buffer of comparators alone. */
 enum { PRINTED, COMPARATORS };
 
 static int32_t call(int which, const text *of, int32_t reading, bool exact, rooms *to,
@@ -247,7 +247,7 @@ static bool is_same_comparator(
            one->pre.offset == other->pre.offset && one->pre.length == other->pre.length;
 }
 
-/* One call in some rooms, which has to answer and to write what is wanted: the bytes, and the
+/* One call in some buffers, which has to answer and to write what is wanted: the bytes, and the
  * comparators where it tells them. */
 static void try_rooms(int which, const text *of, int32_t reading, bool exact, size_t room,
                       size_t comparator_room, const text *bytes, const comparator_list *list) {
@@ -275,8 +275,8 @@ static bool is_tried(size_t room, size_t needed, size_t all) {
     return needed <= all || room <= 1 || room == needed / 2 || room + 1 >= needed;
 }
 
-/* Each room of comparators goes with each room of bytes that decides: none, one that is a byte too
- * small, and one that fits; and each of bytes with a room of comparators that fits. */
+/* Each buffer of comparators goes with each buffer of bytes that decides: none, one that is a byte too
+ * small, and one that fits; and each of bytes with a buffer of comparators that fits. */
 static void try_all_rooms(const text *of, int32_t reading, bool exact, const text *set,
                           const comparator_list *list) {
     const text *pre_releases = &list->pre_releases;
@@ -359,7 +359,7 @@ static int32_t require_error(const text *of, int32_t reading, bool exact, int32_
     return error;
 }
 
-/* What a call puts into rooms of the size that it asks for. */
+/* What a call puts into buffers of the size that it asks for. */
 static rooms filled_rooms(int which, const text *of, int32_t reading, bool exact) {
     rooms none = rooms_of(0, 0);
     require(call(which, of, reading, exact, &none, false) == SEMVER_PARSER_NO_ROOM,
@@ -477,7 +477,7 @@ int32_t meets(const text *range, int32_t reading, int32_t pre_releases, const te
 
 /* ---- the least version */
 
-/* Asks for it in a room of some length. What is after what was written has to be as it was, and
+/* Asks for it in a buffer of some length. What is after what was written has to be as it was, and
  * all of it at an error. */
 static int32_t least_in(const text *range, int32_t reading, int32_t pre_releases, uint8_t *out,
                         size_t room, size_t *length, bool at_null) {
@@ -526,7 +526,7 @@ int32_t least(const text *range, int32_t reading, int32_t pre_releases, text *pr
 
 /* ---- two ranges */
 
-/* Compares in a room of some length. What is after what was written has to be as it was, and all
+/* Compares in a buffer of some length. What is after what was written has to be as it was, and all
  * of it at an error. */
 static int32_t compare_in(const text *old_range, const text *new_range, int32_t reading,
                           int32_t pre_releases, uint8_t *out, size_t room, size_t *length,
@@ -579,7 +579,7 @@ static bool is_same_comparison(
            is_same_part(one->shared, other->shared);
 }
 
-/* An error, which has to come in each room. */
+/* An error, which has to come in each buffer. */
 static int32_t require_no_comparison(const text *old_range, const text *new_range, int32_t reading,
                                      int32_t pre_releases, int32_t error) {
     uint8_t out[65];

@@ -1,5 +1,5 @@
-/* The calls of the library, made with care: each text and each room is a block of its own with
- * nothing after it that may be read, each room has a guard byte after it, and what a call has to
+/* The calls of the library, made with care: each text and each buffer is a block of its own with
+ * nothing after it that may be read, each buffer has a guard byte after it, and what a call has to
  * leave as it was is looked at. What isn't as the header says ends the program. */
 #ifndef CALLS_H
 #define CALLS_H
@@ -35,8 +35,8 @@ typedef struct {
 } comparator_list;
 
 /* Rewrites a range, appends the printed set, and gives its comparators unless `comparators` is
- * null. It tries a room of each length up to one past what is needed (of a set above 300 bytes or
- * 12 comparators, of some lengths), by both calls, and at null where a room or the text is empty.
+ * null. It tries a buffer of each length up to one past what is needed (of a set above 300 bytes or
+ * 12 comparators, of some lengths), by both calls, and at null where a buffer or the text is empty.
  */
 int32_t rewrite(const text *of, int32_t reading, bool exact, text *printed,
                 comparator_list *comparators);
@@ -50,8 +50,8 @@ const char *operator_text(int32_t op);
 int32_t meets(const text *range, int32_t reading, int32_t pre_releases, const text *version);
 
 /* The least version that a range text means: it is appended to `printed`, or the error is answered.
- * It tries a room of each length up to one past what is needed (of a version above 300 bytes, of
- * some lengths), and at null where the room or the text is empty. */
+ * It tries a buffer of each length up to one past what is needed (of a version above 300 bytes, of
+ * some lengths), and at null where the buffer or the text is empty. */
 int32_t least(const text *range, int32_t reading, int32_t pre_releases, text *printed);
 
 /* What an old range text and a new one mean alone and together: the text of each of the three
@@ -62,9 +62,9 @@ typedef struct {
     text shared;
 } compared;
 
-/* Compares two range texts, or answers the error and leaves `told` alone. It tries a room of each
+/* Compares two range texts, or answers the error and leaves `told` alone. It tries a buffer of each
  * length up to one past what is needed (of more than 300 bytes, of some lengths), and at null where
- * the room or a text is empty. The parts have to lie one after the other. */
+ * the buffer or a text is empty. The parts have to lie one after the other. */
 int32_t compare(const text *old_range, const text *new_range, int32_t reading, int32_t pre_releases,
                 compared *told);
 void free_compared(compared *told);

@@ -310,7 +310,7 @@ static void nulls_with_a_length(void) {
 
 /* ---- more texts than any block has room for */
 
-/* Of a range that is one, or that is refused. A fault of the reading, the rule or the range goes
+/* Of a range that is one, or that is refused. An error of the reading, the rule or the range goes
  * before running out of memory. */
 static void too_many(const char *range, int32_t rule, int32_t wanted) {
     const size_t least = SIZE_MAX / sizeof(semver_parser_text) + 1;

@@ -569,8 +569,8 @@ static void many(void) {
 
 /* ---- the least version, and two ranges */
 
-/* A range, and its least version among releases alone and with pre-releases: by a tool's own
- * reading those that it takes, and by the crate's those that are stated. */
+/* A range, and its least version among releases only and with pre-releases: in a tool's dialect
+ * those that it takes, and in the crate's those that are stated. */
 static const struct {
     int32_t reading;
     const char *range;

@@ -78,7 +78,7 @@ static text string(const char *bytes, size_t length) {
     return made;
 }
 
-/* Whether a version has a pre-release. Each text here is a version by Cargo's own reading. */
+/* Whether a version has a pre-release. Each text here is a version in Cargo's dialect. */
 static bool has_pre_release(const text *version) {
     semver_parser_version read;
     return read_version(version, SEMVER_PARSER_CARGO, &read) == SEMVER_PARSER_OK

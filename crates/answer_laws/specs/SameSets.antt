@@ -1,4 +1,4 @@
--- Sets of versions, and what a comparison of two tells, as values.
+-- Sets of versions, and what a comparison of two returns, as values.
 use Rattle.std.specs.Prelude.{◌≡◌, Option, option_map}
 use Rattle.semver_parser.specs.Versions.{PlainVersion, VersionValue}
 use Rattle.semver_parser.specs.VersionViews.{version_value}

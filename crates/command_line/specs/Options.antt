@@ -85,18 +85,18 @@ IsOption argument = (argument ≡ codes "--as") ⊎ (argument ≡ codes "--npm")
     ⊎ ((name : Text) × (argument ≡ codes "--as=" ++ name))
     ⊎ ((rule : PreReleases) × (argument ≡ option_of rule))
 
--- the error tells that the option is given twice
+-- the error is that the option is given twice
 abbrev pub TellsTwice : Text → ArgumentError → Type 0
 TellsTwice option (GivenTwice told) = told.now ≡ option
 TellsTwice option _ = ⊥
 
--- the error tells that the option contradicts the earlier one
+-- the error is that the option contradicts the earlier one
 abbrev pub TellsContradiction : Text → Text → ArgumentError → Type 0
 TellsContradiction option earlier (Contradiction told other) =
     (told.now ≡ option) × (other.now ≡ earlier)
 TellsContradiction option earlier _ = ⊥
 
--- the error tells that no dialect has the name, or that memory ran out
+-- the error is that no dialect has the name, or that memory ran out
 abbrev pub TellsUnknown : Text → ArgumentError → Type 0
 TellsUnknown name (UnknownDialect told) = string_bytes told ≡ name
 TellsUnknown name Unreadable = ⊤

@@ -17,7 +17,7 @@ pub struct Program {
 
 impl Program {
     /// Writes texts to standard output, each with a line feed, and returns the status. It is no
-    /// error if the reader of the output wants no more.
+    /// error if the reader closed the pipe.
     pub fn write_texts(self, rt: &HostRuntime, texts: &[&str]) -> ExitCode {
         for text in texts {
             match println!(rt; "{text}") {

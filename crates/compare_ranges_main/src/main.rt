@@ -92,7 +92,7 @@ fn main(rt: HostRuntime) -> ExitCode {
 }
 
 /// Writes what is wanted, or an error. All is known before anything is written. It is no error if
-/// the reader of the output wants no more.
+/// the reader closed the pipe.
 fn run(rt: &HostRuntime, wanted: &Wanted) -> ExitCode {
     let answer = match answered(rt, wanted) {
         Ok(answer) => answer,

@@ -97,7 +97,7 @@ fn main(rt: HostRuntime) -> ExitCode {
     }
 }
 
-/// Filters, and reports an error. A reader of the output that wants no more is none.
+/// Filters, and reports an error. A pipe that its reader closed is none.
 fn run(rt: &HostRuntime, filtering: Filtering) -> ExitCode {
     let Filtering {
         range,

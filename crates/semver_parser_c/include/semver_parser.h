@@ -1,8 +1,8 @@
 /* Versions and ranges of Cargo, npm and the Rust crate semver-parser, for Linux on x86-64-v2.
  *
- * Results and what is written are proved (src/lib.rt), but for c/calls.c and c/heap.c, which are
- * trusted, hints, and figures on memory. docs/GRAMMAR.md says which texts are read, and
- * docs/MEANING.md what a range means.
+ * Results and outputs are proved (src/lib.rt), except hints and memory figures; c/calls.c and
+ * c/heap.c are trusted. docs/GRAMMAR.md says which texts are read, docs/MEANING.md what a range
+ * means.
  *
  * STRINGS AND BUFFERS. Strings are UTF-8, given as pointer and byte length; they need no
  * terminating zero, and none is written. Offsets and lengths count bytes. Buffers are given as
@@ -104,7 +104,7 @@ enum {
     SEMVER_PARSER_VERSION_CHARACTER = 26,
     /* above 2^64 - 1, to npm above 2^53 - 1; */
     SEMVER_PARSER_VERSION_NUMBER_TOO_LARGE = 27,
-    /* only versions of more than npm's 256 characters begin so; */
+    /* needs more than npm's 256 characters; */
     SEMVER_PARSER_VERSION_TOO_LONG = 28,
     /* `1.2.3 x`. */
     SEMVER_PARSER_VERSION_TEXT_AFTER = 29,
@@ -129,7 +129,7 @@ enum {
     SEMVER_PARSER_HINT_NPM_LIMIT = 44
 };
 
-/* Dialects of ranges and versions (docs/MEANING.md, "Which dialect?"). */
+/* Dialects: values of `reading` (docs/MEANING.md, "Which dialect?"). */
 enum {
     /* `1.2` is `>=1.2.0 <2.0.0`. Versions are SemVer 2.0.0. */
     SEMVER_PARSER_CARGO = 0,
@@ -142,7 +142,7 @@ enum {
     SEMVER_PARSER_CRATE_NPM = 3
 };
 
-/* Rules for pre-releases. All dialects have the first and the third. */
+/* Values of `pre_releases`. All dialects have the first and the third. */
 enum {
     /* None satisfies a range. */
     SEMVER_PARSER_RELEASES_ALONE = 0,
@@ -177,8 +177,8 @@ enum {
     SEMVER_PARSER_MEETS = 1
 };
 
-/* Where a part of a text is. Without one both are 0, but in a comparator `offset` is the sum of the
- * lengths before. */
+/* Where a part of a text is. Both are 0 if it is missing, but in a comparator `offset` is the sum
+ * of the lengths before. */
 typedef struct {
     size_t offset;
     size_t length;
@@ -253,10 +253,10 @@ int32_t semver_parser_parse_version(const uint8_t *text, size_t text_length, int
 int32_t semver_parser_explain_version(const uint8_t *text, size_t text_length, int32_t reading,
                                       size_t *place);
 
-/* Returns SEMVER_PARSER_OK exactly for a range. After _NOT_A_RANGE `place` is where no range has
- * the character, after _NUMBER_TOO_LARGE where no numbers fit any more, or `text_length`: `1 || 2`
- * by SEMVER_PARSER_CARGO gives 2 and _HINT_CARGO_BARS. _RANGE_OUT_OF_MEMORY may replace these two,
- * which alone allocate. */
+/* Returns SEMVER_PARSER_OK exactly for a range. After _NOT_A_RANGE `place` is the first
+ * character that no range has there, after _NUMBER_TOO_LARGE where no numbers fit any more, or
+ * `text_length`: `1 || 2` by SEMVER_PARSER_CARGO gives 2 and _HINT_CARGO_BARS. Only these two
+ * allocate; _RANGE_OUT_OF_MEMORY may replace them. */
 int32_t semver_parser_explain_range(const uint8_t *text, size_t text_length, int32_t reading,
                                     size_t *place, int32_t *hint);
 

@@ -49,7 +49,7 @@ fronts : (a : Putting RewrittenComparator) (b : Putting ℕ) (r : ℤ) → PutsB
     → IsAtFront a.items a.old a.new × IsAtFront b.items b.old b.new
 fronts a b r puts is = grind arith
 
--- and at the places in the rooms the pre-releases
+-- and at the places in the buffers the pre-releases
 pub rooms_have : (a : Putting RewrittenComparator) (b : Putting ℕ) (r : ℤ) (cs : List Numbered) → PutsBoth a b r → r ≡ ok
     → a.items ≡ listed_comparators cs → b.items ≡ pre_releases cs → HasPreReleases b.new (take a.told a.new) cs
 rooms_have a b r cs puts is told_is text_is =

@@ -1,4 +1,4 @@
--- What is put into one room is there in one way.
+-- What is put into one buffer is there in one way.
 use Rattle.std.proofs.Common.{◌≡◌, ◌≢◌, ◌⊎◌, ◌++◌, ℕ, ℤ, true, List, [], ◌∷◌, arith, ⊎_elim, inl}
 use Rattle.semver_parser_c.specs.Numbers as number
 use Rattle.semver_parser_c.specs.Errors.{IsOneOf}
@@ -6,7 +6,7 @@ use Rattle.semver_parser_c.specs.Printing.{Puts, Putting, PutsBoth}
 use Rattle.semver_parser_c.specs.OneAnswer.{AreOne, IsMemory, memory_numbers}
 use Rattle.semver_parser_c.proofs.OneAnswer.{among, apart, are_in, are_one, none_in, split}
 
--- the result beside memory is put, or has no room
+-- the result beside memory is put, or has no buffer
 is_put : (memory n : ℤ) → IsMemory memory → IsOneOf (number.ok ∷ number.no_room ∷ memory ∷ []) n → ¬ (IsMemory n)
     → (n ≡ number.ok) ⊎ (n ≡ number.no_room)
 is_put memory n is one some = grind arith

@@ -78,7 +78,7 @@ refused_text r reading text n only told = search rules
 
 -- ---- where two ranges are compared
 
--- no error is answered where something is put into the room, or it is too small
+-- no error is answered where something is put into the buffer, or it is too small
 not_put : (n : ℤ) → IsOneOf (named_errors ++ new_range_errors) n → (n ≡ ok) ⊎ (n ≡ no_room) → ⊥
 not_put n one put = grind arith
 

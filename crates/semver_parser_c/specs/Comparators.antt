@@ -1,5 +1,5 @@
--- The comparators of a set as they are told, and the texts of their pre-releases, one after the
--- other.
+-- The comparators of a set as they are written out, and the texts of their pre-releases, one after
+-- the other.
 use Rattle.std.specs.Prelude.{◌≡◌, ℕ, ℤ, ◌+◌, List, [], ◌∷◌, ◌++◌, length, map}
 use Rattle.std.specs.List.{AllZip, flat_map}
 use Rattle.semver_parser.specs.declared.Op.{Op}
@@ -42,7 +42,7 @@ pre_release c = dotted_text c.comparator.version.pre
 abbrev pub pre_releases : List Numbered → Text
 pre_releases cs = flat_map pre_release cs
 
--- a comparator as it is told where the text of its pre-release begins at an offset
+-- a comparator as it is written out where the text of its pre-release begins at an offset
 abbrev pub listed_comparator : ℕ → Numbered → RewrittenComparator
 listed_comparator at c = record {
   range = c.range;
@@ -53,7 +53,7 @@ listed_comparator at c = record {
   pre = record { offset = at; length = length (pre_release c) };
 }
 
--- comparators as they are told: each offset is the one before and the length there
+-- comparators as they are written out: each offset is the one before and the length there
 abbrev pub listed_from : ℕ → List Numbered → List RewrittenComparator
 listed_from at [] = []
 listed_from at (c ∷ cs) = listed_comparator at c ∷ listed_from (at + length (pre_release c)) cs
@@ -62,6 +62,6 @@ listed_from at (c ∷ cs) = listed_comparator at c ∷ listed_from (at + length 
 abbrev pub listed_comparators : List Numbered → List RewrittenComparator
 listed_comparators cs = listed_from 0 cs
 
--- at the place that is told of each stands its pre-release
+-- at the place of each is its pre-release
 abbrev pub HasPreReleases : Text → List RewrittenComparator → List Numbered → Type 0
 HasPreReleases text told cs = AllZip (λ t c. bytes_at t.pre text ≡ pre_release c) told cs

@@ -54,7 +54,7 @@ number_too_large = pos 12
 abbrev pub range_out_of_memory : ℤ
 range_out_of_memory = pos 13
 
--- a room is too small for what is put there
+-- a buffer is too small for what is put there
 abbrev pub no_room : ℤ
 no_room = pos 14
 
@@ -198,7 +198,7 @@ stated_pre_releases = pos 1
 abbrev pub all_pre_releases : ℤ
 all_pre_releases = pos 2
 
--- those meet that a tool takes, by its own reading
+-- those meet that a tool takes, in its dialect
 abbrev pub pre_releases_of_tool : ℤ
 pre_releases_of_tool = pos 3
 

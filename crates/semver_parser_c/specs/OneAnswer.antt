@@ -18,7 +18,7 @@ text_errors =
     number.unexpected_end ∷ number.unexpected_token ∷ number.unexpected_char ∷ number.more_input
     ∷ number.version_out_of_memory ∷ number.not_a_version ∷ []
 
--- two numbers are one, and so is what is told beside them, unless memory ran out; where it ran out
+-- two numbers are one, and so is what is written beside them, unless memory ran out; if it ran out
 -- by the first number, the other is one of these. It is said of any two answers, so also of the
 -- same two the other way round
 pub record AreOne (beside : List ℤ) (n other : ℤ) (IsSame : Type 0) : Type 0 where

@@ -17,7 +17,7 @@ pub record ExplainsBy (reading : Reading) (text : Text) (n : ℤ) : Type 0 where
   pub not_a_range : n ≡ number.not_a_range → ¬ (IsTextAs reading text)
   pub too_large : n ≡ number.number_too_large → IsTooLargeAs reading text
 
--- so by the reading of a number, if there is one
+-- so in the dialect of a number, if there is one
 pub record ExplainsRange (reading : ℤ) (text : Text) (n : ℤ) : Type 0 where
   pub named : (n ≡ number.no_such_reading) ⊎ IsReading reading
   pub no_such_reading : (n ≡ number.no_such_reading) ↔ ¬ (IsReading reading)

@@ -429,7 +429,7 @@ pub extern "C" fn semver_parser_proved_comparators(
 ///
 /// It goes by what the range text means by itself, and not by comparators. By `RELEASES_ALONE` no
 /// version with a pre-release meets any range, and by `ALL_PRE_RELEASES` each within the bounds
-/// does. The tools' own readings, `CARGO` and `NPM`, have besides `PRE_RELEASES_OF_TOOL`: those
+/// does. The tools' dialects, `CARGO` and `NPM`, have besides `PRE_RELEASES_OF_TOOL`: those
 /// that the tool takes. `CRATE_CARGO` and `CRATE_NPM` have besides `STATED_PRE_RELEASES`, by which
 /// one meets the range where a term states the same three numbers and a pre-release.
 ///
@@ -666,7 +666,7 @@ pub extern "C" fn semver_parser_proved_compare(
 // Answer: law semver_parser_c::laws::one_precedence.
 /// How a version compares with another by precedence (SemVer 2.0.0, section 11): `OK` with the
 /// answer in `order`, which is -1 where it is below the other, 0 where both are equal, and 1 where
-/// it is above. Builds don't count. Both are read by the reading of a number.
+/// it is above. Builds don't count. Both are read in the dialect `reading`.
 ///
 /// After an error of a text `in_other` says whether it is that of `other`, and `order` is as it
 /// was. The first text is read first, so `in_other` holds exactly where that spells a version.
@@ -750,15 +750,15 @@ fn order_number(ordering: Ordering) -> i32
 }
 
 // Answer: law semver_parser_c::laws::one_set.
-/// Puts the set of the versions that a range means into the rooms, as flat data, by the reading and
-/// by the rule for pre-releases that numbers name: `OK` with its switches at the front of `made`,
-/// and the texts of its pre-releases at the front of `out`.
+/// Puts the set of the versions that a range means into the buffers, as flat data, in the dialect
+/// `reading` and by the rule `pre_releases`: `OK` with its switches at the front of `made`, and the
+/// texts of its pre-releases at the front of `out`.
 ///
 /// The first switch is a head: 1, how many switches of releases there are, and how many of
 /// pre-releases. `^1.2.0` of releases gives (1, 2, 0), (1, 2, 0) and (2, 0, 0), and no bytes.
 ///
-/// `count` and `length` become how many switches and bytes there are, also where one of the rooms
-/// is too small (`NO_ROOM`); then both rooms are as they were, and so after any answer but `OK`.
+/// `count` and `length` become how many switches and bytes there are, also where one of the buffers
+/// is too small (`NO_ROOM`); then both buffers are as they were, and so after any answer but `OK`.
 /// `count` and `length` are as they were after any other error.
 ///
 /// # Errors
@@ -776,7 +776,7 @@ pub extern "C" fn semver_parser_proved_set(
     length: &mut usize,
 ) -> i32
     ensures numbers { IsOneOf (number.ok ∷ number.no_room ∷ named_errors) result }
-    // What is put into the rooms is the set of the versions that the range means.
+    // What is put into the buffers is the set of the versions that the range means.
     ensures set { (result ≡ number.ok) ⊎ (result ≡ number.no_room)
         → (m : Meaning) → IsNamed m reading pre_releases
         → (set : SetValue) × IsNormal set × IsPrintable set × MeansAs m range.now set
@@ -785,7 +785,7 @@ pub extern "C" fn semver_parser_proved_set(
     ensures read { (result ≡ number.ok) ⊎ (result ≡ number.no_room)
         → RangeIsRead reading pre_releases range.now result }
 
-    // Errors of the reading, of the rule, and of the range, whatever the rooms.
+    // Errors of the reading, of the rule, and of the range, whatever the buffers.
     ensures refusals { RefusesRange reading pre_releases range.now result }
     ensures rooms_unchanged { result ≢ number.ok
         → (made.new ≡ made.old) × (out.new ≡ out.old) }
@@ -809,8 +809,8 @@ pub extern "C" fn semver_parser_proved_set(
 
 // Answer: law semver_parser_c::laws::one_membership.
 /// Whether a version is in a set, which is flat data of `semver_parser_proved_set` or
-/// `semver_parser_proved_combine`: `OK` with the answer in `is_in`. The version is read by the
-/// reading of a number. Its build doesn't count. For a version it takes no memory.
+/// `semver_parser_proved_combine`: `OK` with the answer in `is_in`. The version is read in the
+/// dialect `reading`. Its build doesn't count. A version does not allocate.
 ///
 /// # Errors
 ///

@@ -1,4 +1,4 @@
-//! Range texts: the set of one, or the number of its error, and what is put into the rooms of a
+//! Range texts: the set of one, or the number of its error, and what is put into the buffers of a
 //! caller.
 
 ghost use Rattle.std.specs.Prelude.{◌≡◌, ⊤, IsUtf8, IfOk, IfErr};
@@ -33,7 +33,7 @@ pub enum TextError {
     OutOfMemory,
 }
 
-/// The set of a range text by the reading of a number, or the number of the error.
+/// The set of a range text in the dialect of a number, or the number of the error.
 pub fn read(alloc: Global, text: &[u8], reading: i32, exact: bool) -> Result<RangeSet, i32>
     ensures accepted { IfOk result (λ set. (r : SomeReading) × (reading ≡ reading_number r)
         × IsUtf8 text.now × HasSetAs r text.now) }
@@ -126,7 +126,7 @@ pub fn new_number_of(error: TextError) -> i32
     }
 }
 
-/// Tells how many items there are, and puts them at the front of the room where they fit.
+/// Tells how many items there are, and puts them at the front of the buffer where they fit.
 pub fn put<T: Copy>(items: &[T], out: &mut [T], length: &mut usize) -> i32
     ensures { Puts items.now out.old out.new length.new result }
 {
@@ -139,7 +139,7 @@ pub fn put<T: Copy>(items: &[T], out: &mut [T], length: &mut usize) -> i32
     numbers::OK
 }
 
-/// Tells how many items and bytes there are, and puts both at the front of their rooms where both
+/// Tells how many items and bytes there are, and puts both at the front of their buffers where both
 /// fit.
 pub fn put_both<T: Copy>(
     items: &[T],

@@ -32,7 +32,7 @@ pub fn meaning_of(reading: i32, pre_releases: i32) -> Result<Meaning, i32>
     }
 }
 
-/// The reading of a number.
+/// The dialect of a number.
 pub fn reading_of(number: i32) -> Option<Reading>
     ensures { MatchOption result (¬ (IsReading number)) (λ reading.
         IsReadingOf reading number) }

@@ -47,7 +47,7 @@ pub enum RangeError {
     #[error("not a range")]
     NotARange,
     /// The text is in the range grammar, and a number that it states or a raised bound is above
-    /// 2^64 - 1.
+    /// 2^64 - 1, or as npm reads it, above 2^53 - 1.
     #[error("number too large")]
     NumberTooLarge,
     /// The text is in the grammar and its numbers fit, but an allocation failed.

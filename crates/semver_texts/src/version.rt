@@ -16,7 +16,7 @@ use std::fmt;
 /// A version: three numbers, a pre-release and a build.
 ///
 /// The derived order goes by the fields in the order written. It isn't the precedence of the
-/// standard, which `cmp_precedence` tells: it reads the build, and puts `1.0.0` below `1.0.0-rc`.
+/// standard, which `cmp_precedence` returns: it reads the build, and puts `1.0.0` below `1.0.0-rc`.
 #[derive(Clone, PartialOrd, Ord, Hash, Debug, PartialEq, Eq, Drop)]
 pub struct Version {
     /// The first number: 1 in `1.2.3-rc.4+5aedf`.

@@ -1,4 +1,4 @@
-//! Version texts read from their bytes, by three dialects: as an outline without memory, or as a
+//! Version texts read from their bytes in three dialects, as an outline without allocating, or as a
 //! `Version`.
 #![tactic(auto)]
 

@@ -197,7 +197,7 @@ impl<'t> Outline<'t> {
 
     // Answer: equation.
     /// How the version of this outline compares with another by precedence (SemVer 2.0.0, section
-    /// 11), as `version::cmp_precedence` tells it of two versions: the outline of
+    /// 11), as `version::cmp_precedence` does of two versions: the outline of
     /// `1.2.3-rc.4+5aedf` is `Less` than 1.2.3-rc.11. Builds don't count. It does not allocate.
     #[inline(always)]
     pub fn cmp_precedence(&self, version: &Version) -> Ordering

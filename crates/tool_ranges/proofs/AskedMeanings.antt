@@ -33,6 +33,12 @@ pub said_so : (reading : Reading) (t : Text) (f g : TreeOf reading → Bool) (r 
 said_so reading t f g (Ok met) same is = search rules
 said_so reading t f g (Err e) same is = search rules
 
+-- an answer by a test that says what a meaning does
+pub said_by : (meaning m : Meaning) (t : Text) (w : VersionValue) (f : TreeOf (reading_of meaning) → Bool) (r : Result Bool RangeError)
+    → m ≡ meaning → ((tree : TreeOf (reading_of meaning)) → f tree ≡ meant_as meaning tree w) → IsSaid (reading_of meaning) t f r
+    → Says t w r m
+said_by meaning m t w f r is same said = rw is (said_so (reading_of meaning) t f _ r same said)
+
 -- of releases only
 pub released : (reading : Reading) (t : Text) (f : TreeOf reading → Bool) (v : PlainVersion) (answer r : Result Bool RangeError)
     → r ≡ of_releases v answer → IsSaid reading t f answer → IsSaid reading t (λ tree. is_empty v.pre && f tree) r

@@ -1,6 +1,6 @@
 -- The place of a range text's error: whether a text is a range text, where its fronts go on, and the longest that does.
 use Rattle.std.proofs.Common.{◌≡◌, ℕ, ◌<◌, ◌≤◌, ⊎_elim, [], ◌∷◌, ◌++◌, codes, refl, sym, rules}
-use Rattle.std.proofs.Common.{subst, arith, length, take}
+use Rattle.std.proofs.Common.{subst, append-nil, arith, length, take}
 use Rattle.std.specs.List.{Contains, slice_range}
 use Rattle.std.specs.Str.{IsUtf8, IsCharBoundary, chars}
 use Rattle.std.proofs.Math.Seq.{take-length}
@@ -111,13 +111,19 @@ pub one_place : (Begins : Text → Type 0) (t : Text) (m n : ℕ) → IsPlace Be
 one_place Begins t m n a b = search rules
 
 module _ (wanted : Wanted) (reading : Reading) (t : Text) where
-  pub whole_place : GoesOnBy wanted reading t → IsPlace (BeginsBy wanted reading) t (length t)
-  whole_place goes = record {
+  at_end : BeginsBy wanted reading t → IsPlace (BeginsBy wanted reading) t (length t)
+  at_end begins = record {
     within = omega arith;
     boundary = IsCharBoundary-end t;
-    front = subst (BeginsBy wanted reading) (sym (take-length t)) (begins_from wanted reading t goes);
+    front = subst (BeginsBy wanted reading) (sym (take-length t)) begins;
     no_longer = λ n longer boundary. absurd (omega (arith, boundary.0));
   }
+
+  pub wanted_place : IsWanted wanted reading t → IsPlace (BeginsBy wanted reading) t (length t)
+  wanted_place is = at_end ([], subst (IsWanted wanted reading) (sym (append-nil t)) is)
+
+  pub whole_place : GoesOnBy wanted reading t → IsPlace (BeginsBy wanted reading) t (length t)
+  whole_place goes = at_end (begins_from wanted reading t goes)
 
   pub no_whole : IsUtf8 t → ¬ (GoesOnBy wanted reading t) → ¬ (BeginsBy wanted reading (take (length t) t))
   no_whole utf8 goes begins = goes (goes_on wanted reading t utf8 (subst (BeginsBy wanted reading) (take-length t) begins))

@@ -53,7 +53,7 @@ pub(crate) fn hint_at(reading: Reading, text: &str, place: usize) -> Option<Hint
         (Reading::Npm, next) if ending.may_be_too_long(front, next) => Some(Hint::NpmLength),
         (Reading::Npm, b',') => Some(Hint::NpmComma),
         (Reading::Crate(..), b',') => Some(Hint::CrateComma),
-        (Reading::Crate(..), b'v' | b'V') => Some(Hint::CrateV),
+        (Reading::Crate(..), b'v') if may_begin(front) => Some(Hint::CrateV),
         _ => None,
     }
 }
@@ -64,7 +64,7 @@ fn of_cargo(front: &[u8], ending: Ending, next: u8) -> Option<Hint> {
     let after_space = front.last() == Some(&b' ');
     match next {
         b'|' => Some(Hint::CargoBars),
-        b'v' | b'V' => Some(Hint::CargoV),
+        b'v' if may_begin(front) => Some(Hint::CargoV),
         b'-' if after_comparator && after_space => Some(Hint::CargoHyphen),
         b'<'..=b'>' | b'^' | b'~' if after_comparator => Some(Hint::CargoCommas),
         b'0'..=b'9' | b'*' | b'x' | b'X' if after_comparator && after_space => {
@@ -84,6 +84,14 @@ pub(crate) fn limit(reading: Reading) -> Hint
         Reading::Npm => Hint::NpmLimit,
         Reading::Cargo | Reading::Crate(_) => Hint::Limit,
     }
+}
+
+/// Whether a comparator may begin after a text: it doesn't end within one.
+fn may_begin(text: &[u8]) -> bool {
+    !matches!(
+        text.last(),
+        Some(b'0'..=b'9' | b'a'..=b'z' | b'A'..=b'Z' | b'*' | b'-' | b'+' | b'.')
+    )
 }
 
 /// Whether a text ends with a comparator, spaces after it aside.

@@ -50,7 +50,7 @@ use std::alloc::{AllocError, Global};
 ///
 /// - `NotARange` exactly where npm's grammar has no such text, as `>=1, <2` or `1.2.3-01`, or where
 ///   something is too long for node-semver: the version of a comparator has at most 256 characters,
-///   and a build identifier at most 250.
+///   and `docs/GRAMMAR.md` has the bounds of numbers and identifiers.
 /// - `NumberTooLarge` exactly where it has, and a number that it states or a bound that is raised
 ///   by one is above 2^53 - 1, as `>1.9007199254740991`.
 /// - `OutOfMemory` if an allocation fails. The first two do not allocate.

@@ -3,11 +3,11 @@
 //! dialect itself what a front could be gone on with, so there is no second grammar.
 
 ghost use Rattle.std.specs.List.{Any};
-ghost use Rattle.std.specs.Prelude.{◌≡◌, ◌≢◌, ◌<◌, ◌≤◌, ◌↔◌, ◌++◌, ℕ, IfOk, IsTrue, map};
+ghost use Rattle.std.specs.Prelude.{◌≡◌, ◌≢◌, ◌<◌, ◌≤◌, ◌↔◌, ◌++◌, ℕ, IfErr, IfOk, IsTrue, map};
 ghost use Rattle.std.specs.Str.{IsCharBoundary};
 ghost use Rattle.tool_ranges.specs.Fronts.{BeginsAs, BeginsFitting, IsPlace};
 ghost use Rattle.tool_ranges.specs.Meanings.{reading_of};
-ghost use Rattle.tool_ranges.specs.Readings.{RefusesAs};
+ghost use Rattle.tool_ranges.specs.Readings.{IsTextAs, RefusesAs};
 ghost use Rattle.tool_ranges.specs.Steps.Places.{BeginsBy, GoesOnBy, IsWanted};
 
 use crate::meaning::{self, Meaning};
@@ -41,7 +41,8 @@ const FITTING_RESTS: [&str; 13] = [
 /// length of the text if something is missing at the end, as in `>=`, or if nothing is wrong but a
 /// number that is too large.
 ///
-/// It takes time in n log n for n bytes, and allocates one buffer of n + 5 bytes.
+/// It takes time in n log n for n bytes, and allocates one buffer of n + 5 bytes if the text is no
+/// range text.
 ///
 /// # Errors
 ///
@@ -49,6 +50,7 @@ const FITTING_RESTS: [&str; 13] = [
 pub fn error_place(alloc: Global, reading: Reading, text: &str) -> Result<usize, AllocError>
     // Some range text begins with what is before the place, and none with a longer front.
     ensures place { IfOk result (λ place. IsPlace (BeginsAs reading) text.now place) }
+    ensures out_of_memory { IfErr result (λ _. ¬ (IsTextAs reading text.now)) }
 {
     longest(alloc, Wanted::Any, reading, text)
 }
@@ -58,8 +60,8 @@ pub fn error_place(alloc: Global, reading: Reading, text: &str) -> Result<usize,
 /// if only what follows could make it fit: 22 in `<=18446744073709551615` by the crate's in npm's
 /// mode, since `<=18446744073709551615.0` fits.
 ///
-/// It takes time in n log n for n bytes, and allocates one buffer of n + 5 bytes. `Err` is out of
-/// memory.
+/// It takes time in n log n for n bytes, and allocates one buffer of n + 5 bytes if the text has no
+/// set. `Err` is out of memory.
 pub(crate) fn limit_place(alloc: Global, reading: Reading, text: &str) -> Result<usize, AllocError>
     // Some text with a set begins with what is before the place, and none with a longer front.
     ensures place { IfOk result (λ place. IsPlace (BeginsFitting reading) text.now place) }
@@ -70,7 +72,11 @@ pub(crate) fn limit_place(alloc: Global, reading: Reading, text: &str) -> Result
 /// The end of the longest front of a text that begins what is wanted.
 fn longest(alloc: Global, wanted: Wanted, reading: Reading, text: &str) -> Result<usize, AllocError>
     ensures place { IfOk result (λ place. IsPlace (BeginsBy wanted reading) text.now place) }
+    ensures out_of_memory { IfErr result (λ _. ¬ (IsWanted wanted reading text.now)) }
 {
+    if is_wanted(wanted, reading, text) {
+        return Ok(text.len());
+    }
     let mut buffer = String::with_capacity(alloc, text.len().saturating_add(5))?;
     if begins(wanted, reading, text, &mut buffer)? {
         return Ok(text.len());

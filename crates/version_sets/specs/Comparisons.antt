@@ -1,4 +1,4 @@
--- What a comparison of two sets tells: the least of some versions, or that there is none.
+-- What a comparison of two sets returns: the least of some versions, or that there is none.
 use Rattle.std.specs.Prelude.{◌≡◌, ◌≢◌, [], Option, Some, None}
 use Rattle.std.specs.declared.cmp.Ordering.TheVariants.{Less}
 use Rattle.semver_parser.specs.Versions.{PlainVersion, VersionValue}

@@ -50,7 +50,7 @@ impl<'a> Model for FlatSet<'a> {
 
 impl<'a> FlatSet<'a> {
     // Answer: equation.
-    /// Whether the version of an outline is in the set, as `VersionSet::has_outline` tells it. It
+    /// Whether the version of an outline is in the set, as `VersionSet::has_outline` says. It
     /// takes time in the number of switches, and no memory.
     pub fn has_outline(&self, outline: &Outline<'_>) -> bool
         ensures has { result ≡ has self.now (version_of outline.now).plain }

@@ -103,7 +103,7 @@ impl VersionSet {
     }
 
     // Answer: equation.
-    /// Whether each of some versions is in the set, as [`VersionSet::has`] tells of one. Of many
+    /// Whether each of some versions is in the set, as [`VersionSet::has`] says of one. Of many
     /// versions it is quicker to ask so: where the set has no pre-release and at most two switches
     /// of releases, as that of `^1.2.0` has, no answer depends on a branch. It does not allocate.
     ///
@@ -131,7 +131,7 @@ impl VersionSet {
     }
 
     // Answer: equation.
-    /// Whether a release is in the set, as [`VersionSet::has`] tells of a version.
+    /// Whether a release is in the set, as [`VersionSet::has`] says of a version.
     #[inline(always)]
     pub fn has_release(&self, release: Release) -> bool
         ensures has { result ≡ has self.now (release_value release) }
@@ -140,7 +140,7 @@ impl VersionSet {
     }
 
     // Answer: equation.
-    /// Whether the version of an outline is in the set, as [`VersionSet::has`] tells of a version.
+    /// Whether the version of an outline is in the set, as [`VersionSet::has`] says of a version.
     /// Its identifiers are compared as they are in the text. It does not allocate.
     #[inline(always)]
     pub fn has_outline(&self, outline: &Outline<'_>) -> bool

@@ -1,4 +1,4 @@
--- A means of proof, which no public clause cites: what an error tells of a version text.
+-- A means of proof, which no public clause cites: what an error says of a version text.
 use Rattle.std.specs.Prelude.{Err}
 use Rattle.semver_parser.specs.Texts.{Text}
 use Rattle.semver_parser.specs.declared.version.Version.{Version}
