@@ -60,7 +60,9 @@ pub fn write_calls(rt: &HostRuntime, requests: u32) -> io::Result<()> {
         tell(rt, &of_long_texts(rt.alloc()))?;
     }
     tell(rt, &of_versions(rt.alloc()))?;
-    tell(rt, &of_ranges(rt.alloc()))?;
+    tell(rt, &of_range_sets(rt.alloc()))?;
+    tell(rt, &of_tool_ranges(rt.alloc()))?;
+    tell(rt, &of_filters_and_reports(rt.alloc()))?;
     match filters::as_stated(rt.alloc()) {
         Ok(filter) => tell(rt, &of_filter(rt.alloc(), &filter))?,
         Err(ending) => tell(rt, &[("filter_as_stated", ending)])?,
@@ -112,8 +114,8 @@ fn of_versions(alloc: Global) -> [(&'static str, Ending); 15] {
     ]
 }
 
-/// How each call on ranges and above them ends.
-fn of_ranges(alloc: Global) -> [(&'static str, Ending); 29] {
+/// How each call that reads a range set in the crate's dialect ends.
+fn of_range_sets(alloc: Global) -> [(&'static str, Ending); 11] {
     [
         (
             "one_simple",
@@ -175,6 +177,12 @@ fn of_ranges(alloc: Global) -> [(&'static str, Ending); 29] {
                 Compat::Cargo,
             ),
         ),
+    ]
+}
+
+/// How each call on the ranges of the tools ends, and each on errors and copies of ranges.
+fn of_tool_ranges(alloc: Global) -> [(&'static str, Ending); 13] {
+    [
         ("cargo_requirement", ranges::requirement(alloc)),
         ("refused_requirements", ranges::refused_requirements(alloc)),
         ("cargo_read", sets::of_requirement(alloc)),
@@ -188,6 +196,12 @@ fn of_ranges(alloc: Global) -> [(&'static str, Ending); 29] {
         ("refused_range_texts", ranges::refused_texts(alloc)),
         ("range_error", ranges::range_error(alloc)),
         ("range_set_clone", ranges::clone(alloc)),
+    ]
+}
+
+/// How each call that makes a filter or a report ends.
+fn of_filters_and_reports(alloc: Global) -> [(&'static str, Ending); 5] {
+    [
         ("filter", filters::filter(alloc)),
         (
             "read_without_requests",
