@@ -1,5 +1,5 @@
-"""Two programs over the package `semver_parser`: `check-lock-file` lists the versions of a lock file
-that are not what is asked for, and `compare-requirements` what changed requirements lose and gain.
+"""Two programs over the package `semver_parser`: `check-lock-file` lists the versions of a lock
+file outside their ranges, and `compare-requirements` what changed requirements lose and gain.
 
 A folder for each family of formats has what it reads: `npm`, `yarn`, `pnpm` and `cargo`. They share
 the files (`files`), the judgement of a version (`judging`), the frame of a program (`program`), and

@@ -64,7 +64,9 @@ class Program(NamedTuple):
     run: Callable[[Options], Outcome]
 
 
-def read_arguments(arguments: List[str], options: Dict[str, bool]) -> Tuple[List[str], Dict[str, str]]:
+def read_arguments(
+    arguments: List[str], options: Dict[str, bool]
+) -> Tuple[List[str], Dict[str, str]]:
     """The files that are named, and the options, each with its value. Of those for help there is
     no more to know than that one is there."""
     files: List[str] = []

@@ -15,8 +15,8 @@ own, or that of the Rust crate `semver-parser` in one of its two modes. docs/GRA
 repository says which texts are versions and ranges, and docs/MEANING.md what a range means.
 
 Texts are `str` or `bytes` in UTF-8. A text that is refused raises `VersionError` or `RangeError`,
-and out of memory is `MemoryError`. Everything may be called from several threads at once, and nothing
-from a signal handler or from a forked child of a process that has several threads.
+and out of memory is `MemoryError`. Everything may be called from several threads at once, and
+nothing from a signal handler or from a forked child of a process that has several threads.
 
 The calls are those of the shared library `libsemver_parser.so.0.6`, which is loaded when the
 package is imported. It is looked for at the path that the environment variable

@@ -275,8 +275,8 @@ static bool is_tried(size_t room, size_t needed, size_t all) {
     return needed <= all || room <= 1 || room == needed / 2 || room + 1 >= needed;
 }
 
-/* Each buffer of comparators goes with each buffer of bytes that decides: none, one that is a byte too
- * small, and one that fits; and each of bytes with a buffer of comparators that fits. */
+/* Each buffer of comparators goes with each buffer of bytes that decides: none, one that is a byte
+ * too small, and one that fits; and each of bytes with a buffer of comparators that fits. */
 static void try_all_rooms(const text *of, int32_t reading, bool exact, const text *set,
                           const comparator_list *list) {
     const text *pre_releases = &list->pre_releases;

@@ -1,7 +1,7 @@
-/* What the C functions return by each of the four readings: what each takes a text of a version or of
- * a range to be, which rules for pre-releases each has, and which pre-releases Cargo and npm
- * themselves take. What is wanted stands in the tables of docs/MEANING.md, above all in that of
- * "Which dialect?", and in those of docs/GRAMMAR.md. */
+/* What the C functions return in each of the four dialects: what each takes a text of a version or
+ * of a range to be, which rules for pre-releases each has, and which pre-releases Cargo and npm
+ * themselves take. What is wanted is in the tables of docs/MEANING.md, above all in that of "Which
+ * dialect?", and in those of docs/GRAMMAR.md. */
 #include "calls.h"
 
 #include <stdio.h>

@@ -376,8 +376,8 @@ static void versions_take_by_reading(void) {
     }
 }
 
-/* What each call takes by the reading: the ranges of a text are separated by bars, and the comparators
- * by blanks or, as Cargo has them, by commas. The caret raises a bound, so the least pre-release of
+/* What each call takes by the reading: the ranges of a text are separated by bars, and the
+ * comparators by blanks or, as Cargo has them, by commas. The caret raises a bound, so the least pre-release of
  * 2.0.0 is gained where all pre-releases count. */
 static void takes_by_reading(void) {
     bool is_cargo = reading == SEMVER_PARSER_CARGO;

@@ -1,6 +1,6 @@
-/* Sets as data: what a range gives, what is asked of it, two of them combined and compared, and data
- * that is no set. Each buffer is a block of its own, of the size that is told, and of each smaller
- * one. What is wanted follows from docs/MEANING.md. */
+/* Sets as data: what a range gives, what is asked of it, two of them combined and compared, and
+ * data that is no set. Each buffer is a block of its own, of the size that is needed, and of each
+ * smaller one. What is wanted follows from docs/MEANING.md. */
 #include "../../crates/semver_parser_c/include/semver_parser.h"
 
 #include <stdio.h>
@@ -208,7 +208,8 @@ static void prints(const owned *set, printing print, const char *wanted) {
         size_t length = 0;
         int32_t answer = print(set, room != 0 ? out : NULL, room, &length);
         check(length == strlen(wanted), "another length", wanted);
-        check(answer == (room < length ? (int32_t)SEMVER_PARSER_NO_ROOM : (int32_t)SEMVER_PARSER_OK),
+        bool fits = room >= length;
+        check(answer == (fits ? (int32_t)SEMVER_PARSER_OK : (int32_t)SEMVER_PARSER_NO_ROOM),
               "another answer", wanted);
         check(answer == SEMVER_PARSER_OK ? memcmp(out, wanted, length) == 0 : is_filled(out, room),
               "another text", wanted);

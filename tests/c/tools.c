@@ -6,8 +6,8 @@
  * means with all pre-releases; `version-as-npm` has a version text, of which the table has the
  * fields, or `none`; `refused-as-npm`, or `refused-as-crate`, one of which the table has where and
  * why it is no version; and `refused-range-as-npm`, or `refused-range-as-crate-npm`, one of which it
- * has where and why it gives no range, and the hint. Of a call that begins with `sum-of-` the table has the checksum of the
- * answer. Ends with status 1 if a row differs or a call has few rows. */
+ * has where and why it gives no range, and the hint. Of a call that begins with `sum-of-` the table
+ * has the checksum of the answer. Ends with status 1 if a row differs or a call has few rows. */
 #include "calls.h"
 #include "table.h"
 
@@ -95,8 +95,8 @@ static bool is_too_large(const text *version, int32_t reading) {
 }
 
 /* Writes those versions of a list that meet a range by a rule, as the table does, or the word of
- * the range's error. The versions are separated by spaces. Those that are too large for npm have to be
- * refused. */
+ * the range's error. The versions are separated by spaces. Those that are too large for npm have to
+ * be refused. */
 static void say_meant(text *to, const text *range, int32_t reading, int32_t rule,
                       const char *list) {
     text_say(to, "means");
@@ -228,7 +228,8 @@ static bool replay_no_range(const row *of, int32_t reading) {
     if (answer == SEMVER_PARSER_OK) {
         text_say(&told, "a range");
     } else {
-        const char *error = answer == SEMVER_PARSER_NOT_A_RANGE ? "not a range" : "number too large";
+        const char *error =
+            answer == SEMVER_PARSER_NOT_A_RANGE ? "not a range" : "number too large";
         text_say(&told, "%zu: %s%s", place, error, hint_words(hint));
     }
     bool passed = is_answer(&told, of->expected, of, "by the reading");

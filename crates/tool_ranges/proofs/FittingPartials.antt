@@ -11,7 +11,7 @@ use Rattle.semver_texts.proofs.Lists.{by_test, never}
 use Rattle.semver_ranges.specs.declared.range.Compat.{Compat}
 use Rattle.semver_ranges.specs.NpmLengths.{is_short_number}
 use Rattle.semver_ranges.specs.RangeTree.{PartialTree, one, two, three, SpellsPartial, components, is_component, is_wildcard}
-use Rattle.semver_ranges.specs.RangeTree.{Form, caret, Role, is_word_of_npm}
+use Rattle.semver_ranges.specs.RangeTree.{Form, caret, Role, has_no_leading_zeros, has_short_parts, is_word_of_npm}
 use Rattle.semver_ranges.specs.Partials.{stated, states_nothing}
 use Rattle.version_fronts.proofs.FrontPartials.{Rest, rest_text, IsFrontOf, EndsIn, InFirst, EndGoesOn}
 use Rattle.version_fronts.proofs.FrontPartials.{after_numbers, cut_component, ends_in, value_front, value_less, partial_goes_on}
@@ -63,7 +63,10 @@ wild_npm role a b n x y s t = cc
 
 short_word : (role : Role) (p : PartialTree) (a : Text) (cs : List Text) (n : ℕ) → components p ≡ a ∷ cs → is_word_of_npm role p n ≡ true
     → (is_short_number a ≡ true) × (list_all is_short_number cs ≡ true)
-short_word role p a cs n e h = search rules
+short_word role p a cs n e h =
+    let short = and_parts (has_short_parts p) _ (and_parts (has_no_leading_zeros p) _ h).1 in
+    let numbers = and_parts (list_all is_short_number (components p)) _ short.0 in
+    and_parts (is_short_number a) _ (rw e at numbers.0)
 
 short_begun : (x y : Text) → is_short_number (x ++ y) ≡ true → is_short_number x ≡ true
 short_begun x y h = grind (arith, common_steps)

@@ -10,14 +10,14 @@ use Rattle.semver_texts.specs.declared.dialect.Dialect.TheVariants.{Npm}
 use Rattle.semver_ranges.specs.RangeTree.{SetTree, SpellsIn}
 
 -- what JavaScript calls white space, beyond ASCII
-abbrev pub is_white_space : ℕ → Bool
-is_white_space c = (c == 0xA0) || ((c == 0x1680) || (is_in_range 0x2000 0x200A c
+abbrev pub is_white_space_beyond_ascii : ℕ → Bool
+is_white_space_beyond_ascii c = (c == 0xA0) || ((c == 0x1680) || (is_in_range 0x2000 0x200A c
     || ((c == 0x2028) || ((c == 0x2029) || ((c == 0x202F) || ((c == 0x205F) || ((c == 0x3000)
     || (c == 0xFEFF))))))))
 
 -- a character that may be in a range text
 abbrev pub may_stand : ℕ → Bool
-may_stand c = is_in_range 0 127 c || is_white_space c
+may_stand c = is_in_range 0 127 c || is_white_space_beyond_ascii c
 
 -- a tree spells a text as npm reads it
 pub record SpellsNpm (tree : SetTree) (t : Text) : Type 0 where

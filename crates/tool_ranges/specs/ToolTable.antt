@@ -12,7 +12,7 @@ use Rattle.semver_texts.specs.Texts.{is_empty}
 use Rattle.semver_ranges.specs.RangeTree.{Form, less, greater, Simple}
 use Rattle.semver_ranges.specs.Partials.{stated, zero_filled, fits_u64}
 use Rattle.semver_ranges.specs.RewritingTable.{PlainComparator, comparator, up, bound_fits}
-use Rattle.semver_ranges.specs.RewritingTable.{raised_bound, written_simple, simple_fits}
+use Rattle.semver_ranges.specs.RewritingTable.{raised_bound, written_simple}
 use Rattle.semver_ranges.specs.Terms.{of_simple}
 use Rattle.semver_texts.specs.Versions.{PlainVersion}
 use Rattle.semver_ranges.specs.ExactBounds.{lowest_pre_release, exact_bound}
@@ -57,8 +57,4 @@ raised_in mode s =
 
 -- whether the numbers that a simple states, and those of its raised bound, are at most 2^64 - 1
 abbrev pub fits_in : Compat → Simple → Bool
-fits_in mode s =
-    if begins_above s
-    then list_all fits_u64 (stated s.partial)
-    && bound_fits (Some (up (length (stated s.partial)) (stated s.partial)))
-    else simple_fits mode s
+fits_in mode s = list_all fits_u64 (stated s.partial) && bound_fits (raised_in mode s)

@@ -13,7 +13,7 @@ ghost use Rattle.semver_ranges.specs.PrintedRanges.{IsPrintableSet, set_text};
 ghost use Rattle.semver_ranges.specs.RewritingTable.{fits, rewritten};
 ghost use Rattle.version_sets.specs.Flat.{HasPrintableRanges};
 ghost use Rattle.tool_ranges.specs.Steps.LowerBounds.{set_begun, written_for};
-ghost use Rattle.tool_ranges.specs.NpmGrammar.{is_white_space, may_stand, SpellsNpm};
+ghost use Rattle.tool_ranges.specs.NpmGrammar.{is_white_space_beyond_ascii, may_stand, SpellsNpm};
 ghost use Rattle.tool_ranges.specs.NpmMeaning.{meets_npm};
 ghost use Rattle.tool_ranges.specs.NpmTable.{is_safe_simple, rewritten_npm};
 ghost use Rattle.tool_ranges.specs.Readings.{RefusesAs};
@@ -93,13 +93,14 @@ fn may_stand(range: &str) -> bool
     ensures { result ≡ list_all may_stand (chars range.now) }
 {
     range.is_ascii()
-        || range.chars().all(|character| character.is_ascii() || is_white_space(character))
+        || range.chars().all(|character| character.is_ascii()
+            || is_white_space_beyond_ascii(character))
 }
 
 /// Whether a character beyond ASCII is white space to JavaScript.
 #[inline(always)]
-fn is_white_space(character: char) -> bool
-    ensures { result ≡ is_white_space character }
+fn is_white_space_beyond_ascii(character: char) -> bool
+    ensures { result ≡ is_white_space_beyond_ascii character }
 {
     matches!(
         character,

@@ -128,7 +128,8 @@ def asks_of(package: Package) -> Iterator[Tuple[str, str]]:
 
 
 def name_of(pattern: str) -> str:
-    """The name that a pattern asks for: what is before the `@` of `numbers@^1` or `@of/numbers@^1`."""
+    """The name that a pattern asks for: what is before the second `@` of `@of/numbers@^1`, or the
+    only one of `numbers@^1`."""
     return pattern[: pattern.find("@", 1)]
 
 

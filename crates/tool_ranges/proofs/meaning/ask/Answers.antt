@@ -37,8 +37,9 @@ pub returns-in-CargoReleases : goal.returns-in-CargoReleases
 returns-in-CargoReleases c =
     let e = c.ask-in-CargoReleases.ensures in
     let v = asked_of c.args.version.now in
-    let told = said_by meaning.CargoReleases _ _ (without_build v) (λ tree. is_empty v.pre && meets_requirement tree v) _ c.in-CargoReleases.is (λ tree. refl)
-    (released reading.Cargo _ _ v _ _ c.of_releases.ensures (record { refusals = e.refusals; no_memory = e.no_memory; meaning = e.meaning })) in
+    let told = said_by meaning.CargoReleases _ _ (without_build v) (λ tree. is_empty v.pre && meets_requirement tree v) _
+    c.in-CargoReleases.is (λ tree. refl) (released reading.Cargo _ _ v _ _ c.of_releases.ensures
+    (record { refusals = e.refusals; no_memory = e.no_memory; meaning = e.meaning })) in
     record { refusals = told.refusals; no_memory = told.no_memory; meaning = told.meaning }
 
 pub returns-in-Npm : goal.returns-in-Npm
@@ -61,8 +62,9 @@ pub returns-in-NpmReleases : goal.returns-in-NpmReleases
 returns-in-NpmReleases c =
     let e = c.ask-in-NpmReleases.ensures in
     let v = asked_of c.args.version.now in
-    let told = said_by meaning.NpmReleases _ _ (without_build v) (λ tree. is_empty v.pre && meets_npm tree v) _ c.in-NpmReleases.is (λ tree. refl)
-    (released reading.Npm _ _ v _ _ c.of_releases-in-NpmReleases.ensures (record { refusals = e.refusals; no_memory = e.no_memory; meaning = e.meaning })) in
+    let told = said_by meaning.NpmReleases _ _ (without_build v) (λ tree. is_empty v.pre && meets_npm tree v) _
+    c.in-NpmReleases.is (λ tree. refl) (released reading.Npm _ _ v _ _ c.of_releases-in-NpmReleases.ensures
+    (record { refusals = e.refusals; no_memory = e.no_memory; meaning = e.meaning })) in
     record { refusals = told.refusals; no_memory = told.no_memory; meaning = told.meaning }
 
 pub returns-in-Excluded : goal.returns-in-Excluded
@@ -72,7 +74,8 @@ returns-in-Excluded c =
     let v = asked_of c.args.version.now in
     let told = said_by (meaning.Crate compat Excluded) _ _ (without_build v) _ _
     (c.in-Crate.is ∙ ap (meaning.Crate compat) c.in-Excluded.is) (λ tree. fitting Excluded compat (without_build v) tree c.requires)
-    (released (reading.Crate compat) _ _ v _ _ c.of_releases-in-Excluded.ensures (said_so (reading.Crate compat) _ _ (λ tree. meets_tree compat tree v) _ (λ tree. own_said v compat tree)
+    (released (reading.Crate compat) _ _ v _ _ c.of_releases-in-Excluded.ensures
+    (said_so (reading.Crate compat) _ _ (λ tree. meets_tree compat tree v) _ (λ tree. own_said v compat tree)
     (record { refusals = e.refusals; no_memory = e.no_memory; meaning = e.meaning }))) in
     record { refusals = told.refusals; no_memory = told.no_memory; meaning = told.meaning }
 
@@ -83,8 +86,8 @@ returns-in-Stated c =
     let v = asked_of c.args.version.now in
     let told = said_by (meaning.Crate compat Stated) _ _ (without_build v) _ _
     (c.in-Crate.is ∙ ap (meaning.Crate compat) c.in-Stated.is) (λ tree. fitting Stated compat (without_build v) tree c.requires)
-    (said_so (reading.Crate compat) _ _ (λ tree. meets_tree_as_stated compat tree v) _ (λ tree. ap (λ b. list_any (range_met (terms.Crate compat) v b) tree) c.is_release.ensures
-    ∙ stated_said v compat tree)
+    (said_so (reading.Crate compat) _ _ (λ tree. meets_tree_as_stated compat tree v) _
+    (λ tree. ap (λ b. list_any (range_met (terms.Crate compat) v b) tree) c.is_release.ensures ∙ stated_said v compat tree)
     (record { refusals = e.refusals; no_memory = e.no_memory; meaning = e.meaning })) in
     record { refusals = told.refusals; no_memory = told.no_memory; meaning = told.meaning }
 
