@@ -62,3 +62,7 @@ pub record IsLeast (IsOfKind : PlainVersion → Type 0) (set : SetValue) (v : Pl
 -- none of a kind is in the set
 abbrev pub HasNone : (PlainVersion → Type 0) → SetValue → Type 0
 HasNone IsOfKind set = (v : PlainVersion) → IsOfKind v → ¬ IsIn v set
+
+-- some version is in the set
+abbrev pub HasSomeVersion : SetValue → Type 0
+HasSomeVersion set = (v : PlainVersion) × IsIn v set

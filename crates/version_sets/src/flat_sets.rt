@@ -5,9 +5,8 @@ ghost use Rattle.std.specs.List.{AllByRecursion};
 ghost use Rattle.semver_parser.specs.Partials.{kept};
 ghost use Rattle.semver_parser.specs.Texts.{cut_at_dots};
 ghost use Rattle.semver_parser.specs.VersionViews.{identifier_value};
-ghost use Rattle.semver_parser.specs.Versions.{PlainVersion};
 ghost use Rattle.version_sets.specs.Releases.{release_value};
-ghost use Rattle.version_sets.specs.VersionSets.{IsIn};
+ghost use Rattle.version_sets.specs.VersionSets.{HasSomeVersion};
 ghost use Rattle.version_sets.specs.Steps.FlatViews.{is_text, switch_value, text_at};
 ghost use Rattle.version_sets.specs.Steps.Places.{version_place};
 
@@ -27,7 +26,7 @@ impl<'a> FlatSet<'a> {
     pub fn to_set(&self, alloc: Global) -> Result<VersionSet, AllocError>
         ensures set { IfOk result (λ set. set ≡ self.now) }
         // Memory runs out only where the set has a version.
-        ensures out_of_memory { IfErr result (λ _. (v : PlainVersion) × IsIn v self.now) }
+        ensures out_of_memory { IfErr result (λ _. HasSomeVersion self.now) }
     {
         let releases = releases_of(alloc, self.releases)?;
         let pre_releases = pre_releases_of(alloc, self.pre_releases, self.bytes)?;

@@ -1,7 +1,7 @@
 //! Sets written as flat data.
 
-ghost use Rattle.std.specs.Prelude.{◌≡◌, ◌++◌, ◌∷◌, [], Some, IfOk, OnOk, MatchOption, length, map};
-ghost use Rattle.std.specs.Prelude.{string_bytes};
+ghost use Rattle.std.specs.Prelude.{◌≡◌, ◌++◌, ◌∷◌, [], Some, IfErr, IfOk, OnOk, MatchOption};
+ghost use Rattle.std.specs.Prelude.{length, map, string_bytes};
 ghost use Rattle.std.specs.List.{flat_map, list_all};
 ghost use Rattle.semver_parser.specs.Outlines.{dotted_text};
 ghost use Rattle.semver_parser.specs.PrintedRanges.{is_kept as kept, is_printable_version};
@@ -35,9 +35,12 @@ impl VersionSet {
     ///
     /// It is `None` if an identifier can't be read back from its text: a text that isn't letters,
     /// digits and hyphens, or that is digits up to 2^64 - 1, as comparators made by hand may have.
+    /// Then it does not allocate.
     pub fn to_flat(&self, alloc: Global) -> Result<Option<FlatData>, AllocError>
         ensures flat { IfOk result (λ flat. MatchOption flat (¬ (IsPrintable self.now))
             (λ made. IsFlat made.switches.items (string_bytes made.bytes) self.now)) }
+        // Memory runs out only where there is flat data.
+        ensures out_of_memory { IfErr result (λ _. IsPrintable self.now) }
     {
         if !are_printable(&self.pre_releases) {
             return Ok(None);
