@@ -1,5 +1,6 @@
 -- Sets with the same versions have the same switches.
 use Rattle.std.proofs.Common.{arith, ◌≡◌, ◌↔◌, Bool, true, not, ◌&&◌, sym}
+use Rattle.std.proofs.lemmas.Bool.{and_parts}
 use Rattle.std.proofs.Common.{ap, ap₂, ◌∙◌, subst, true≢false, Ordering, Equal, is_eq}
 use lib.Pointwise.{pointwise_decides}
 use Rattle.std.specs.Cmp.{tied_itself}
@@ -17,9 +18,6 @@ use Rattle.version_sets.proofs.WalkLaws.{by_test}
 one_answer : (p q : Bool) → (p ≡ true → q ≡ true) → (q ≡ true → p ≡ true) → p ≡ q
 one_answer p q e f = grind arith
 
-both_true : (p q : Bool) → (p && q) ≡ true → (p ≡ true) × (q ≡ true)
-both_true p q e = grind arith
-
 pub equal_is : (r : Ordering) → is_eq r ≡ true → r ≡ Equal
 equal_is r e = grind arith
 
@@ -35,7 +33,7 @@ pub same_is : (a b : SetValue) (r : Bool) → r ≡ same_switches a b → (r ≡
 same_is a b r e =
     let releases = pointwise_decides exact a.releases b.releases in
     let pre_releases = pointwise_decides exact a.pre_releases b.pre_releases in (
-      λ h. let both = both_true _ _ (sym e ∙ h) in λ i. record { releases = releases.0 both.0 i; pre_releases = pre_releases.0 both.1 i },
+      λ h. let both = and_parts _ _ (sym e ∙ h) in λ i. record { releases = releases.0 both.0 i; pre_releases = pre_releases.0 both.1 i },
       λ is. e ∙ ap₂ (λ p q. p && q) (releases.1 (ap (λ s. s.releases) is)) (pre_releases.1 (ap (λ s. s.pre_releases) is)),
     )
 
@@ -69,7 +67,7 @@ tells_within a b k some = (
   ),
   λ h. by_test k
       (λ t. let found = some.0 t in
-      let parts = both_true _ _ found.1.1 in
+      let parts = and_parts _ _ found.1.1 in
       absurd (true≢false (sym parts.1 ∙ ap not (h found.0 (found.1.0, parts.0)).1)))
       (λ f. ap not f),
 )
