@@ -1,20 +1,20 @@
 -- What one line does to the state, and what the line that no line feed ends does.
 use Rattle.std.proofs.Common.{◌≡◌, ◌∙◌, ◌⊎◌, ◌++◌, ◌∷◌, [], List, Bool, true, false, not, refl, sym, ap, subst, inl, inr, IsTrue}
 use Rattle.std.proofs.Common.{append-nil, length, ◌==◌, arith, rules}
-use Rattle.std.specs.Prelude.{◌||◌, Option, option_to_list}
+use Rattle.std.specs.Prelude.{◌||◌, None, Option, option_to_list}
 use Rattle.semver_parser.specs.Outlines.{OutlineValue}
 use Rattle.semver_parser.specs.Texts.{Text}
 use Rattle.semver_parser.specs.Versions.{PlainVersion}
 use Rattle.release_filter.specs.Counting.{CountsValue, counted_as, one_more}
 use Rattle.release_filter.specs.LineTexts.{IsWholeLine, after_mark, lines_of}
-use Rattle.release_filter.specs.Pieces.{Completes, EndsInvalid, LinesValue}
+use Rattle.release_filter.specs.Pieces.{Completes, EndAllocates, EndsInvalid, LinesValue}
 use Rattle.release_filter.specs.Steps.Outlined.{JudgesBy}
 use Rattle.release_filter.specs.Filters.{FilterValue}
 use Rattle.release_filter.specs.Steps.Taking.{Concludes, Outlines, PassesAs, TakesJudged, TakesLine, TakesWhole, verdict_of}
 use Rattle.release_filter.specs.Verdicts.{AreJudged, HasVersion, IsVerdictOn, JudgedLine, Verdict, asked, has_invalid, is_invalid, kept}
 use Rattle.release_filter.specs.Verdicts.{dropped}
 use Rattle.release_filter.specs.Verdicts.{empty, invalid}
-use Rattle.release_filter.specs.Wanted.{HeldValue, Holds, IsBest, KeptValue, emptied, kept_as, order_of, text_of}
+use Rattle.release_filter.specs.Wanted.{AnswerAllocates, HeldValue, Holds, IsBest, KeptValue, emptied, kept_as, order_of, text_of}
 use Rattle.release_filter.specs.declared.wanted.Wanted.TheVariants as wanted
 use Rattle.release_filter.specs.declared.judging.Judged.{Judged}
 use Rattle.release_filter.specs.declared.judging.Judged.TheVariants.{NoVersion, DoesNotPass, Passes}
@@ -165,6 +165,13 @@ module _ (s : LinesValue) (line : Text) (is : line ≡ after_mark s.at_front s.u
     state = refl;
   }
 
+  pub none_allocates : line ≡ [] → (old : Text) → AnswerAllocates s.held [] old → EndAllocates s old
+  none_allocates none old answer = (
+    [],
+    subst (λ l. AreJudged s.filter s.prefixes l []) (sym (no_lines none)) (judged_none s.filter s.prefixes),
+    inr answer,
+  )
+
   pub ends_valid_none : OneVersion → line ≡ [] → ¬ (EndsInvalid s)
   ends_valid_none same none (judged, judges, bad) =
       let those = one_judging s.filter s.prefixes same (lines_of (after_mark s.at_front s.unended)) [] judged
@@ -223,3 +230,17 @@ module _ (s : LinesValue) (line : Text) (is : line ≡ after_mark s.at_front s.u
           let those = one_judging s.filter s.prefixes same (lines_of (after_mark s.at_front s.unended)) (last ∷ []) judged last_judged
           judges in
           not_both (ap has_invalid those ∙ isnt) (ap (λ b. b || false) (sym (so told.0) ∙ e))
+
+      -- ---- what the end allocates for
+
+      pub noting_allocates : (old : Text)
+          → ((plain : PlainVersion) → IsTrue (is_invalid (verdict_of said plain line)) × (s.counts.first_invalid ≡ None))
+          → EndAllocates s old
+      noting_allocates old first =
+          let one = first told.0 in
+          (last ∷ [], last_judged, inl (ap (λ b. b || false) one.0, one.1))
+
+      pub answering_allocates : (old : Text)
+          → ((plain : PlainVersion) → AnswerAllocates s.held (kept_as (verdict_of said plain line) line) old) → EndAllocates s old
+      answering_allocates old answer =
+          (last ∷ [], last_judged, inr (subst (λ l. AnswerAllocates s.held l old) (sym (kept_one last)) (answer told.0)))

@@ -1,5 +1,6 @@
 -- A text that comes in pieces: what a piece does, what the end of the text does, and what is left.
 use Rattle.std.specs.Prelude.{◌≡◌, ◌⊎◌, ◌&&◌, Bool, true, false, List, [], ◌∷◌, ◌++◌, IsTrue}
+use Rattle.std.specs.Prelude.{None}
 use Rattle.std.specs.List.{AllZip}
 use Rattle.semver_parser.specs.Texts.{Text, is_empty}
 use Rattle.release_filter.specs.Counting.{CountsValue, counted, one_more}
@@ -7,7 +8,8 @@ use Rattle.release_filter.specs.Filters.{FilterValue}
 use Rattle.release_filter.specs.LineTexts.{AreCut, after_mark, lines_of, marked_off}
 use Rattle.release_filter.specs.Skipping.{IsLeft}
 use Rattle.release_filter.specs.Verdicts.{AreJudged, JudgedLine, has_invalid, invalid}
-use Rattle.release_filter.specs.Wanted.{Answers, HeldValue, Holds, emptied, kept_of}
+use Rattle.release_filter.specs.Wanted.{AnswerAllocates, Answers, HeldValue, Holds, emptied}
+use Rattle.release_filter.specs.Wanted.{kept_of}
 use Rattle.release_filter.specs.declared.lines.LinesError.{LinesError}
 use Rattle.release_filter.specs.declared.lines.LinesError.TheVariants.{OutOfMemory, NoVersion}
 
@@ -96,6 +98,14 @@ abbrev pub EndsInvalid : LinesValue → Type 0
 EndsInvalid s = (judged : List JudgedLine)
     × AreJudged s.filter s.prefixes (lines_of (after_mark s.at_front s.unended)) judged
     × (has_invalid judged ≡ true)
+
+-- what the end of the text allocates for: the line that no line feed ends, if it is the first
+-- invalid one, and the rest of the answer
+abbrev pub EndAllocates : LinesValue → Text → Type 0
+EndAllocates s old = (judged : List JudgedLine)
+    × AreJudged s.filter s.prefixes (lines_of (after_mark s.at_front s.unended)) judged
+    × ((IsTrue (has_invalid judged) × (s.counts.first_invalid ≡ None))
+    ⊎ AnswerAllocates s.held (kept_of judged) old)
 
 -- the end of the text was not taken
 abbrev pub RefusesEnd : LinesValue → LinesError → Type 0

@@ -1,7 +1,7 @@
 -- Which of the kept lines are wanted: each at once, or of all of them the greatest, the least, or
 -- all sorted, which come at the end.
-use Rattle.std.specs.Prelude.{◌≡◌, ◌≢◌, List, [], ◌∷◌, ◌++◌, map, filter, Option, Some, None}
-use Rattle.std.specs.Prelude.{option_to_list}
+use Rattle.std.specs.Prelude.{◌≡◌, ◌≢◌, ◌<◌, ◌⊎◌, List, [], ◌∷◌, ◌++◌, map, filter, length}
+use Rattle.std.specs.Prelude.{Option, Some, None, option_to_list}
 use Rattle.std.specs.List.{AllByRecursion, AllPairs, concat}
 use Rattle.std.specs.List.Sorted.{IsPermutation}
 use Rattle.std.specs.Io.BufRead.{strip_last}
@@ -109,3 +109,10 @@ AnswersBy wanted h appended = appended ≡ text_of (option_to_list h.best)
 
 abbrev pub Answers : HeldValue → Text → Type 0
 Answers h appended = AnswersBy h.wanted h appended
+
+-- what the end of the text allocates for, if the last line is kept as these: for that line, for
+-- lines that are sorted, and for a copy of the best line. If nothing was appended before, the best
+-- line is moved
+abbrev pub AnswerAllocates : HeldValue → List KeptValue → Text → Type 0
+AnswerAllocates h last old =
+    (0 < length last) ⊎ (0 < length h.sorted) ⊎ ((h.best ≢ None) × (0 < length old))

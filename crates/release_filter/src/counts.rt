@@ -1,6 +1,6 @@
 //! How many lines a text has, how many of these have no version, and the first of those.
 
-ghost use Rattle.std.specs.Prelude.{◌≡◌, IfOk};
+ghost use Rattle.std.specs.Prelude.{◌≡◌, IfErr, IfOk, IsTrue, None};
 ghost use Rattle.semver_parser.specs.Versions.{PlainVersion};
 ghost use Rattle.release_filter.specs.Counting.{counted_as, counts_value, no_counts};
 ghost use Rattle.release_filter.specs.Steps.Noting.{added};
@@ -19,7 +19,7 @@ const FRONT: usize = 81;
 pub struct Counts {
     /// The lines that have ended, and the last one, once the end of the text was taken.
     pub lines: u64,
-    /// Those of them that are empty: a line feed, after a carriage return or not.
+    /// Those of them whose text is empty.
     pub empty: u64,
     /// Those of them that are invalid: they aren't empty, and have no version.
     pub invalid: u64,
@@ -71,9 +71,13 @@ impl Counts {
         line: &[u8],
         judged: &Judged<'_>,
     ) -> Result<Noted, AllocError>
-        ensures { (plain : PlainVersion) → IfOk result (λ noted.
+        ensures counted { (plain : PlainVersion) → IfOk result (λ noted.
             added (counts_value self.now) noted ≡ counted_as
             (verdict_of judged.now plain line.now) (counts_value self.now) line.now) }
+        // Memory runs out only for the first invalid line.
+        ensures out_of_memory { (plain : PlainVersion) → IfErr result (λ _.
+            IsTrue (is_invalid (verdict_of judged.now plain line.now))
+            × ((counts_value self.now).first_invalid ≡ None)) }
     {
         match judged {
             Judged::NoVersion => self.noted_without_version(alloc, line),
@@ -83,8 +87,10 @@ impl Counts {
 
     /// What is to be counted of a line that has no version.
     fn noted_without_version(&self, alloc: Global, line: &[u8]) -> Result<Noted, AllocError>
-        ensures { IfOk result (λ noted. added (counts_value self.now) noted
+        ensures counted { IfOk result (λ noted. added (counts_value self.now) noted
             ≡ counted_as (without_version line.now) (counts_value self.now) line.now) }
+        ensures out_of_memory { IfErr result (λ _. IsTrue (is_invalid (without_version line.now))
+            × ((counts_value self.now).first_invalid ≡ None)) }
     {
         let text = text_of(line);
         if text.is_empty() {

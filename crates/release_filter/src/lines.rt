@@ -7,7 +7,8 @@ ghost use Rattle.std.specs.Io.{StartsWith};
 ghost use Rattle.semver_parser.specs.Versions.{PlainVersion};
 ghost use Rattle.release_filter.specs.Counting.{counts_value, no_counts};
 ghost use Rattle.release_filter.specs.LineTexts.{IsWholeLine, after_mark};
-ghost use Rattle.release_filter.specs.Pieces.{Finishes, RefusesEnd, StopsAs, Takes, begun};
+ghost use Rattle.release_filter.specs.Pieces.{EndAllocates, Finishes, RefusesEnd, StopsAs, Takes};
+ghost use Rattle.release_filter.specs.Pieces.{begun};
 ghost use Rattle.release_filter.specs.Steps.Taking.{PassesAs, TakesJudged, TakesLine, TakesRest};
 ghost use Rattle.release_filter.specs.Steps.Taking.{TakesWhole, held_value, texts, verdict_of};
 ghost use Rattle.release_filter.specs.Verdicts.{JudgedLine, has_invalid, is_invalid};
@@ -50,14 +51,16 @@ pub struct Stopped {
 /// A line ends with a line feed, and the last one may have none. Its text is the line without that
 /// line feed, and then without one carriage return at its end. A line is kept if its text is one
 /// of the prefixes and then spells a version that passes, by the dialect of the filter
-/// (docs/GRAMMAR.md): by the crate's, spaces and tabs may stand around the version. The first
-/// prefix after which it spells a version decides. Without a prefix it is as with the empty one.
+/// (docs/GRAMMAR.md): by the crate's, spaces, tabs and carriage returns may be around the version.
+/// The first prefix after which it spells a version decides. Without a prefix it is as with the
+/// empty one.
 ///
 /// A byte order mark at the front of the text is dropped, also one that is cut between pieces.
 ///
 /// Of a line that goes on into the next piece its bytes are held. At 4,096 of them, at twice as
 /// many, and so on, they are checked: if no line with a version begins with them, no more than
-/// these are held, and the rest of the line is skipped.
+/// these are held, and the rest of the line is skipped; the bytes of the piece that ends it are
+/// held until it is judged.
 #[derive(Drop)]
 pub struct Lines {
     chosen: LineFilter,
@@ -184,9 +187,10 @@ impl Lines {
     ///
     /// # Errors
     ///
-    /// `OutOfMemory` if an allocation fails. `NoVersion`, exactly where the lines are strict and
-    /// the last line isn't empty and has no version. Then nothing was appended, the lines are as
-    /// they were, and the call can be repeated.
+    /// `OutOfMemory` if an allocation fails: for the last line, if it is kept or the first invalid
+    /// one, for lines that are sorted, or for the best line, if `kept` isn't empty. `NoVersion`,
+    /// exactly where the lines are strict and the last line isn't empty and has no version. Then
+    /// nothing was appended, the lines are as they were, and the call can be repeated.
     ///
     /// # Details
     ///
@@ -200,6 +204,9 @@ impl Lines {
         ensures same_state { IfErr result (λ _. self.new ≡ self.old) }
         ensures same_kept { IfErr result (λ _. kept.new.items ≡ kept.old.items) }
         ensures refuses { IfErr result (RefusesEnd self.old) }
+        // Memory runs out only for a first invalid line, a kept one, or what was held.
+        ensures out_of_memory { IfErr result (λ error. error ≡ LinesError.OutOfMemory
+            → EndAllocates self.old kept.old.items) }
     {
         laws::one_version_in();
         let line = after_mark(self.at_front, self.unended.as_slice());

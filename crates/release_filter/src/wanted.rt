@@ -1,7 +1,7 @@
 //! Which of the kept lines are wanted, and those that are held until the end of the text.
 
-ghost use Rattle.std.specs.Prelude.{◌≡◌, ◌↔◌, ◌++◌, [], ◌∷◌, true, IfErr, IfOk, MatchOption, map};
-ghost use Rattle.std.specs.Prelude.{List, Option, option_to_list};
+ghost use Rattle.std.specs.Prelude.{◌≡◌, ◌<◌, ◌↔◌, ◌++◌, [], ◌∷◌, true, IfErr, IfOk, MatchOption};
+ghost use Rattle.std.specs.Prelude.{List, Option, length, map, option_to_list};
 ghost use Rattle.std.specs.Option.{option_map};
 ghost use Rattle.std.specs.declared.cmp.Ordering.TheVariants.{Less};
 ghost use Rattle.semver_parser.specs.Texts.{Text};
@@ -9,8 +9,9 @@ ghost use Rattle.semver_parser.specs.Versions.{PlainVersion};
 ghost use Rattle.semver_parser.specs.VersionViews.{version_value};
 ghost use Rattle.release_filter.specs.Steps.Taking.{Concludes, Outlines, PassesAs, held_value};
 ghost use Rattle.release_filter.specs.Steps.Taking.{kept_value, verdict_of};
-ghost use Rattle.release_filter.specs.Wanted.{Holds, IsBest, IsStableSort, KeptValue, emptied};
-ghost use Rattle.release_filter.specs.Wanted.{ended, ended_text, kept_as, order_of, text_of};
+ghost use Rattle.release_filter.specs.Wanted.{AnswerAllocates, Holds, IsBest, IsStableSort};
+ghost use Rattle.release_filter.specs.Wanted.{KeptValue, emptied, ended, ended_text, kept_as};
+ghost use Rattle.release_filter.specs.Wanted.{order_of, text_of};
 
 use crate::judging::Judged;
 use crate::line_texts::without_last;
@@ -150,6 +151,9 @@ impl Held {
         ensures wanted { IfOk result (λ _. self.new.wanted ≡ self.old.wanted) }
         ensures unchanged { IfErr result (λ _. (held_value self.new ≡ held_value self.old)
             × (kept.new.items ≡ kept.old.items)) }
+        ensures out_of_memory { (plain : PlainVersion) → IfErr result (λ _.
+            AnswerAllocates (held_value self.old)
+            (kept_as (verdict_of judged.now plain line.now) line.now) kept.old.items) }
     {
         match self.wanted {
             Wanted::Each => match judged {
@@ -183,6 +187,8 @@ impl Held {
         ensures wanted { self.new.wanted ≡ self.old.wanted }
         ensures unchanged { IfErr result (λ _. (held_value self.new ≡ held_value self.old)
             × (kept.new.items ≡ kept.old.items)) }
+        ensures out_of_memory { IfErr result (λ _. AnswerAllocates (held_value self.old)
+            (option_to_list (option_map kept_value last.now)) kept.old.items) }
     {
         if last.is_none() && kept.as_slice().is_empty() {
             if let Some(best) = mem::replace(&mut self.best, None) {
@@ -208,6 +214,8 @@ impl Held {
             ++ option_to_list (option_map kept_value last.now)) sorted
             × (kept.new.items ≡ kept.old.items ++ ended_text sorted)) }
         ensures unchanged { IfErr result (λ _. kept.new.items ≡ kept.old.items) }
+        ensures out_of_memory { IfErr result (λ _. AnswerAllocates (held_value self.now)
+            (option_to_list (option_map kept_value last.now)) kept.old.items) }
     {
         laws::precedence_is_total();
         let mut lines = Vec::new(alloc);
@@ -273,9 +281,11 @@ fn last_line(
     line: &[u8],
     judged: &Judged<'_>,
 ) -> Result<Option<KeptLine>, AllocError>
-    ensures { (plain : PlainVersion) → PassesAs judged.now plain → IfOk result (λ last.
+    ensures kept { (plain : PlainVersion) → PassesAs judged.now plain → IfOk result (λ last.
         option_to_list (option_map kept_value last)
         ≡ kept_as (verdict_of judged.now plain line.now) line.now) }
+    ensures out_of_memory { (plain : PlainVersion) → IfErr result (λ _.
+        0 < length (kept_as (verdict_of judged.now plain line.now) line.now)) }
 {
     match judged {
         Judged::Passes(outline) => Ok(Some(kept_line(alloc, outline, line)?)),
@@ -313,6 +323,7 @@ fn append_ended(lines: &[&KeptLine], kept: &mut Vec<u8>) -> Result<(), AllocErro
     ensures appends { IfOk result (λ _. kept.new.items ≡ kept.old.items
         ++ ended_text (map (λ line. kept_value line.now) lines.now)) }
     ensures unchanged { IfErr result (λ _. kept.new.items ≡ kept.old.items) }
+    ensures out_of_memory { IfErr result (λ _. 0 < length lines.now) }
 {
     let begun = kept.len();
     for line in lines {

@@ -7,7 +7,7 @@ use Rattle.release_filter.proofs.lines.take.Goals.{in-Passes+in_ok-keep, in_defa
 
 pub returns-clause-takes : goal.returns-clause-takes
 returns-clause-takes c = λ plain passes.
-    let counts = c.add.ensures ∙ c.in_ok-noted.ensures plain in (
+    let counts = c.add.ensures ∙ c.in_ok-noted.ensures.counted plain in (
       elim c.match-judged.branch [
         | in-Passes+in_ok-keep w ↦
             rw (w.held-is, w.kept-is)

@@ -1,16 +1,16 @@
 use Rattle.std.proofs.Common.{◌≡◌, ◌∙◌, [], List, None, false, true, ap, inl, refl, subst, sym}
 use Rattle.semver_parser.specs.Versions.{PlainVersion}
-use Rattle.release_filter.specs.Wanted.{KeptValue}
+use Rattle.release_filter.specs.Wanted.{AnswerAllocates, KeptValue}
 use Rattle.release_filter.specs.declared.judging.Judged.TheVariants as judged
 use Rattle.std.specs.Prelude.{IsTrue}
 use Rattle.release_filter.specs.Counting.{counts_value}
 use Rattle.release_filter.specs.LineTexts.{after_mark}
 use Rattle.release_filter.specs.declared.lines.Lines.TheView.{view}
-use Rattle.release_filter.specs.Pieces.{LinesValue, RefusesEnd}
+use Rattle.release_filter.specs.Pieces.{EndAllocates, LinesValue, RefusesEnd}
 use Rattle.release_filter.specs.Steps.Taking.{Concludes}
 use Rattle.release_filter.specs.declared.lines.LinesError.TheVariants.{NoVersion, OutOfMemory}
 use Rattle.release_filter.proofs.Endings.{fails_kept, ends_invalid, ends_valid, ends_valid_none, finished_none, finished_one, seen_end}
-use Rattle.release_filter.proofs.Endings.{some_line}
+use Rattle.release_filter.proofs.Endings.{answering_allocates, none_allocates, noting_allocates, some_line}
 use Rattle.release_filter.proofs.Passing.{no_length, not_both}
 use Rattle.release_filter.proofs.lines.Lines.finish.Goals as goal
 use Rattle.release_filter.proofs.lines.Lines.finish.Goals.{After-noted, else-self-via-then-self+else-is_bad, else-self-via-else-self}
@@ -92,9 +92,44 @@ returns-clause-finishes c =
       counts = counts_value c.add.new.self;
     }) in
     let ended = finished_one value line is some c.self.invariant.no_end c.judge_line-judged.result c.judge_line-judged.ensures
-    (counts_value c.add.new.self) old new c.in-Ok-finish.ensures.answers (λ plain. c.add.ensures ∙ c.in-Ok-noted.ensures plain)
+    (counts_value c.add.new.self) old new c.in-Ok-finish.ensures.answers (λ plain. c.add.ensures ∙ c.in-Ok-noted.ensures.counted plain)
     c.is_invalid-is_bad.result c.is_invalid-is_bad.ensures (not_bad (goal.at.returns-clause-finishes c).After-noted) in (
       ended.0,
       seen_end value _ _ _ ended.0 old new c.self.view_is begins ended.1,
       λ strict. ended.2 (ap (λ (v : LinesValue). v.is_strict) c.self.view_is ∙ strict),
     )
+
+pub returns-in_default-clause-out_of_memory : goal.returns-in_default-clause-out_of_memory
+returns-in_default-clause-out_of_memory c = λ _.
+    let value = view c.self.inside in
+    let line = c.after_mark-line.result.now in
+    let is = c.after_mark-line.ensures ∙ ap (after_mark value.at_front) c.as_slice.ensures.value in
+    let none = no_length line (sym c.is_empty.ensures ∙ c.if-is_empty.true) in
+    let old = c.args.kept.now.items in
+    let plain : PlainVersion = record { major = 0; minor = 0; patch = 0; pre = [] } in
+    subst (λ (x : LinesValue). EndAllocates x old) c.self.view_is
+    (none_allocates value line is none old
+    (subst (λ (l : List KeptValue). AnswerAllocates value.held l old) (fails_kept judged.NoVersion plain line (inl refl))
+    (c.in_default.ensures.out_of_memory plain)))
+
+pub returns-in_default-noted-clause-out_of_memory : goal.returns-in_default-noted-clause-out_of_memory
+returns-in_default-noted-clause-out_of_memory c = λ _.
+    let value = view c.self.inside in
+    let line = c.after_mark-line.result.now in
+    let is = c.after_mark-line.ensures ∙ ap (after_mark value.at_front) c.as_slice.ensures.value in
+    let some = some_line line (sym c.is_empty.ensures ∙ c.if-is_empty.false) in
+    let old = c.args.kept.now.items in
+    subst (λ (x : LinesValue). EndAllocates x old) c.self.view_is
+    (noting_allocates value line is some c.self.invariant.no_end c.judge_line-judged.result c.judge_line-judged.ensures old
+    c.in_default-noted.ensures.out_of_memory)
+
+pub returns-in_default-finish-clause-out_of_memory : goal.returns-in_default-finish-clause-out_of_memory
+returns-in_default-finish-clause-out_of_memory c = λ _.
+    let value = view c.self.inside in
+    let line = c.after_mark-line.result.now in
+    let is = c.after_mark-line.ensures ∙ ap (after_mark value.at_front) c.as_slice.ensures.value in
+    let some = some_line line (sym c.is_empty.ensures ∙ c.if-is_empty.false) in
+    let old = c.args.kept.now.items in
+    subst (λ (x : LinesValue). EndAllocates x old) c.self.view_is
+    (answering_allocates value line is some c.self.invariant.no_end c.judge_line-judged.result c.judge_line-judged.ensures old
+    c.in_default-finish.ensures.out_of_memory)

@@ -1,4 +1,4 @@
-use Rattle.std.proofs.Common.{◌≡◌, ◌≢◌, ◌∙◌, ◌++◌, [], ap, append-nil, inl, refl, subst, sym, take}
+use Rattle.std.proofs.Common.{◌≢◌, ◌∙◌, ◌++◌, ap, append-nil, inl, refl, subst, sym, take}
 use Rattle.std.proofs.lemmas.List.Elements.{All-append, All-same, All-take}
 use Rattle.release_filter.specs.Skipping.{ShowsNone}
 use Rattle.release_filter.specs.declared.lines.Lines.TheView.{view}

@@ -22,7 +22,7 @@ returns-in_ok-append_best-in-Greatest-clause-answers c = λ plain passes.
     let lines = kept_as _ c.args.line.now in
     let best = c.in_ok-append_best-in-Greatest.ensures.best in
     concludes_best h c.in-Greatest.is lines best.0 c.args.kept.now.items _
-    (rw (← c.in_ok-last-in-Greatest.ensures plain passes) best.1) best.2
+    (rw (← c.in_ok-last-in-Greatest.ensures.kept plain passes) best.1) best.2
 
 pub returns-in_ok-append_sorted-in-Sorted-clause-answers : goal.returns-in_ok-append_sorted-in-Sorted-clause-answers
 returns-in_ok-append_sorted-in-Sorted-clause-answers c = λ plain passes.
@@ -30,4 +30,4 @@ returns-in_ok-append_sorted-in-Sorted-clause-answers c = λ plain passes.
     let lines = kept_as _ c.args.line.now in
     let sort = c.in_ok-append_sorted-in-Sorted.ensures.sorts in
     concludes_sorted h c.in-Sorted.is lines sort.0 c.args.kept.now.items _
-    (rw (← c.in_ok-last-in-Sorted.ensures plain passes) sort.1) sort.2
+    (rw (← c.in_ok-last-in-Sorted.ensures.kept plain passes) sort.1) sort.2
