@@ -21,6 +21,8 @@ use Rattle.release_filter.specs.declared.judging.Judged.TheVariants.{NoVersion, 
 use Rattle.release_filter.proofs.Holding.{holds_none, kept_one}
 use Rattle.release_filter.proofs.JudgedLines.{OneVersion, judged_none, judged_one, one_judging, verdict}
 use Rattle.release_filter.proofs.Passing.{not_both}
+use Rattle.release_filter.proofs.SkippedLines.{counted_alike, is_skipped, must_be_skipped}
+use Rattle.release_filter.specs.Skipping.{ShowsNone}
 use Rattle.release_filter.proofs.TakenPieces.{NoEnd, judged_as, line_with, no_end_marked, only_line, took_line}
 use Rattle.std.proofs.lemmas.Grind.{common_steps}
 
@@ -100,6 +102,25 @@ takes_judged filter prefixes h g c d line text said old new valid is judges take
     let told = verdict filter prefixes line said judges in
     let one = takes told.0 told.1 in
     rw (← is) (verdict_of said told.0 line, told.2, one.0, one.1)
+
+-- of a line that is skipped any end says the same
+pub skips_end : (s : LinesValue) (end other : Text) (g : HeldValue) (d : CountsValue) (old new : Text) (valid : Bool)
+    → NoEnd s.unended → ShowsNone s.filter.dialect s.prefixes s.at_front s.unended
+    → TakesJudged s.filter s.prefixes s.held s.counts (line_with s other) g d old new valid
+    → TakesJudged s.filter s.prefixes s.held s.counts (line_with s end) g d old new valid
+skips_end s end other g d old new valid none shows (v, on, taken, is_valid) =
+    let same = must_be_skipped s.filter s.prefixes s.at_front s.unended none shows other v on in (
+      invalid,
+      is_skipped s.filter s.prefixes s.at_front s.unended none shows end,
+      record {
+        added = taken.added;
+        holds = subst (λ w. Holds s.held (kept_as w (line_with s other)) g taken.added) same taken.holds;
+        appended = taken.appended;
+        counted = taken.counted ∙ ap (λ w. counted_as w s.counts (line_with s other)) same
+            ∙ counted_alike s.filter s.prefixes s.at_front s.unended none shows other end s.counts;
+      },
+      is_valid ∙ ap (λ w. not (is_invalid w)) same,
+    )
 
 -- and this was its end
 pub took_judged : (s : LinesValue) (end left : Text) (front : Bool) (g : HeldValue) (d : CountsValue) (old new : Text) (valid : Bool)

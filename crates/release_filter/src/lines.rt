@@ -25,6 +25,9 @@ use std::marker::Model;
 use std::mem;
 use thiserror::Error;
 
+/// What ends a line.
+const LINE_FEED: &[u8] = b"\n";
+
 /// Why lines were not taken to the end.
 #[derive(Debug, Error, Drop)]
 pub enum LinesError {
@@ -59,8 +62,7 @@ pub struct Stopped {
 ///
 /// Of a line that goes on into the next piece its bytes are held. At 4,096 of them, at twice as
 /// many, and so on, they are checked: if no line with a version begins with them, no more than
-/// these are held, and the rest of the line is skipped; the bytes of the piece that ends it are
-/// held until it is judged.
+/// these are held, and the rest of the line is skipped.
 #[derive(Drop)]
 pub struct Lines {
     chosen: LineFilter,
@@ -308,7 +310,8 @@ impl Lines {
         Ok(())
     }
 
-    /// Ends the line that has not ended, and returns whether it isn't an invalid one.
+    /// Ends the line that has not ended, and returns whether it isn't an invalid one. Of a skipped
+    /// line nothing more is held but a line feed.
     fn take_line(
         &mut self,
         alloc: Global,
@@ -322,6 +325,7 @@ impl Lines {
             × (kept.new.items ≡ kept.old.items)) }
     {
         let begun = self.unended.len();
+        let end = if self.is_skipped { LINE_FEED } else { end };
         self.unended.extend_from_slice(end)?;
         match take_ended(
             alloc,

@@ -1,16 +1,31 @@
-use Rattle.std.proofs.Common.{false, refl}
+use Rattle.std.proofs.Common.{Bor, ap, false, refl, subst}
+use Rattle.semver_parser.specs.Texts.{Text}
 use Rattle.release_filter.specs.Counting.{counts_value}
 use Rattle.release_filter.specs.declared.lines.Lines.TheView.{view}
-use Rattle.release_filter.specs.Steps.Taking.{held_value}
-use Rattle.release_filter.proofs.Endings.{took_judged}
-use Rattle.release_filter.proofs.TakenPieces.{seen}
+use Rattle.release_filter.specs.Steps.Taking.{TakesJudged, held_value}
+use Rattle.release_filter.proofs.Endings.{skips_end, took_judged}
+use Rattle.release_filter.proofs.TakenPieces.{line_with, seen}
 use Rattle.release_filter.proofs.lines.Lines.take_line.Goals as goal
+use Rattle.release_filter.proofs.lines.Lines.take_line.Goals.{then-self, else-self}
 
 pub returns-in-Ok-clause-takes : goal.returns-in-Ok-clause-takes
 returns-in-Ok-clause-takes c =
     let value = view c.self.inside in
-    let taken = rw c.in_ok-extend_from_slice.ensures.items at c.in-Ok.ensures.takes in
-    let whole = took_judged value c.args.end.now c.clear.new.self.items false (held_value c.take_ended.new.held)
-    (counts_value c.take_ended.new.counts) c.args.kept.now.items c.take_ended.new.kept.items c.in-Ok.is_valid c.requires
-    c.self.invariant.no_end taken c.clear.ensures.items refl in
+    let end = c.args.end.now in
+    let held = held_value c.take_ended.new.held in
+    let counts = counts_value c.take_ended.new.counts in
+    let old = c.args.kept.now.items in
+    let new = c.take_ended.new.kept.items in
+    let valid = c.in-Ok.is_valid in
+    let Judged : Text → Type 0 =
+    λ l. TakesJudged value.filter value.prefixes value.held value.counts (line_with value l) held counts old new valid in
+    let took : Judged c.if-self.end.now = rw c.in_ok-extend_from_slice.ensures.items at c.in-Ok.ensures.takes in
+    let taken : Judged end = elim c.if-self.branch [
+      | then-self w ↦
+          skips_end value end c.if-self.end.now held counts old new valid c.self.invariant.no_end
+          (c.self.invariant.skipped w.if-self.true) took
+      | else-self w ↦ subst Judged (ap (λ (b : Bor Text). b.now) w.end-is) took
+    ] in
+    let whole = took_judged value end c.clear.new.self.items false held counts old new valid c.requires c.self.invariant.no_end taken
+    c.clear.ensures.items refl in
     (whole.0, seen _ _ _ _ _ _ _ c.self.view_is whole.1, whole.2, whole.3)
