@@ -1,5 +1,5 @@
 -- How many lines a text has, how many of these have no version, and the first of those.
-use Rattle.std.specs.Prelude.{ℕ, ◌+◌, ◌-◌, ◌^◌, min, List, [], ◌∷◌, take, Option, Some, None}
+use Rattle.std.specs.Prelude.{◌≡◌, ℕ, ◌+◌, ◌-◌, ◌^◌, min, List, [], ◌∷◌, take, Option, Some, None}
 use Rattle.std.specs.Option.{option_map}
 use Rattle.semver_parser.specs.Texts.{Text}
 use Rattle.release_filter.specs.LineTexts.{line_text}
@@ -57,3 +57,10 @@ counted_as invalid c line = record c {
 abbrev pub counted : CountsValue → List JudgedLine → CountsValue
 counted c [] = c
 counted c (j ∷ js) = counted (counted_as j.verdict c j.line) js
+
+-- what taking a line that is this allocates for: it is kept, or the first invalid one
+abbrev pub LineAllocates : CountsValue → Verdict → Type 0
+LineAllocates c (kept version) = Unit {0}
+LineAllocates c dropped = ⊥
+LineAllocates c invalid = c.first_invalid ≡ None
+LineAllocates c empty = ⊥

@@ -1,13 +1,15 @@
 -- A text that comes in pieces: what a piece does, what the end of the text does, and what is left.
-use Rattle.std.specs.Prelude.{◌≡◌, ◌⊎◌, ◌&&◌, Bool, true, false, List, [], ◌∷◌, ◌++◌, IsTrue}
-use Rattle.std.specs.Prelude.{None}
+use Rattle.std.specs.Prelude.{◌≡◌, ◌≢◌, ◌<◌, ◌⊎◌, ◌&&◌, Bool, true, false, List, [], ◌∷◌, ◌++◌, All}
+use Rattle.std.specs.Prelude.{IsTrue, None, length}
+use Rattle.std.specs.Io.{StartsWith}
 use Rattle.std.specs.List.{AllZip}
 use Rattle.semver_parser.specs.Texts.{Text, is_empty}
-use Rattle.release_filter.specs.Counting.{CountsValue, counted, one_more}
+use Rattle.release_filter.specs.Counting.{CountsValue, LineAllocates, counted, one_more}
 use Rattle.release_filter.specs.Filters.{FilterValue}
-use Rattle.release_filter.specs.LineTexts.{AreCut, after_mark, lines_of, marked_off}
+use Rattle.release_filter.specs.LineTexts.{AreCut, IsWholeLine, after_mark, lines_of, marked_off}
 use Rattle.release_filter.specs.Skipping.{IsLeft}
-use Rattle.release_filter.specs.Verdicts.{AreJudged, JudgedLine, has_invalid, invalid}
+use Rattle.release_filter.specs.Verdicts.{AreJudged, IsVerdictOn, JudgedLine, Verdict, has_invalid}
+use Rattle.release_filter.specs.Verdicts.{invalid}
 use Rattle.release_filter.specs.Wanted.{AnswerAllocates, Answers, HeldValue, Holds, emptied}
 use Rattle.release_filter.specs.Wanted.{kept_of}
 use Rattle.release_filter.specs.declared.lines.LinesError.{LinesError}
@@ -93,6 +95,13 @@ StopsAs (NoVersion number) s piece t old new =
     × TakesAll s piece (judged ++ last ∷ []) t old new × (has_invalid judged ≡ false)
     × (last.verdict ≡ invalid) × (t.unended ≡ []) × (number ≡ t.counts.lines)
 
+-- what taking these next bytes allocates for: bytes that end no line; a line that began before them
+-- or may have a byte order mark; or their first line, if it is kept or the first invalid one
+abbrev pub NextAllocates : LinesValue → Text → Type 0
+NextAllocates s bytes = All (λ byte. byte ≢ 10) bytes ⊎ IsTrue s.at_front ⊎ (0 < length s.unended)
+    ⊎ ((line : Text) × (verdict : Verdict) × StartsWith bytes line × IsWholeLine line
+    × IsVerdictOn s.filter s.prefixes line verdict × LineAllocates s.counts verdict)
+
 -- the line that no line feed ends has a text and no version
 abbrev pub EndsInvalid : LinesValue → Type 0
 EndsInvalid s = (judged : List JudgedLine)
@@ -100,7 +109,7 @@ EndsInvalid s = (judged : List JudgedLine)
     × (has_invalid judged ≡ true)
 
 -- what the end of the text allocates for: the line that no line feed ends, if it is the first
--- invalid one, and the rest of the answer
+-- invalid one; or the rest of the answer
 abbrev pub EndAllocates : LinesValue → Text → Type 0
 EndAllocates s old = (judged : List JudgedLine)
     × AreJudged s.filter s.prefixes (lines_of (after_mark s.at_front s.unended)) judged

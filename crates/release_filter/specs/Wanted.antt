@@ -110,9 +110,8 @@ AnswersBy wanted h appended = appended ≡ text_of (option_to_list h.best)
 abbrev pub Answers : HeldValue → Text → Type 0
 Answers h appended = AnswersBy h.wanted h appended
 
--- what the end of the text allocates for, if the last line is kept as these: for that line, for
--- lines that are sorted, and for a copy of the best line. If nothing was appended before, the best
--- line is moved
+-- what the rest of the answer allocates for: the last line, if it is kept; the lines that are
+-- sorted; or a copy of the best line, which is moved if nothing was appended before
 abbrev pub AnswerAllocates : HeldValue → List KeptValue → Text → Type 0
 AnswerAllocates h last old =
     (0 < length last) ⊎ (0 < length h.sorted) ⊎ ((h.best ≢ None) × (0 < length old))

@@ -2,13 +2,13 @@
 
 ghost use Rattle.std.specs.Prelude.{◌≡◌, ◌≤◌, ◌<◌, ◌≢◌, ◌⊎◌, [], true, false, length, map};
 ghost use Rattle.std.specs.Prelude.{All, IfErr, IfOk, IsTrue, List, MatchOption, None, not};
-ghost use Rattle.std.specs.Prelude.{string_bytes, take};
+ghost use Rattle.std.specs.Prelude.{drop, string_bytes, take};
 ghost use Rattle.std.specs.Io.{StartsWith};
 ghost use Rattle.semver_parser.specs.Versions.{PlainVersion};
-ghost use Rattle.release_filter.specs.Counting.{counts_value, no_counts};
+ghost use Rattle.release_filter.specs.Counting.{LineAllocates, counts_value, no_counts};
 ghost use Rattle.release_filter.specs.LineTexts.{IsWholeLine, after_mark};
-ghost use Rattle.release_filter.specs.Pieces.{EndAllocates, Finishes, RefusesEnd, StopsAs, Takes};
-ghost use Rattle.release_filter.specs.Pieces.{begun};
+ghost use Rattle.release_filter.specs.Pieces.{EndAllocates, Finishes, NextAllocates, RefusesEnd};
+ghost use Rattle.release_filter.specs.Pieces.{StopsAs, Takes, begun};
 ghost use Rattle.release_filter.specs.Steps.Taking.{PassesAs, TakesJudged, TakesLine, TakesRest};
 ghost use Rattle.release_filter.specs.Steps.Taking.{TakesWhole, held_value, texts, verdict_of};
 ghost use Rattle.release_filter.specs.Verdicts.{JudgedLine, has_invalid, is_invalid};
@@ -140,9 +140,10 @@ impl Lines {
     /// # Errors
     ///
     /// [`Stopped`] has how many bytes of the piece were taken: what was appended is what these end,
-    /// and pushing the rest goes on. `OutOfMemory` if an allocation fails. `NoVersion`, only where
-    /// the lines are strict, if a line of the piece isn't empty and has no version: the piece was
-    /// taken up to the end of the first such line.
+    /// and pushing the rest goes on. `OutOfMemory` if an allocation fails: for a line that another
+    /// piece begins or ends, the first line of the text, a kept line, or the first invalid one.
+    /// `NoVersion`, only where the lines are strict, if a line of the piece isn't empty and has no
+    /// version: the piece was taken up to the end of the first such line.
     ///
     /// # Details
     ///
@@ -159,6 +160,10 @@ impl Lines {
         // Memory runs out only before a byte that was not taken.
         ensures out_of_memory { IfErr result (λ stopped. stopped.error ≡ LinesError.OutOfMemory
             → stopped.taken < length piece.now) }
+        // It runs out only for a line that another piece begins or ends, the first line of the
+        // text, a kept line, or the first invalid one.
+        ensures allocates { IfErr result (λ stopped. stopped.error ≡ LinesError.OutOfMemory
+            → NextAllocates self.new (drop stopped.taken piece.now)) }
     {
         laws::precedence_is_total();
         let _ = &self.unended;
@@ -272,6 +277,7 @@ impl Lines {
         ensures unchanged { IfErr result (λ _. (self.new ≡ self.old)
             × (kept.new.items ≡ kept.old.items)) }
         ensures out_of_memory { IfErr result (λ _. 0 < length bytes.now) }
+        ensures allocates { IfErr result (λ _. NextAllocates self.old bytes.now) }
     {
         if self.at_front || !self.unended.is_empty() {
             let Some(end) = whole_line(bytes) else {
@@ -433,6 +439,8 @@ fn take(
     ensures unchanged { IfErr result (λ _. (held_value held.new ≡ held_value held.old)
         × (counts_value counts.new ≡ counts_value counts.old)
         × (kept.new.items ≡ kept.old.items)) }
+    ensures out_of_memory { (plain : PlainVersion) → IfErr result (λ _.
+        LineAllocates (counts_value counts.old) (verdict_of judged.now plain line.now)) }
 {
     let noted = counts.noted(alloc, line, judged)?;
     if let Judged::Passes(outline) = judged {

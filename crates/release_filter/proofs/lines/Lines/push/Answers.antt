@@ -1,9 +1,10 @@
-use Rattle.std.proofs.Common.{◌∙◌, ◌++◌, ◌∷◌, [], ap, arith, refl, sym}
-use Rattle.release_filter.specs.Pieces.{LinesValue}
+use Rattle.std.proofs.Common.{◌∙◌, ◌++◌, ◌∷◌, [], ap, arith, inl, refl, subst, sym}
+use Rattle.std.proofs.lemmas.List.{take_rest}
+use Rattle.release_filter.specs.Pieces.{LinesValue, NextAllocates}
 use Rattle.release_filter.specs.Verdicts.{is_invalid}
 use Rattle.release_filter.proofs.Endings.{bad_verdict, one_more_valid, opposite, opposite_bad}
 use Rattle.release_filter.proofs.Passing.{not_both}
-use Rattle.release_filter.proofs.TakenPieces.{took_next, took_nothing, took_piece}
+use Rattle.release_filter.proofs.TakenPieces.{NoEnd, took_next, took_nothing, took_piece}
 use Rattle.release_filter.proofs.lines.Lines.push.Goals as goal
 use Rattle.release_filter.proofs.lines.Lines.push.Goals.{else-self-via-then-self+else-not-is_valid, else-self-via-else-self}
 
@@ -66,3 +67,14 @@ returns-in-Ok-clause-takes c =
           c.in-Ok.ensures.takes found.2,
       so_far.3,
     )
+
+pub returns-in-Err-clause-allocates : goal.returns-in-Err-clause-allocates
+returns-in-Err-clause-allocates c = λ _.
+    let piece = c.args.piece.now in
+    let next = subst (λ bytes. NextAllocates c.lines.self bytes) (take_rest piece c.lines.taken) c.in-Err.ensures.allocates in
+    rw (c.out_of_memory.ensures.taken, c.in-Err.ensures.unchanged.0) next
+
+pub returns-in-Err-take_rest-clause-allocates : goal.returns-in-Err-take_rest-clause-allocates
+returns-in-Err-take_rest-clause-allocates c = λ _.
+    let found = rw c.in-Ok-None.field-0-is at c.in-Ok-None.ensures.takes in
+    rw c.out_of_memory-in-Err-take_rest.ensures.taken (inl (subst NoEnd (take_rest c.args.piece.now c.lines.taken) found.0))
