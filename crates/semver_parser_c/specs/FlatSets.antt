@@ -2,7 +2,7 @@
 use Rattle.std.specs.Prelude.{ℕ, ℤ, ◌≡◌, Bool, true, false, not, ◌&&◌, ◌||◌, List}
 use Rattle.semver_parser.specs.Texts.{Text}
 use Rattle.semver_parser.specs.Versions.{PlainVersion}
-use Rattle.version_sets.specs.VersionSets.{SetValue, IsIn, IsNormal, has}
+use Rattle.version_sets.specs.VersionSets.{HasSomeVersion, SetValue, IsIn, IsNormal, has}
 use Rattle.version_sets.specs.SetRanges.{pre_release_ranges, ranges_text, release_ranges}
 use Rattle.version_sets.specs.Flat.{IsFlat, IsPrintable, flat_bytes, flat_switches}
 use Rattle.version_sets.specs.declared.FlatSwitch.{FlatSwitch}
@@ -22,6 +22,11 @@ abbrev pub AreSets : List FlatSwitch → Text → List FlatSwitch → Text → T
 AreSets switches bytes other_switches other_bytes =
     ((a : SetValue) × IsFlat switches bytes a)
     × ((b : SetValue) × IsFlat other_switches other_bytes b)
+
+-- the data is that of a set with some version
+abbrev pub IsNonEmptySet : List FlatSwitch → Text → Type 0
+IsNonEmptySet switches bytes =
+    (set : SetValue) × IsFlat switches bytes set × HasSomeVersion set
 
 -- each version of a set is in another
 abbrev pub IsWithin : SetValue → SetValue → Type 0

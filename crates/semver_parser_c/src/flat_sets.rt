@@ -2,10 +2,9 @@
 
 ghost use Rattle.std.specs.Prelude.{◌≡◌, ◌⊎◌, ◌∷◌, [], IfOk, IfErr, string_bytes};
 ghost use Rattle.version_sets.specs.Flat.{IsFlat};
-ghost use Rattle.version_sets.specs.VersionSets.{SetValue};
 ghost use Rattle.semver_parser_c.specs.Numbers as number;
 ghost use Rattle.semver_parser_c.specs.Errors.{IsOneOf};
-ghost use Rattle.semver_parser_c.specs.FlatSets.{AreSets, IsNoSet, kind_text};
+ghost use Rattle.semver_parser_c.specs.FlatSets.{AreSets, IsNoSet, IsNonEmptySet, kind_text};
 
 use crate::numbers;
 use std::alloc::{AllocError, Global};
@@ -17,8 +16,9 @@ pub fn read(alloc: Global, switches: &[FlatSwitch], bytes: &[u8]) -> Result<Vers
     ensures numbers { IfErr result (IsOneOf
         (number.not_a_set ∷ number.range_out_of_memory ∷ [])) }
     ensures no_set { IfErr result (λ n. n ≡ number.not_a_set → IsNoSet switches.now bytes.now) }
+    // Memory runs out only where the set has a version.
     ensures memory { IfErr result (λ n. n ≡ number.range_out_of_memory
-        → (set : SetValue) × IsFlat switches.now bytes.now set) }
+        → IsNonEmptySet switches.now bytes.now) }
 {
     let Some(flat) = FlatSet::read(switches, bytes) else {
         return Err(numbers::NOT_A_SET);
@@ -45,6 +45,10 @@ pub fn read_both(
         → IsNoSet switches.now bytes.now ⊎ IsNoSet other_switches.now other_bytes.now) }
     ensures memory { IfErr result (λ n. n ≡ number.range_out_of_memory
         → AreSets switches.now bytes.now other_switches.now other_bytes.now) }
+    // Memory runs out only where one of the sets has a version.
+    ensures some_version { IfErr result (λ n. n ≡ number.range_out_of_memory
+        → IsNonEmptySet switches.now bytes.now
+        ⊎ IsNonEmptySet other_switches.now other_bytes.now) }
 {
     let Some(first) = FlatSet::read(switches, bytes) else {
         return Err(numbers::NOT_A_SET);

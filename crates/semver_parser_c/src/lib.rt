@@ -60,7 +60,8 @@ ghost use Rattle.semver_parser_c.specs.Meetings.{IsAnswer};
 ghost use Rattle.semver_parser_c.specs.Sets.{IsMeant, text_of};
 ghost use Rattle.semver_parser_c.specs.Compared.{Compares, TellsWhich, joined_texts, places_of};
 ghost use Rattle.semver_parser_c.specs.FlatSets.{AreSets, IsMadeOf, IsNoSet, IsOperation};
-ghost use Rattle.semver_parser_c.specs.FlatSets.{IsWithin, PutsSet, kind_text, operation_number};
+ghost use Rattle.semver_parser_c.specs.FlatSets.{IsNonEmptySet, IsWithin, PutsSet};
+ghost use Rattle.semver_parser_c.specs.FlatSets.{kind_text, operation_number};
 ghost use Rattle.semver_parser_c.specs.declared.set_operations.Operation.{Operation};
 ghost use Rattle.version_fronts.specs.Fronts.{IsLongestFront};
 ghost use Rattle.version_fronts.specs.Reasons.{IsReason, byte_at};
@@ -935,7 +936,8 @@ pub extern "C" fn semver_parser_proved_combine(
 
 // Answer: law semver_parser_c::laws::one_inclusion.
 /// Whether each version of a set is in another, and the other way round: `OK` with the answers in
-/// `within` and `contains`. Two sets are equal exactly where both hold.
+/// `within` and `contains`. Two sets are equal exactly where both hold. Of two empty sets it does
+/// not allocate.
 ///
 /// # Errors
 ///
@@ -960,6 +962,10 @@ pub extern "C" fn semver_parser_proved_compare_sets(
         → IsNoSet switches.now bytes.now ⊎ IsNoSet other_switches.now other_bytes.now }
     ensures both_sets { IsOneOf (number.ok ∷ number.range_out_of_memory ∷ []) result
         → AreSets switches.now bytes.now other_switches.now other_bytes.now }
+    // Memory runs out only where one of the sets has a version.
+    ensures out_of_memory { result ≡ number.range_out_of_memory
+        → IsNonEmptySet switches.now bytes.now
+        ⊎ IsNonEmptySet other_switches.now other_bytes.now }
     ensures unchanged { result ≢ number.ok
         → (within.new ≡ within.old) × (contains.new ≡ contains.old) }
 {
@@ -979,7 +985,8 @@ pub extern "C" fn semver_parser_proved_compare_sets(
 }
 
 // Answer: law semver_parser_c::laws::one_least_of_set.
-/// Prints the least version of a set, as `semver_parser_proved_least` prints that of a range.
+/// Prints the least version of a set, as `semver_parser_proved_least` prints that of a range. Of an
+/// empty set it does not allocate.
 ///
 /// # Errors
 ///
@@ -1000,6 +1007,9 @@ pub extern "C" fn semver_parser_proved_set_least(
         × (least : Option Version) × TellsLeast (λ v. IsIn v set) least
         × Puts (text_of least) out.old out.new length.new result }
     ensures not_a_set { (result ≡ number.not_a_set) ↔ IsNoSet switches.now bytes.now }
+    // Memory runs out only where the set has a version.
+    ensures out_of_memory { result ≡ number.range_out_of_memory
+        → IsNonEmptySet switches.now bytes.now }
     ensures room_unchanged { result ≢ number.ok → out.new ≡ out.old }
     ensures length_unchanged { IsOneOf (number.not_a_set ∷ number.range_out_of_memory ∷ [])
         result → length.new ≡ length.old }

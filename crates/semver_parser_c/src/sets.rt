@@ -4,7 +4,7 @@ ghost use Rattle.std.specs.Prelude.{◌≡◌, ◌≢◌, ◌∷◌, [], ℤ, If
 ghost use Rattle.std.specs.Prelude.{string_bytes};
 ghost use Rattle.semver_parser.specs.declared.version.Version.{Version as SomeVersion};
 ghost use Rattle.version_sets.specs.Flat.{IsPrintable};
-ghost use Rattle.version_sets.specs.VersionSets.{IsIn};
+ghost use Rattle.version_sets.specs.VersionSets.{HasSomeVersion, IsIn};
 ghost use Rattle.version_sets.specs.Comparisons.{TellsLeast};
 ghost use Rattle.tool_ranges.specs.declared.meaning.Meaning.{Meaning as SomeMeaning};
 ghost use Rattle.tool_ranges.specs.Meanings.{MeansAs, reading_of};
@@ -120,7 +120,8 @@ fn unless_refused(alloc: Global, meaning: Meaning, range: &[u8]) -> Result<Optio
 
 /// The text of a version, and an empty one where there is none.
 pub fn print(alloc: Global, version: &Option<Version>) -> Result<String, AllocError>
-    ensures { IfOk result (λ text. string_bytes text ≡ text_of version.now) }
+    ensures text { IfOk result (λ text. string_bytes text ≡ text_of version.now) }
+    ensures out_of_memory { IfErr result (λ _. version.now ≢ None) }
 {
     match version {
         Some(version) => version.to_string(alloc),
@@ -130,8 +131,10 @@ pub fn print(alloc: Global, version: &Option<Version>) -> Result<String, AllocEr
 
 /// The text of the least version of a set, and an empty one where it has none.
 pub fn print_least(alloc: Global, set: &VersionSet) -> Result<String, AllocError>
-    ensures { IfOk result (λ text. (least : Option SomeVersion)
+    ensures least { IfOk result (λ text. (least : Option SomeVersion)
         × TellsLeast (λ v. IsIn v set.now) least × (string_bytes text ≡ text_of least)) }
+    // Memory runs out only where the set has a version.
+    ensures out_of_memory { IfErr result (λ _. HasSomeVersion set.now) }
 {
     let least = set.least(alloc)?;
     print(alloc, &least)
