@@ -106,8 +106,8 @@ fn print_row(title: &str, sides: &Sides, lines: &Path, is_kept: bool) -> Result<
 impl Filter<'_> {
     /// What the program writes of the lines. Its status is 1 where that is nothing.
     fn output(&self, lines: &Path) -> Result<Vec<u8>, String> {
-        let error = |error| format!("{}: {error}", self.program.display());
-        let run = self.command(lines).stderr(Stdio::inherit()).output().map_err(error)?;
+        let named = |error| format!("{}: {error}", self.program.display());
+        let run = self.command(lines).stderr(Stdio::inherit()).output().map_err(named)?;
         if run.status.code() == Some(i32::from(run.stdout.is_empty())) {
             Ok(run.stdout)
         } else {

@@ -60,7 +60,7 @@ class VersionError(_TextError):
     - `not-utf8`: the bytes aren't UTF-8, or the `str` has a surrogate by itself.
     - `not-a-version`: in Cargo's dialect or npm's, the text is no version, as `1.2.3-01`.
 
-    By the crate's two readings there are these in place of `not-a-version`:
+    In the crate's two dialects there are these in place of `not-a-version`:
 
     - `unexpected-end`: the text ends where a version can't, as `1.2`.
     - `unexpected-token`: a token comes that can't come there, as in `1.2.3--1`.

@@ -70,7 +70,7 @@ def parse_version(text: Text, reading: Reading = Reading.CARGO) -> Version:
 
     In Cargo's dialect versions are those of SemVer 2.0.0. In npm's their numbers go up to
     2**53 - 1, and there may be a `v` before them and white space around them, in at most 256
-    characters. The crate's two readings have one grammar (docs/GRAMMAR.md).
+    characters. The crate's two dialects have one grammar (docs/GRAMMAR.md).
 
     Raises `VersionError` if the text is no version.
     """

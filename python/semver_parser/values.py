@@ -96,8 +96,8 @@ class PreReleases(enum.Enum):
     """The rules by which versions with a pre-release meet a range. Others count by each of them.
 
     Each dialect has `EXCLUDED` and `INCLUDED`. A tool's has besides the rule of that
-    tool, `OF_TOOL`, and the crate's readings have `STATED`: these two are taken where no rule is
-    named. A rule that a reading hasn't raises `ValueError`.
+    tool, `OF_TOOL`, and the crate's dialects have `STATED`: these two are taken where no rule is
+    named. A rule that a dialect hasn't raises `ValueError`.
     """
 
     EXCLUDED = 0

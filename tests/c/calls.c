@@ -171,7 +171,7 @@ int32_t precedence(
 
 /* ---- rewriting */
 
-/* A room for bytes and one for comparators, each with a guard after it; at null where it is empty
+/* A buffer for bytes and one for comparators, each with a guard after it; at null where it is empty
  * and that is asked for. */
 typedef struct {
     uint8_t *out;

@@ -50,8 +50,8 @@ never_ten b e ten = cc
 -- ---- what is before a line's end
 
 -- numbers before a whole line make one with it
-whole_after : (front line : List ℕ) → Passes is_number_byte front → IsWholeLine line → IsWholeLine (front ++ line)
-whole_after front line pass (some, stops, ends) = grind (arith, common_steps)
+whole_after_numbers : (front line : List ℕ) → Passes is_number_byte front → IsWholeLine line → IsWholeLine (front ++ line)
+whole_after_numbers front line pass (some, stops, ends) = grind (arith, common_steps)
 
 -- a byte at the end of what is after is the one at the end of both
 pub strip_after : (byte : ℕ) (front back : List ℕ) → 0 < length back → strip_last byte (front ++ back) ≡ front ++ strip_last byte back
@@ -64,8 +64,8 @@ strip_numbers (x ∷ []) pass = search rules
 strip_numbers (x ∷ y ∷ ys) pass = grind (arith, common_steps)
 
 -- so the text of a line is the numbers, and the text of what is after them
-text_after : (front back : List ℕ) → Passes is_number_byte front → 0 < length back → line_text (front ++ back) ≡ front ++ line_text back
-text_after front back pass some = grind (arith, common_steps, strip_after, strip_numbers)
+text_after_numbers : (front back : List ℕ) → Passes is_number_byte front → 0 < length back → line_text (front ++ back) ≡ front ++ line_text back
+text_after_numbers front back pass some = grind (arith, common_steps, strip_after, strip_numbers)
 
 -- a front begins with no digit where the whole doesn't
 front_kept : (k : ℕ) (xs : List ℕ) → is_ascii_digit (slice_index xs 0) ≡ false → is_ascii_digit (slice_index (take k xs) 0) ≡ false
@@ -99,11 +99,11 @@ module _ (bytes rest back : List ℕ) {major minor patch : ℕ} (n : BeginsWithN
       ∙ take-append-add (front_of major minor patch) rest (length back) ∙ ap (λ t. front_of major minor patch ++ t) begins
 
   pub is_whole : IsWholeLine line
-  is_whole = subst IsWholeLine (sym in_two) (whole_after _ back (front_passes n) whole)
+  is_whole = subst IsWholeLine (sym in_two) (whole_after_numbers _ back (front_passes n) whole)
 
   module _ (stripped : List ℕ) (is : stripped ≡ line_text back) where
     text_is : line_text line ≡ front_of major minor patch ++ stripped
-    text_is = ap line_text in_two ∙ text_after _ back (front_passes n) whole.0 ∙ ap (λ t. front_of major minor patch ++ t) (sym is)
+    text_is = ap line_text in_two ∙ text_after_numbers _ back (front_passes n) whole.0 ∙ ap (λ t. front_of major minor patch ++ t) (sym is)
 
     text_begins : BeginsWithNumbers (line_text line) major minor patch stripped
     text_begins = record {

@@ -94,8 +94,8 @@ lexer_has_memory P error.OutOfMemory c d = cc
 lexer_has_memory P _ c d = tt
 
 -- reading answers an error
-pub at_fault : (text : List ℕ) (s t : ParserState) (e : ErrorValue) → IsStateOf text s → ReadsVersion s (Err e) t → IsOutcomeOf text (Err e)
-at_fault text s t e state reads = record { start = s; answer = Err e; end = t; state = state; reads = reads; whole = refl }
+pub at_error : (text : List ℕ) (s t : ParserState) (e : ErrorValue) → IsStateOf text s → ReadsVersion s (Err e) t → IsOutcomeOf text (Err e)
+at_error text s t e state reads = record { start = s; answer = Err e; end = t; state = state; reads = reads; whole = refl }
 
 pub at_refusal : (text : List ℕ) (s t : ParserState) → IsStateOf text s → MayRunOutInVersion s t → TextMayRunOut text
 at_refusal text s t state m = record { start = s; front = m.front; rest = m.rest; state = state; longest = m.longest; why = inl m.holds }

@@ -1,5 +1,5 @@
 /* The calls of include/semver_parser.h over those that are proved: each puts a pointer to an object
- * in place of a null pointer with a length of 0, which is an empty text or an empty room, and calls
+ * in place of a null pointer with a length of 0, which is an empty text or an empty buffer, and calls
  * the proved one. Any other pointer is passed on as it is, so a null with a length above 0 crashes
  * where it is used. Link this file with the library, once. It is trusted: no proof reads it. */
 #include "../include/semver_parser.h"

@@ -137,18 +137,18 @@ version_once d text u u' read p q some some' =
 -- ---- range texts
 
 -- the exact errors of a text by the reading
-abbrev pub text_errors : RangeNumbers → List ℤ
-text_errors k = k.not_utf8 ∷ k.not_a_range ∷ k.too_large ∷ []
+abbrev pub exact_range_errors : RangeNumbers → List ℤ
+exact_range_errors k = k.not_utf8 ∷ k.not_a_range ∷ k.too_large ∷ []
 
 -- and those of a call that rewrites, and of one that asks what a range means
 abbrev pub rewrite_exact : List ℤ
-rewrite_exact = number.no_such_reading ∷ text_errors range_numbers
+rewrite_exact = number.no_such_reading ∷ exact_range_errors range_numbers
 
 abbrev pub range_exact : List ℤ
-range_exact = number.no_such_reading ∷ number.no_such_rule ∷ text_errors range_numbers
+range_exact = number.no_such_reading ∷ number.no_such_rule ∷ exact_range_errors range_numbers
 
 by_once : {k : RangeNumbers} {Asked : Type 0} {r : Reading} {text : Text} {n m : ℤ} → k.not_utf8 ≢ k.not_a_range
-    → k.not_utf8 ≢ k.too_large → Asked → RefusesBy k Asked r text n → RefusesBy k Asked r text m → IsOneOf (text_errors k) n → n ≡ m
+    → k.not_utf8 ≢ k.too_large → Asked → RefusesBy k Asked r text n → RefusesBy k Asked r text m → IsOneOf (exact_range_errors k) n → n ≡ m
 by_once apart apart' asked p q (inl e) = carried (p.not_utf8 asked) (q.not_utf8 asked) e
 by_once apart apart' asked p q (inr (inl e)) =
     unless (p.not_utf8 asked) (λ e'. apart (sym e' ∙ e))
@@ -159,11 +159,11 @@ by_once apart apart' asked p q (inr (inr (inl e))) =
 by_once apart apart' asked p q (inr (inr (inr none))) = absurd none
 
 old_once : {r : Reading} {text : Text} {n m : ℤ} → RefusesBy range_numbers ⊤ r text n → RefusesBy range_numbers ⊤ r text m
-    → IsOneOf (text_errors range_numbers) n → n ≡ m
+    → IsOneOf (exact_range_errors range_numbers) n → n ≡ m
 old_once p q one = by_once (λ e. cc) (λ e. cc) tt p q one
 
 pub new_once : {Asked : Type 0} {r : Reading} {text : Text} {n m : ℤ} → Asked → RefusesBy new_range_numbers Asked r text n
-    → RefusesBy new_range_numbers Asked r text m → IsOneOf (text_errors new_range_numbers) n → n ≡ m
+    → RefusesBy new_range_numbers Asked r text m → IsOneOf (exact_range_errors new_range_numbers) n → n ≡ m
 new_once asked p q one = by_once (λ e. cc) (λ e. cc) asked p q one
 
 pub text_once : {reading : ℤ} {text : Text} {n m : ℤ} → RefusesText reading text n → RefusesText reading text m

@@ -6,7 +6,7 @@ use Rattle.semver_parser_c.specs.Printing.{Puts, Putting, PutsBoth}
 use Rattle.semver_parser_c.specs.OneAnswer.{AreOne, IsMemory, memory_numbers}
 use Rattle.semver_parser_c.proofs.OneAnswer.{among, apart, are_in, are_one, none_in, split}
 
--- the result beside memory is put, or has no buffer
+-- the result beside memory is put, or doesn't fit the buffer
 is_put : (memory n : ℤ) → IsMemory memory → IsOneOf (number.ok ∷ number.no_room ∷ memory ∷ []) n → ¬ (IsMemory n)
     → (n ≡ number.ok) ⊎ (n ≡ number.no_room)
 is_put memory n is one some = grind arith

@@ -811,7 +811,7 @@ pub extern "C" fn semver_parser_proved_set(
 // Answer: law semver_parser_c::laws::one_membership.
 /// Whether a version is in a set, which is flat data of `semver_parser_proved_set` or
 /// `semver_parser_proved_combine`: `OK` with the answer in `is_in`. The version is read in the
-/// dialect `reading`. Its build doesn't count. A version does not allocate.
+/// dialect `reading`. Its build doesn't count. For a version it does not allocate.
 ///
 /// # Errors
 ///

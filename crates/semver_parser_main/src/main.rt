@@ -7,7 +7,7 @@ use std::process::ExitCode;
 use std::rt::Env;
 
 /// What the text is where no argument is given.
-const DEERROR_TEXT: &str = "1.2.3";
+const DEFAULT_TEXT: &str = "1.2.3";
 
 /// The arguments were not one text at most.
 enum Refusal {
@@ -23,7 +23,7 @@ fn main(rt: HostRuntime) -> ExitCode {
         Err(Refusal::Unreadable) => return refused(&rt, "cannot read arguments"),
         Err(Refusal::TooMany) => return refused(&rt, "usage: semver-parser [TEXT]"),
     };
-    let text = text.as_ref().map_or(DEERROR_TEXT, |text| text.as_str());
+    let text = text.as_ref().map_or(DEFAULT_TEXT, |text| text.as_str());
     let ran = report::run(rt.alloc(), text, &mut rt.stdout());
     if ran.is_err() {
         say(&rt, "cannot write output");

@@ -14,7 +14,7 @@ use Rattle.semver_texts.specs.declared.dialect.Dialect.{Dialect}
 use Rattle.semver_texts.specs.declared.dialect.Dialect.TheVariants.{Crate}
 use Rattle.semver_texts.proofs.Lists.{prefix_is}
 use Rattle.semver_texts.proofs.SpelledVersions.{kept_texts}
-use Rattle.semver_versions.specs.Outlines.{OutlineValue, IsOutlineIn, IsOutlineOf, StandsAt, strip_mark, dotted_text, outline_after}
+use Rattle.semver_versions.specs.Outlines.{OutlineValue, IsOutlineIn, IsOutlineOf, StandsAt, after_mark, dotted_text, outline_after}
 use Rattle.semver_versions.specs.Outlines.{version_of}
 use Rattle.semver_versions.specs.Steps.Reading.{IsOutlinedBy}
 use Rattle.semver_versions.proofs.KeptTexts.{dotted_kept, kept_is}
@@ -71,7 +71,7 @@ same_outline o text = (
 
 -- a part is after its mark
 stands : (mark place : ℕ) (part lead rest text : Text) → text ≡ lead ++ ((mark ∷ part) ++ rest) → place ≡ length lead
-    → StandsAt (strip_mark place part) part text
+    → StandsAt (after_mark place part) part text
 stands mark place [] lead rest text whole at = refl
 stands mark place (b ∷ part) lead rest text whole at =
     rw (whole ∙ regroup lead (b ∷ part) rest) (ap (take (length (b ∷ part)))
@@ -84,7 +84,7 @@ stands mark place (b ∷ part) lead rest text whole at =
 -- the identifiers of a part are after their mark, which is at the place
 part_stands : (mark place : ℕ) (ids : List IdentifierValue) (ts : List Text) (lead rest text : Text) → AllZip IsKeptAs ids ts
     → text ≡ lead ++ (marked (mark ∷ []) ts ++ rest) → place ≡ length lead
-    → StandsAt (strip_mark place (dotted_text ids)) (dotted_text ids) text
+    → StandsAt (after_mark place (dotted_text ids)) (dotted_text ids) text
 part_stands mark place [] [] lead rest text all whole at = refl
 part_stands mark place [] (t ∷ ts) lead rest text all whole at = absurd all
 part_stands mark place (id ∷ ids) [] lead rest text all whole at = absurd all

@@ -16,7 +16,7 @@ use Rattle.semver_texts.specs.Steps.DottedParts.{marked_part}
 use Rattle.semver_texts.proofs.DottedParts.{found_same}
 use Rattle.semver_texts.proofs.Numbers.{same_numbers}
 use Rattle.semver_texts.proofs.SpelledVersions.{kept_texts}
-use Rattle.semver_versions.specs.Outlines.{strip_mark, identifier_of, outline_after, version_of}
+use Rattle.semver_versions.specs.Outlines.{after_mark, identifier_of, outline_after, version_of}
 use Rattle.semver_versions.specs.Steps.Reading.{AreAround, AreIdentifiers, AreParts, IsOutlinedAt, IsRead, NumbersFit, ZerosFit, hyphens_of}
 use Rattle.semver_versions.specs.Steps.Reading.{outline_with}
 use Rattle.semver_versions.proofs.CutIdentifiers.{part_found, part_is}
@@ -158,8 +158,8 @@ module _ (d : Dialect) (text rest pre build : Text) (major minor patch : ℕ) (n
         patch = patch;
         pre = pre_is i;
         build = build_is i;
-        pre_offset = strip_mark (place i) (pre_is i);
-        build_offset = strip_mark (place_after i) (build_is i);
+        pre_offset = after_mark (place i) (pre_is i);
+        build_offset = after_mark (place_after i) (build_is i);
       })
 
   pub has_outline : NumbersFit d major minor patch → (before numbers_end : ℕ) → numbers_end + length rest ≡ before + length text

@@ -28,9 +28,9 @@ abbrev pub dotted_text : List IdentifierValue → Text
 dotted_text ids = join_with_byte (code ".") (map identifier_text ids)
 
 -- where a part begins whose mark is at the place: after it; 0 where there is no part
-abbrev pub strip_mark : ℕ → Text → ℕ
-strip_mark place [] = 0
-strip_mark place (byte ∷ part) = suc place
+abbrev pub after_mark : ℕ → Text → ℕ
+after_mark place [] = 0
+after_mark place (byte ∷ part) = suc place
 
 -- the outline of a version that is after so many bytes: its numbers, and the texts of its
 -- identifiers, each after its mark; that of the pre-release is after the numbers, and that of
@@ -42,10 +42,10 @@ outline_after before v = record {
   patch = v.plain.patch;
   pre = dotted_text v.plain.pre;
   build = dotted_text v.build;
-  pre_offset = strip_mark
+  pre_offset = after_mark
       (before + length (join_with_byte (code ".") (map decimal (numbers v.plain))))
       (dotted_text v.plain.pre);
-  build_offset = strip_mark (before + length (plain_text v.plain)) (dotted_text v.build);
+  build_offset = after_mark (before + length (plain_text v.plain)) (dotted_text v.build);
 }
 
 -- it is the outline of a version that the text spells and that is after so many bytes

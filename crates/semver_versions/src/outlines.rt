@@ -7,7 +7,7 @@ ghost use Rattle.semver_texts.specs.Versions.{VersionValue};
 ghost use Rattle.semver_texts.specs.Precedence.{precedence};
 ghost use Rattle.semver_texts.specs.VersionGrammar.{SpellsVersion};
 ghost use Rattle.semver_texts.specs.VersionViews.{identifier_value, version_value};
-ghost use Rattle.semver_versions.specs.Outlines.{IsOutlineOf, strip_mark};
+ghost use Rattle.semver_versions.specs.Outlines.{IsOutlineOf, after_mark};
 ghost use Rattle.semver_versions.specs.Outlines.{version_of};
 ghost use Rattle.semver_versions.specs.Steps.Reading.{ArePartTexts, outline_with};
 
@@ -197,7 +197,7 @@ impl<'t> Outline<'t> {
 
     // Answer: equation.
     /// How the version of this outline compares with another by precedence (SemVer 2.0.0, section
-    /// 11), as `version::cmp_precedence` does of two versions: the outline of
+    /// 11), as `version::cmp_precedence` says of two versions: the outline of
     /// `1.2.3-rc.4+5aedf` is `Less` than 1.2.3-rc.11. Builds don't count. It does not allocate.
     #[inline(always)]
     pub fn cmp_precedence(&self, version: &Version) -> Ordering
@@ -240,7 +240,7 @@ fn marked_len(part: &[u8]) -> usize
 #[inline(always)]
 fn after_mark_at(place: usize, part: &[u8]) -> usize
     requires { place + length part.now < 2 ^ 64 }
-    ensures { result ≡ strip_mark place part.now }
+    ensures { result ≡ after_mark place part.now }
 {
     if part.is_empty() { 0 } else { place + 1 }
 }

@@ -15,7 +15,7 @@ use Rattle.semver_texts.specs.declared.dialect.Dialect.{Dialect}
 use Rattle.semver_texts.specs.declared.dialect.Dialect.TheVariants.{Crate, Cargo, Npm}
 use Rattle.semver_texts.specs.declared.dotted.Hyphens.{Hyphens}
 use Rattle.semver_texts.specs.declared.dotted.Hyphens.TheVariants.{Any, BetweenRuns}
-use Rattle.semver_versions.specs.Outlines.{OutlineValue, IsOutlineIn, strip_mark, outline_after}
+use Rattle.semver_versions.specs.Outlines.{OutlineValue, IsOutlineIn, after_mark, outline_after}
 
 -- ---- what differs by dialect
 
@@ -107,8 +107,8 @@ outline_with major minor patch numbers_end pre build = record {
   patch = patch;
   pre = pre;
   build = build;
-  pre_offset = strip_mark numbers_end pre;
-  build_offset = strip_mark (numbers_end + length (marked (codes "-") (cut_at_dots pre))) build;
+  pre_offset = after_mark numbers_end pre;
+  build_offset = after_mark (numbers_end + length (marked (codes "-") (cut_at_dots pre))) build;
 }
 
 -- ---- the whole

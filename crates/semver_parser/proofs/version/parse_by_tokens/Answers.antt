@@ -7,7 +7,7 @@ use Rattle.semver_texts.specs.VersionViews.{version_value}
 use Rattle.semver_texts.specs.declared.version.Version.{Version}
 use Rattle.semver_tokens.specs.declared.parser.Error.{Error}
 use Rattle.semver_tokens.proofs.IdentifierTexts.{unless_out_of_memory, unless_err, if_err}
-use Rattle.semver_parser.proofs.ParseFacts.{at_bad_start, lexer_has_memory, at_fault, at_refusal, at_end, tail_given, at_tail_refusal}
+use Rattle.semver_parser.proofs.ParseFacts.{at_bad_start, lexer_has_memory, at_error, at_refusal, at_end, tail_given, at_tail_refusal}
 use Rattle.semver_parser.proofs.version.parse_by_tokens.Goals as goal
 use Rattle.semver_parser.proofs.version.parse_by_tokens.Goals.{Else-is_eof}
 
@@ -29,7 +29,7 @@ returns-in_err-version c =
     let e : Error = c.in_err-version.field-0.0 in
     let state = c.in_ok-parser.ensures.ok in
     let outcome : UnlessOutOfMemory c.from_residual-in_err-version.result _ = rw (p.1, p.2)
-    (unless_err e (at_fault text c.in_ok-parser.parser c.version.new.self (error_value e) state) c.in_err-version.ensures.answer) in
+    (unless_err e (at_error text c.in_ok-parser.parser c.version.new.self (error_value e) state) c.in_err-version.ensures.answer) in
     record {
       outcome = outcome;
       out_of_memory = (rw (p.1, p.2)

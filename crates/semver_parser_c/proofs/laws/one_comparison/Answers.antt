@@ -4,14 +4,14 @@ use Rattle.tool_ranges.specs.Readings.{SpellsAs, TreeOf}
 use Rattle.semver_parser_c.specs.Numbers as number
 use Rattle.semver_parser_c.specs.Errors.{IsAccepted, IsOneOf, RefusesNewRange, RefusesRange, named_errors, new_range_errors}
 use Rattle.semver_parser_c.specs.Errors.{new_range_numbers}
-use Rattle.semver_parser_c.proofs.OneAnswer.{accepted_where, apart, known, new_once, range_exact, range_once, split, text_errors, uncast}
+use Rattle.semver_parser_c.proofs.OneAnswer.{accepted_where, apart, known, new_once, range_exact, range_once, split, exact_range_errors, uncast}
 use Rattle.semver_parser_c.proofs.OnePutting.{put_are_one, put_once}
 use Rattle.semver_parser_c.proofs.OneRewriting.{one_reading}
 use Rattle.semver_parser_c.proofs.OneLeast.{one_compared}
 use Rattle.semver_parser_c.proofs.laws.one_comparison.Goals as goal
 
 abbrev exact : List ℤ
-exact = range_exact ++ text_errors new_range_numbers
+exact = range_exact ++ exact_range_errors new_range_numbers
 
 abbrev errors : List ℤ
 errors = named_errors ++ new_range_errors
@@ -25,10 +25,10 @@ once : {reading rule : ℤ} {old new : Text} {n m : ℤ} → RefusesRange readin
     → IsOneOf exact n → n ≡ m
 once p q a b one = ⊎_elim (range_once p q)
     (λ one.
-    known (λ other. accepted_where p (apart (text_errors new_range_numbers) range_exact _ refl one) (λ accepted.
+    known (λ other. accepted_where p (apart (exact_range_errors new_range_numbers) range_exact _ refl one) (λ accepted.
     let (meaning, named, _, _) = accepted in
     other (new_once accepted (a meaning named) (b meaning named) one))))
-    (split range_exact (text_errors new_range_numbers) _ one)
+    (split range_exact (exact_range_errors new_range_numbers) _ one)
 
 pub returns : goal.returns
 returns c =
