@@ -1,4 +1,4 @@
-use Rattle.std.proofs.Common.{◌∙◌, ◌∷◌, [], ℤ, List, ap, inl, rules, refl, sym}
+use Rattle.std.proofs.Common.{◌∷◌, [], ℤ, List, ap, arith, inl, rules, refl}
 use Rattle.version_sets.specs.Flat.{flat_bytes, flat_switches}
 use Rattle.semver_parser_c.specs.Numbers as number
 use Rattle.semver_parser_c.proofs.OneAnswer.{uncast}
@@ -24,16 +24,8 @@ returns c =
           (inl refl) p.numbers q.numbers
           (operation_once p.no_such_operation q.no_such_operation p.not_a_set q.both_sets q.numbers)
           (operation_once q.no_such_operation p.no_such_operation q.not_a_set p.both_sets p.numbers)
-          (λ no no' error error'.
-          let rooms = p.rooms_unchanged no in
-          let rooms' = q.rooms_unchanged no' in
-          let told = p.numbers_unchanged error in
-          let told' = q.numbers_unchanged error' in (
-            rooms.0 ∙ c.requires.made ∙ sym rooms'.0,
-            told.0 ∙ c.requires.count ∙ sym told'.0,
-            rooms.1 ∙ c.requires.room ∙ sym rooms'.1,
-            told.1 ∙ c.requires.length ∙ sym told'.1,
-          ))
+          (λ no no' e e'.
+          grind (arith, c.requires, p.rooms_unchanged no, q.rooms_unchanged no', p.numbers_unchanged e, q.numbers_unchanged e'))
           (λ put put'.
           let (a, b, s, o, is, flat, other, made, puts) = p.made put in
           let (a', b', t, o', is', flat', other', made', puts') = q.made put' in

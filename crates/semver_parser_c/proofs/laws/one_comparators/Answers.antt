@@ -1,4 +1,4 @@
-use Rattle.std.proofs.Common.{◌∙◌, ◌∷◌, ap, inl, rules, sym, refl}
+use Rattle.std.proofs.Common.{◌∷◌, ap, arith, inl, rules, refl}
 use Rattle.semver_parser_c.specs.Comparators.{comparators_of, pre_releases, listed_comparators}
 use Rattle.semver_parser_c.specs.Numbers as number
 use Rattle.semver_parser_c.proofs.OneAnswer.{rewrite_exact, text_once, uncast}
@@ -17,16 +17,8 @@ returns c =
           (put_are_one (number.ok ∷ number.no_room ∷ rewrite_errors) rewrite_errors rewrite_exact number.range_out_of_memory refl refl
           refl refl
           (inl refl) p.numbers q.numbers (text_once p.refusals q.refusals) (text_once q.refusals p.refusals)
-          (λ no no' error error'.
-          let rooms = p.rooms_unchanged no in
-          let rooms' = q.rooms_unchanged no' in
-          let told = p.numbers_unchanged error in
-          let told' = q.numbers_unchanged error' in (
-            rooms.0 ∙ c.requires.comparators ∙ sym rooms'.0,
-            told.0 ∙ c.requires.count ∙ sym told'.0,
-            rooms.1 ∙ c.requires.room ∙ sym rooms'.1,
-            told.1 ∙ c.requires.length ∙ sym told'.1,
-          ))
+          (λ no no' e e'.
+          grind (arith, c.requires, p.rooms_unchanged no, q.rooms_unchanged no', p.numbers_unchanged e, q.numbers_unchanged e'))
           (λ put put'.
           let (r, is, tree, spells, fit, puts) = p.rewritten put in
           let (s, is', other, spells', fit', puts') = q.rewritten put' in

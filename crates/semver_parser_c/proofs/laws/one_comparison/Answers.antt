@@ -42,10 +42,16 @@ returns c =
           refl refl refl refl (inr (inr (inl refl))) (sorted _ p.numbers p.one_memory) (sorted _ q.numbers q.one_memory)
           (once p.refusals q.refusals p.new_refusals q.new_refusals)
           (once q.refusals p.refusals q.new_refusals p.new_refusals)
-          (λ no no' error error'. (
-            p.room_unchanged no ∙ c.requires.room ∙ sym (q.room_unchanged no'),
-            p.length_unchanged error ∙ c.requires.length ∙ sym (q.length_unchanged error'),
-            p.comparison_unchanged error ∙ c.requires.comparison ∙ sym (q.comparison_unchanged error'),
+          (λ no no' e e'.
+          grind (
+            arith,
+            c.requires,
+            p.room_unchanged no,
+            q.room_unchanged no',
+            p.length_unchanged e,
+            q.length_unchanged e',
+            p.comparison_unchanged e,
+            q.comparison_unchanged e',
           ))
           (λ put put'.
           let ((meaning, named, read), (_, named', read')) = p.read put in

@@ -1,4 +1,4 @@
-use Rattle.std.proofs.Common.{◌≡◌, ◌∙◌, ◌∷◌, [], ℤ, arith, rules, refl, sym}
+use Rattle.std.proofs.Common.{◌≡◌, ◌∷◌, [], ℤ, arith, rules, refl}
 use Rattle.semver_parser_c.specs.Numbers as number
 use Rattle.semver_parser_c.specs.Errors.{IsOneOf}
 use Rattle.semver_parser_c.specs.OneAnswer.{IsMemory}
@@ -31,8 +31,5 @@ returns c =
             within_once _ _ a b a' b' first second within within',
             within_once _ _ b a b' a' second first contains contains',
           ))
-          (λ no no'.
-          let kept = p.unchanged no in
-          let kept' = q.unchanged no' in
-          (kept.0 ∙ c.requires.within ∙ sym kept'.0, kept.1 ∙ c.requires.contains ∙ sym kept'.1))));
+          (λ no no'. grind (arith, c.requires, p.unchanged no, q.unchanged no'))));
     }

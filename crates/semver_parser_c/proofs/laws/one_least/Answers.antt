@@ -1,4 +1,4 @@
-use Rattle.std.proofs.Common.{◌∙◌, ◌∷◌, inl, rules, refl, sym}
+use Rattle.std.proofs.Common.{◌∷◌, arith, inl, rules, refl}
 use Rattle.semver_parser_c.specs.Numbers as number
 use Rattle.semver_parser_c.specs.Errors.{named_errors}
 use Rattle.semver_parser_c.proofs.OneAnswer.{range_exact, range_once, uncast}
@@ -16,10 +16,8 @@ returns c =
       one = uncast n.result m.result (search rules) (search rules)
           (put_are_one (number.ok ∷ number.no_room ∷ named_errors) named_errors range_exact number.range_out_of_memory refl refl refl refl
           (inl refl) p.numbers q.numbers (range_once p.refusals q.refusals) (range_once q.refusals p.refusals)
-          (λ no no' error error'. (
-            p.room_unchanged no ∙ c.requires.room ∙ sym (q.room_unchanged no'),
-            p.length_unchanged error ∙ c.requires.length ∙ sym (q.length_unchanged error'),
-          ))
+          (λ no no' e e'.
+          grind (arith, c.requires, p.room_unchanged no, q.room_unchanged no', p.length_unchanged e, q.length_unchanged e'))
           (λ put put'.
           let (meaning, named, read) = p.read put in
           let (o, least, puts) = p.least put meaning named read.tree read.spells in

@@ -1,4 +1,4 @@
-use Rattle.std.proofs.Common.{◌∙◌, ◌∷◌, [], ℤ, List, inl, rules, refl, subst, sym}
+use Rattle.std.proofs.Common.{◌∷◌, [], ℤ, List, arith, inl, rules, refl, subst}
 use Rattle.version_sets.specs.Comparisons.{TellsLeast}
 use Rattle.version_sets.specs.VersionSets.{IsIn, SetValue}
 use Rattle.semver_parser_c.specs.Numbers as number
@@ -21,10 +21,8 @@ returns c =
       one = uncast n.result m.result (search rules) (search rules)
           (put_are_one (number.ok ∷ number.no_room ∷ errors) errors (number.not_a_set ∷ []) number.range_out_of_memory refl refl refl refl
           (inl refl) p.numbers q.numbers (set_once p.not_a_set q.not_a_set) (set_once q.not_a_set p.not_a_set)
-          (λ no no' error error'. (
-            p.room_unchanged no ∙ c.requires.room ∙ sym (q.room_unchanged no'),
-            p.length_unchanged error ∙ c.requires.length ∙ sym (q.length_unchanged error'),
-          ))
+          (λ no no' e e'.
+          grind (arith, c.requires, p.room_unchanged no, q.room_unchanged no', p.length_unchanged e, q.length_unchanged e'))
           (λ put put'.
           let (a, flat, least, tells, puts) = p.least put in
           let (b, flat', least', tells', puts') = q.least put' in

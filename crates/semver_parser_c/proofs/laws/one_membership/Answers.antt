@@ -25,7 +25,6 @@ beside_set n one = grind arith
 
 -- what the clauses say of an answer
 record Answers (d : Dialect) (switches : List FlatSwitch) (bytes version : Text) (n : ℤ) : Type 0 where
-  numbers : IsOneOf (number.ok ∷ number.no_such_reading ∷ number.not_a_set ∷ version_errors) n
   named : n ≢ number.no_such_reading
   no_set : (n ≡ number.not_a_set) ↔ IsNoSet switches bytes
   read : n ≡ number.ok → IsUtf8 version × IsVersionTextIn d version × ((set : SetValue) × IsFlat switches bytes set)
@@ -65,22 +64,10 @@ returns c =
       one = uncast n.result m.result (search rules) (search rules)
           (by_dialect p.named q.no_such_reading p.no_such_reading (λ e e'. p.unchanged (λ ok. cc) ∙ c.requires
           ∙ sym (q.unchanged (λ ok. cc))) (λ d is.
-          let a : Answers d c.args.switches.now c.args.bytes.now c.args.version.now n.result = record {
-            numbers = p.numbers;
-            named = λ e. p.no_such_reading.0 e (is.0, is.1);
-            no_set = p.not_a_set (is.0, is.1);
-            read = p.read d is;
-            accepted = p.accepted d is;
-            refused = p.refused d is;
-          } in
-          let b : Answers d c.args.switches.now c.args.bytes.now c.args.version.now m.result = record {
-            numbers = q.numbers;
-            named = λ e. q.no_such_reading.0 e (is.0, is.1);
-            no_set = q.not_a_set (is.0, is.1);
-            read = q.read d is;
-            accepted = q.accepted d is;
-            refused = q.refused d is;
-          } in
+          let a : Answers d c.args.switches.now c.args.bytes.now c.args.version.now n.result =
+          search (rules, p.no_such_reading.0, p.not_a_set (is.0, is.1), p.read d is, p.accepted d is, p.refused d is) in
+          let b : Answers d c.args.switches.now c.args.bytes.now c.args.version.now m.result =
+          search (rules, q.no_such_reading.0, q.not_a_set (is.0, is.1), q.read d is, q.accepted d is, q.refused d is) in
           are_one (number.ok ∷ number.no_such_reading ∷ number.not_a_set ∷ version_errors) exact refl refl p.numbers q.numbers
           (once a b) (once b a)
           (λ one one' some some'. other a b (beside_ok _ one) (beside_ok _ one') (beside_set _ one) some some')

@@ -64,22 +64,10 @@ returns c =
     let q = m.ensures in
     let a : (d : Dialect) → IsDialect d (to_z w32 (of_z w32 c.args.reading))
     → Answers d c.args.version.now c.args.other.now n.result n.new.in_other =
-    λ d is. record {
-      utf8 = p.both_utf8;
-      read = p.both_read d is;
-      refused = p.refused d is;
-      text = p.in_other d is;
-      named = λ e. p.no_such_reading.0 e (is.0, is.1);
-    } in
+    λ d is. search (rules, p.both_utf8, p.both_read d is, p.refused d is, p.in_other d is, p.no_such_reading.0) in
     let b : (d : Dialect) → IsDialect d (to_z w32 (of_z w32 c.args.reading))
     → Answers d c.args.version.now c.args.other.now m.result m.new.in_other =
-    λ d is. record {
-      utf8 = q.both_utf8;
-      read = q.both_read d is;
-      refused = q.refused d is;
-      text = q.in_other d is;
-      named = λ e. q.no_such_reading.0 e (is.0, is.1);
-    } in
+    λ d is. search (rules, q.both_utf8, q.both_read d is, q.refused d is, q.in_other d is, q.no_such_reading.0) in
     let unnamed : n.result ≡ number.no_such_reading → m.result ≡ number.no_such_reading → n.new.in_other ≡ m.new.in_other =
     λ e e'. p.in_other_unchanged (inr (inl e)) ∙ c.requires.in_other ∙ sym (q.in_other_unchanged (inr (inl e'))) in
     let as_it_is : IsItself n.result = search rules in

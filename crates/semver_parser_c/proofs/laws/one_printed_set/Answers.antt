@@ -1,4 +1,4 @@
-use Rattle.std.proofs.Common.{◌∙◌, ◌∷◌, [], ℤ, List, ap, inl, rules, refl, sym}
+use Rattle.std.proofs.Common.{◌∷◌, [], ℤ, List, ap, arith, inl, rules, refl}
 use Rattle.semver_parser_c.specs.FlatSets.{kind_text}
 use Rattle.semver_parser_c.specs.Numbers as number
 use Rattle.semver_parser_c.proofs.OneAnswer.{uncast}
@@ -19,10 +19,8 @@ returns c =
       one = uncast n.result m.result (search rules) (search rules)
           (put_are_one (number.ok ∷ number.no_room ∷ errors) errors (number.not_a_set ∷ []) number.range_out_of_memory refl refl refl refl
           (inl refl) p.numbers q.numbers (set_once p.not_a_set q.not_a_set) (set_once q.not_a_set p.not_a_set)
-          (λ no no' error error'. (
-            p.room_unchanged no ∙ c.requires.room ∙ sym (q.room_unchanged no'),
-            p.length_unchanged error ∙ c.requires.length ∙ sym (q.length_unchanged error'),
-          ))
+          (λ no no' e e'.
+          grind (arith, c.requires, p.room_unchanged no, q.room_unchanged no', p.length_unchanged e, q.length_unchanged e'))
           (λ put put'.
           let (a, flat, puts) = p.printed put in
           let (b, flat', puts') = q.printed put' in

@@ -1,4 +1,4 @@
-use Rattle.std.proofs.Common.{◌∙◌, ◌∷◌, ap, inl, rules, sym, refl}
+use Rattle.std.proofs.Common.{◌∷◌, ap, arith, inl, rules, refl}
 use Rattle.semver_parser.specs.PrintedRanges.{set_text}
 use Rattle.semver_parser_c.specs.Numbers as number
 use Rattle.semver_parser_c.proofs.OneAnswer.{rewrite_exact, text_once, uncast}
@@ -17,10 +17,8 @@ returns c =
           (put_are_one (number.ok ∷ number.no_room ∷ rewrite_errors) rewrite_errors rewrite_exact number.range_out_of_memory refl refl
           refl refl
           (inl refl) p.numbers q.numbers (text_once p.refusals q.refusals) (text_once q.refusals p.refusals)
-          (λ no no' error error'. (
-            p.room_unchanged no ∙ c.requires.room ∙ sym (q.room_unchanged no'),
-            p.length_unchanged error ∙ c.requires.length ∙ sym (q.length_unchanged error'),
-          ))
+          (λ no no' e e'.
+          grind (arith, c.requires, p.room_unchanged no, q.room_unchanged no', p.length_unchanged e, q.length_unchanged e'))
           (λ put put'.
           let (r, is, tree, spells, fit, puts) = p.rewritten put in
           let (s, is', other, spells', fit', puts') = q.rewritten put' in

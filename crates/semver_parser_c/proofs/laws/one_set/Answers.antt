@@ -1,4 +1,4 @@
-use Rattle.std.proofs.Common.{◌∙◌, ◌∷◌, ap, inl, rules, refl, sym}
+use Rattle.std.proofs.Common.{◌∷◌, ap, arith, inl, rules, refl}
 use Rattle.version_sets.specs.Flat.{flat_bytes, flat_switches}
 use Rattle.semver_parser_c.specs.Numbers as number
 use Rattle.semver_parser_c.specs.Errors.{named_errors}
@@ -17,16 +17,8 @@ returns c =
       one = uncast n.result m.result (search rules) (search rules)
           (put_are_one (number.ok ∷ number.no_room ∷ named_errors) named_errors range_exact number.range_out_of_memory refl refl refl refl
           (inl refl) p.numbers q.numbers (range_once p.refusals q.refusals) (range_once q.refusals p.refusals)
-          (λ no no' error error'.
-          let rooms = p.rooms_unchanged no in
-          let rooms' = q.rooms_unchanged no' in
-          let told = p.numbers_unchanged error in
-          let told' = q.numbers_unchanged error' in (
-            rooms.0 ∙ c.requires.made ∙ sym rooms'.0,
-            told.0 ∙ c.requires.count ∙ sym told'.0,
-            rooms.1 ∙ c.requires.room ∙ sym rooms'.1,
-            told.1 ∙ c.requires.length ∙ sym told'.1,
-          ))
+          (λ no no' e e'.
+          grind (arith, c.requires, p.rooms_unchanged no, q.rooms_unchanged no', p.numbers_unchanged e, q.numbers_unchanged e'))
           (λ put put'.
           let (meaning, named, read) = p.read put in
           let (a, normal, _, means, puts) = p.set put meaning named in
