@@ -96,7 +96,7 @@ def findings(options: Options, manifest_at: Optional[str], text: bytes) -> Itera
     elif text.startswith(b"lockfileVersion:") or b"\nlockfileVersion:" in text:
         refuse_manifest(options)
         yield from pnpm.findings(yaml_object(text))
-    elif b"[[package]]" in text:
+    elif b"[[package]]" in text or text.startswith(b"[root]") or b"\n[root]" in text:
         refuse_manifest(options)
         path = options.files[0]
         folder = None if path == STANDARD_INPUT else os.path.dirname(path)

@@ -28,7 +28,9 @@ class Package(NamedTuple):
 def packages_of(lock: Entry) -> List[Package]:
     """The packages of a lock file, in its order."""
     found = []
-    for value in list_at(lock.get("package"), "package"):
+    # Cargo.lock files of before 2017 have the package itself in a table of its own.
+    own = [lock["root"]] if "root" in lock else []
+    for value in (*own, *list_at(lock.get("package", [] if own else None), "package")):
         entry = object_at(value, "package")
         name = text_at(entry.get("name"), "package: name")
         depends = list_at(entry.get("dependencies", []), f"{name}: dependencies")

@@ -69,6 +69,11 @@ def need_of(key: str, value: Any, table: str, inherited: Entry) -> Need:
     return Need(package, other_name, requirement, has_registry, table, source)
 
 
+def package_of(manifest: Entry) -> Entry:
+    """What a manifest has of its package. Up to edition 2021 the table may be `project`."""
+    return object_at(manifest.get("package", manifest.get("project", {})), "package")
+
+
 def workspace_of(manifest: Entry) -> Entry:
     """What a manifest has of its workspace, if it is that of one."""
     return object_at(manifest.get("workspace", {}), "workspace")
@@ -81,7 +86,7 @@ def workspace_table(manifest: Entry) -> Entry:
 
 def manifest_of(entry: Entry, inherited: Entry, of_package: Entry) -> Manifest:
     """A manifest, whose dependencies and version may be those of the workspace."""
-    package = object_at(entry.get("package", {}), "package")
+    package = package_of(entry)
     version = package.get("version")
     if isinstance(version, dict) and version.get("workspace") is True:
         version = of_package.get("version")
@@ -117,19 +122,31 @@ def manifests_at(folder: str) -> Iterator[Manifest]:
 
 def entries_of(folder: str, top: Entry) -> Dict[str, Entry]:
     """The manifests of a workspace or a package by their folders. Members are the packages that a
-    workspace names, and those that a member has by a path inside the folder, but for what is
-    excluded."""
+    workspace names, and those that a member has by a path inside the folder, or elsewhere if their
+    manifest names the workspace, but for what is excluded."""
     root = os.path.normpath(folder or ".")
     found = {root: top}
     if "workspace" not in top:
         return found
-    left = [*named_by(folder, top), *paths_of(root, top, root, top)]
+    named = list(named_by(folder, top))
+    left = [*named, *paths_of(root, top, root, top)]
     for path in left:
-        if path not in found and not is_excluded(path, folder, top):
-            found[path] = read(os.path.join(path, MANIFEST))
-            with taking(os.path.join(path, MANIFEST), MANIFEST):
-                left += paths_of(path, found[path], root, top)
+        if path in found or is_excluded(path, folder, top):
+            continue
+        entry = read(os.path.join(path, MANIFEST))
+        with taking(os.path.join(path, MANIFEST), MANIFEST):
+            if path in named or is_inside(path, root) or names_workspace(path, entry, root):
+                found[path] = entry
+                left += paths_of(path, entry, root, top)
     return found
+
+
+def names_workspace(path: str, entry: Entry, root: str) -> bool:
+    """Whether the manifest of a package names the workspace of a folder as its own."""
+    named = package_of(entry).get("workspace")
+    if not isinstance(named, str):
+        return False
+    return os.path.abspath(os.path.join(path, named)) == os.path.abspath(root)
 
 
 def texts_of(top: Entry, key: str) -> List[str]:
@@ -168,17 +185,14 @@ def is_excluded(path: str, folder: str, top: Entry) -> bool:
 
 
 def paths_of(folder: str, entry: Entry, root: str, top: Entry) -> Iterator[str]:
-    """The folders inside that of a workspace of the packages that a manifest has by a path, its own
-    or the workspace's."""
+    """The folders of the packages that a manifest has by a path, its own or the workspace's."""
     inherited = workspace_table(top)
     for _, values in tables_of(entry):
         for key, value in values.items():
             is_inherited = isinstance(value, dict) and value.get("workspace") is True
             at, own = (root, inherited.get(key)) if is_inherited else (folder, value)
             if isinstance(own, dict) and isinstance(own.get("path"), str):
-                path = os.path.normpath(os.path.join(at, own["path"]))
-                if is_inside(path, root):
-                    yield path
+                yield os.path.normpath(os.path.join(at, own["path"]))
 
 
 def is_inside(path: str, folder: str) -> bool:
@@ -194,7 +208,7 @@ def by_table(entry: Entry) -> Dict[Tuple[str, str], Need]:
     """What a manifest asks for, by table and key; of a workspace what it has for its members, too.
     What it takes from another file has no requirement here. A file without any table of a manifest
     is none."""
-    object_at(entry.get("package", {}), "package")
+    package_of(entry)
     if not {"package", "workspace", "target", *KINDS}.intersection(entry):
         raise WrongShape("")
     inherited = workspace_table(entry)

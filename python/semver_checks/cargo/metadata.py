@@ -11,7 +11,7 @@ WHAT HAS TO BE THERE. An edge has to be there for each dependency, but for
 
 - an optional one that no active feature has;
 - one for development, of a package that isn't in the workspace;
-- one for a target that no edge of the graph is for: `--filter-platform` leaves it out.
+- one for a target that no edge of the graph is for alone: `--filter-platform` leaves it out.
 """
 
 from typing import Any, Dict, Iterator, List, NamedTuple, Optional, Set, Tuple
@@ -163,9 +163,12 @@ def crate_name(name: str) -> str:
 
 
 def is_edge_for(edge: Edge, need: Need, package: Package) -> bool:
-    """Whether an edge of a package is for what it asks for."""
+    """Whether an edge of a package is for what it asks for. One to the package itself, which is for
+    development, has its own name in the graph, whatever other name the manifest gives."""
     if edge.name != need.name or need.kind not in edge.kinds:
         return False
+    if (edge.name, edge.version) == (package.name, package.version):
+        return True
     if need.other_name is not None:
         return edge.known_as == crate_name(need.other_name)
     other_names = {
@@ -173,16 +176,24 @@ def is_edge_for(edge: Edge, need: Need, package: Package) -> bool:
         for it in package.needs
         if it.other_name is not None and it.name == need.name
     }
-    return edge.known_as not in other_names
+    return edge.known_as not in other_names - {crate_name(need.name)}
 
 
 def has_to_be_there(need: Need, package: Package, targets: Set[Optional[str]]) -> bool:
-    """Whether the graph has to have an edge for what a package asks for, where its edges are for
-    these targets."""
+    """Whether the graph has to have an edge for what a package asks for, where these targets are
+    active."""
     kind, target = need.kind
     is_active = not need.is_optional or (need.other_name or need.name) in package.active
     is_built = kind != "dev" or package.is_member
     return is_active and is_built and (target is None or target in targets)
+
+
+def active_targets(packages: List[Package]) -> Set[Optional[str]]:
+    """The targets that the graph shows to be active: those that an edge is for alone. An edge for
+    several is there if one of them is active."""
+    edges = (edge for package in packages for edge in package.edges)
+    targets_of_each = ({target for _, target in edge.kinds} for edge in edges)
+    return {target for targets in targets_of_each if len(targets) == 1 for target in targets}
 
 
 def is_asked_for(version: str, need: Need) -> Optional[bool]:
@@ -226,8 +237,7 @@ def findings(metadata: Entry) -> Iterator[Finding]:
     """What there is to say of a graph, in the order of its packages. With `--strict` a dependency
     for any target has to be there."""
     packages = list(packages_at(metadata))
-    edges = (edge for package in packages for edge in package.edges)
-    targets = {target for edge in edges for _, target in edge.kinds}
+    targets = active_targets(packages)
     every_target = {need.kind[1] for package in packages for need in package.needs}
     for package in packages:
         yield from of_version(package)
