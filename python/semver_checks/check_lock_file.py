@@ -21,7 +21,7 @@ from .files import (
     utf8,
     yaml_object,
 )
-from .judging import SKIPPED, Finding
+from .judging import Finding
 from .npm import edges as npm
 from .pnpm import edges as pnpm
 from .program import Misuse, Options, Outcome, Program, joined, run
@@ -44,8 +44,8 @@ that wrote it reads ranges and versions. The content shows which tool that is:
 
 - is standard input.
 
-    --strict             also list what is asked for by a tag, an address or a
-                         path, and what is missing
+    --strict             also list what isn't judged, since it is no range or
+                         its version is not in the file
     --package-json FILE  take this package.json, and not that beside the lock file
                          of npm or yarn
     -h, --help           print this
@@ -125,8 +125,8 @@ def check(options: Options) -> Outcome:
         found = list(findings(options, manifest_at, bytes_of(path)))
     wrong = [finding for finding in found if is_strict or not finding.is_strict]
     lines = [joined(*(it[:4] if it.kind else it[:3])) for it in wrong]
-    skipped = sum(it.kind == SKIPPED for it in found)
-    why = "asked for by a tag, an address or a path, and not judged"
+    skipped = sum(it.is_strict for it in found)
+    why = "not judged, since it is no range or its version is not in the file"
     notes = [f"{why}: {skipped}; --strict lists them"] if skipped and not is_strict else []
     return Outcome(lines, notes, int(bool(wrong)))
 

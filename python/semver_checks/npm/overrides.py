@@ -9,10 +9,12 @@ from collections import deque
 from dataclasses import dataclass, field
 from typing import Dict, Iterator, List, Optional, Tuple
 
-from semver_parser import Filter, RangeError, Reading, VersionError, compare_ranges, meets
+from semver_parser import Filter, RangeError, Reading
 
 from ..files import Entry, WrongShape, object_at, text_at
+from ..judging import is_met
 from .lock import Ask, Packages, is_top, package_at
+from .specs import may_overlap, name_and_rest
 
 ANY = "*"
 
@@ -55,8 +57,7 @@ def add_rules(outer: Rule, overrides: Entry, where: str, manifest: Entry) -> Non
 
 def name_and_range(key: str, where: str) -> Tuple[str, str]:
     """The name and the range of a key."""
-    at = key.find("@", 1)
-    name, within = (key[:at], key[at + 1 :]) if at >= 0 else (key, "")
+    name, within = name_and_rest(key)
     within = within.strip() or ANY
     if not name:
         raise WrongShape(f": {where} names no package")
@@ -102,17 +103,12 @@ def is_concerned(rule: Rule, spec: str, version: Optional[str]) -> bool:
     that are asked for, it isn't for the others; of what is no range nothing can be told apart."""
     if rule.within == ANY:
         return True
-    try:
-        if not compare_ranges(spec, rule.within, Reading.NPM).overlaps:
-            return False
-        is_other = (
-            version is not None
-            and meets(spec, version, Reading.NPM)
-            and not meets(rule.within, version, Reading.NPM)
-        )
-    except (RangeError, VersionError):
-        return True
-    return not is_other
+    is_other = (
+        version is not None
+        and is_met(spec, version, Reading.NPM)
+        and not is_met(rule.within, version, Reading.NPM)
+    )
+    return not is_other and may_overlap(spec, rule.within)
 
 
 # ---- where rules hold

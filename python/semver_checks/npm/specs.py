@@ -1,10 +1,10 @@
 """What npm, yarn and pnpm ask for: a range, or a tag, an address or a path."""
 
 import re
-from typing import Optional, Tuple
+from typing import List, NamedTuple, Optional, Tuple
 from urllib.parse import unquote
 
-from semver_parser import Reading
+from semver_parser import RangeError, Reading, compare_ranges
 
 from ..judging import NO_VERSION, SKIPPED, is_met
 
@@ -24,13 +24,27 @@ NOT_MET = ""
 NOT_READ = "not read; npm's loose mode may"
 
 
+class Override(NamedTuple):
+    """What is put in place of what is asked for: of which package's asks, and of which of these,
+    each empty if it is for all, and what is put there."""
+
+    parent: str
+    within: str
+    spec: str
+
+
+def name_and_rest(text: str) -> Tuple[str, str]:
+    """The name in `NAME@REST`, which may begin with `@`, and the rest, which may be missing."""
+    at = text.find("@", 1)
+    return (text, "") if at < 0 else (text[:at], text[at + 1 :])
+
+
 def alias_of(spec: str) -> Optional[Tuple[str, str]]:
     """The name and the range of `npm:NAME@RANGE`, which is empty where there is none; None where
     it is no alias."""
     if spec[:4].lower() != "npm:" or len(spec) == 4:
         return None
-    at = spec.find("@", 5)
-    return (spec[4:at], spec[at + 1 :]) if at >= 0 else (spec[4:], "")
+    return name_and_rest(spec[4:])
 
 
 def has_name(name: str, spec: str) -> bool:
@@ -64,6 +78,15 @@ def is_no_range(spec: str) -> bool:
     return is_elsewhere(spec) or TAG.fullmatch(range_of(spec).strip()) is not None
 
 
+def may_overlap(spec: str, within: str) -> bool:
+    """Whether two ranges have a version in common, or may have one, since one of them isn't
+    read."""
+    try:
+        return compare_ranges(spec, within, Reading.NPM).overlaps
+    except RangeError:
+        return True
+
+
 def verdict_on(version: Optional[str], spec: str) -> str:
     """The verdict on the version of a package, if it has one, by what is asked for: `MET`, or the
     word of its line. What is at an address may have none."""
@@ -73,3 +96,12 @@ def verdict_on(version: Optional[str], spec: str) -> str:
     if version is None:
         return SKIPPED if is_elsewhere(spec) else NO_VERSION
     return MET if met else NOT_MET
+
+
+def verdict_by(version: str, specs: List[str]) -> Tuple[str, str]:
+    """Of what is put in place of an ask that by which the most is right, and the verdict by it."""
+    verdicts = {verdict_on(version, spec): spec for spec in reversed(specs)}
+    for verdict in (MET, SKIPPED):
+        if verdict in verdicts:
+            return verdicts[verdict], verdict
+    return specs[0], verdict_on(version, specs[0]) or "overridden"

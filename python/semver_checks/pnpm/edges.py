@@ -5,10 +5,11 @@ catalogs, from which importers take ranges, and each package for its peers. The 
 packages aren't in such a file.
 
 WHAT IS FOUND. Of an importer and a catalog the version beside what it asks for, and of a peer the
-package of that name among the dependencies of the package, where pnpm puts it.
+package of that name among the dependencies of the package, where pnpm puts it. What is at an
+address has its version at its package.
 
-OVERRIDES. They are in the file. An ask for a name that one of them is for is judged by what it puts
-there, if the version isn't what is asked for.
+OVERRIDES. They are in the file. An ask that one of them is for is judged by what it puts there, if
+the version isn't what is asked for.
 """
 
 import re
@@ -17,10 +18,26 @@ from typing import Dict, Iterator, List, NamedTuple, Optional, Tuple
 from semver_parser import Reading
 
 from ..files import Entry, WrongShape, object_at, objects_at, text_at, texts_at
-from ..judging import NO_VERSION, NOT_THERE, SKIPPED, Finding, is_version
-from ..npm.specs import CATALOG, MET, alias_of, has_name, verdict_on
+from ..judging import NO_VERSION, NOT_THERE, SKIPPED, Finding, is_met, is_version
+from ..npm.specs import (
+    CATALOG,
+    MET,
+    Override,
+    alias_of,
+    has_name,
+    may_overlap,
+    name_and_rest,
+    range_of,
+    verdict_by,
+    verdict_on,
+)
 
 KINDS = ("dependencies", "devDependencies", "optionalDependencies")
+
+# What an override has in place of what is asked for if that is removed.
+REMOVED = "-"
+
+Packages = Dict[str, Entry]
 
 # What a package is called: NAME@VERSION, or /NAME/VERSION or /NAME@VERSION, before which its
 # registry may be, and what follows of peers.
@@ -40,13 +57,15 @@ class Found(NamedTuple):
 
 
 class Ask(NamedTuple):
-    """Who asks for which name, for what, what is found, and whether that has to be there."""
+    """Who asks for which name, for what, what is found, whether that has to be there, and the name
+    and the version of the package that asks, where the file has them."""
 
     asker: str
     name: str
     spec: str
     found: Optional[Found]
     is_required: bool
+    parent: Optional[Tuple[str, str]] = None
 
 
 def called_by(text: str) -> Optional[Tuple[str, str]]:
@@ -61,13 +80,27 @@ def called_by(text: str) -> Optional[Tuple[str, str]]:
     return name, version
 
 
-def found_at(text: str) -> Found:
-    """What a file has for a version: one, a package of another name, or an address or a path."""
+def found_at(text: str, name: str, packages: Packages) -> Found:
+    """What a file has for a version of a name: one, a package of another name, or an address or a
+    path."""
     bare = re.split(r"[(_]", text, maxsplit=1)[0]
     if is_version(bare, Reading.NPM):
         return Found(None, bare)
     called = called_by(text)
-    return Found(None, None) if called is None else Found(*called)
+    return found_at_address(text, name, packages) if called is None else Found(*called)
+
+
+def found_at_address(text: str, name: str, packages: Packages) -> Found:
+    """What a file has at an address or a path. Its package is called `NAME@ADDRESS` from
+    lockfileVersion 9 on, and before that as the address, with its name in a field."""
+    bare = text.partition("(")[0]
+    for key in (f"{name}@{bare}", bare, text):
+        if key in packages:
+            entry = packages[key]
+            own = text_at(entry.get("name", name_and_rest(key)[0]), f"{key}: name")
+            version = entry.get("version")
+            return Found(own, None if version is None else text_at(version, f"{key}: version"))
+    return Found(None, None)
 
 
 # ---- who asks
@@ -80,7 +113,7 @@ def importers_of(lock: Entry) -> Dict[str, Entry]:
     return {".": {kind: lock[kind] for kind in (*KINDS, "specifiers") if kind in lock}}
 
 
-def asks_of_importer(folder: str, importer: Entry) -> Iterator[Ask]:
+def asks_of_importer(folder: str, importer: Entry, packages: Packages) -> Iterator[Ask]:
     """What the project or a workspace asks for. In lockfileVersion 5 that is apart from what is
     found."""
     asker = "the project" if folder == "." else folder
@@ -93,16 +126,17 @@ def asks_of_importer(folder: str, importer: Entry) -> Iterator[Ask]:
                 value = value.get("version")
             else:
                 spec = text_at(specs.get(name), f"{folder}: specifiers: {name}")
-            yield Ask(asker, name, spec, found_at(text_at(value, where)), True)
+            yield Ask(asker, name, spec, found_at(text_at(value, where), name, packages), True)
 
 
-def asks_of_catalogs(lock: Entry) -> Iterator[Ask]:
+def asks_of_catalogs(lock: Entry, packages: Packages) -> Iterator[Ask]:
     """What the catalogs ask for. The versions there are without the names of packages."""
     for catalog, entries in objects_at(lock.get("catalogs") or {}, "catalogs").items():
         for name, entry in objects_at(entries, f"catalogs: {catalog}").items():
             where = f"catalogs: {catalog}: {name}"
             spec = text_at(entry.get("specifier"), f"{where}: specifier")
-            _, version = found_at(text_at(entry.get("version"), f"{where}: version"))
+            text = text_at(entry.get("version"), f"{where}: version")
+            _, version = found_at(text, name, packages)
             named, _ = alias_of(spec) or (None, "")
             yield Ask(f"catalog {catalog}", name, spec, Found(named, version), True)
 
@@ -116,10 +150,9 @@ def by_catalog(ask: Ask, catalogs: List[Ask]) -> Ask:
     return ask._replace(spec=next(specs, ask.spec))
 
 
-def packages_of(lock: Entry) -> Iterator[Tuple[str, Entry, Entry]]:
+def packages_of(lock: Entry, packages: Packages) -> Iterator[Tuple[str, Entry, Entry]]:
     """The packages: what each is called, its fields, and what it depends on. From lockfileVersion 9
     on that is apart from the fields (`snapshots`)."""
-    packages = objects_at(lock.get("packages") or {}, "packages")
     if "snapshots" not in lock:
         for key, entry in packages.items():
             yield key, entry, entry
@@ -128,8 +161,12 @@ def packages_of(lock: Entry) -> Iterator[Tuple[str, Entry, Entry]]:
         yield key, packages.get(key.partition("(")[0], {}), entry
 
 
-def asks_of_package(asker: str, fields: Entry, depends: Entry) -> Iterator[Ask]:
+def asks_of_package(
+    key: str, fields: Entry, depends: Entry, packages: Packages
+) -> Iterator[Ask]:
     """The peers that a package asks for."""
+    called = called_by(key)
+    asker = key if called is None else " ".join(called)
     metas = objects_at(fields.get("peerDependenciesMeta", {}), f"{asker}: peerDependenciesMeta")
     given = {
         **texts_at(depends.get("optionalDependencies", {}), f"{asker}: optionalDependencies"),
@@ -137,28 +174,42 @@ def asks_of_package(asker: str, fields: Entry, depends: Entry) -> Iterator[Ask]:
     }
     peers = texts_at(fields.get("peerDependencies", {}), f"{asker}: peerDependencies")
     for name, spec in peers.items():
-        found = found_at(given[name]) if name in given else None
+        found = found_at(given[name], name, packages) if name in given else None
         is_optional = metas.get(name, {}).get("optional") in ("true", True)
-        yield Ask(asker, name, spec, found, not is_optional)
+        yield Ask(asker, name, spec, found, not is_optional, called)
 
 
 # ---- the findings
 
 
-def overrides_of(lock: Entry) -> Dict[str, List[str]]:
-    """What the overrides put in place of what is asked for, by names: a key is `NAME`,
-    `NAME@RANGE`, or one of these after `PARENT>`. A range may have `>` at its start, after a blank
-    and after `|`."""
-    replaced: Dict[str, List[str]] = {}
+def overrides_of(lock: Entry) -> Dict[str, List[Override]]:
+    """The overrides by the names that they are for: a key is `NAME`, `NAME@RANGE`, or one of these
+    after `PARENT>`, which is one of these too. A range may have `>` at its start, after a blank and
+    after `|`."""
+    overrides: Dict[str, List[Override]] = {}
     for key, spec in texts_at(lock.get("overrides") or {}, "overrides").items():
-        last = re.split(r"(?<=[^ |@])>", key, maxsplit=1)[-1]
-        at = last.find("@", 1)
-        replaced.setdefault(last if at < 0 else last[:at], []).append(spec)
-    return replaced
+        *outer, last = re.split(r"(?<=[^ |@])>", key, maxsplit=1)
+        name, within = name_and_rest(last)
+        if spec != REMOVED:
+            overrides.setdefault(name, []).append(Override("".join(outer), within, spec))
+    return overrides
 
 
-def of_ask(ask: Ask, replaced: List[str]) -> Iterator[Finding]:
+def is_for(override: Override, ask: Ask) -> bool:
+    """Whether an override of the name is for an ask: by the package that asks, and by the range
+    that is asked for. The names of the project and its workspaces aren't in the file, so they may
+    be any."""
+    name, within = name_and_rest(override.parent)
+    if name and ask.parent is not None:
+        is_within = not within or is_met(within, ask.parent[1], Reading.NPM) is not False
+        if name != ask.parent[0] or not is_within:
+            return False
+    return not override.within or may_overlap(range_of(ask.spec), override.within)
+
+
+def of_ask(ask: Ask, overrides: Dict[str, List[Override]]) -> Iterator[Finding]:
     """What there is to say of what is asked for."""
+    replaced = [it.spec for it in overrides.get(ask.name, []) if is_for(it, ask)]
     who, found = f"{ask.asker} asks for {ask.name}", ask.found
     if found is None:
         if ask.is_required:
@@ -172,10 +223,7 @@ def of_ask(ask: Ask, replaced: List[str]) -> Iterator[Finding]:
         yield Finding(ask.spec, name, who, "another package")
     spec, verdict = ask.spec, verdict_on(found.version, ask.spec)
     if verdict not in (MET, SKIPPED) and replaced:
-        if any(verdict_on(found.version, it) in (MET, SKIPPED) for it in replaced):
-            return
-        spec = replaced[0]
-        verdict = verdict_on(found.version, spec) or "overridden"
+        spec, verdict = verdict_by(found.version, replaced)
     if verdict != MET:
         yield Finding(spec, found.version, who, verdict, is_strict=verdict == SKIPPED)
 
@@ -190,16 +238,16 @@ def check_version(lock: Entry) -> None:
 def findings(lock: Entry) -> Iterator[Finding]:
     """What there is to say of a lock file, in its order."""
     check_version(lock)
-    overrides, catalogs = overrides_of(lock), list(asks_of_catalogs(lock))
+    packages = objects_at(lock.get("packages") or {}, "packages")
+    overrides, catalogs = overrides_of(lock), list(asks_of_catalogs(lock, packages))
     for ask in catalogs:
-        yield from of_ask(ask, overrides.get(ask.name, []))
+        yield from of_ask(ask, overrides)
     for folder, importer in importers_of(lock).items():
-        for ask in asks_of_importer(folder, importer):
-            yield from of_ask(by_catalog(ask, catalogs), overrides.get(ask.name, []))
-    for key, fields, depends in packages_of(lock):
+        for ask in asks_of_importer(folder, importer, packages):
+            yield from of_ask(by_catalog(ask, catalogs), overrides)
+    for key, fields, depends in packages_of(lock, packages):
         called = called_by(key)
-        asker = key if called is None else " ".join(called)
         if called is not None and not is_version(called[1], Reading.NPM):
             yield Finding("", called[1], called[0], NO_VERSION)
-        for ask in asks_of_package(asker, fields, depends):
-            yield from of_ask(ask, overrides.get(ask.name, []))
+        for ask in asks_of_package(key, fields, depends, packages):
+            yield from of_ask(ask, overrides)

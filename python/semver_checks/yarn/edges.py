@@ -5,20 +5,20 @@ for, the project or a workspace does: in a lock file of yarn 1 these aren't pack
 
 WHAT IS FOUND. The package whose key has what is asked for, as `numbers@^1.0.0`.
 
-RESOLUTIONS. They are in the project's package.json. An ask for a name that one of them is for is
-judged by what it puts there, if the version isn't what is asked for.
+RESOLUTIONS. They are in the project's package.json. An ask that one of them is for is judged by
+what it puts there, if the version isn't what is asked for.
 
 NOT IN THE FILE. Who provides a peer, the version of a workspace, and the ranges of catalogs.
 """
 
 import re
-from typing import Dict, Iterator, List, Optional, Set, Tuple
+from typing import Dict, Iterator, List, NamedTuple, Optional, Set
 
 from semver_parser import Reading
 
 from ..files import Entry, texts_at
 from ..judging import NO_VERSION, NOT_THERE, SKIPPED, Finding, is_version
-from ..npm.specs import CATALOG, MET, has_name, verdict_on
+from ..npm.specs import CATALOG, MET, Override, has_name, name_and_rest, verdict_by, verdict_on
 from .lock import Package, Tree, asks_of, name_of, packages_of, spec_of
 
 # The version that a workspace of the project has in a lock file.
@@ -27,21 +27,60 @@ WORKSPACE = "0.0.0-use.local"
 # A step of the path of a resolution: a name, and perhaps a range.
 STEP = re.compile(r"(?:@[^/]+/)?[^/]+")
 
+Resolutions = Dict[str, List[Override]]
 
-def resolutions_of(manifest: Entry) -> Dict[str, List[str]]:
-    """What the resolutions of a package.json put in place of what is asked for, by the names at the
-    ends of their paths."""
-    replaced: Dict[str, List[str]] = {}
-    for path, spec in texts_at(manifest.get("resolutions", {}), "resolutions").items():
-        last = (STEP.findall(path) or [path])[-1]
-        at = last.find("@", 1)
-        replaced.setdefault(last if at < 0 else last[:at], []).append(spec)
-    return replaced
+
+class Ask(NamedTuple):
+    """Who asks for which name, and for what. Without a package it is the project of yarn 1."""
+
+    package: Optional[Package]
+    name: str
+    spec: str
+
+    @property
+    def asker(self) -> str:
+        """Who asks, as it is printed."""
+        if self.package is None:
+            return "the project"
+        name = name_of(self.package.patterns[0])
+        return name if self.package.version == WORKSPACE else f"{name} {self.package.version}"
 
 
 def of_yarn(spec: str) -> str:
     """What is asked for as npm has it: yarn also writes a range as `npm:RANGE`."""
     return spec[4:] if spec.startswith("npm:") and "@" not in spec[5:] else spec
+
+
+# ---- resolutions
+
+
+def resolutions_of(manifest: Entry) -> Resolutions:
+    """The resolutions of a package.json by the names at the ends of their paths."""
+    resolutions: Resolutions = {}
+    for path, spec in texts_at(manifest.get("resolutions", {}), "resolutions").items():
+        *outer, last = STEP.findall(path) or [path]
+        name, within = name_and_rest(last)
+        override = Override("".join(outer[-1:]), within, spec)
+        resolutions.setdefault(name, []).append(override)
+    return resolutions
+
+
+def is_for(resolution: Override, ask: Ask) -> bool:
+    """Whether a resolution of the name is for an ask: by what is asked for, and by the package that
+    asks, whose name and perhaps place the path has before the last name. A step with `*` may be any
+    package, and the project of yarn 1 any workspace."""
+    if resolution.within and of_yarn(resolution.within) != of_yarn(ask.spec):
+        return False
+    if ask.package is None or not resolution.parent or "*" in resolution.parent:
+        return True
+    name, place = name_and_rest(resolution.parent)
+    if not ask.package.resolution:
+        return name in map(name_of, ask.package.patterns)
+    own_name, own_place = name_and_rest(ask.package.resolution)
+    return name == own_name and (not place or of_yarn(place) == of_yarn(own_place))
+
+
+# ---- the findings
 
 
 def found_for(
@@ -56,38 +95,21 @@ def found_for(
     return None
 
 
-def of_ask(
-    asker: str, name: str, spec: str, found: Package, resolved: List[str]
-) -> Iterator[Finding]:
+def of_ask(ask: Ask, found: Package, resolved: List[str]) -> Iterator[Finding]:
     """What there is to say of what is asked for and found."""
-    who, wanted = f"{asker} asks for {name}", of_yarn(spec)
+    who, spec, wanted = f"{ask.asker} asks for {ask.name}", ask.spec, of_yarn(ask.spec)
     if found.version == WORKSPACE:
         yield Finding(spec, "", who, SKIPPED, is_strict=True)
         return
-    named, specs = name_of(found.resolution), (wanted, *map(of_yarn, resolved))
-    if found.resolution and not any(has_name(named, it) for it in specs):
-        yield Finding(spec, named, who, "another package")
+    written = {of_yarn(it): it for it in resolved}
+    if found.name and not any(has_name(found.name, it) for it in (wanted, *written)):
+        yield Finding(spec, found.name, who, "another package")
     verdict = verdict_on(found.version, wanted)
     if verdict not in (MET, SKIPPED) and resolved:
-        spec, verdict = by_resolutions(found.version, resolved)
+        wanted, verdict = verdict_by(found.version, list(written))
+        spec = written[wanted]
     if verdict != MET:
         yield Finding(spec, found.version, who, verdict, is_strict=verdict == SKIPPED)
-
-
-def by_resolutions(version: str, resolved: List[str]) -> Tuple[str, str]:
-    """What a resolution puts there, and the verdict by it: of several the best."""
-    verdicts = {verdict_on(version, of_yarn(spec)): spec for spec in reversed(resolved)}
-    for verdict in (MET, SKIPPED):
-        if verdict in verdicts:
-            return verdicts[verdict], verdict
-    spec = resolved[0]
-    return spec, verdict_on(version, of_yarn(spec)) or "overridden"
-
-
-def who_is(package: Package) -> str:
-    """A package, as it is named where it asks."""
-    name = name_of(package.patterns[0])
-    return name if package.version == WORKSPACE else f"{name} {package.version}"
 
 
 def asked_patterns(packages: List[Package]) -> Set[str]:
@@ -95,13 +117,13 @@ def asked_patterns(packages: List[Package]) -> Set[str]:
     return {f"{name}@{spec}" for package in packages for name, spec in asks_of(package)}
 
 
-def asks_for(package: Package, asked: Set[str]) -> Iterator[Tuple[str, str, str]]:
+def asks_for(package: Package, asked: Set[str]) -> Iterator[Ask]:
     """Who asks for what: first the project, for what no package asks for, and then the package."""
     for pattern in package.patterns:
         if pattern not in asked:
-            yield "the project", name_of(pattern), spec_of(pattern)
+            yield Ask(None, name_of(pattern), spec_of(pattern))
     for name, spec in asks_of(package):
-        yield who_is(package), name, spec
+        yield Ask(package, name, spec)
 
 
 def by_patterns(packages: List[Package]) -> Dict[str, Package]:
@@ -111,7 +133,7 @@ def by_patterns(packages: List[Package]) -> Dict[str, Package]:
     }
 
 
-def findings(tree: Tree, resolutions: Dict[str, List[str]]) -> Iterator[Finding]:
+def findings(tree: Tree, resolutions: Resolutions) -> Iterator[Finding]:
     """What there is to say of a lock file, in its order, beside the project's resolutions."""
     packages = list(packages_of(tree))
     by_pattern = by_patterns(packages)
@@ -121,11 +143,12 @@ def findings(tree: Tree, resolutions: Dict[str, List[str]]) -> Iterator[Finding]
     for package in packages:
         if package.version != WORKSPACE and not is_version(package.version, Reading.NPM):
             yield Finding("", package.version, name_of(package.patterns[0]), NO_VERSION)
-        for asker, name, spec in asks_for(package, asked):
-            resolved = resolutions.get(name, [])
-            found = found_for(name, [spec, *resolved], by_pattern)
+        for ask in asks_for(package, asked):
+            resolved = [it.spec for it in resolutions.get(ask.name, []) if is_for(it, ask)]
+            found = found_for(ask.name, [ask.spec, *resolved], by_pattern)
             if found is not None:
-                yield from of_ask(asker, name, spec, found, resolved)
+                yield from of_ask(ask, found, resolved)
             else:
-                kind = SKIPPED if spec.startswith(CATALOG) else NOT_THERE
-                yield Finding(spec, "", f"{asker} asks for {name}", kind, is_strict=True)
+                who = f"{ask.asker} asks for {ask.name}"
+                kind = SKIPPED if ask.spec.startswith(CATALOG) else NOT_THERE
+                yield Finding(ask.spec, "", who, kind, is_strict=True)

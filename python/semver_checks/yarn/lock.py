@@ -6,25 +6,32 @@ has a key, and then a value or, on the lines below, an object.
 import json
 import re
 from typing import Dict, Iterator, List, NamedTuple, Tuple, Union
+from urllib.parse import unquote
 
 from ..files import Unreadable, WrongShape
+from ..npm.specs import name_and_rest
 
 Tree = Dict[str, Union[str, "Tree"]]
 
 # A text in quotes, or one up to the blank, colon or comma that ends it.
 TOKEN = re.compile(r'"(?:[^"\\]|\\.)*"|[^\s,"][^\s,"]*')
 
+# The name of a package in its address at a registry, as https://example.org/NAME/-/FILE.
+NAME_AT = re.compile(r"/((?:@[^/]+/)?[^/]+)/-/")
+
 MET_BY = ("dependencies", "optionalDependencies")
 
 
 class Package(NamedTuple):
     """A package of the file: the asks that it is for, as `numbers@^1.0.0`, its version, its fields,
-    and by what it is resolved, if the file is berry's."""
+    by what it is resolved, if the file is berry's, and its own name, which yarn 1 has only in an
+    address."""
 
     patterns: List[str]
     version: str
     fields: Tree
     resolution: str
+    name: str
 
 
 def lines_of(text: str) -> Iterator[Tuple[int, int, str]]:
@@ -111,8 +118,12 @@ def packages_of(tree: Tree) -> Iterator[Package]:
         version = fields.get("version")
         if not isinstance(version, str):
             raise WrongShape(f": {key}: version isn't a text")
-        resolution = fields.get("resolution", "")
-        yield Package(key.split(between), version, fields, str(resolution))
+        resolution = str(fields.get("resolution", ""))
+        name_at = NAME_AT.search(str(fields.get("resolved", "")))
+        name = unquote(name_at.group(1)) if name_at is not None else name_of(resolution)
+        # A name alone is for the tag `latest`, as yarn 1 has it.
+        patterns = [it if "@" in it[1:] else f"{it}@latest" for it in key.split(between)]
+        yield Package(patterns, version, fields, resolution, name)
 
 
 def asks_of(package: Package) -> Iterator[Tuple[str, str]]:
@@ -128,11 +139,10 @@ def asks_of(package: Package) -> Iterator[Tuple[str, str]]:
 
 
 def name_of(pattern: str) -> str:
-    """The name that a pattern asks for: what is before the second `@` of `@of/numbers@^1`, or the
-    only one of `numbers@^1`."""
-    return pattern[: pattern.find("@", 1)]
+    """The name that a pattern asks for."""
+    return name_and_rest(pattern)[0]
 
 
 def spec_of(pattern: str) -> str:
     """What a pattern asks for."""
-    return pattern[pattern.find("@", 1) + 1 :]
+    return name_and_rest(pattern)[1]
