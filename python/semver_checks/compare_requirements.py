@@ -145,13 +145,15 @@ def read(path: str) -> Manifest:
 
 
 def read_revision(revision: str, path: str) -> Manifest:
-    """The manifest of a file in a revision."""
-    where = f"{revision}:./{os.path.basename(path)}"
-    folder = os.path.dirname(path) or "."
+    """The manifest of a file in a revision. Its folder may be gone now, so git runs in the nearest
+    one that is there."""
+    folder, name = os.path.split(path)
+    while folder and not os.path.isdir(folder):
+        folder, inner = os.path.split(folder)
+        name = os.path.join(inner, name)
+    command = ["git", "-C", folder or ".", "show", "--end-of-options", f"{revision}:./{name}"]
     try:
-        shown = subprocess.run(
-            ["git", "-C", folder, "show", "--end-of-options", where], capture_output=True
-        )
+        shown = subprocess.run(command, capture_output=True)
     except OSError as error:
         raise Refusal("git", f"it can't be run: {error.strerror}") from None
     if shown.returncode:

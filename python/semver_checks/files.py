@@ -31,8 +31,11 @@ class WrongShape(Exception):
 def bytes_of(path: str) -> bytes:
     """What a file holds, or standard input, after a byte order mark."""
     if path != STANDARD_INPUT:
-        with open(path, "rb") as file:
-            return file.read().removeprefix(BYTE_ORDER_MARK)
+        try:
+            with open(path, "rb") as file:
+                return file.read().removeprefix(BYTE_ORDER_MARK)
+        except ValueError:
+            raise Refusal(path, "it can't be read: no file has such a name") from None
     if sys.stdin is None:
         raise Refusal(path, "it can't be read: it is closed")
     return sys.stdin.buffer.read().removeprefix(BYTE_ORDER_MARK)

@@ -160,7 +160,9 @@ def named_by(folder: str, top: Entry) -> Iterator[str]:
     and one that ends in `**` finds what is below, as Cargo has it."""
     for text in texts_of(top, "members"):
         pattern = os.path.join(escape(folder), f"{text}/*" if text.endswith("**") else text)
-        paths = sorted(glob(pattern, recursive=True, include_hidden=True))
+        # Python's glob refuses a zero byte, which no file has in its name.
+        found = [] if "\0" in pattern else glob(pattern, recursive=True, include_hidden=True)
+        paths = sorted(found)
         for path in paths or [os.path.join(folder, text)]:
             if os.path.isdir(path) or not paths:
                 yield os.path.normpath(path)
