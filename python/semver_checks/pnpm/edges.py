@@ -58,7 +58,7 @@ class Found(NamedTuple):
 
 class Ask(NamedTuple):
     """Who asks for which name, for what, what is found, whether that has to be there, and the name
-    and the version of the package that asks, where the file has them."""
+    and the version of the package that asks, if it is one that is called by them."""
 
     asker: str
     name: str
@@ -96,10 +96,13 @@ def found_at_address(text: str, name: str, packages: Packages) -> Found:
     bare = text.partition("(")[0]
     for key in (f"{name}@{bare}", bare, text):
         if key in packages:
-            entry = packages[key]
-            own = text_at(entry.get("name", name_and_rest(key)[0]), f"{key}: name")
+            entry, (called, address) = packages[key], name_and_rest(key)
+            own = entry.get("name", called if address else None)
             version = entry.get("version")
-            return Found(own, None if version is None else text_at(version, f"{key}: version"))
+            return Found(
+                None if own is None else text_at(own, f"{key}: name"),
+                None if version is None else text_at(version, f"{key}: version"),
+            )
     return Found(None, None)
 
 
@@ -197,8 +200,7 @@ def overrides_of(lock: Entry) -> Dict[str, List[Override]]:
 
 def is_for(override: Override, ask: Ask) -> bool:
     """Whether an override of the name is for an ask: by the package that asks, and by the range
-    that is asked for. The names of the project and its workspaces aren't in the file, so they may
-    be any."""
+    that is asked for. The project and its workspaces may have any name, as it isn't in the file."""
     name, within = name_and_rest(override.parent)
     if name and ask.parent is not None:
         is_within = not within or is_met(within, ask.parent[1], Reading.NPM) is not False
