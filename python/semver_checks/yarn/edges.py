@@ -139,13 +139,16 @@ def findings(tree: Tree, resolutions: Resolutions) -> Iterator[Finding]:
     by_pattern = by_patterns(packages)
     # From yarn 2 on the project and its workspaces are packages, and ask for all that is there.
     every = {pattern for package in packages for pattern in package.patterns}
-    asked = every if "__metadata" in tree else asked_patterns(packages)
+    is_berry = "__metadata" in tree
+    asked = every if is_berry else asked_patterns(packages)
     for package in packages:
         if package.version != WORKSPACE and not is_version(package.version, Reading.NPM):
             yield Finding("", package.version, name_of(package.patterns[0]), NO_VERSION)
         for ask in asks_for(package, asked):
             resolved = [it.spec for it in resolutions.get(ask.name, []) if is_for(it, ask)]
-            found = found_for(ask.name, [ask.spec, *resolved], by_pattern)
+            # In yarn 1 a package that a resolution puts there is for what is asked for, too.
+            specs = [*resolved, ask.spec] if is_berry else [ask.spec, *resolved]
+            found = found_for(ask.name, specs, by_pattern)
             if found is not None:
                 yield from of_ask(ask, found, resolved)
             else:
