@@ -17,8 +17,8 @@ OF_PROJECT = (*ASKS_OF_TOPS, "peerDependenciesMeta")
 
 
 class Package(NamedTuple):
-    """What is found: its place, after its links, and its name and its version, where it has them.
-    A link that leads nowhere has neither."""
+    """What is found: its place, with its links followed, and its name and its version, where it has
+    them. A link that leads nowhere has neither."""
 
     place: str
     name: Optional[str]
@@ -131,7 +131,7 @@ def of_this_day(old: Entry, place: str) -> Entry:
     return entry
 
 
-def after_links(packages: Packages, place: str) -> Optional[str]:
+def end_of_links(packages: Packages, place: str) -> Optional[str]:
     """The place to which the links from a place lead; None where that is nowhere."""
     seen = set()
     while packages[place].get("link"):
@@ -144,7 +144,7 @@ def after_links(packages: Packages, place: str) -> Optional[str]:
 
 def package_at(packages: Packages, place: str) -> Package:
     """The package at a place."""
-    end = after_links(packages, place)
+    end = end_of_links(packages, place)
     if end is None:
         return Package(place, None, None)
     entry = packages[end]
