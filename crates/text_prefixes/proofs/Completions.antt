@@ -1,0 +1,423 @@
+-- How the prefixes of a language are completed, and those of what is made of languages: nothing by a shortest text, and each other
+-- prefix that doesn't end within a character by one of a few completions, which has no more characters than what completed it.
+use Rattle.std.proofs.Common.{◌≡◌, ℕ, ◌+◌, ◌<◌, ◌≤◌, ◌⊎◌, inl, inr, cond, Bool, true, false, List, [], ◌∷◌, ◌++◌, map, length}
+use Rattle.std.proofs.Common.{refl, sym, ap, ◌∙◌, subst, arith, append-nil, append_assoc}
+use Rattle.std.specs.Prelude.{not, ◌||◌}
+use Rattle.std.specs.Str.{IsUtf8, bytes_eq}
+use Rattle.std.proofs.lemmas.Bool.{and_parts}
+use Rattle.std.proofs.lemmas.Slice.Eq.{bytes_eq-Decides}
+use Rattle.std.proofs.lemmas.Bool.Decides.{nat_tests}
+use Rattle.std.proofs.lemmas.Str.{IsCharBoundary-start, IsUtf8-append, IsUtf8-from_ascii, IsUtf8-nil}
+use Rattle.std.proofs.lemmas.Str.Ascii.{IsAscii-cons, IsAscii-nil}
+use Rattle.std.specs.List.{AllByRecursion, Contains, concat, join_with_byte, list_all}
+use Rattle.std.proofs.lemmas.List.{get_or-map, length-map}
+use Rattle.std.proofs.lemmas.List.Elements.{Contains-append_left, Contains-append_right, All-contains, All-from_recursion}
+use Rattle.std.proofs.lemmas.List.Sums.{sum_by-append}
+use Rattle.semver_texts.specs.Texts.{Text}
+use Rattle.semver_texts.specs.ToolVersions.{characters, goes_on}
+use Rattle.semver_texts.proofs.Lists.{by_test}
+use Rattle.text_prefixes.specs.Prefixes.{AreCompletions, GoesOn}
+
+-- ---- what completes a prefix
+
+-- the text begins within a character
+abbrev pub is_cut : Text → Bool
+is_cut [] = false
+is_cut (b ∷ t) = goes_on b
+
+pub record IsCompleted (Is : Text → Type 0) (completions : List Text) (t rest : Text) : Type 0 where
+  pub more : Text
+  pub completion : Contains completions more
+  pub is : Is (t ++ more)
+  pub short : characters more ≤ characters rest
+  pub uncut : is_cut rest ≡ false → is_cut more ≡ false
+
+pub record Completes (Is : Text → Type 0) (least : Text) (completions : List Text) : Type 0 where
+  pub has : Is least
+  pub utf8 : (t : Text) → Is t → IsUtf8 t
+  pub least_short : (t : Text) → Is t → characters least ≤ characters t
+  pub goes : (b : ℕ) (t rest : Text) → Is (b ∷ t ++ rest) → IsCompleted Is completions (b ∷ t) rest
+
+-- ---- characters, where a text is cut, and completions
+
+pub characters_append : (x y : Text) → characters (x ++ y) ≡ characters x + characters y
+characters_append x y = sum_by-append (λ b. cond (not (goes_on b)) 1 0) x y
+
+abbrev CutAt : Text → Text → Text → Text → Type 0
+CutAt x y t rest = ((r : Text) × (x ≡ t ++ r) × (rest ≡ r ++ y)) ⊎ ((b : ℕ) × (m : Text) × (t ≡ x ++ (b ∷ m)) × (y ≡ b ∷ (m ++ rest)))
+
+cut_at : (x y t rest : Text) → t ++ rest ≡ x ++ y → CutAt x y t rest
+cut_at x y [] rest e = inl (x, refl, e)
+cut_at [] y (b ∷ t) rest e = inr (b, t, refl, sym e)
+cut_at (a ∷ x) y (b ∷ t) rest e =
+    let head : b ≡ a = cc in
+    let tail : t ++ rest ≡ x ++ y = cc in
+    elim (cut_at x y t rest tail) [
+      | inl w ↦ inl (w.0, (let f = w.1 in cc), w.2)
+      | inr w ↦ inr (w.0, w.1, (let f = w.2 in cc), w.3)
+    ]
+
+cut_prefix : (r y rest : Text) → rest ≡ r ++ y → is_cut rest ≡ false → is_cut r ≡ false
+cut_prefix [] y rest e uncut = refl
+cut_prefix (b ∷ r) y rest e uncut = sym (ap is_cut e) ∙ uncut
+
+append_uncut : (x y : Text) → is_cut x ≡ false → is_cut y ≡ false → is_cut (x ++ y) ≡ false
+append_uncut [] y e f = f
+append_uncut (b ∷ x) y e f = e
+
+contains_mapped : (f : Text → Text) (xs : List Text) (x : Text) → Contains xs x → Contains (map f xs) (f x)
+contains_mapped f xs x w = (
+  w.0,
+  omega (arith, w.1, length-map xs f),
+  get_or-map f xs w.0 x (f x) w.1 ∙ ap f w.2,
+)
+
+-- what is whole doesn't begin within a character
+utf8_uncut : (t : Text) → IsUtf8 t → is_cut t ≡ false
+utf8_uncut [] utf8 = refl
+utf8_uncut (b ∷ t) utf8 = let w = IsCharBoundary-start (b ∷ t) utf8 in lead b (λ high. w.1 (omega arith) high)
+  where
+    lead : (b : ℕ) → (128 ≤ b → 192 ≤ b) → goes_on b ≡ false
+    lead b high = grind (arith, nat_tests)
+
+-- each of the completions is among others: a test that computes
+abbrev pub is_one : List Text → Text → Bool
+is_one [] e = false
+is_one (o ∷ os) e = bytes_eq o e || is_one os e
+
+one_of : (os : List Text) (e : Text) → is_one os e ≡ true → Contains os e
+one_of [] e y = cc
+one_of (o ∷ os) e y =
+    by_test (bytes_eq o e) (λ same. (0, omega arith, grind (arith, bytes_eq-Decides o e)))
+    (λ n. Contains-append_right (o ∷ []) os e (one_of os e (rw n at y)))
+
+each_one : (os es : List Text) → list_all (is_one os) es ≡ true → AllByRecursion (Contains os) es
+each_one os [] y = tt
+each_one os (e ∷ es) y = let both = and_parts (is_one os e) (list_all (is_one os) es) y in (one_of os e both.0, each_one os es both.1)
+
+abbrev pub are_among : List Text → List Text → Bool
+are_among others es = list_all (λ e. is_cut e || is_one others e) es
+
+each_among : (others es : List Text) → are_among others es ≡ true → AllByRecursion (λ e. is_cut e ≡ false → Contains others e) es
+each_among others [] y = tt
+each_among others (e ∷ es) y =
+    let both = and_parts (is_cut e || is_one others e) (are_among others es) y in
+    (λ u. one_of others e (rw u at both.0), each_among others es both.1)
+
+-- ---- of one language
+
+module _ {Is : Text → Type 0} {least : Text} {completions : List Text} (w : Completes Is least completions) where
+  -- also of nothing
+  pub goes_all : (t rest : Text) → Is (t ++ rest) → IsCompleted Is (least ∷ completions) t rest
+  goes_all [] rest is = record { more = least; completion = (0, omega arith, refl); is = w.has; short = w.least_short rest is; uncut = λ u. utf8_uncut least (w.utf8 least w.has) }
+  goes_all (b ∷ t) rest is = let g = w.goes b t rest is in
+      record { more = g.more; completion = Contains-append_right (least ∷ []) completions g.more g.completion; is = g.is; short = g.short; uncut = g.uncut }
+
+  -- of any bytes
+  pub bytes_go_on : (others : List Text) → list_all (is_one others) (least ∷ completions) ≡ true → (t rest : Text) → Is (t ++ rest) → GoesOn Is others t
+  bytes_go_on others among t rest is =
+      let g = goes_all t rest is in
+      let e = All-contains (Contains others) (least ∷ completions) g.more
+      (All-from_recursion (Contains others) (least ∷ completions) (each_one others (least ∷ completions) among)) g.completion in
+      (e.0, g.more, e.1, e.2, g.is)
+
+  -- of whole texts, by those that don't begin within a character
+  pub are_completions : (others : List Text) → AllByRecursion (AllByRecursion (λ b. b < 128)) others
+      → are_among others (least ∷ completions) ≡ true → AreCompletions Is others
+  are_completions others ascii among = record {
+    ascii = ascii;
+    some = let e = is_among least (0, omega arith, refl) (utf8_uncut least (w.utf8 least w.has)) in (e.0, least, e.1, e.2, w.has);
+    complete = λ t rest utf8 more is. let g = goes_all t rest is in
+        let e = is_among g.more g.completion (g.uncut (utf8_uncut rest more)) in (e.0, g.more, e.1, e.2, g.is);
+  }
+    where
+      is_among : (e : Text) → Contains (least ∷ completions) e → is_cut e ≡ false → Contains others e
+      is_among e in_all = All-contains (λ x. is_cut x ≡ false → Contains others x) (least ∷ completions) e
+          (All-from_recursion (λ x. is_cut x ≡ false → Contains others x) (least ∷ completions) (each_among others (least ∷ completions) among)) in_all
+
+  -- the same texts, said otherwise
+  pub same : (Other : Text → Type 0) → ((t : Text) → Is t → Other t) → ((t : Text) → Other t → Is t) → Completes Other least completions
+  same Other to from = record {
+    has = to least w.has;
+    utf8 = λ t is. w.utf8 t (from t is);
+    least_short = λ t is. w.least_short t (from t is);
+    goes = λ b t rest is. let g = w.goes b t rest (from (b ∷ t ++ rest) is) in
+        record { more = g.more; completion = g.completion; is = to ((b ∷ t) ++ g.more) g.is; short = g.short; uncut = g.uncut };
+  }
+
+  -- those of no more than so many characters
+  pub limited : (n : ℕ) → characters least ≤ n → Completes (λ t. Is t × (characters t ≤ n)) least completions
+  limited n small = record {
+    has = (w.has, small);
+    utf8 = λ t is. w.utf8 t is.0;
+    least_short = λ t is. w.least_short t is.0;
+    goes = λ b t rest is. let g = w.goes b t rest is.0 in record {
+      more = g.more;
+      completion = g.completion;
+      is = (g.is, omega (arith, is.1, g.short, characters_append (b ∷ t) g.more, characters_append (b ∷ t) rest));
+      short = g.short;
+      uncut = g.uncut;
+    };
+  }
+
+  -- or nothing
+  pub optional : Completes (λ t. (t ≡ []) ⊎ Is t) [] completions
+  optional = record {
+    has = inl refl;
+    utf8 = λ t is. elim is [ inl e ↦ subst IsUtf8 (sym e) IsUtf8-nil | inr i ↦ w.utf8 t i ];
+    least_short = λ t is. omega arith;
+    goes = λ b t rest is. elim is [
+      | inl e ↦ absurd (cc)
+      | inr i ↦ (let g = w.goes b t rest i in record { more = g.more; completion = g.completion; is = inr g.is; short = g.short; uncut = g.uncut })
+    ];
+  }
+
+-- one or the other
+pub choice : {A B : Text → Type 0} {a b : Text} {ea eb : List Text} → Completes A a ea → Completes B b eb → characters a ≤ characters b
+    → Completes (λ t. A t ⊎ B t) a (ea ++ eb)
+choice {A} {B} {a} {b} {ea} {eb} v w less = record {
+  has = inl v.has;
+  utf8 = λ t is. elim is [ inl i ↦ v.utf8 t i | inr i ↦ w.utf8 t i ];
+  least_short = λ t is. elim is [
+    | inl i ↦ v.least_short t i
+    | inr i ↦ omega (arith, less, w.least_short t i)
+  ];
+  goes = λ c t rest is. elim is [
+    | inl i ↦ (let g = v.goes c t rest i in
+        record { more = g.more; completion = Contains-append_left ea eb g.more g.completion; is = inl g.is; short = g.short; uncut = g.uncut })
+    | inr i ↦ (let g = w.goes c t rest i in
+        record { more = g.more; completion = Contains-append_right ea eb g.more g.completion; is = inr g.is; short = g.short; uncut = g.uncut })
+  ];
+}
+
+-- one of any number of languages
+pub any : {I : Type 0} (L : I → Text → Type 0) (least : I → Text) (completions : I → List Text) (all : List Text)
+    → ((i : I) → Completes (L i) (least i) (completions i)) → ((i : I) → list_all (is_one all) (completions i) ≡ true)
+    → (j : I) → ((i : I) → characters (least j) ≤ characters (least i)) → Completes (λ t. (i : I) × L i t) (least j) all
+any L least completions all w among j less = record {
+  has = (j, (w j).has);
+  utf8 = λ t is. (w is.0).utf8 t is.1;
+  least_short = λ t is. omega (arith, less is.0, (w is.0).least_short t is.1);
+  goes = λ b t rest is. let g = (w is.0).goes b t rest is.1 in record {
+    more = g.more;
+    completion = All-contains (Contains all) (completions is.0) g.more
+        (All-from_recursion (Contains all) (completions is.0) (each_one all (completions is.0) (among is.0))) g.completion;
+    is = (is.0, g.is);
+    short = g.short;
+    uncut = g.uncut;
+  };
+}
+
+-- ---- one byte
+
+byte_utf8 : (b : ℕ) → b < 128 → IsUtf8 (b ∷ [])
+byte_utf8 b small = IsUtf8-from_ascii (b ∷ []) (IsAscii-cons b [] small IsAscii-nil)
+
+pub byte : (b : ℕ) → b < 128 → Completes (λ t. t ≡ b ∷ []) (b ∷ []) ([] ∷ [])
+byte b small = record {
+  has = refl;
+  utf8 = λ t e. subst IsUtf8 (sym e) (byte_utf8 b small);
+  least_short = λ t e. omega (arith, ap characters e);
+  goes = goes;
+}
+  where
+    goes : (c : ℕ) (t rest : Text) → c ∷ t ++ rest ≡ b ∷ [] → IsCompleted (λ t. t ≡ b ∷ []) ([] ∷ []) (c ∷ t) rest
+    goes c [] rest e = record { more = []; completion = (0, omega arith, refl); is = cc; short = omega arith; uncut = λ u. refl }
+    goes c (d ∷ t) rest e = absurd (let tails : d ∷ (t ++ rest) ≡ [] = cc in cc)
+
+-- ---- one after another
+
+pub record Seq (A B : Text → Type 0) (t : Text) : Type 0 where
+  pub first : Text
+  pub second : Text
+  pub in_first : A first
+  pub in_second : B second
+  pub whole : t ≡ first ++ second
+
+pub both : {A B : Text → Type 0} (x y : Text) → A x → B y → Seq A B (x ++ y)
+both x y a b = record { first = x; second = y; in_first = a; in_second = b; whole = refl }
+
+pub seq : {A B : Text → Type 0} {a b : Text} {ea eb : List Text} → Completes A a ea → Completes B b eb
+    → Completes (Seq A B) (a ++ b) (map (λ m. m ++ b) ea ++ eb)
+seq {A} {B} {a} {b} {ea} {eb} v w = record {
+  has = both a b v.has w.has;
+  utf8 = λ t is. subst IsUtf8 (sym is.whole)
+      (IsUtf8-append is.first is.second (v.utf8 is.first is.in_first) (w.utf8 is.second is.in_second));
+  least_short = λ t is. omega (
+    arith,
+    v.least_short is.first is.in_first,
+    w.least_short is.second is.in_second,
+    characters_append a b,
+    ap characters is.whole ∙ characters_append is.first is.second,
+  );
+  goes = goes;
+}
+  where
+    goes : (c : ℕ) (t rest : Text) → Seq A B (c ∷ t ++ rest) → IsCompleted (Seq A B) (map (λ m. m ++ b) ea ++ eb) (c ∷ t) rest
+    goes c t rest is = elim (cut_at is.first is.second (c ∷ t) rest is.whole) [
+      | inl (r, x_is, rest_is) ↦ (let g = v.goes c t r (subst A x_is is.in_first) in record {
+        more = g.more ++ b;
+        completion = Contains-append_left _ eb _ (contains_mapped (λ m. m ++ b) ea g.more g.completion);
+        is = record { first = c ∷ t ++ g.more; second = b; in_first = g.is; in_second = w.has; whole = sym (append_assoc (c ∷ t) g.more b) };
+        short = omega (
+          arith,
+          g.short,
+          w.least_short is.second is.in_second,
+          characters_append g.more b,
+          ap characters rest_is ∙ characters_append r is.second,
+        );
+        uncut = λ u. append_uncut g.more b (g.uncut (cut_prefix r is.second rest rest_is u)) (utf8_uncut b (w.utf8 b w.has));
+      })
+      | inr (d, m, t_is, y_is) ↦ (let g = w.goes d m rest (subst B y_is is.in_second) in record {
+        more = g.more;
+        completion = Contains-append_right (map (λ m. m ++ b) ea) eb g.more g.completion;
+        is = record {
+          first = is.first;
+          second = d ∷ m ++ g.more;
+          in_first = is.in_first;
+          in_second = g.is;
+          whole = ap (λ x. x ++ g.more) t_is ∙ append_assoc is.first (d ∷ m) g.more;
+        };
+        short = g.short;
+        uncut = g.uncut;
+      })
+    ]
+
+-- ---- any number of them, and at most so many
+
+pub record Many (P : Text → Type 0) (t : Text) : Type 0 where
+  pub texts : List Text
+  pub each : AllByRecursion P texts
+  pub whole : t ≡ concat texts
+
+pub record AtMost (n : ℕ) (P : Text → Type 0) (t : Text) : Type 0 where
+  pub many : Many P t
+  pub few : length many.texts ≤ n
+
+module _ {P : Text → Type 0} {least : Text} {completions : List Text} (w : Completes P least completions) where
+  many_goes : (xs : List Text) → AllByRecursion P xs → (b : ℕ) (t rest : Text) → b ∷ t ++ rest ≡ concat xs
+      → IsCompleted (AtMost (length xs) P) completions (b ∷ t) rest
+  many_goes [] all b t rest e = absurd (cc)
+  many_goes (x ∷ xs) all b t rest e = elim (cut_at x (concat xs) (b ∷ t) rest e) [
+    | inl (r, x_is, rest_is) ↦ (let g = w.goes b t r (subst P x_is all.0) in record {
+      more = g.more;
+      completion = g.completion;
+      is = record {
+        many = record { texts = (b ∷ t ++ g.more) ∷ []; each = (g.is, tt); whole = sym (append-nil (b ∷ t ++ g.more)) };
+        few = omega arith;
+      };
+      short = omega (arith, g.short, ap characters rest_is ∙ characters_append r (concat xs));
+      uncut = λ u. g.uncut (cut_prefix r (concat xs) rest rest_is u);
+    })
+    | inr (c, m, t_is, y_is) ↦ (let g = many_goes xs all.1 c m rest (sym y_is) in record {
+      more = g.more;
+      completion = g.completion;
+      is = record {
+        many = record {
+          texts = x ∷ g.is.many.texts;
+          each = (all.0, g.is.many.each);
+          whole = ap (λ s. s ++ g.more) t_is ∙ append_assoc x (c ∷ m) g.more ∙ ap (λ s. x ++ s) g.is.many.whole;
+        };
+        few = omega (arith, g.is.few);
+      };
+      short = g.short;
+      uncut = g.uncut;
+    })
+  ]
+
+  all_utf8 : (xs : List Text) → AllByRecursion P xs → IsUtf8 (concat xs)
+  all_utf8 [] all = IsUtf8-nil
+  all_utf8 (x ∷ xs) all = IsUtf8-append x (concat xs) (w.utf8 x all.0) (all_utf8 xs all.1)
+
+  abbrev none : Many P []
+  none = record { texts = []; each = tt; whole = refl }
+
+  many_utf8 : (t : Text) → Many P t → IsUtf8 t
+  many_utf8 t is = subst IsUtf8 (sym is.whole) (all_utf8 is.texts is.each)
+
+  pub many : Completes (Many P) [] completions
+  many = record {
+    has = none;
+    utf8 = many_utf8;
+    least_short = λ t is. omega arith;
+    goes = λ b t rest is. let g = many_goes is.texts is.each b t rest is.whole in
+        record { more = g.more; completion = g.completion; is = g.is.many; short = g.short; uncut = g.uncut };
+  }
+
+  pub at_most : (n : ℕ) → Completes (AtMost n P) [] completions
+  at_most n = record {
+    has = record { many = none; few = omega arith };
+    utf8 = λ t is. many_utf8 t is.many;
+    least_short = λ t is. omega arith;
+    goes = λ b t rest is. let g = many_goes is.many.texts is.many.each b t rest is.many.whole in
+        record { more = g.more; completion = g.completion; is = record { many = g.is.many; few = omega (arith, g.is.few, is.few) }; short = g.short; uncut = g.uncut };
+  }
+
+-- ---- some, joined by a byte
+
+pub record Joined (between : ℕ) (P : Text → Type 0) (t : Text) : Type 0 where
+  pub first : Text
+  pub others : List Text
+  pub each : AllByRecursion P (first ∷ others)
+  pub whole : t ≡ join_with_byte between (first ∷ others)
+
+module _ (between : ℕ) (small : between < 128) {P : Text → Type 0} {least : Text} {completions : List Text} (w : Completes P least completions) where
+  -- the first of them, as far as the prefix has it
+  first_goes : (t rest : Text) → P (t ++ rest) → IsCompleted (Joined between P) (least ∷ completions) t rest
+  first_goes t rest is = let g = goes_all w t rest is in record {
+    more = g.more;
+    completion = g.completion;
+    is = record { first = t ++ g.more; others = []; each = (g.is, tt); whole = refl };
+    short = g.short;
+    uncut = g.uncut;
+  }
+
+  joined_goes : (x : Text) (xs : List Text) → AllByRecursion P (x ∷ xs) → (t rest : Text)
+      → t ++ rest ≡ join_with_byte between (x ∷ xs) → IsCompleted (Joined between P) (least ∷ completions) t rest
+  joined_goes x [] all t rest e = first_goes t rest (subst P (sym e) all.0)
+  joined_goes x (y ∷ ys) all t rest e = elim (cut_at x (between ∷ join_with_byte between (y ∷ ys)) t rest e) [
+    | inl (r, x_is, rest_is) ↦ (let g = first_goes t r (subst P x_is all.0) in record {
+      more = g.more;
+      completion = g.completion;
+      is = g.is;
+      short = omega (arith, g.short, ap characters rest_is ∙ characters_append r (between ∷ join_with_byte between (y ∷ ys)));
+      uncut = λ u. g.uncut (cut_prefix r (between ∷ join_with_byte between (y ∷ ys)) rest rest_is u);
+    })
+    | inr (c, m, t_is, y_is) ↦ (
+        let tails : join_with_byte between (y ∷ ys) ≡ m ++ rest = cc in
+        let head : between ≡ c = cc in
+        let g = joined_goes y ys all.1 m rest (sym tails) in record {
+          more = g.more;
+          completion = g.completion;
+          is = record {
+            first = x;
+            others = g.is.first ∷ g.is.others;
+            each = (all.0, g.is.each);
+            whole = ap (λ s. s ++ g.more) t_is ∙ append_assoc x (c ∷ m) g.more ∙ (λ i. x ++ (sym head i ∷ g.is.whole i));
+          };
+          short = g.short;
+          uncut = g.uncut;
+        })
+  ]
+
+  pub joined : Completes (Joined between P) least (least ∷ completions)
+  joined = record {
+    has = record { first = least; others = []; each = (w.has, tt); whole = refl };
+    utf8 = λ t is. subst IsUtf8 (sym is.whole) (joined_utf8 is.first is.others is.each);
+    least_short = λ t is. omega (arith, w.least_short is.first is.each.0, ap characters is.whole, first_short is.first is.others);
+    goes = λ b t rest is. joined_goes is.first is.others is.each (b ∷ t) rest is.whole;
+  }
+    where
+      joined_utf8 : (x : Text) (xs : List Text) → AllByRecursion P (x ∷ xs) → IsUtf8 (join_with_byte between (x ∷ xs))
+      joined_utf8 x [] all = w.utf8 x all.0
+      joined_utf8 x (y ∷ ys) all = IsUtf8-append x (between ∷ join_with_byte between (y ∷ ys)) (w.utf8 x all.0)
+          (IsUtf8-append (between ∷ []) (join_with_byte between (y ∷ ys)) (byte_utf8 between small) (joined_utf8 y ys all.1))
+
+      first_short : (x : Text) (xs : List Text) → characters x ≤ characters (join_with_byte between (x ∷ xs))
+      first_short x [] = omega arith
+      first_short x (y ∷ ys) = omega (arith, characters_append x (between ∷ join_with_byte between (y ∷ ys)))
+
+-- ---- some, separated by what is of a language
+
+abbrev pub Separated : (Text → Type 0) → (Text → Type 0) → Text → Type 0
+Separated S P = Seq P (Many (Seq S P))

@@ -1,0 +1,6 @@
+pub mod Completions
+pub mod LongestPrefixes
+pub mod Leaves
+pub mod Cores
+pub mod VersionPrefixes
+pub mod AnyLength

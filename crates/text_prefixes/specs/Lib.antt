@@ -1,0 +1,4 @@
+pub mod Prefixes
+pub mod VersionCompletions
+pub mod VersionPrefixes
+pub mod Reasons
