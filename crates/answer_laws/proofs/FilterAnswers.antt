@@ -8,7 +8,7 @@ use Rattle.semver_parser.specs.Outlines.{outline_after}
 use Rattle.semver_parser.specs.Precedence.{precedence}
 use Rattle.semver_parser.specs.Texts.{Text}
 use Rattle.semver_parser.specs.ToolVersions.{SpellsIn}
-use Rattle.semver_parser.specs.declared.version.Dialect.{Dialect}
+use Rattle.semver_parser.specs.declared.version.Grammar.{Grammar}
 use Rattle.semver_parser.specs.Versions.{VersionValue}
 use Rattle.release_filter.specs.Extremes.{IsBelow, IsGreatest, IsNotAbove, HasNone}
 use Rattle.release_filter.specs.Filters.{FilterValue, passes}
@@ -21,15 +21,15 @@ use Rattle.answer_laws.proofs.SameSets.{plainly}
 
 -- a filter is known by what passes, by its rule and by its dialect
 pub one_filter : (a b : FilterValue) → AreAlike a.set b.set → ((v : VersionValue) → passes a v ≡ passes b v)
-    → a.pre_releases ≡ b.pre_releases → a.dialect ≡ b.dialect → a ≡ b
-one_filter a b alike same rule dialect =
+    → a.pre_releases ≡ b.pre_releases → a.grammar ≡ b.grammar → a ≡ b
+one_filter a b alike same rule grammar =
     let set = alike (λ v fits. sym (passes_as_in a (plainly v) fits) ∙ same (plainly v) ∙ passes_as_in b (plainly v) fits) in
-    λ i. record { set = set i; pre_releases = rule i; dialect = dialect i }
+    λ i. record { set = set i; pre_releases = rule i; grammar = grammar i }
 
-module _ (same : (dialect : Dialect) (v w : VersionValue) (text : Text) → SpellsIn dialect v text → SpellsIn dialect w text → v ≡ w)
-    (dialect : Dialect) (test : VersionValue → Bool) (text : Text) where
+module _ (same : (grammar : Grammar) (v w : VersionValue) (text : Text) → SpellsIn grammar v text → SpellsIn grammar w text → v ≡ w)
+    (grammar : Grammar) (test : VersionValue → Bool) (text : Text) where
   -- a text is judged in one way
-  pub one_judged : (x y : Judged) → IsJudged dialect test text x → IsJudged dialect test text y → x ≡ y
+  pub one_judged : (x y : Judged) → IsJudged grammar test text x → IsJudged grammar test text y → x ≡ y
   one_judged NoVersion NoVersion p q = refl
   one_judged NoVersion DoesNotPass p q = absurd (p q.0)
   one_judged NoVersion (Passes o) p q = absurd (p (q.0.0, q.0.1))
@@ -38,7 +38,7 @@ module _ (same : (dialect : Dialect) (v w : VersionValue) (text : Text) → Spel
   one_judged DoesNotPass (Passes o) p q = absurd (true≢false (sym (q.1 p.0.0 p.0.1) ∙ p.1 p.0.0 p.0.1))
   one_judged (Passes o) NoVersion p q = absurd (q (p.0.0, p.0.1))
   one_judged (Passes o) DoesNotPass p q = absurd (true≢false (sym (p.1 q.0.0 q.0.1) ∙ q.1 q.0.0 q.0.1))
-  one_judged (Passes o) (Passes o') p q = ap Passes (p.0.2 ∙ ap (outline_after _) (same dialect p.0.0 q.0.0 text p.0.1 q.0.1) ∙ sym q.0.2)
+  one_judged (Passes o) (Passes o') p q = ap Passes (p.0.2 ∙ ap (outline_after _) (same grammar p.0.0 q.0.0 text p.0.1 q.0.1) ∙ sym q.0.2)
 
 module _ {X : Type 0} (total : IsTotalOrder precedence) (Has : X → VersionValue → Type 0) where
   -- one that an item after it isn't above isn't below that

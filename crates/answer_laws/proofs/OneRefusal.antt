@@ -4,24 +4,24 @@ use Rattle.semver_texts.specs.Texts.{Text}
 use Rattle.semver_parser.specs.declared.RangeError.{RangeError}
 use Rattle.semver_parser.specs.declared.RangeError.TheVariants.{NotARange, NumberTooLarge, OutOfMemory}
 use Rattle.tool_ranges.specs.Fronts.{BeginsAs, BeginsFitting, IsPlace}
-use Rattle.tool_ranges.specs.Readings.{HasSetAs, IsTextAs, IsTooLargeAs}
-use Rattle.tool_ranges.specs.declared.reading.Reading.{Reading}
+use Rattle.tool_ranges.specs.Dialects.{HasSetAs, IsTextAs, IsTooLargeAs}
+use Rattle.tool_ranges.specs.declared.dialect.Dialect.{Dialect}
 use Rattle.tool_ranges.specs.declared.refusals.Refusal.{Refusal}
 use Rattle.answer_laws.specs.SeenTexts.{seen_refusal}
 
 -- what is said of a text by a refusal, or by none
-pub record Says (reading : Reading) (t : Text) (found : Option Refusal) : Type 0 where
-  pub range : (found ≡ None) ↔ HasSetAs reading t
-  pub not_a_range : IfSome found (λ r. (r.error ≡ NotARange) ↔ ¬ (IsTextAs reading t))
-  pub too_large : IfSome found (λ r. (r.error ≡ NumberTooLarge) ↔ IsTooLargeAs reading t)
+pub record Says (dialect : Dialect) (t : Text) (found : Option Refusal) : Type 0 where
+  pub range : (found ≡ None) ↔ HasSetAs dialect t
+  pub not_a_range : IfSome found (λ r. (r.error ≡ NotARange) ↔ ¬ (IsTextAs dialect t))
+  pub too_large : IfSome found (λ r. (r.error ≡ NumberTooLarge) ↔ IsTooLargeAs dialect t)
   pub no_memory : IfSome found (λ r. r.error ≢ OutOfMemory)
-  pub place : IfSome found (λ r. r.error ≡ NotARange → IsPlace (BeginsAs reading) t r.place)
-  pub limit : IfSome found (λ r. r.error ≡ NumberTooLarge → IsPlace (BeginsFitting reading) t r.place)
+  pub place : IfSome found (λ r. r.error ≡ NotARange → IsPlace (BeginsAs dialect) t r.place)
+  pub limit : IfSome found (λ r. r.error ≡ NumberTooLarge → IsPlace (BeginsFitting dialect) t r.place)
 
-module _ (reading : Reading) (t : Text)
-    (one_place : (m n : ℕ) → IsPlace (BeginsAs reading) t m → IsPlace (BeginsAs reading) t n → m ≡ n)
-    (one_limit : (m n : ℕ) → IsPlace (BeginsFitting reading) t m → IsPlace (BeginsFitting reading) t n → m ≡ n) where
-  by_error : (e : RangeError) (r s : Refusal) → r.error ≡ e → Says reading t (Some r) → Says reading t (Some s)
+module _ (dialect : Dialect) (t : Text)
+    (one_place : (m n : ℕ) → IsPlace (BeginsAs dialect) t m → IsPlace (BeginsAs dialect) t n → m ≡ n)
+    (one_limit : (m n : ℕ) → IsPlace (BeginsFitting dialect) t m → IsPlace (BeginsFitting dialect) t n → m ≡ n) where
+  by_error : (e : RangeError) (r s : Refusal) → r.error ≡ e → Says dialect t (Some r) → Says dialect t (Some s)
       → seen_refusal r ≡ seen_refusal s
   by_error NotARange r s is a b =
       let also = b.not_a_range.1 (a.not_a_range.0 is) in
@@ -31,7 +31,7 @@ module _ (reading : Reading) (t : Text)
       (λ i. ((is ∙ sym also) i, one_limit r.place s.place (a.limit is) (b.limit also) i))
   by_error OutOfMemory r s is a b = absurd (a.no_memory is)
 
-  pub one_refused : (x y : Option Refusal) → Says reading t x → Says reading t y
+  pub one_refused : (x y : Option Refusal) → Says dialect t x → Says dialect t y
       → option_map seen_refusal x ≡ option_map seen_refusal y
   one_refused None y a b = ap (option_map seen_refusal) (sym (b.range.1 (a.range.0 refl)))
   one_refused x None a b = ap (option_map seen_refusal) (a.range.1 (b.range.0 refl))

@@ -9,7 +9,7 @@ use semver_parser::{Compat, RangeError, RangeSet};
 use std::alloc::{AllocError, Global};
 use tool_ranges::laws::{one_limit_place, one_place};
 use tool_ranges::place::error_place;
-use tool_ranges::reading::{self, Reading};
+use tool_ranges::dialect::{self, Dialect};
 use tool_ranges::refusals::{Refusal, refused};
 use tool_ranges::{cargo, npm};
 
@@ -64,34 +64,34 @@ pub fn one_npm_rewrite(alloc: Global, range: &str) -> Answers
 }
 
 /// `reading::rewrite` has one answer.
-pub fn one_rewrite(alloc: Global, reading: Reading, range: &str) -> Answers
+pub fn one_rewrite(alloc: Global, dialect: Dialect, range: &str) -> Answers
     ensures one { AreOne RangeError.OutOfMemory set_of result.0 result.1 }
 {
     (
-        reading::rewrite(alloc, reading, range),
-        reading::rewrite(alloc, reading, range),
+        dialect::rewrite(alloc, dialect, range),
+        dialect::rewrite(alloc, dialect, range),
     )
 }
 
 /// `place::error_place` has one answer.
 pub fn one_error_place(
     alloc: Global,
-    reading: Reading,
+    dialect: Dialect,
     text: &str,
 ) -> (Result<usize, AllocError>, Result<usize, AllocError>)
     ensures one { AreOne alloc_error itself result.0 result.1 }
 {
     one_place();
     (
-        error_place(alloc, reading, text),
-        error_place(alloc, reading, text),
+        error_place(alloc, dialect, text),
+        error_place(alloc, dialect, text),
     )
 }
 
 /// `refusals::refused` has one error and one place. Which hint it has is free.
 pub fn one_refusal(
     alloc: Global,
-    reading: Reading,
+    dialect: Dialect,
     text: &str,
 ) -> (
     Result<Option<Refusal>, AllocError>,
@@ -101,5 +101,5 @@ pub fn one_refusal(
 {
     one_place();
     one_limit_place();
-    (refused(alloc, reading, text), refused(alloc, reading, text))
+    (refused(alloc, dialect, text), refused(alloc, dialect, text))
 }

@@ -8,7 +8,7 @@ ghost use Rattle.semver_tokens.specs.ParserViews.{IfOutOfMemory, UnlessOutOfMemo
 ghost use Rattle.semver_tokens.specs.ParserViews.{answer_of, step_of};
 ghost use Rattle.answer_laws.specs.OneAnswer.{AreOne};
 
-use semver_parser::version::{self, Dialect, Outline};
+use semver_parser::version::{self, Grammar, Outline};
 use semver_texts::version::{Identifier, Version};
 use semver_tokens::lexer::Lexer;
 use semver_tokens::parser::{self, Parser};
@@ -116,12 +116,12 @@ pub fn one_outline_bytes(input: &[u8]) -> (Option<Outline<'_>>, Option<Outline<'
 }
 
 /// Bytes have one outline in a dialect, or none.
-pub fn one_outline_in(input: &[u8], dialect: Dialect) -> (Option<Outline<'_>>, Option<Outline<'_>>)
+pub fn one_outline_in(input: &[u8], grammar: Grammar) -> (Option<Outline<'_>>, Option<Outline<'_>>)
     ensures one { result.0 ≡ result.1 }
 {
     (
-        version::outline_in(input, dialect),
-        version::outline_in(input, dialect),
+        version::outline_in(input, grammar),
+        version::outline_in(input, grammar),
     )
 }
 
@@ -133,15 +133,15 @@ pub fn one_outline_of_numbers(
     patch: u64,
     numbers_end: usize,
     rest: &[u8],
-    dialect: Dialect,
+    grammar: Grammar,
 ) -> (Option<Outline<'_>>, Option<Outline<'_>>)
     requires fits { numbers_end + length rest.now < 2 ^ 64 }
     ensures one { (text : Text) → BeginsWithNumbers text major minor patch rest.now
         → length text ≡ numbers_end + length rest.now → result.0 ≡ result.1 }
 {
     (
-        version::outline_of_numbers(major, minor, patch, numbers_end, rest, dialect),
-        version::outline_of_numbers(major, minor, patch, numbers_end, rest, dialect),
+        version::outline_of_numbers(major, minor, patch, numbers_end, rest, grammar),
+        version::outline_of_numbers(major, minor, patch, numbers_end, rest, grammar),
     )
 }
 

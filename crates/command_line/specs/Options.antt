@@ -5,8 +5,8 @@ use Rattle.semver_parser.specs.Texts.{Text}
 use Rattle.semver_parser.specs.declared.Compat.TheVariants as compat
 use Rattle.version_sets.specs.declared.PreReleases.{PreReleases}
 use Rattle.version_sets.specs.declared.PreReleases.TheVariants.{Excluded, Stated, Included}
-use Rattle.tool_ranges.specs.declared.reading.Reading.{Reading}
-use Rattle.tool_ranges.specs.declared.reading.Reading.TheVariants as reading
+use Rattle.tool_ranges.specs.declared.dialect.Dialect.{Dialect}
+use Rattle.tool_ranges.specs.declared.dialect.Dialect.TheVariants as dialect
 use Rattle.tool_ranges.specs.declared.meaning.Meaning.{Meaning}
 use Rattle.tool_ranges.specs.declared.meaning.Meaning.TheVariants as meaning
 use Rattle.command_line.specs.declared.error.ArgumentError.{ArgumentError}
@@ -17,22 +17,22 @@ use Rattle.command_line.specs.declared.error.ArgumentError.TheVariants.{UnknownD
 -- the options that were taken: the dialect and the option that asked for it, the rule for
 -- pre-releases, and whether the next argument names the dialect
 pub record OptionsValue : Type 0 where
-  pub reading : Option (Reading × Text)
+  pub dialect : Option (Dialect × Text)
   pub rule : Option PreReleases
   pub wants_name : Bool
 
 abbrev pub no_options : OptionsValue
-no_options = record { reading = None; rule = None; wants_name = false }
+no_options = record { dialect = None; rule = None; wants_name = false }
 
 -- the name of a dialect after `--as`
-abbrev pub name_of : Reading → Text
-name_of reading.Cargo = codes "cargo"
-name_of reading.Npm = codes "npm"
-name_of (reading.Crate compat.Cargo) = codes "crate-cargo"
-name_of (reading.Crate compat.Npm) = codes "crate-npm"
+abbrev pub name_of : Dialect → Text
+name_of dialect.Cargo = codes "cargo"
+name_of dialect.Npm = codes "npm"
+name_of (dialect.Crate compat.Cargo) = codes "crate-cargo"
+name_of (dialect.Crate compat.Npm) = codes "crate-npm"
 
 -- the option that asks for a dialect by its name
-abbrev pub as_option_of : Reading → Text
+abbrev pub as_option_of : Dialect → Text
 as_option_of dialect = codes "--as " ++ name_of dialect
 
 -- the option of a rule
@@ -42,26 +42,26 @@ option_of Stated = codes "--pre-stated"
 option_of Included = codes "--pre"
 
 -- without an option it is Cargo's dialect
-abbrev pub reading_or_cargo : Option (Reading × Text) → Reading
-reading_or_cargo None = reading.Cargo
-reading_or_cargo (Some r) = r.0
+abbrev pub dialect_or_cargo : Option (Dialect × Text) → Dialect
+dialect_or_cargo None = dialect.Cargo
+dialect_or_cargo (Some r) = r.0
 
 -- by the crate's modes only releases count without an option; by a tool's dialect what the tool
 -- takes, and it has no rule `Stated`
-abbrev pub meant_by : Reading → Option PreReleases → Result Meaning ArgumentError
-meant_by (reading.Crate mode) None = Ok (meaning.Crate mode Excluded)
-meant_by (reading.Crate mode) (Some rule) = Ok (meaning.Crate mode rule)
-meant_by reading.Cargo None = Ok meaning.Cargo
-meant_by reading.Cargo (Some Excluded) = Ok meaning.CargoReleases
-meant_by reading.Cargo (Some Stated) = Err NoRuleOfTool
-meant_by reading.Cargo (Some Included) = Ok meaning.CargoAll
-meant_by reading.Npm None = Ok meaning.Npm
-meant_by reading.Npm (Some Excluded) = Ok meaning.NpmReleases
-meant_by reading.Npm (Some Stated) = Err NoRuleOfTool
-meant_by reading.Npm (Some Included) = Ok meaning.NpmAll
+abbrev pub meant_by : Dialect → Option PreReleases → Result Meaning ArgumentError
+meant_by (dialect.Crate mode) None = Ok (meaning.Crate mode Excluded)
+meant_by (dialect.Crate mode) (Some rule) = Ok (meaning.Crate mode rule)
+meant_by dialect.Cargo None = Ok meaning.Cargo
+meant_by dialect.Cargo (Some Excluded) = Ok meaning.CargoReleases
+meant_by dialect.Cargo (Some Stated) = Err NoRuleOfTool
+meant_by dialect.Cargo (Some Included) = Ok meaning.CargoAll
+meant_by dialect.Npm None = Ok meaning.Npm
+meant_by dialect.Npm (Some Excluded) = Ok meaning.NpmReleases
+meant_by dialect.Npm (Some Stated) = Err NoRuleOfTool
+meant_by dialect.Npm (Some Included) = Ok meaning.NpmAll
 
 abbrev pub meant : OptionsValue → Result Meaning ArgumentError
-meant o = if o.wants_name then Err NoDialect else meant_by (reading_or_cargo o.reading) o.rule
+meant o = if o.wants_name then Err NoDialect else meant_by (dialect_or_cargo o.dialect) o.rule
 
 -- the name that an argument gives: the argument after `--as`, or what follows `--as=` in it
 abbrev pub Names : OptionsValue → Text → Text → Type 0
@@ -70,13 +70,13 @@ Names o argument name = ((o.wants_name ≡ true) × (argument ≡ name))
 
 -- some dialect has the name
 abbrev pub IsDialectName : Text → Type 0
-IsDialectName name = (dialect : Reading) × (name ≡ name_of dialect)
+IsDialectName name = (dialect : Dialect) × (name ≡ name_of dialect)
 
 -- the dialect that an argument asks for, and the option that does so
-abbrev pub AsksFor : OptionsValue → Text → Reading → Text → Type 0
+abbrev pub AsksFor : OptionsValue → Text → Dialect → Text → Type 0
 AsksFor o argument dialect option =
     (Names o argument (name_of dialect) × (option ≡ as_option_of dialect))
-    ⊎ ((o.wants_name ≡ false) × (argument ≡ codes "--npm") × (dialect ≡ reading.Npm)
+    ⊎ ((o.wants_name ≡ false) × (argument ≡ codes "--npm") × (dialect ≡ dialect.Npm)
     × (option ≡ codes "--npm"))
 
 -- the argument is one of these options

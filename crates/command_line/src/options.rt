@@ -4,7 +4,7 @@ ghost use Rattle.std.specs.Prelude.{◌≡◌, ◌≢◌, ◌++◌, codes, Ok, N
 ghost use Rattle.std.specs.Prelude.{IfErr, IfOk};
 ghost use Rattle.semver_parser.specs.Texts.{Text};
 ghost use Rattle.version_sets.specs.declared.PreReleases.{PreReleases};
-ghost use Rattle.tool_ranges.specs.declared.reading.Reading.{Reading};
+ghost use Rattle.tool_ranges.specs.declared.dialect.Dialect.{Dialect};
 ghost use Rattle.command_line.specs.Options.{AsksFor, Fails, IsDialectName, IsOption, Names};
 ghost use Rattle.command_line.specs.Options.{TellsContradiction, TellsTwice, TellsUnknown};
 ghost use Rattle.command_line.specs.Options.{as_option_of, meant, name_of, no_options, option_of};
@@ -14,14 +14,14 @@ use semver_parser::Compat;
 use std::alloc::Global;
 use std::marker::Model;
 use tool_ranges::meaning::Meaning;
-use tool_ranges::reading::Reading;
+use tool_ranges::dialect::Dialect;
 use version_sets::PreReleases;
 
 /// What the options say that were taken so far: the dialect, and which pre-releases count.
 #[derive(Drop)]
 pub struct MeaningOptions {
     /// The dialect that was asked for, and the option that did so.
-    reading: Option<(Reading, &'static str)>,
+    dialect: Option<(Dialect, &'static str)>,
     /// The rule for pre-releases that was asked for.
     rule: Option<PreReleases>,
     /// Whether the next argument names the dialect.
@@ -35,7 +35,7 @@ impl Model for MeaningOptions {
     ghost Value = { OptionsValue };
 
     ghost view = { λ o. record {
-      reading = option_map (λ asked. (asked.0, asked.1.now)) o.reading;
+      dialect = option_map (λ asked. (asked.0, asked.1.now)) o.dialect;
       rule = o.rule;
       wants_name = o.wants_name;
     } };
@@ -48,7 +48,7 @@ impl MeaningOptions {
         ensures { result ≡ no_options }
     {
         MeaningOptions {
-            reading: None,
+            dialect: None,
             rule: None,
             wants_name: false,
         }
@@ -64,14 +64,14 @@ impl MeaningOptions {
     /// error the options are those before it, and no name is wanted.
     pub fn take(&mut self, alloc: Global, argument: &str) -> Result<bool, ArgumentError>
         // A dialect that is named is that one, if none was asked for before.
-        ensures dialect { (dialect : Reading) → argument.now ≡ codes "--as=" ++ name_of dialect
-            → self.old.wants_name ≡ false → self.old.reading ≡ None → (result ≡ Ok true)
-            × (self.new ≡ record self.old { reading = Some (dialect, as_option_of dialect) }) }
+        ensures dialect { (dialect : Dialect) → argument.now ≡ codes "--as=" ++ name_of dialect
+            → self.old.wants_name ≡ false → self.old.dialect ≡ None → (result ≡ Ok true)
+            × (self.new ≡ record self.old { dialect = Some (dialect, as_option_of dialect) }) }
         // So it is with the name after `--as`.
-        ensures name { (dialect : Reading) → argument.now ≡ name_of dialect
-            → self.old.wants_name ≡ true → self.old.reading ≡ None
+        ensures name { (dialect : Dialect) → argument.now ≡ name_of dialect
+            → self.old.wants_name ≡ true → self.old.dialect ≡ None
             → (result ≡ Ok true) × (self.new ≡ record self.old {
-              reading = Some (dialect, as_option_of dialect);
+              dialect = Some (dialect, as_option_of dialect);
               wants_name = false;
             }) }
         // After `--as` a name is wanted.
@@ -79,8 +79,8 @@ impl MeaningOptions {
             → (result ≡ Ok true) × (self.new ≡ record self.old { wants_name = true }) }
         // `--npm` asks for npm's dialect, if none was asked for before.
         ensures npm { argument.now ≡ codes "--npm" → self.old.wants_name ≡ false
-            → self.old.reading ≡ None → (result ≡ Ok true)
-            × (self.new ≡ record self.old { reading = Some (Reading.Npm, codes "--npm") }) }
+            → self.old.dialect ≡ None → (result ≡ Ok true)
+            × (self.new ≡ record self.old { dialect = Some (Dialect.Npm, codes "--npm") }) }
         // A rule for pre-releases that is asked for is that one, if none was before.
         ensures rule { (rule : PreReleases) → argument.now ≡ option_of rule
             → self.old.wants_name ≡ false → self.old.rule ≡ None
@@ -93,13 +93,13 @@ impl MeaningOptions {
         ensures unknown { (name : Text) → Names self.old argument.now name
             → ¬ (IsDialectName name) → Fails (TellsUnknown name) result }
         // A dialect that was asked for before is given twice.
-        ensures dialect_twice { (dialect : Reading) (option earlier : Text)
+        ensures dialect_twice { (dialect : Dialect) (option earlier : Text)
             → AsksFor self.old argument.now dialect option
-            → self.old.reading ≡ Some (dialect, earlier) → Fails (TellsTwice option) result }
+            → self.old.dialect ≡ Some (dialect, earlier) → Fails (TellsTwice option) result }
         // Another than that one contradicts it.
-        ensures two_dialects { (dialect other : Reading) (option earlier : Text)
+        ensures two_dialects { (dialect other : Dialect) (option earlier : Text)
             → AsksFor self.old argument.now dialect option
-            → self.old.reading ≡ Some (other, earlier) → dialect ≢ other
+            → self.old.dialect ≡ Some (other, earlier) → dialect ≢ other
             → Fails (TellsContradiction option earlier) result }
         // A rule that was asked for before is given twice.
         ensures rule_twice { (rule : PreReleases) → argument.now ≡ option_of rule
@@ -123,7 +123,7 @@ impl MeaningOptions {
         }
         match argument {
             "--as" => self.wants_name = true,
-            "--npm" => self.ask(Reading::Npm, "--npm")?,
+            "--npm" => self.ask(Dialect::Npm, "--npm")?,
             "--releases" => self.count(PreReleases::Excluded)?,
             "--pre" => self.count(PreReleases::Included)?,
             "--pre-stated" => self.count(PreReleases::Stated)?,
@@ -144,65 +144,65 @@ impl MeaningOptions {
         if self.wants_name {
             return Err(ArgumentError::NoDialect);
         }
-        let reading = self.reading.map_or(Reading::Cargo, |(reading, _)| reading);
-        match (reading, self.rule) {
-            (Reading::Crate(compat), rule) => {
+        let dialect = self.dialect.map_or(Dialect::Cargo, |(dialect, _)| dialect);
+        match (dialect, self.rule) {
+            (Dialect::Crate(compat), rule) => {
                 Ok(Meaning::Crate(compat, rule.unwrap_or(PreReleases::Excluded)))
             }
             (_, Some(PreReleases::Stated)) => Err(ArgumentError::NoRuleOfTool),
-            (Reading::Cargo, None) => Ok(Meaning::Cargo),
-            (Reading::Cargo, Some(PreReleases::Included)) => Ok(Meaning::CargoAll),
-            (Reading::Cargo, Some(PreReleases::Excluded)) => Ok(Meaning::CargoReleases),
-            (Reading::Npm, None) => Ok(Meaning::Npm),
-            (Reading::Npm, Some(PreReleases::Included)) => Ok(Meaning::NpmAll),
-            (Reading::Npm, Some(PreReleases::Excluded)) => Ok(Meaning::NpmReleases),
+            (Dialect::Cargo, None) => Ok(Meaning::Cargo),
+            (Dialect::Cargo, Some(PreReleases::Included)) => Ok(Meaning::CargoAll),
+            (Dialect::Cargo, Some(PreReleases::Excluded)) => Ok(Meaning::CargoReleases),
+            (Dialect::Npm, None) => Ok(Meaning::Npm),
+            (Dialect::Npm, Some(PreReleases::Included)) => Ok(Meaning::NpmAll),
+            (Dialect::Npm, Some(PreReleases::Excluded)) => Ok(Meaning::NpmReleases),
         }
     }
 
     /// Takes the dialect of a name.
     fn ask_by_name(&mut self, alloc: Global, name: &str) -> Result<(), ArgumentError>
-        ensures known { (dialect : Reading) → name.now ≡ name_of dialect
-            → self.old.reading ≡ None → IfErr result (λ _. ⊥) }
-        ensures asked { (dialect : Reading) → name.now ≡ name_of dialect
+        ensures known { (dialect : Dialect) → name.now ≡ name_of dialect
+            → self.old.dialect ≡ None → IfErr result (λ _. ⊥) }
+        ensures asked { (dialect : Dialect) → name.now ≡ name_of dialect
             → IfOk result (λ _. self.new
-            ≡ record self.old { reading = Some (dialect, as_option_of dialect) }) }
+            ≡ record self.old { dialect = Some (dialect, as_option_of dialect) }) }
         ensures unknown { ¬ (IsDialectName name.now) → Fails (TellsUnknown name.now) result }
-        ensures twice { (dialect : Reading) (earlier : Text) → name.now ≡ name_of dialect
-            → self.old.reading ≡ Some (dialect, earlier)
+        ensures twice { (dialect : Dialect) (earlier : Text) → name.now ≡ name_of dialect
+            → self.old.dialect ≡ Some (dialect, earlier)
             → Fails (TellsTwice (as_option_of dialect)) result }
-        ensures contradiction { (dialect other : Reading) (earlier : Text)
-            → name.now ≡ name_of dialect → self.old.reading ≡ Some (other, earlier)
+        ensures contradiction { (dialect other : Dialect) (earlier : Text)
+            → name.now ≡ name_of dialect → self.old.dialect ≡ Some (other, earlier)
             → dialect ≢ other
             → Fails (TellsContradiction (as_option_of dialect) earlier) result }
         ensures error { IfErr result (λ _. self.new ≡ self.old) }
     {
         match name {
-            "cargo" => self.ask(Reading::Cargo, "--as cargo"),
-            "npm" => self.ask(Reading::Npm, "--as npm"),
-            "crate-cargo" => self.ask(Reading::Crate(Compat::Cargo), "--as crate-cargo"),
-            "crate-npm" => self.ask(Reading::Crate(Compat::Npm), "--as crate-npm"),
+            "cargo" => self.ask(Dialect::Cargo, "--as cargo"),
+            "npm" => self.ask(Dialect::Npm, "--as npm"),
+            "crate-cargo" => self.ask(Dialect::Crate(Compat::Cargo), "--as crate-cargo"),
+            "crate-npm" => self.ask(Dialect::Crate(Compat::Npm), "--as crate-npm"),
             _ => Err(ArgumentError::UnknownDialect(name.to_string(alloc)?)),
         }
     }
 
     /// Takes the dialect that an option asks for.
-    fn ask(&mut self, reading: Reading, option: &'static str) -> Result<(), ArgumentError>
-        ensures first { self.old.reading ≡ None → IfErr result (λ _. ⊥) }
+    fn ask(&mut self, dialect: Dialect, option: &'static str) -> Result<(), ArgumentError>
+        ensures first { self.old.dialect ≡ None → IfErr result (λ _. ⊥) }
         ensures asked { IfOk result (λ _. self.new
-            ≡ record self.old { reading = Some (reading, option.now) }) }
-        ensures twice { (earlier : Text) → self.old.reading ≡ Some (reading, earlier)
+            ≡ record self.old { dialect = Some (dialect, option.now) }) }
+        ensures twice { (earlier : Text) → self.old.dialect ≡ Some (dialect, earlier)
             → Fails (TellsTwice option.now) result }
-        ensures contradiction { (other : Reading) (earlier : Text)
-            → self.old.reading ≡ Some (other, earlier) → reading ≢ other
+        ensures contradiction { (other : Dialect) (earlier : Text)
+            → self.old.dialect ≡ Some (other, earlier) → dialect ≢ other
             → Fails (TellsContradiction option.now earlier) result }
         ensures error { IfErr result (λ _. self.new ≡ self.old) }
     {
-        let earlier = self.reading;
+        let earlier = self.dialect;
         match earlier {
-            Some((earlier, _)) if earlier == reading => Err(ArgumentError::GivenTwice(option)),
+            Some((earlier, _)) if earlier == dialect => Err(ArgumentError::GivenTwice(option)),
             Some((_, earlier)) => Err(ArgumentError::Contradiction(option, earlier)),
             None => {
-                self.reading = Some((reading, option));
+                self.dialect = Some((dialect, option));
                 Ok(())
             }
         }

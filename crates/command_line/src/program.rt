@@ -5,7 +5,7 @@ use crate::refused::refused_text;
 use semver_parser::RangeError;
 use std::io::{self, ErrorKind};
 use std::process::ExitCode;
-use tool_ranges::reading::Reading;
+use tool_ranges::dialect::Dialect;
 
 /// A program. Each line that it writes on standard error begins with its name. What can't be
 /// written there is left out.
@@ -49,11 +49,11 @@ impl Program {
     pub fn refuse_range(
         self,
         rt: &HostRuntime,
-        reading: Reading,
+        dialect: Dialect,
         error: &RangeError,
         range: &str,
     ) -> ExitCode {
-        let _ = match refused_text(rt.alloc(), reading, error, range) {
+        let _ = match refused_text(rt.alloc(), dialect, error, range) {
             Ok(text) => eprintln!(rt; "{}: {text}", self.name),
             Err(_) => eprintln!(rt; "{}: {error}: {range:?}", self.name),
         };

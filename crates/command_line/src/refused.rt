@@ -6,7 +6,7 @@ use crate::shown::Shown;
 use semver_parser::RangeError;
 use std::alloc::{AllocError, Global};
 use std::fmt::Write as _;
-use tool_ranges::reading::Reading;
+use tool_ranges::dialect::Dialect;
 use tool_ranges::refusals::{Refusal, refused};
 
 /// The text of an error: the error and the range text, and two lines more with the place, and a
@@ -21,12 +21,12 @@ use tool_ranges::refusals::{Refusal, refused};
 /// ```
 pub fn refused_text(
     alloc: Global,
-    reading: Reading,
+    dialect: Dialect,
     error: &RangeError,
     text: &str,
 ) -> Result<String, AllocError> {
     let mut written = String::new(alloc);
-    match refused(alloc, reading, text)? {
+    match refused(alloc, dialect, text)? {
         Some(refusal) => write_refusal(&mut written, &refusal, text)?,
         None => write!(written, "{error}: {}", Shown::round(text, 0))?,
     }

@@ -1,5 +1,5 @@
 //! Versions read from bytes, which needn't be UTF-8.
-use semver_parser::version::{self, Dialect, Identifier};
+use semver_parser::version::{self, Grammar, Identifier};
 use std::alloc::{AllocError, Global};
 use std::io;
 
@@ -102,7 +102,7 @@ fn has_parts(text: &str, pre: (&str, usize), build: (&str, usize)) -> bool {
 
 /// Whether the parts of `1.2.3-rc.4+b5` are read after its numbers, and none of `1.2.3.4`.
 fn are_read_after_numbers() -> bool {
-    let Some(outline) = version::outline_of_numbers(1, 2, 3, 5, b"-rc.4+b5", Dialect::Crate) else {
+    let Some(outline) = version::outline_of_numbers(1, 2, 3, 5, b"-rc.4+b5", Grammar::Crate) else {
         return false;
     };
     outline.patch() == 3
@@ -110,22 +110,22 @@ fn are_read_after_numbers() -> bool {
         && outline.pre_offset() == 6
         && outline.build() == "b5"
         && outline.build_offset() == 11
-        && version::outline_of_numbers(1, 2, 3, 5, b".4", Dialect::Crate).is_none()
+        && version::outline_of_numbers(1, 2, 3, 5, b".4", Grammar::Crate).is_none()
 }
 
 /// Whether the bytes have an outline in the crate's dialect, in Cargo's and in npm's.
 fn are_versions(bytes: &[u8], wanted: [bool; 3]) -> bool {
     let [by_crate, by_cargo, by_npm] = wanted;
-    version::outline_in(bytes, Dialect::Crate).is_some() == by_crate
-        && version::outline_in(bytes, Dialect::Cargo).is_some() == by_cargo
-        && version::outline_in(bytes, Dialect::Npm).is_some() == by_npm
+    version::outline_in(bytes, Grammar::Crate).is_some() == by_crate
+        && version::outline_in(bytes, Grammar::Cargo).is_some() == by_cargo
+        && version::outline_in(bytes, Grammar::Npm).is_some() == by_npm
 }
 
 /// Whether the parts of `1.2.3-a--b+b5` are read after its numbers as npm reads it, and none of it
 /// in the crate's dialect.
 fn are_read_of_numbers() -> bool {
     let rest = b"-a--b+b5";
-    let Some(outline) = version::outline_of_numbers(1, 2, 3, 5, rest, Dialect::Npm) else {
+    let Some(outline) = version::outline_of_numbers(1, 2, 3, 5, rest, Grammar::Npm) else {
         return false;
     };
     outline.minor() == 2
@@ -133,7 +133,7 @@ fn are_read_of_numbers() -> bool {
         && outline.pre_offset() == 6
         && outline.build() == "b5"
         && outline.build_offset() == 11
-        && version::outline_of_numbers(1, 2, 3, 5, rest, Dialect::Crate).is_none()
+        && version::outline_of_numbers(1, 2, 3, 5, rest, Grammar::Crate).is_none()
 }
 
 /// Whether the identifiers that a text's parts are cut to print as these.

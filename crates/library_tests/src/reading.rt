@@ -71,7 +71,7 @@ const JUDGED: [(&[u8], &str); 7] = [
 pub fn write_reading(rt: &impl Print, alloc: Global) -> io::Result<()> {
     for (place, (range, rule, text, wanted)) in TEXTS.iter().enumerate() {
         if !is_read_as(alloc, range, *rule, text, *wanted)? {
-            println!(rt; "reading: wrong at {place}")?;
+            println!(rt; "dialect: wrong at {place}")?;
         }
     }
     for (place, (text, wanted)) in JUDGED.iter().enumerate() {
@@ -79,7 +79,7 @@ pub fn write_reading(rt: &impl Print, alloc: Global) -> io::Result<()> {
             println!(rt; "judging: wrong at {place}")?;
         }
     }
-    println!(rt; "reading: {} texts", TEXTS.len())
+    println!(rt; "dialect: {} texts", TEXTS.len())
 }
 
 /// Whether the filter says this of the text.

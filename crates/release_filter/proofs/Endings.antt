@@ -95,7 +95,7 @@ takes_best h g c d line said o plain v old best either is passes made found so c
 
 -- a line was taken of which a filter says this
 pub takes_judged : (filter : FilterValue) (prefixes : List Text) (h g : HeldValue) (c d : CountsValue) (line text : Text) (said : Judged)
-    (old new : Text) (valid : Bool) → line ≡ text → JudgesBy (HasVersion filter.dialect (asked prefixes) line) filter said
+    (old new : Text) (valid : Bool) → line ≡ text → JudgesBy (HasVersion filter.grammar (asked prefixes) line) filter said
     → ((plain : PlainVersion) → PassesAs said plain → TakesLine h c line (verdict_of said plain line) g d old new
     × (valid ≡ not (is_invalid (verdict_of said plain line)))) → TakesJudged filter prefixes h c text g d old new valid
 takes_judged filter prefixes h g c d line text said old new valid is judges takes =
@@ -105,7 +105,7 @@ takes_judged filter prefixes h g c d line text said old new valid is judges take
 
 -- of a line that is skipped any end says the same
 pub skips_end : (s : LinesValue) (end other : Text) (g : HeldValue) (d : CountsValue) (old new : Text) (valid : Bool)
-    → NoEnd s.unended → ShowsNone s.filter.dialect s.prefixes s.at_front s.unended
+    → NoEnd s.unended → ShowsNone s.filter.grammar s.prefixes s.at_front s.unended
     → TakesJudged s.filter s.prefixes s.held s.counts (line_with s other) g d old new valid
     → TakesJudged s.filter s.prefixes s.held s.counts (line_with s end) g d old new valid
 skips_end s end other g d old new valid none shows (v, on, taken, is_valid) =
@@ -200,7 +200,7 @@ module _ (s : LinesValue) (line : Text) (is : line ≡ after_mark s.at_front s.u
       not_both (ap has_invalid those ∙ bad) refl
 
   module _ (some : line ≡ [] → ⊥) (none : NoEnd s.unended) (said : Judged)
-      (judges : JudgesBy (HasVersion s.filter.dialect (asked s.prefixes) line) s.filter said)
+      (judges : JudgesBy (HasVersion s.filter.grammar (asked s.prefixes) line) s.filter said)
     where
       told : (plain : PlainVersion) × PassesAs said plain × IsVerdictOn s.filter s.prefixes line (verdict_of said plain line)
       told = verdict s.filter s.prefixes line said judges

@@ -8,7 +8,7 @@ use Rattle.semver_parser.specs.Texts.{Text, is_empty}
 use Rattle.semver_parser.specs.Versions.{PlainVersion, VersionValue}
 use Rattle.semver_parser.specs.ToolVersions.{SpellsIn}
 use Rattle.semver_parser.specs.Outlines.{OutlineValue, IsOutlineIn, version_of}
-use Rattle.semver_parser.specs.declared.version.Dialect.{Dialect}
+use Rattle.semver_parser.specs.declared.version.Grammar.{Grammar}
 use Rattle.release_filter.specs.Filters.{FilterValue, passes}
 use Rattle.release_filter.specs.Judging.{IsJudged}
 use Rattle.release_filter.specs.LineTexts.{line_text}
@@ -21,53 +21,53 @@ use Rattle.release_filter.specs.declared.judging.Judged.TheVariants.{NoVersion, 
 use Rattle.release_filter.proofs.ExtremeSteps.{all_append}
 
 abbrev pub OneVersion : Type 0
-OneVersion = (dialect : Dialect) (v w : VersionValue) (text : Text) → SpellsIn dialect v text → SpellsIn dialect w text → v ≡ w
+OneVersion = (grammar : Grammar) (v w : VersionValue) (text : Text) → SpellsIn grammar v text → SpellsIn grammar w text → v ≡ w
 
 abbrev pub OneOutlined : Type 0
-OneOutlined = (dialect : Dialect) (o : OutlineValue) (v : VersionValue) (text : Text) → IsOutlineIn dialect text o → SpellsIn dialect v text
+OneOutlined = (grammar : Grammar) (o : OutlineValue) (v : VersionValue) (text : Text) → IsOutlineIn grammar text o → SpellsIn grammar v text
     → v ≡ version_of o
 
-pub one_had : OneVersion → (dialect : Dialect) (prefixes : List Text) (line : Text) (v w : VersionValue)
-    → HasVersion dialect prefixes line v → HasVersion dialect prefixes line w → v ≡ w
-one_had same dialect [] line v w a b = absurd a
-one_had same dialect (prefix ∷ prefixes) line v w (inl a) (inl b) = grind (arith, common_steps, append_cancel_left)
-one_had same dialect (prefix ∷ prefixes) line v w (inl a) (inr (none, b)) = absurd (none v a)
-one_had same dialect (prefix ∷ prefixes) line v w (inr (none, a)) (inl b) = absurd (none w b)
-one_had same dialect (prefix ∷ prefixes) line v w (inr (none, a)) (inr (other, b)) = one_had same dialect prefixes line v w a b
+pub one_had : OneVersion → (grammar : Grammar) (prefixes : List Text) (line : Text) (v w : VersionValue)
+    → HasVersion grammar prefixes line v → HasVersion grammar prefixes line w → v ≡ w
+one_had same grammar [] line v w a b = absurd a
+one_had same grammar (prefix ∷ prefixes) line v w (inl a) (inl b) = grind (arith, common_steps, append_cancel_left)
+one_had same grammar (prefix ∷ prefixes) line v w (inl a) (inr (none, b)) = absurd (none v a)
+one_had same grammar (prefix ∷ prefixes) line v w (inr (none, a)) (inl b) = absurd (none w b)
+one_had same grammar (prefix ∷ prefixes) line v w (inr (none, a)) (inr (other, b)) = one_had same grammar prefixes line v w a b
 
 -- what the filter says of the text after a prefix, it says of the line
 pub judged_after : OneOutlined → (filter : FilterValue) (prefix : Text) (line : Text) (text : Text) (r : Judged)
-    → line_text line ≡ prefix ++ text → IsJudged filter.dialect (passes filter) text r
-    → JudgesBy (SpellsAfter filter.dialect prefix line) filter r
+    → line_text line ≡ prefix ++ text → IsJudged filter.grammar (passes filter) text r
+    → JudgesBy (SpellsAfter filter.grammar prefix line) filter r
 judged_after same filter prefix line text NoVersion e none = grind (arith, append_cancel_left)
 judged_after same filter prefix line text DoesNotPass e j = search rules
 judged_after same filter prefix line text (Passes o) e j = search rules
 
-pub no_text : (dialect : Dialect) (prefix : Text) (line : Text) → ((text : Text) → ¬ (line_text line ≡ prefix ++ text))
-    → (w : VersionValue) → ¬ (SpellsAfter dialect prefix line w)
-no_text dialect prefix line none w s = none s.0 s.1
+pub no_text : (grammar : Grammar) (prefix : Text) (line : Text) → ((text : Text) → ¬ (line_text line ≡ prefix ++ text))
+    → (w : VersionValue) → ¬ (SpellsAfter grammar prefix line w)
+no_text grammar prefix line none w s = none s.0 s.1
 
 -- a prefix after which there is a version decides
 pub decided : (filter : FilterValue) (prefix : Text) (prefixes : List Text) (line : Text) (r : Judged) → ¬ (r ≡ NoVersion)
-    → JudgesBy (SpellsAfter filter.dialect prefix line) filter r → JudgesBy (HasVersion filter.dialect (prefix ∷ prefixes) line) filter r
+    → JudgesBy (SpellsAfter filter.grammar prefix line) filter r → JudgesBy (HasVersion filter.grammar (prefix ∷ prefixes) line) filter r
 decided filter prefix prefixes line NoVersion some j = absurd (some refl)
 decided filter prefix prefixes line DoesNotPass some j = (j.0, inl j.1, j.2)
 decided filter prefix prefixes line (Passes o) some j = search rules
 
 -- after another one the next prefix is asked
 pub next : (filter : FilterValue) (prefix : Text) (prefixes : List Text) (line : Text) (r : Judged)
-    → ((w : VersionValue) → ¬ (SpellsAfter filter.dialect prefix line w)) → JudgesBy (HasVersion filter.dialect prefixes line) filter r
-    → JudgesBy (HasVersion filter.dialect (prefix ∷ prefixes) line) filter r
+    → ((w : VersionValue) → ¬ (SpellsAfter filter.grammar prefix line w)) → JudgesBy (HasVersion filter.grammar prefixes line) filter r
+    → JudgesBy (HasVersion filter.grammar (prefix ∷ prefixes) line) filter r
 next filter prefix prefixes line NoVersion none j = no_version
   where
-    no_version : (w : VersionValue) → ¬ (HasVersion filter.dialect (prefix ∷ prefixes) line w)
+    no_version : (w : VersionValue) → ¬ (HasVersion filter.grammar (prefix ∷ prefixes) line w)
     no_version w (inl a) = none w a
     no_version w (inr (other, a)) = j w a
 next filter prefix prefixes line DoesNotPass none j = search rules
 next filter prefix prefixes line (Passes o) none j = search rules
 
-pub only : (filter : FilterValue) (prefix : Text) (line : Text) (r : Judged) → JudgesBy (SpellsAfter filter.dialect prefix line) filter r
-    → JudgesBy (HasVersion filter.dialect (prefix ∷ []) line) filter r
+pub only : (filter : FilterValue) (prefix : Text) (line : Text) (r : Judged) → JudgesBy (SpellsAfter filter.grammar prefix line) filter r
+    → JudgesBy (HasVersion filter.grammar (prefix ∷ []) line) filter r
 only filter prefix line NoVersion j = next filter prefix [] line NoVersion j (λ w a. a)
 only filter prefix line DoesNotPass j = (j.0, inl j.1, j.2)
 only filter prefix line (Passes o) j = search rules
@@ -80,13 +80,13 @@ first_and_rest [] first some is = absurd (omega arith)
 first_and_rest (prefix ∷ prefixes) first some is = grind (arith, common_steps)
 
 pub none_asked : (filter : FilterValue) (prefixes : List (String Global)) (line : List ℕ) (r : Judged) → length prefixes < 1
-    → JudgesBy (SpellsAfter filter.dialect [] line) filter r → JudgesBy (HasVersion filter.dialect (asked (texts prefixes)) line) filter r
+    → JudgesBy (SpellsAfter filter.grammar [] line) filter r → JudgesBy (HasVersion filter.grammar (asked (texts prefixes)) line) filter r
 none_asked filter [] line r none j = only filter [] line r j
 none_asked filter (prefix ∷ prefixes) line r none j = absurd (omega arith)
 
 pub some_asked : (filter : FilterValue) (prefixes : List (String Global)) (line : List ℕ) (r : Judged) → 1 ≤ length prefixes
-    → JudgesBy (HasVersion filter.dialect (texts prefixes) line) filter r
-    → JudgesBy (HasVersion filter.dialect (asked (texts prefixes)) line) filter r
+    → JudgesBy (HasVersion filter.grammar (texts prefixes) line) filter r
+    → JudgesBy (HasVersion filter.grammar (asked (texts prefixes)) line) filter r
 some_asked filter [] line r some j = absurd (omega arith)
 some_asked filter (prefix ∷ prefixes) line r some j = j
 
@@ -96,7 +96,7 @@ no_plain : PlainVersion
 no_plain = record { major = 0; minor = 0; patch = 0; pre = [] }
 
 pub verdict : (filter : FilterValue) (prefixes : List Text) (line : Text) (said : Judged)
-    → JudgesBy (HasVersion filter.dialect (asked prefixes) line) filter said
+    → JudgesBy (HasVersion filter.grammar (asked prefixes) line) filter said
     → (plain : PlainVersion) × PassesAs said plain × IsVerdictOn filter prefixes line (verdict_of said plain line)
 verdict filter prefixes line NoVersion j = (no_plain, tt, by_text _ refl)
   where
@@ -160,7 +160,7 @@ module _ (filter : FilterValue) (prefixes : List Text) where
 -- ---- a line that is judged by its outline
 
 pub outlined_line : OneOutlined → (filter : FilterValue) (line : Text) (found : Option OutlineValue) (said : Judged)
-    → ((text : Text) → IsOutlined filter.dialect text found → IsJudged filter.dialect (passes filter) text said)
-    → IsOutlined filter.dialect (line_text line) found → JudgesBy (HasVersion filter.dialect ([] ∷ []) line) filter said
+    → ((text : Text) → IsOutlined filter.grammar text found → IsJudged filter.grammar (passes filter) text said)
+    → IsOutlined filter.grammar (line_text line) found → JudgesBy (HasVersion filter.grammar ([] ∷ []) line) filter said
 outlined_line same filter line found said told is =
     only filter [] line said (judged_after same filter [] line (line_text line) said refl (told (line_text line) is))

@@ -10,7 +10,7 @@ use Rattle.std.proofs.lemmas.List.{map-append, take-set, take_more, take_more_se
 use Rattle.std.proofs.lemmas.List.Elements.{filter-append}
 use Rattle.std.specs.List.{AllByRecursion}
 use Rattle.semver_parser.specs.VersionViews.{version_value}
-use Rattle.semver_parser.specs.declared.version.Dialect.{Dialect}
+use Rattle.semver_parser.specs.declared.version.Grammar.{Grammar}
 use Rattle.semver_parser.specs.declared.version.Version.{Version}
 use Rattle.version_sets.specs.declared.PreReleases.{PreReleases}
 use Rattle.version_sets.specs.VersionSets.{SetValue, has, Fits}
@@ -164,8 +164,8 @@ keeps_next f xs places ys old kept i d b inside same is before =
     ∙ sym (take_more ys i (f b) (rw (← same_length xs places ys same) inside)))
 
 -- the answer on a version is whether it passes
-pub judged_at : (filter : FilterValue) (set : SetValue) (rule : PreReleases) (dialect : Dialect) (versions : List Version)
-    (answers : List Bool) (i : ℕ) (d : Bool) → record { set = set; pre_releases = rule; dialect = dialect } ≡ filter
+pub judged_at : (filter : FilterValue) (set : SetValue) (rule : PreReleases) (grammar : Grammar) (versions : List Version)
+    (answers : List Bool) (i : ℕ) (d : Bool) → record { set = set; pre_releases = rule; grammar = grammar } ≡ filter
     → answers ≡ map (λ v. has set (version_value v).plain) versions → AllByRecursion (λ v. Fits (version_value v).plain) versions
     → i < length versions → (e : Version) → get_or answers i d ≡ passes filter (version_value (get_or versions i e))
-judged_at filter set rule dialect versions answers i d view told fit inside e = grind (arith, common_steps)
+judged_at filter set rule grammar versions answers i d view told fit inside e = grind (arith, common_steps)

@@ -6,7 +6,7 @@ use Rattle.std.proofs.lemmas.Bool.{cases_lt}
 use Rattle.std.proofs.lemmas.Grind.{pow_more}
 use Rattle.std.proofs.lemmas.List.{take-append-drop, take-append-le}
 use Rattle.semver_parser.specs.Texts.{Text}
-use Rattle.semver_parser.specs.declared.version.Dialect.{Dialect}
+use Rattle.semver_parser.specs.declared.version.Grammar.{Grammar}
 use Rattle.release_filter.specs.Skipping.{IsLeft, IsLookedAt, MayHaveVersion, MayUpTo, ShowsNone}
 
 -- ---- the sizes
@@ -28,12 +28,12 @@ none_between n m (j, is) (k, so) less = by_order (cases_lt j k)
 
 -- ---- the looks
 
-module _ (dialect : Dialect) (prefixes : List Text) (at_front : Bool) where
+module _ (grammar : Grammar) (prefixes : List Text) (at_front : Bool) where
   abbrev May : Text → Type 0
-  May front = MayHaveVersion dialect prefixes at_front front
+  May front = MayHaveVersion grammar prefixes at_front front
 
   abbrev Upto : Text → ℕ → Type 0
-  Upto line count = MayUpTo dialect prefixes at_front line count
+  Upto line count = MayUpTo grammar prefixes at_front line count
 
   -- before the first one nothing shows
   pub before_looks : (line : Text) (n : ℕ) → n ≤ 4096 → Upto line n
@@ -58,9 +58,9 @@ module _ (dialect : Dialect) (prefixes : List Text) (at_front : Bool) where
 
   -- the bytes that show that the line has no version are left
   pub left_front : (line seen left : Text) (size : ℕ) → seen ≡ line → left ≡ take size seen
-      → ShowsNone dialect prefixes at_front (take size seen) → IsLeft dialect prefixes at_front line left
+      → ShowsNone grammar prefixes at_front (take size seen) → IsLeft grammar prefixes at_front line left
   left_front line seen left size is so shows = inr (
     drop size line,
     sym (take-append-drop size line) ∙ ap (λ l. l ++ drop size line) (sym (so ∙ ap (take size) is)),
-    subst (ShowsNone dialect prefixes at_front) (sym so) shows,
+    subst (ShowsNone grammar prefixes at_front) (sym so) shows,
   )

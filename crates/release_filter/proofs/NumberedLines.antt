@@ -17,7 +17,7 @@ use Rattle.semver_texts.proofs.Lists.{Passes, passes_append, all_more}
 use Rattle.semver_texts.proofs.Numerals.{own}
 use Rattle.semver_parser.specs.Outlines.{OutlineValue, IsOutlineIn}
 use Rattle.semver_parser.specs.ToolVersions.{IsVersionTextIn}
-use Rattle.semver_parser.specs.declared.version.Dialect.{Dialect}
+use Rattle.semver_parser.specs.declared.version.Grammar.{Grammar}
 use Rattle.release_filter.specs.LineTexts.{IsWholeLine, line_text}
 use Rattle.release_filter.specs.Steps.Outlined.{IsOutlined}
 use Rattle.std.proofs.lemmas.Grind.{common_steps}
@@ -119,11 +119,11 @@ module _ (bytes rest back : List ℕ) {major minor patch : ℕ} (n : BeginsWithN
     text_len : length (line_text line) ≡ length bytes - length rest + length stripped
     text_len = grind (arith, text_is, length-append)
 
-    pub outlined : (dialect : Dialect) (found : Option OutlineValue)
+    pub outlined : (grammar : Grammar) (found : Option OutlineValue)
         → ((text : Text) (o : OutlineValue) → BeginsWithNumbers text major minor patch stripped
-        → length text ≡ length bytes - length rest + length stripped → (found ≡ Some o) ↔ IsOutlineIn dialect text o)
+        → length text ≡ length bytes - length rest + length stripped → (found ≡ Some o) ↔ IsOutlineIn grammar text o)
         → ((text : Text) → BeginsWithNumbers text major minor patch stripped
-        → length text ≡ length bytes - length rest + length stripped → (found ≡ None) ↔ ¬ (IsVersionTextIn dialect text))
-        → IsOutlined dialect (line_text line) found
-    outlined dialect None told none = (none (line_text line) text_begins text_len).0 refl
-    outlined dialect (Some o) told none = (told (line_text line) o text_begins text_len).0 refl
+        → length text ≡ length bytes - length rest + length stripped → (found ≡ None) ↔ ¬ (IsVersionTextIn grammar text))
+        → IsOutlined grammar (line_text line) found
+    outlined grammar None told none = (none (line_text line) text_begins text_len).0 refl
+    outlined grammar (Some o) told none = (told (line_text line) o text_begins text_len).0 refl

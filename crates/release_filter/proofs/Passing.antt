@@ -4,8 +4,8 @@ use Rattle.std.proofs.Common.{◌↔◌, Bool, true, false, refl, rules}
 use Rattle.semver_parser.specs.Texts.{Text, is_empty}
 use Rattle.semver_parser.specs.Versions.{IdentifierValue, PlainVersion, VersionValue}
 use Rattle.semver_parser.specs.ToolVersions.{SpellsIn, IsVersionTextIn}
-use Rattle.semver_parser.specs.declared.version.Dialect.{Dialect}
-use Rattle.semver_parser.specs.declared.version.Dialect.TheVariants.{Crate, Cargo, Npm}
+use Rattle.semver_parser.specs.declared.version.Grammar.{Grammar}
+use Rattle.semver_parser.specs.declared.version.Grammar.TheVariants.{Crate, Cargo, Npm}
 use Rattle.semver_parser.specs.Outlines.{OutlineValue, IsOutlineIn, dotted_text}
 use Rattle.semver_parser.specs.RangeTree.{SetTree}
 use Rattle.semver_parser.specs.declared.Compat.{Compat}
@@ -42,7 +42,7 @@ pub passes_as_in : (filter : FilterValue) (v : VersionValue) → Fits v.plain �
 passes_as_in filter v fits = search rules
 
 -- as those of each version that a text spells
-pub spelled_fit : (dialect : Dialect) (v : VersionValue) (text : Text) → SpellsIn dialect v text → Fits v.plain
+pub spelled_fit : (grammar : Grammar) (v : VersionValue) (text : Text) → SpellsIn grammar v text → Fits v.plain
 spelled_fit Crate v text spells = (spells.spells.major, spells.spells.minor, spells.spells.patch)
 spelled_fit Cargo v text spells = (spells.major, spells.minor, spells.patch)
 spelled_fit Npm v text spells = (spells.0.spells.major, spells.0.spells.minor, spells.0.spells.patch)
@@ -60,8 +60,8 @@ pub apart : (o : OutlineValue) → Passes o ≡ DoesNotPass → ⊥
 apart o e = cc
 
 -- what `outline_in` tells of a text
-pub outlined_as : (dialect : Dialect) (text : Text) (found : Option OutlineValue)
-    → ((o : OutlineValue) → (found ≡ Some o) ↔ IsOutlineIn dialect text o) → ((found ≡ None) ↔ ¬ (IsVersionTextIn dialect text))
-    → IsOutlined dialect text found
-outlined_as dialect text None told none = none.0 refl
-outlined_as dialect text (Some o) told none = (told o).0 refl
+pub outlined_as : (grammar : Grammar) (text : Text) (found : Option OutlineValue)
+    → ((o : OutlineValue) → (found ≡ Some o) ↔ IsOutlineIn grammar text o) → ((found ≡ None) ↔ ¬ (IsVersionTextIn grammar text))
+    → IsOutlined grammar text found
+outlined_as grammar text None told none = none.0 refl
+outlined_as grammar text (Some o) told none = (told o).0 refl

@@ -139,9 +139,9 @@ module _ (same : OneVersion) (total : IsTotalOrder precedence) where
       let one = one_taking s t' u' piece js ks old new other a.all b.all in
       let front = ap (λ (v : LinesValue). v.at_front) one.1 in
       let rest = ap (λ (v : LinesValue). v.unended) one.1 in
-      let there = subst (λ f. IsLeft s.filter.dialect s.prefixes f b.unended u.unended) (sym front) b.left in
-      let left = same_left s.filter.dialect s.prefixes t.at_front a.unended t.unended u.unended a.left
-      (subst (λ r. IsLeft s.filter.dialect s.prefixes t.at_front r u.unended) (sym rest) there) in
+      let there = subst (λ f. IsLeft s.filter.grammar s.prefixes f b.unended u.unended) (sym front) b.left in
+      let left = same_left s.filter.grammar s.prefixes t.at_front a.unended t.unended u.unended a.left
+      (subst (λ r. IsLeft s.filter.grammar s.prefixes t.at_front r u.unended) (sym rest) there) in
       (one.0, λ i. record (one.1 i) { unended = left i }, one.2)
 
   -- what the end of a text does is fixed

@@ -4,7 +4,7 @@ use Rattle.std.proofs.Common.{Bor, IsTrue, MatchOption, Option, Some, None, leng
 use Rattle.std.specs.Prelude.{is_some}
 use Rattle.std.proofs.lemmas.List.{append_cancel_left}
 use Rattle.semver_parser.specs.Texts.{Text}
-use Rattle.semver_parser.specs.declared.version.Dialect.{Dialect}
+use Rattle.semver_parser.specs.declared.version.Grammar.{Grammar}
 use Rattle.version_fronts.specs.Fronts.{IsFrontIn}
 use Rattle.release_filter.specs.Skipping.{BeginsAfter}
 use Rattle.std.proofs.lemmas.Grind.{common_steps}
@@ -14,18 +14,18 @@ not_longer front text next more e =
     absurd (omega (arith, ap length e, length-append (front ++ next ∷ more) text, length-append front (next ∷ more)))
 
 -- a text that is the prefix and more
-pub begins_some : (dialect : Dialect) (prefix front text : Text) (b : Bool) → front ≡ prefix ++ text → (IsTrue b ↔ IsFrontIn dialect text)
-    → (IsTrue b ↔ BeginsAfter dialect prefix front)
-begins_some dialect prefix front text b is both = grind (arith, append_cancel_left, not_longer)
+pub begins_some : (grammar : Grammar) (prefix front text : Text) (b : Bool) → front ≡ prefix ++ text → (IsTrue b ↔ IsFrontIn grammar text)
+    → (IsTrue b ↔ BeginsAfter grammar prefix front)
+begins_some grammar prefix front text b is both = grind (arith, append_cancel_left, not_longer)
 
 -- another one
-pub begins_none : (dialect : Dialect) (prefix front : Text) (found : Option (Bor (List ℕ))) (b : Bool)
+pub begins_none : (grammar : Grammar) (prefix front : Text) (found : Option (Bor (List ℕ))) (b : Bool)
     → ((text : Text) → ¬ (front ≡ prefix ++ text))
     → MatchOption found ((text : Text) → ¬ (prefix ≡ front ++ text)) (λ x. prefix ≡ front ++ x.now) → b ≡ is_some found
-    → (IsTrue b ↔ BeginsAfter dialect prefix front)
-begins_none dialect prefix front None b never other is = search rules
-begins_none dialect prefix front (Some x) b never other is = (λ t. on x.now other, λ begins. is)
+    → (IsTrue b ↔ BeginsAfter grammar prefix front)
+begins_none grammar prefix front None b never other is = search rules
+begins_none grammar prefix front (Some x) b never other is = (λ t. on x.now other, λ begins. is)
   where
-    on : (more : Text) → prefix ≡ front ++ more → BeginsAfter dialect prefix front
+    on : (more : Text) → prefix ≡ front ++ more → BeginsAfter grammar prefix front
     on [] so = grind (arith, common_steps)
     on (next ∷ more) so = inr (next, more, so)

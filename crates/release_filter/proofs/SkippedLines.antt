@@ -9,7 +9,7 @@ use Rattle.std.proofs.lemmas.List.{take-append-drop, take-append-le}
 use Rattle.semver_parser.specs.Texts.{Text, is_empty}
 use Rattle.semver_parser.specs.Versions.{VersionValue}
 use Rattle.semver_parser.specs.ToolVersions.{SpellsIn}
-use Rattle.semver_parser.specs.declared.version.Dialect.{Dialect}
+use Rattle.semver_parser.specs.declared.version.Grammar.{Grammar}
 use Rattle.release_filter.specs.Counting.{CountsValue, counted_as, first_of, one_more}
 use Rattle.release_filter.specs.Filters.{FilterValue}
 use Rattle.release_filter.specs.LineTexts.{after_mark, line_text}
@@ -45,17 +45,17 @@ text_front front (x ∷ xs) none = by_rest _ (ap (strip_last 13) (strip_after 10
 
 -- ---- what begins a line with a version
 
-spells_front : (dialect : Dialect) (prefix front rest text : Text) (v : VersionValue) → front ++ rest ≡ prefix ++ text
-    → SpellsIn dialect v text → BeginsAfter dialect prefix front
-spells_front dialect [] front rest text v e spells = search rules
-spells_front dialect (p ∷ ps) [] rest text v e spells = inr (p, ps, refl)
-spells_front dialect (p ∷ ps) (x ∷ xs) rest text v e spells = grind (arith, spells_front dialect ps xs rest text v (cc) spells)
+spells_front : (grammar : Grammar) (prefix front rest text : Text) (v : VersionValue) → front ++ rest ≡ prefix ++ text
+    → SpellsIn grammar v text → BeginsAfter grammar prefix front
+spells_front grammar [] front rest text v e spells = search rules
+spells_front grammar (p ∷ ps) [] rest text v e spells = inr (p, ps, refl)
+spells_front grammar (p ∷ ps) (x ∷ xs) rest text v e spells = grind (arith, spells_front grammar ps xs rest text v (cc) spells)
 
-has_front : (dialect : Dialect) (prefixes : List Text) (line front rest : Text) (v : VersionValue) → line_text line ≡ front ++ rest
-    → HasVersion dialect prefixes line v → BeginsAfterOne dialect prefixes front
-has_front dialect [] line front rest v e has = absurd has
-has_front dialect (p ∷ ps) line front rest v e (inl (text, is, spells)) = grind (arith, spells_front)
-has_front dialect (p ∷ ps) line front rest v e (inr (none, has)) = inr (has_front dialect ps line front rest v e has)
+has_front : (grammar : Grammar) (prefixes : List Text) (line front rest : Text) (v : VersionValue) → line_text line ≡ front ++ rest
+    → HasVersion grammar prefixes line v → BeginsAfterOne grammar prefixes front
+has_front grammar [] line front rest v e has = absurd has
+has_front grammar (p ∷ ps) line front rest v e (inl (text, is, spells)) = grind (arith, spells_front)
+has_front grammar (p ∷ ps) line front rest v e (inr (none, has)) = inr (has_front grammar ps line front rest v e has)
 
 -- ---- a front after a mark
 
@@ -77,7 +77,7 @@ marked_length true (a ∷ b ∷ c ∷ rest) = search rules
 -- ---- lines that begin with this front, which are skipped
 
 module _ (filter : FilterValue) (prefixes : List Text) (at_front : Bool) (front : Text) (none : NoEnd front)
-    (shows : ShowsNone filter.dialect prefixes at_front front)
+    (shows : ShowsNone filter.grammar prefixes at_front front)
   where
     long : 4096 ≤ length front
     long = looked_least (length front) shows.looked_at
@@ -96,9 +96,9 @@ module _ (filter : FilterValue) (prefixes : List Text) (at_front : Bool) (front 
     enough : 81 ≤ length seen
     enough = search rules
 
-    has_none : (more : Text) → HasNoVersion filter.dialect prefixes (line_with more)
+    has_none : (more : Text) → HasNoVersion filter.grammar prefixes (line_with more)
     has_none more = λ v has. let text = text_is more in shows.none
-        (has_front filter.dialect (asked prefixes) (line_with more) seen text.0 v text.1 has)
+        (has_front filter.grammar (asked prefixes) (line_with more) seen text.0 v text.1 has)
 
     has_text : (more : Text) → is_empty (line_text (line_with more)) ≡ false
     has_text more =
@@ -134,23 +134,23 @@ module _ (filter : FilterValue) (prefixes : List Text) (at_front : Bool) (front 
 
 -- ---- what is left of a line
 
-module _ (dialect : Dialect) (prefixes : List Text) (at_front : Bool) (unended : Text) where
+module _ (grammar : Grammar) (prefixes : List Text) (at_front : Bool) (unended : Text) where
   abbrev Shows : Text → Type 0
-  Shows front = ShowsNone dialect prefixes at_front front
+  Shows front = ShowsNone grammar prefixes at_front front
 
   -- what shows that a line has no version is no shorter than what it may have one by
-  not_shorter : (front rest : Text) (count : ℕ) → MayUpTo dialect prefixes at_front unended count → unended ≡ front ++ rest → Shows front
+  not_shorter : (front rest : Text) (count : ℕ) → MayUpTo grammar prefixes at_front unended count → unended ≡ front ++ rest → Shows front
       → count ≤ length front
   not_shorter front rest count may is shows = by_order (cases_lt (length front) count)
     where
       by_order : (length front < count) ⊎ (count ≤ length front) → count ≤ length front
       by_order (inl less) =
           let same = ap (take (length front)) is ∙ take-append_seam front rest in
-          absurd (shows.none (subst (MayHaveVersion dialect prefixes at_front) same (may (length front) shows.looked_at less)))
+          absurd (shows.none (subst (MayHaveVersion grammar prefixes at_front) same (may (length front) shows.looked_at less)))
       by_order (inr most) = most
 
   -- where all of a line may have one, only all of it can show that it has none
-  all_of : (front rest : Text) → MayUpTo dialect prefixes at_front unended (length unended) → unended ≡ front ++ rest → Shows front
+  all_of : (front rest : Text) → MayUpTo grammar prefixes at_front unended (length unended) → unended ≡ front ++ rest → Shows front
       → front ≡ unended
   all_of front [] may is shows = sym (is ∙ append-nil front)
   all_of front (x ∷ xs) may is shows =
@@ -161,11 +161,11 @@ module _ (dialect : Dialect) (prefixes : List Text) (at_front : Bool) (unended :
   no_longer : (front rest other later : Text) → unended ≡ front ++ rest → unended ≡ other ++ later → Shows front → Shows other
       → length other ≤ length front
   no_longer front rest other later is so shows also =
-      let may = may_longer dialect prefixes at_front other later (length other) (omega arith) also.fewest in
-      not_shorter front rest (length other) (subst (λ l. MayUpTo dialect prefixes at_front l (length other)) (sym so) may) is shows
+      let may = may_longer grammar prefixes at_front other later (length other) (omega arith) also.fewest in
+      not_shorter front rest (length other) (subst (λ l. MayUpTo grammar prefixes at_front l (length other)) (sym so) may) is shows
 
   -- one text is left
-  pub same_left : (left other : Text) → IsLeft dialect prefixes at_front unended left → IsLeft dialect prefixes at_front unended other
+  pub same_left : (left other : Text) → IsLeft grammar prefixes at_front unended left → IsLeft grammar prefixes at_front unended other
       → left ≡ other
   same_left left other (inl (is, _)) (inl (so, _)) = is ∙ sym so
   same_left left other (inl (is, may)) (inr (rest, so, shows)) = is ∙ sym (all_of other rest may so shows)

@@ -49,7 +49,7 @@ rest_ends front rest none = subst NoEnd (drop-append_seam front rest) (All-drop 
 -- ---- a skipped line in the next piece
 
 module _ (t : LinesValue) (front dropped : Text) (none : NoEnd front) (none_dropped : NoEnd dropped)
-    (shows : ShowsNone t.filter.dialect t.prefixes t.at_front front)
+    (shows : ShowsNone t.filter.grammar t.prefixes t.at_front front)
   where
     long : 4096 ≤ length front
     long = looked_least (length front) shows.looked_at
@@ -193,7 +193,7 @@ module _ (t u : LinesValue) (whole q : Text) (ks : List JudgedLine) (mid new : T
   same_next : t.unended ≡ whole → Takes t q ks u mid new → Next (record t { unended = whole })
   same_next is b = (ks, alike ks, subst (λ r. Takes (record t { unended = r }) q ks u mid new) is b)
 
-  module _ (front dropped : Text) (is : whole ≡ front ++ dropped) (shows : ShowsNone t.filter.dialect t.prefixes t.at_front front)
+  module _ (front dropped : Text) (is : whole ≡ front ++ dropped) (shows : ShowsNone t.filter.grammar t.prefixes t.at_front front)
       (b : Takes (record t { unended = front }) q ks u mid new)
     where
       none_front : NoEnd front
@@ -205,9 +205,9 @@ module _ (t u : LinesValue) (whole q : Text) (ks : List JudgedLine) (mid new : T
       by_lines : (lines : List Text) → b.all.lines ≡ lines → Next (record t { unended = front ++ dropped })
       by_lines [] nothing =
           let on = took_on t front dropped none_front none_dropped shows (record u { unended = b.unended }) q ks mid new b.all nothing in
-          let left = subst (λ r. IsLeft t.filter.dialect t.prefixes u.at_front r u.unended) on.1 b.left in
-          let at = subst (λ f. ShowsNone t.filter.dialect t.prefixes f front) (sym on.2) shows in
-          let same = same_left t.filter.dialect t.prefixes u.at_front (front ++ q) u.unended front left (inr (q, refl, at)) in (
+          let left = subst (λ r. IsLeft t.filter.grammar t.prefixes u.at_front r u.unended) on.1 b.left in
+          let at = subst (λ f. ShowsNone t.filter.grammar t.prefixes f front) (sym on.2) shows in
+          let same = same_left t.filter.grammar t.prefixes u.at_front (front ++ q) u.unended front left (inr (q, refl, at)) in (
             ks,
             alike ks,
             record {
@@ -216,7 +216,7 @@ module _ (t u : LinesValue) (whole q : Text) (ks : List JudgedLine) (mid new : T
               left = inr (
                 dropped ++ q,
                 append_assoc front dropped q ∙ ap (λ l. l ++ (dropped ++ q)) (sym same),
-                subst (ShowsNone t.filter.dialect t.prefixes u.at_front) (sym same) at,
+                subst (ShowsNone t.filter.grammar t.prefixes u.at_front) (sym same) at,
               );
             },
           )
@@ -225,7 +225,7 @@ module _ (t u : LinesValue) (whole q : Text) (ks : List JudgedLine) (mid new : T
           let end = took_end t front dropped none_front none_dropped shows after q y ys ks mid new b.all some in
           (end.0, end.1, record { unended = b.unended; all = end.2; left = b.left })
 
-  next : IsLeft t.filter.dialect t.prefixes t.at_front whole t.unended → Takes t q ks u mid new → Next (record t { unended = whole })
+  next : IsLeft t.filter.grammar t.prefixes t.at_front whole t.unended → Takes t q ks u mid new → Next (record t { unended = whole })
   next (inl (is, _)) b = same_next is b
   next (inr (rest, is, shows)) b =
       subst (λ r. Next (record t { unended = r })) (sym is) (by_lines t.unended rest is shows b b.all.lines refl)
@@ -235,10 +235,10 @@ module _ (total : IsTotalOrder precedence) where
   pub took_pieces : (s t u : LinesValue) (p q : Text) (js ks : List JudgedLine) (old mid new : Text) → Takes s p js t old mid
       → Takes t q ks u mid new → (ls : List JudgedLine) × AreAlike ks ls × Takes s (p ++ q) (js ++ ls) u old new
   took_pieces s t u p q js ks old mid new a b =
-      let dialect = ap (λ (v : LinesValue). v.filter.dialect) a.all.state in
+      let grammar = ap (λ (v : LinesValue). v.filter.grammar) a.all.state in
       let prefixes = ap (λ (v : LinesValue). v.prefixes) a.all.state in
-      let left = subst (λ d. IsLeft d t.prefixes t.at_front a.unended t.unended) (sym dialect)
-      (subst (λ ps. IsLeft s.filter.dialect ps t.at_front a.unended t.unended) (sym prefixes) a.left) in
+      let left = subst (λ d. IsLeft d t.prefixes t.at_front a.unended t.unended) (sym grammar)
+      (subst (λ ps. IsLeft s.filter.grammar ps t.at_front a.unended t.unended) (sym prefixes) a.left) in
       let found = next t u a.unended q ks mid new a.all.cut.no_end left b in (
         found.0,
         found.1,
@@ -246,8 +246,8 @@ module _ (total : IsTotalOrder precedence) where
           unended = found.2.unended;
           all = took_both total s (record t { unended = a.unended }) (record u { unended = found.2.unended }) p q js found.0 old mid new
               a.all found.2.all;
-          left = subst (λ d. IsLeft d s.prefixes u.at_front found.2.unended u.unended) dialect
-              (subst (λ ps. IsLeft t.filter.dialect ps u.at_front found.2.unended u.unended) prefixes found.2.left);
+          left = subst (λ d. IsLeft d s.prefixes u.at_front found.2.unended u.unended) grammar
+              (subst (λ ps. IsLeft t.filter.grammar ps u.at_front found.2.unended u.unended) prefixes found.2.left);
         },
       )
 
@@ -260,15 +260,15 @@ module _ (total : IsTotalOrder precedence) where
       whole : LinesValue
       whole = record t { unended = a.unended }
 
-      dialect : t.filter.dialect ≡ s.filter.dialect
-      dialect = ap (λ (v : LinesValue). v.filter.dialect) a.all.state
+      grammar : t.filter.grammar ≡ s.filter.grammar
+      grammar = ap (λ (v : LinesValue). v.filter.grammar) a.all.state
 
       prefixes : t.prefixes ≡ s.prefixes
       prefixes = ap (λ (v : LinesValue). v.prefixes) a.all.state
 
-      left : IsLeft t.filter.dialect t.prefixes t.at_front a.unended t.unended
-      left = subst (λ d. IsLeft d t.prefixes t.at_front a.unended t.unended) (sym dialect)
-          (subst (λ ps. IsLeft s.filter.dialect ps t.at_front a.unended t.unended) (sym prefixes) a.left)
+      left : IsLeft t.filter.grammar t.prefixes t.at_front a.unended t.unended
+      left = subst (λ d. IsLeft d t.prefixes t.at_front a.unended t.unended) (sym grammar)
+          (subst (λ ps. IsLeft s.filter.grammar ps t.at_front a.unended t.unended) (sym prefixes) a.left)
 
       Last : LinesValue → Type 0
       Last t' = (ls : List JudgedLine) × AreAlike ks ls × Finishes t' ls u mid new
@@ -279,7 +279,7 @@ module _ (total : IsTotalOrder precedence) where
       same_last : t.unended ≡ a.unended → Last whole
       same_last is = (ks, alike ks, subst (λ r. Finishes (record t { unended = r }) ks u mid new) is b)
 
-      by_left : IsLeft t.filter.dialect t.prefixes t.at_front a.unended t.unended → Last whole
+      by_left : IsLeft t.filter.grammar t.prefixes t.at_front a.unended t.unended → Last whole
       by_left (inl (is, _)) = same_last is
       by_left (inr (rest, is, shows)) =
           let none = subst NoEnd is a.all.cut.no_end in

@@ -223,14 +223,14 @@ module _ (total : IsTotalOrder precedence) where
       let whole = m.unended ++ left_of piece taken in
       let last = took_rest m (left_of piece taken) whole mid a.cut.no_end none refl in
       let all = took_all s m (record m { unended = whole }) piece js old mid mid taken a last in
-      let dialect = ap (λ (v : LinesValue). v.filter.dialect) a.state in
+      let grammar = ap (λ (v : LinesValue). v.filter.grammar) a.state in
       let prefixes = ap (λ (v : LinesValue). v.prefixes) a.state in
       let front = ap (λ (v : LinesValue). v.at_front) took.0 in
       record {
         unended = whole;
         all = subst (λ l. TakesAll s piece js (record t { unended = whole }) old l) (sym kept)
             (subst (λ x. TakesAll s piece js x old mid) (λ i. record (sym took.0 i) { unended = whole }) all);
-        left = subst (λ d. IsLeft d s.prefixes t.at_front whole t.unended) dialect
-            (subst (λ ps. IsLeft m.filter.dialect ps t.at_front whole t.unended) prefixes
-            (subst (λ f. IsLeft m.filter.dialect m.prefixes f whole t.unended) (sym front) took.1));
+        left = subst (λ d. IsLeft d s.prefixes t.at_front whole t.unended) grammar
+            (subst (λ ps. IsLeft m.filter.grammar ps t.at_front whole t.unended) prefixes
+            (subst (λ f. IsLeft m.filter.grammar m.prefixes f whole t.unended) (sym front) took.1));
       }

@@ -2,7 +2,7 @@
 -- dialect by which version texts are read. It is a test on versions.
 use Rattle.std.specs.Prelude.{Bool, ◌&&◌}
 use Rattle.semver_parser.specs.Versions.{VersionValue}
-use Rattle.semver_parser.specs.declared.version.Dialect.{Dialect}
+use Rattle.semver_parser.specs.declared.version.Grammar.{Grammar}
 use Rattle.version_sets.specs.PreReleaseRules.{numbers_fit}
 use Rattle.version_sets.specs.VersionSets.{SetValue, has}
 use Rattle.version_sets.specs.declared.PreReleases.{PreReleases}
@@ -11,7 +11,7 @@ use Rattle.version_sets.specs.declared.PreReleases.{PreReleases}
 pub record FilterValue : Type 0 where
   pub set : SetValue
   pub pre_releases : PreReleases
-  pub dialect : Dialect
+  pub grammar : Grammar
 
 -- the test that a filter is: a version passes whose numbers fit, and that is in the set
 abbrev pub passes : FilterValue → VersionValue → Bool

@@ -49,7 +49,7 @@ pub record Takes (s : LinesValue) (piece : Text) (judged : List JudgedLine) (t :
     (old new : Text) : Type 0 where
   pub unended : Text
   pub all : TakesAll s piece judged (record t { unended = unended }) old new
-  pub left : IsLeft s.filter.dialect s.prefixes t.at_front unended t.unended
+  pub left : IsLeft s.filter.grammar s.prefixes t.at_front unended t.unended
 
 -- all lines of a text were taken, and the rest of the answer was appended. Then no byte of a text
 -- was taken and nothing is held; the counts stay

@@ -3,23 +3,23 @@ use Rattle.std.specs.Prelude.{◌≡◌, ◌≢◌, ◌⊎◌, ◌<◌, ◌*◌,
 use Rattle.std.specs.Prelude.{IsTrue, length, take}
 use Rattle.std.specs.Io.BufRead.{strip_last}
 use Rattle.semver_parser.specs.Texts.{Text}
-use Rattle.semver_parser.specs.declared.version.Dialect.{Dialect}
+use Rattle.semver_parser.specs.declared.version.Grammar.{Grammar}
 use Rattle.version_fronts.specs.Fronts.{IsFrontIn}
 use Rattle.release_filter.specs.LineTexts.{after_mark}
 use Rattle.release_filter.specs.Verdicts.{asked}
 
 -- the text is the prefix and then begins a version of the dialect; or the prefix begins with it,
 -- and goes on
-abbrev pub BeginsAfter : Dialect → Text → Text → Type 0
-BeginsAfter dialect prefix front =
-    ((text : Text) × (front ≡ prefix ++ text) × IsFrontIn dialect text)
+abbrev pub BeginsAfter : Grammar → Text → Text → Type 0
+BeginsAfter grammar prefix front =
+    ((text : Text) × (front ≡ prefix ++ text) × IsFrontIn grammar text)
     ⊎ ((next : ℕ) × (more : Text) × (prefix ≡ front ++ next ∷ more))
 
 -- so it is with one of the prefixes
-abbrev pub BeginsAfterOne : Dialect → List Text → Text → Type 0
-BeginsAfterOne dialect [] front = ⊥
-BeginsAfterOne dialect (prefix ∷ prefixes) front =
-    BeginsAfter dialect prefix front ⊎ BeginsAfterOne dialect prefixes front
+abbrev pub BeginsAfterOne : Grammar → List Text → Text → Type 0
+BeginsAfterOne grammar [] front = ⊥
+BeginsAfterOne grammar (prefix ∷ prefixes) front =
+    BeginsAfter grammar prefix front ⊎ BeginsAfterOne grammar prefixes front
 
 -- at so many bytes of a line it is looked whether it is skipped: 4,096, twice as many, and so on
 abbrev pub IsLookedAt : ℕ → Type 0
@@ -29,10 +29,10 @@ IsLookedAt size = (k : ℕ) × (size ≡ 4096 * 2 ^ k)
 abbrev pub shown : Bool → Text → Text
 shown at_front front = strip_last 13 (after_mark at_front front)
 
-module _ (dialect : Dialect) (prefixes : List Text) (at_front : Bool) where
+module _ (grammar : Grammar) (prefixes : List Text) (at_front : Bool) where
   -- a line that begins with these bytes may have a version, as far as shows
   abbrev pub MayHaveVersion : Text → Type 0
-  MayHaveVersion front = BeginsAfterOne dialect (asked prefixes) (shown at_front front)
+  MayHaveVersion front = BeginsAfterOne grammar (asked prefixes) (shown at_front front)
 
   -- a line may have one wherever it is looked at before so many bytes
   abbrev pub MayUpTo : Text → ℕ → Type 0

@@ -13,7 +13,7 @@ ghost use Rattle.release_filter.specs.Filters.{passes};
 ghost use Rattle.release_filter.specs.Extremes.{HasNone, IsGreatest, IsOneThat};
 
 use crate::precedence;
-use semver_parser::version::{Dialect, Version};
+use semver_parser::version::{Grammar, Version};
 use semver_parser::{Compat, RangeError, laws};
 use std::alloc::Global;
 use std::marker::Model;
@@ -30,7 +30,7 @@ pub struct Filter {
     /// The rule.
     pre_releases: PreReleases,
     /// The dialect of the version texts.
-    dialect: Dialect,
+    grammar: Grammar,
 }
 
 impl Model for Filter {
@@ -42,7 +42,7 @@ impl Model for Filter {
     ghost view = { λ f. record {
       set = f.versions;
       pre_releases = f.pre_releases;
-      dialect = f.dialect;
+      grammar = f.grammar;
     } };
 
     ghost invariant = { λ f. HeedsRule f.pre_releases f.versions };
@@ -70,39 +70,39 @@ impl Filter {
         ensures meaning { IfOk result (λ filter. (tree : SetTree) (v : VersionValue)
             → Spells tree range.now → passes filter v ≡ meant_with pre_releases compat tree v) }
         ensures rule { IfOk result (λ filter. filter.pre_releases ≡ pre_releases) }
-        ensures dialect { IfOk result (λ filter. filter.dialect ≡ Dialect.Crate) }
+        ensures grammar { IfOk result (λ filter. filter.grammar ≡ Grammar.Crate) }
     {
         let versions = VersionSet::of_text(alloc, range, compat, pre_releases)?;
         Ok(Filter {
             versions,
             pre_releases,
-            dialect: Dialect::Crate,
+            grammar: Grammar::Crate,
         })
     }
 
     // Answer: equation.
     /// A filter that the versions of a set pass, as the set that `tool_ranges::meaning::read`
     /// returns, and that reads version texts by a dialect. It does not allocate.
-    pub fn of_versions(versions: VersionSet, dialect: Dialect) -> Filter
+    pub fn of_versions(versions: VersionSet, grammar: Grammar) -> Filter
         ensures set { result.set ≡ versions }
         // Which pre-releases count, the set says by itself.
         ensures rule { result.pre_releases ≡ PreReleases.Included }
-        ensures dialect { result.dialect ≡ dialect }
+        ensures grammar { result.grammar ≡ grammar }
     {
         Filter {
             versions,
             pre_releases: PreReleases::Included,
-            dialect,
+            grammar,
         }
     }
 
     // Answer: equation.
     /// Returns the dialect by which it reads version texts: that of [`Filter::new`] is the crate's.
     #[inline(always)]
-    pub fn dialect(&self) -> Dialect
-        ensures { result ≡ self.now.dialect }
+    pub fn grammar(&self) -> Grammar
+        ensures { result ≡ self.now.grammar }
     {
-        self.dialect
+        self.grammar
     }
 
     /// A law: the set of a filter is in the normal form. It does nothing.

@@ -37,23 +37,23 @@ impl Filter {
     /// UTF-8. It does not allocate.
     #[inline(always)]
     pub fn judge<'t>(&self, text: &'t [u8]) -> Judged<'t>
-        ensures judged { IsJudged self.now.dialect (passes self.now) text.now result }
+        ensures judged { IsJudged self.now.grammar (passes self.now) text.now result }
         // A pre-release doesn't pass where only releases do.
-        ensures releases { (v : VersionValue) → SpellsIn self.now.dialect v text.now
+        ensures releases { (v : VersionValue) → SpellsIn self.now.grammar v text.now
             → ¬ (v.plain.pre ≡ []) → self.now.pre_releases ≡ PreReleases.Excluded
             → result ≡ Judged.DoesNotPass }
     {
-        self.judge_outline(version::outline_in(text, self.dialect()))
+        self.judge_outline(version::outline_in(text, self.grammar()))
     }
 
     /// What the filter says of a text that has this outline, or that spells no version.
     #[inline(always)]
     pub(crate) fn judge_outline<'t>(&self, outline: Option<Outline<'t>>) -> Judged<'t>
-        ensures judged { (text : Text) → IsOutlined self.now.dialect text outline.entry
-            → IsJudged self.now.dialect (passes self.now) text result }
+        ensures judged { (text : Text) → IsOutlined self.now.grammar text outline.entry
+            → IsJudged self.now.grammar (passes self.now) text result }
         ensures none { outline.entry ≡ None → result ≡ Judged.NoVersion }
         ensures releases { (text : Text) (v : VersionValue)
-            → IsOutlined self.now.dialect text outline.entry → SpellsIn self.now.dialect v text
+            → IsOutlined self.now.grammar text outline.entry → SpellsIn self.now.grammar v text
             → ¬ (v.plain.pre ≡ []) → self.now.pre_releases ≡ PreReleases.Excluded
             → result ≡ Judged.DoesNotPass }
     {
@@ -81,19 +81,19 @@ impl Filter {
         // passes.
         ensures exact { (v : VersionValue) → IfOk result (λ found.
             (option_map version_value found ≡ Some v)
-            ↔ (SpellsIn self.now.dialect v text.now × IsTrue (passes self.now v))) }
+            ↔ (SpellsIn self.now.grammar v text.now × IsTrue (passes self.now v))) }
         // Unless memory ran out, no version is answered exactly where the text spells none that
         // passes.
         ensures none { IfOk result (λ found. (found ≡ None)
-            ↔ ((v : VersionValue) → SpellsIn self.now.dialect v text.now
+            ↔ ((v : VersionValue) → SpellsIn self.now.grammar v text.now
             → passes self.now v ≡ false)) }
         // Memory runs out only where the text spells a version that passes, and that has a
         // pre-release or a build.
         ensures out_of_memory { IfErr result (λ _. (v : VersionValue)
-            × SpellsIn self.now.dialect v text.now × IsTrue (passes self.now v)
+            × SpellsIn self.now.grammar v text.now × IsTrue (passes self.now v)
             × ((0 < length v.plain.pre) ⊎ (0 < length v.build))) }
         // A pre-release does not allocate where only releases pass.
-        ensures releases { (v : VersionValue) → SpellsIn self.now.dialect v text.now
+        ensures releases { (v : VersionValue) → SpellsIn self.now.grammar v text.now
             → ¬ (v.plain.pre ≡ []) → self.now.pre_releases ≡ PreReleases.Excluded
             → result ≡ Result.Ok None }
     {

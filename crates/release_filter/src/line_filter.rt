@@ -11,7 +11,7 @@ use crate::filter::Filter;
 use crate::judging::Judged;
 use crate::line_texts::{text_after, text_of, whole_line};
 use semver_parser::laws;
-use semver_parser::version::{Dialect, Outline, outline_in, outline_of_numbers};
+use semver_parser::version::{Grammar, Outline, outline_in, outline_of_numbers};
 use semver_texts::decimals::numbers;
 
 /// Which lines are kept.
@@ -29,12 +29,12 @@ impl LineFilter {
         ensures none { result ≡ None → All (λ byte. byte ≢ 10) bytes.now }
         ensures front { IfSome result (λ found. StartsWith bytes.now found.0.now) }
         ensures whole { IfSome result (λ found. IsWholeLine found.0.now) }
-        ensures judged { IfSome result (λ found. JudgesBy (HasVersion self.now.filter.dialect
+        ensures judged { IfSome result (λ found. JudgesBy (HasVersion self.now.filter.grammar
             (asked (texts self.now.prefixes.items)) found.0.now) self.now.filter found.1) }
     {
         laws::one_outlined_version();
         if self.prefixes.is_empty() {
-            let (line, outline) = first_outlined(bytes, self.filter.dialect())?;
+            let (line, outline) = first_outlined(bytes, self.filter.grammar())?;
             return Some((line, self.filter.judge_outline(outline)));
         }
         let line = whole_line(bytes)?;
@@ -44,7 +44,7 @@ impl LineFilter {
     /// What the filter says of a line, after the first prefix after which it spells a version.
     #[inline(always)]
     pub(crate) fn judge_line<'l>(&self, line: &'l [u8]) -> Judged<'l>
-        ensures { JudgesBy (HasVersion self.now.filter.dialect
+        ensures { JudgesBy (HasVersion self.now.filter.grammar
             (asked (texts self.now.prefixes.items)) line.now) self.now.filter result }
     {
         match self.prefixes.as_slice() {
@@ -56,7 +56,7 @@ impl LineFilter {
 
 /// What a filter says of a line, after the first of the prefixes after which it spells a version.
 fn judge_after_each<'l>(filter: &Filter, prefixes: &[String], line: &'l [u8]) -> Judged<'l>
-    ensures { JudgesBy (HasVersion filter.now.dialect (texts prefixes.now) line.now) filter.now
+    ensures { JudgesBy (HasVersion filter.now.grammar (texts prefixes.now) line.now) filter.now
         result }
 {
     match prefixes {
@@ -71,7 +71,7 @@ fn judge_after_each<'l>(filter: &Filter, prefixes: &[String], line: &'l [u8]) ->
 /// What a filter says of a line after a prefix.
 #[inline(always)]
 fn judge_after<'l>(filter: &Filter, prefix: &str, line: &'l [u8]) -> Judged<'l>
-    ensures { JudgesBy (SpellsAfter filter.now.dialect prefix.now line.now) filter.now result }
+    ensures { JudgesBy (SpellsAfter filter.now.grammar prefix.now line.now) filter.now result }
 {
     laws::one_outlined_version();
     match text_after(prefix, line) {
@@ -83,21 +83,21 @@ fn judge_after<'l>(filter: &Filter, prefix: &str, line: &'l [u8]) -> Judged<'l>
 /// The first line with its end, if some line has one, and the outline of the version that it
 /// spells. The numbers at its front are read first, and the end of the line is sought after them.
 #[inline(always)]
-fn first_outlined(bytes: &[u8], dialect: Dialect) -> Option<(&[u8], Option<Outline<'_>>)>
+fn first_outlined(bytes: &[u8], grammar: Grammar) -> Option<(&[u8], Option<Outline<'_>>)>
     ensures none { result ≡ None → All (λ x. x ≢ 10) bytes.now }
     ensures front { IfSome result (λ found. StartsWith bytes.now found.0.now) }
     ensures whole { IfSome result (λ found. IsWholeLine found.0.now) }
     ensures outlined { IfSome result (λ found.
-        IsOutlined dialect (line_text found.0.now) found.1) }
+        IsOutlined grammar (line_text found.0.now) found.1) }
 {
     if let Some((major, minor, patch, rest)) = numbers(bytes) {
         let after = whole_line(rest)?;
         let numbers_end = bytes.len() - rest.len();
         let line = &bytes[..numbers_end + after.len()];
         let text = text_of(after);
-        let outline = outline_of_numbers(major, minor, patch, numbers_end, text, dialect);
+        let outline = outline_of_numbers(major, minor, patch, numbers_end, text, grammar);
         return Some((line, outline));
     }
     let line = whole_line(bytes)?;
-    Some((line, outline_in(text_of(line), dialect)))
+    Some((line, outline_in(text_of(line), grammar)))
 }

@@ -93,7 +93,7 @@ impl Model for Lines {
       counts = counts_value l.counts;
     } };
 
-    ghost invariant = { λ l. IsHeld l.chosen.filter.dialect (texts l.chosen.prefixes.items)
+    ghost invariant = { λ l. IsHeld l.chosen.filter.grammar (texts l.chosen.prefixes.items)
         l.at_front l.unended.items l.is_skipped };
 }
 

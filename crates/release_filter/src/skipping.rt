@@ -9,7 +9,7 @@ ghost use Rattle.release_filter.specs.Verdicts.{asked};
 
 use crate::line_filter::LineFilter;
 use crate::line_texts::{after_mark, without_last};
-use semver_parser::version::Dialect;
+use semver_parser::version::Grammar;
 use version_fronts::scanner::Scanner;
 
 /// A line of so many bytes is checked first: it is skipped if no version can follow.
@@ -19,11 +19,11 @@ impl LineFilter {
     /// How many bytes of a line that has not ended show that it has no version: the fewest that do,
     /// of 4,096, twice as many, and so on. Those below `seen` were checked before.
     pub(crate) fn shown_end(&self, at_front: bool, seen: usize, unended: &[u8]) -> Option<usize>
-        requires { MayUpTo self.now.filter.dialect (texts self.now.prefixes.items) at_front
+        requires { MayUpTo self.now.filter.grammar (texts self.now.prefixes.items) at_front
             unended.now seen }
-        ensures none { result ≡ None → MayUpTo self.now.filter.dialect
+        ensures none { result ≡ None → MayUpTo self.now.filter.grammar
             (texts self.now.prefixes.items) at_front unended.now (length unended.now) }
-        ensures some { IfSome result (λ size. ShowsNone self.now.filter.dialect
+        ensures some { IfSome result (λ size. ShowsNone self.now.filter.grammar
             (texts self.now.prefixes.items) at_front (take size unended.now)) }
     {
         let mut size = FIRST_LOOK;
@@ -38,7 +38,7 @@ impl LineFilter {
 
     /// Whether some line that begins with these bytes has a version, as far as they show.
     fn may_have_version(&self, at_front: bool, front: &[u8]) -> bool
-        ensures { IsTrue result ↔ MayHaveVersion self.now.filter.dialect
+        ensures { IsTrue result ↔ MayHaveVersion self.now.filter.grammar
             (texts self.now.prefixes.items) at_front front.now }
     {
         self.begins_line(without_last(after_mark(at_front, front), b'\r'))
@@ -46,45 +46,45 @@ impl LineFilter {
 
     /// Whether these bytes begin the text of a line with a version.
     fn begins_line(&self, front: &[u8]) -> bool
-        ensures { IsTrue result ↔ BeginsAfterOne self.now.filter.dialect
+        ensures { IsTrue result ↔ BeginsAfterOne self.now.filter.grammar
             (asked (texts self.now.prefixes.items)) front.now }
     {
         match self.prefixes.as_slice() {
-            [] => begins_after("", front, self.filter.dialect()),
-            prefixes => begins_after_one(prefixes, front, self.filter.dialect()),
+            [] => begins_after("", front, self.filter.grammar()),
+            prefixes => begins_after_one(prefixes, front, self.filter.grammar()),
         }
     }
 }
 
 /// Whether the bytes begin a prefix and a version after it, for one of some prefixes.
-fn begins_after_one(prefixes: &[String], front: &[u8], dialect: Dialect) -> bool
-    ensures { IsTrue result ↔ BeginsAfterOne dialect (texts prefixes.now) front.now }
+fn begins_after_one(prefixes: &[String], front: &[u8], grammar: Grammar) -> bool
+    ensures { IsTrue result ↔ BeginsAfterOne grammar (texts prefixes.now) front.now }
 {
     match prefixes {
         [] => false,
         [prefix, prefixes @ ..] => {
-            begins_after(prefix.as_str(), front, dialect)
-                || begins_after_one(prefixes, front, dialect)
+            begins_after(prefix.as_str(), front, grammar)
+                || begins_after_one(prefixes, front, grammar)
         }
     }
 }
 
 /// Whether the bytes begin the prefix and a version after it.
-fn begins_after(prefix: &str, front: &[u8], dialect: Dialect) -> bool
-    ensures { IsTrue result ↔ BeginsAfter dialect prefix.now front.now }
+fn begins_after(prefix: &str, front: &[u8], grammar: Grammar) -> bool
+    ensures { IsTrue result ↔ BeginsAfter grammar prefix.now front.now }
 {
     let prefix = prefix.as_bytes();
     match front.strip_prefix(prefix) {
-        Some(text) => is_front(text, dialect),
+        Some(text) => is_front(text, grammar),
         None => prefix.strip_prefix(front).is_some(),
     }
 }
 
 /// Whether some version begins so.
-fn is_front(text: &[u8], dialect: Dialect) -> bool
-    ensures { IsTrue result ↔ IsFrontIn dialect text.now }
+fn is_front(text: &[u8], grammar: Grammar) -> bool
+    ensures { IsTrue result ↔ IsFrontIn grammar text.now }
 {
-    let mut scanner = Scanner::new(dialect);
+    let mut scanner = Scanner::new(grammar);
     for at in 0..text.len() {
         scanner.push(text[at]);
     }

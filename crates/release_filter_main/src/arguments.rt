@@ -131,7 +131,7 @@ pub fn requested(rt: &(impl Env + AllocGlobal)) -> Result<Request, ArgumentError
     };
     let _program = arguments.next();
     let mut range = None;
-    let mut reading = MeaningOptions::new();
+    let mut dialect = MeaningOptions::new();
     let mut options = Options::new(rt.alloc());
     for argument in arguments {
         if options.wants_prefix {
@@ -153,13 +153,13 @@ pub fn requested(rt: &(impl Env + AllocGlobal)) -> Result<Request, ArgumentError
             _ => range = Some(argument),
         }
     }
-    request_of(range, reading, options)
+    request_of(range, dialect, options)
 }
 
 /// What arguments ask for that are taken one by one.
 fn request_of(
     range: Option<String>,
-    reading: MeaningOptions,
+    dialect: MeaningOptions,
     options: Options,
 ) -> Result<Request, ArgumentError> {
     if options.wants_prefix {

@@ -13,7 +13,7 @@ use semver_parser::writing::write_whole;
 use std::io::{self, ErrorKind, Read, Write};
 use std::process::ExitCode;
 use tool_ranges::meaning::{self, Meaning};
-use tool_ranges::reading::Reading;
+use tool_ranges::dialect::Dialect;
 
 /// The program.
 const PROGRAM: Program = Program {
@@ -82,7 +82,7 @@ enum Error {
     Range(RangeError),
     /// The lines were not taken to the end.
     Lines(LinesError),
-    /// Reading failed.
+    /// Dialect failed.
     Read(io::Error),
     /// Writing failed.
     Write(io::Error),
@@ -108,7 +108,7 @@ fn run(rt: &HostRuntime, filtering: Filtering) -> ExitCode {
         Ok(true) => ExitCode::SUCCESS,
         Ok(false) => ExitCode::from(1),
         Err(Error::Write(error)) if error.kind() == ErrorKind::BrokenPipe => ExitCode::SUCCESS,
-        Err(error) => failed(rt, &error, meaning.reading(), range.as_str()),
+        Err(error) => failed(rt, &error, meaning.dialect(), range.as_str()),
     }
 }
 
@@ -121,7 +121,7 @@ fn filtered(
     options: Options,
 ) -> Result<bool, Error> {
     let versions = meaning::read(rt.alloc(), meaning, range).map_err(Error::Range)?;
-    let filter = Filter::of_versions(versions, meaning.reading().dialect());
+    let filter = Filter::of_versions(versions, meaning.dialect().grammar());
     let mut lines = options.lines(rt.alloc(), filter);
     let has_written = copy_lines(rt, &mut lines)?;
     if !has_written {
@@ -203,9 +203,9 @@ fn shown(front: &[u8]) -> (&[u8], &'static str) {
 }
 
 /// Reports on standard error what the error is, and returns status 2.
-fn failed(rt: &HostRuntime, error: &Error, reading: Reading, range: &str) -> ExitCode {
+fn failed(rt: &HostRuntime, error: &Error, dialect: Dialect, range: &str) -> ExitCode {
     let _ = match error {
-        Error::Range(error) => return PROGRAM.refuse_range(rt, reading, error, range),
+        Error::Range(error) => return PROGRAM.refuse_range(rt, dialect, error, range),
         Error::Write(error) => return PROGRAM.cannot_write(rt, error),
         Error::Lines(error) => eprintln!(rt; "release-filter: {error}"),
         Error::Read(error) => eprintln!(rt; "release-filter: cannot read input: {error}"),

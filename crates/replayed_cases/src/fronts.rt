@@ -1,13 +1,13 @@
 //! Texts that are no versions: where and why.
 
-use semver_parser::version::Dialect;
+use semver_parser::version::Grammar;
 use std::io;
 use std::io::Write;
 use version_fronts::reasons::{Reason, refused};
 
 /// Writes where and why the text is no version, or that it is one.
-pub fn write_refused<W: Write>(text: &str, dialect: Dialect, out: &mut W) -> io::Result<()> {
-    match refused(text.as_bytes(), dialect) {
+pub fn write_refused<W: Write>(text: &str, grammar: Grammar, out: &mut W) -> io::Result<()> {
+    match refused(text.as_bytes(), grammar) {
         None => out.write_all(b"a version"),
         Some(refusal) => {
             write!(out, "{}: ", refusal.place)?;

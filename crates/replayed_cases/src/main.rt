@@ -24,13 +24,13 @@ mod versions;
 use checksum::Checksum;
 use filtering::write_greatest as greatest;
 use release_filter::PreReleases;
-use semver_parser::version::Dialect;
+use semver_parser::version::Grammar;
 use semver_parser::{Compat, version};
 use std::alloc::Global;
 use std::io;
 use std::io::{BufRead, BufReader, BufWriter, Write};
 use tool_ranges::meaning::Meaning;
-use tool_ranges::reading::Reading;
+use tool_ranges::dialect::Dialect;
 
 fn main(rt: HostRuntime) -> io::Result<()> {
     let input = BufReader::new(rt.alloc(), rt.reader())?;
@@ -78,11 +78,11 @@ fn answer<W: Write>(
         "parser" => parsing::write_steps(alloc, text, steps, out),
         "version" => versions::write_version(&version::parse(alloc, text), out),
         "read" => versions::write_read(alloc, text, out),
-        "version-as-cargo" => versions::write_read_in(alloc, text, Dialect::Cargo, out),
-        "version-as-npm" => versions::write_read_in(alloc, text, Dialect::Npm, out),
-        "refused-as-crate" => fronts::write_refused(text, Dialect::Crate, out),
-        "refused-as-cargo" => fronts::write_refused(text, Dialect::Cargo, out),
-        "refused-as-npm" => fronts::write_refused(text, Dialect::Npm, out),
+        "version-as-cargo" => versions::write_read_in(alloc, text, Grammar::Cargo, out),
+        "version-as-npm" => versions::write_read_in(alloc, text, Grammar::Npm, out),
+        "refused-as-crate" => fronts::write_refused(text, Grammar::Crate, out),
+        "refused-as-cargo" => fronts::write_refused(text, Grammar::Cargo, out),
+        "refused-as-npm" => fronts::write_refused(text, Grammar::Npm, out),
         "outline" => versions::write_outline(text, out),
         "version-text" => versions::write_printed(alloc, text, out),
         "error-text" => versions::write_error_text(alloc, text, out),
@@ -96,13 +96,13 @@ fn answer<W: Write>(
         "greatest-release" => greatest(alloc, text, PreReleases::Excluded, steps, out),
         "greatest-stated" => greatest(alloc, text, PreReleases::Stated, steps, out),
         "greatest-of-all" => greatest(alloc, text, PreReleases::Included, steps, out),
-        "refused-range-as-cargo" => places::write_refused(alloc, text, Reading::Cargo, out),
-        "refused-range-as-npm" => places::write_refused(alloc, text, Reading::Npm, out),
+        "refused-range-as-cargo" => places::write_refused(alloc, text, Dialect::Cargo, out),
+        "refused-range-as-npm" => places::write_refused(alloc, text, Dialect::Npm, out),
         "refused-range-as-crate-cargo" => {
-            places::write_refused(alloc, text, Reading::Crate(Compat::Cargo), out)
+            places::write_refused(alloc, text, Dialect::Crate(Compat::Cargo), out)
         }
         "refused-range-as-crate-npm" => {
-            places::write_refused(alloc, text, Reading::Crate(Compat::Npm), out)
+            places::write_refused(alloc, text, Dialect::Crate(Compat::Npm), out)
         }
         "rewritten-as-cargo" => tools::write_rewritten(alloc, Meaning::Cargo, text, out),
         "rewritten-as-npm" => tools::write_rewritten(alloc, Meaning::Npm, text, out),

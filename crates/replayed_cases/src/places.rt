@@ -4,7 +4,7 @@ use std::alloc::Global;
 use std::io;
 use std::io::Write;
 use tool_ranges::hints::Hint;
-use tool_ranges::reading::Reading;
+use tool_ranges::dialect::Dialect;
 use tool_ranges::refusals::refused;
 
 /// Writes where and why the text gives no range, and the hint, if there is one; or that it gives
@@ -12,10 +12,10 @@ use tool_ranges::refusals::refused;
 pub fn write_refused<W: Write>(
     alloc: Global,
     text: &str,
-    reading: Reading,
+    dialect: Dialect,
     out: &mut W,
 ) -> io::Result<()> {
-    let Some(refusal) = refused(alloc, reading, text)? else {
+    let Some(refusal) = refused(alloc, dialect, text)? else {
         return out.write_all(b"a range");
     };
     write!(out, "{}: {}", refusal.place, refusal.error)?;

@@ -9,13 +9,13 @@ use std::io::Write;
 use version_sets::{FlatSet, PreReleases, VersionSet};
 
 /// A rule for pre-releases, and a mode.
-pub type Reading = (PreReleases, Compat);
+pub type Dialect = (PreReleases, Compat);
 
 /// Writes the versions of a list, separated by blanks, that are in the set of a text, then its
 /// least version and its least release, or the error of the text.
 pub fn write_set<W: Write>(
     alloc: Global,
-    reading: Reading,
+    dialect: Dialect,
     text: &str,
     list: &str,
     out: &mut W,
@@ -23,7 +23,7 @@ pub fn write_set<W: Write>(
     let Some(versions) = versions_of(alloc, list)? else {
         return write!(out, "not all are versions");
     };
-    let set = match set_of(alloc, reading, text) {
+    let set = match set_of(alloc, dialect, text) {
         Ok(set) => set,
         Err(error) => return write!(out, "{error}"),
     };
@@ -71,17 +71,17 @@ fn is_same_flat(alloc: Global, set: &VersionSet, versions: &[Version]) -> io::Re
 /// it is in.
 pub fn write_pair<W: Write>(
     alloc: Global,
-    reading: Reading,
+    dialect: Dialect,
     text: &str,
     steps: &str,
     out: &mut W,
 ) -> io::Result<()> {
     let (other, list) = steps.split_once(';').unwrap_or((steps, ""));
-    let first = match set_of(alloc, reading, text) {
+    let first = match set_of(alloc, dialect, text) {
         Ok(set) => set,
         Err(error) => return write!(out, "{error}"),
     };
-    let second = match set_of(alloc, reading, other) {
+    let second = match set_of(alloc, dialect, other) {
         Ok(set) => set,
         Err(error) => return write!(out, "{error}"),
     };
@@ -100,11 +100,11 @@ pub fn write_pair<W: Write>(
 /// Writes the releases and the pre-releases that a text means as ranges, or the error of the text.
 pub fn write_whole<W: Write>(
     alloc: Global,
-    reading: Reading,
+    dialect: Dialect,
     text: &str,
     out: &mut W,
 ) -> io::Result<()> {
-    match set_of(alloc, reading, text) {
+    match set_of(alloc, dialect, text) {
         Ok(set) => write_ranges(alloc, &set, out),
         Err(error) => write!(out, "{error}"),
     }
@@ -114,16 +114,16 @@ pub fn write_whole<W: Write>(
 /// of a text.
 pub fn write_whole_pair<W: Write>(
     alloc: Global,
-    reading: Reading,
+    dialect: Dialect,
     text: &str,
     other: &str,
     out: &mut W,
 ) -> io::Result<()> {
-    let first = match set_of(alloc, reading, text) {
+    let first = match set_of(alloc, dialect, text) {
         Ok(set) => set,
         Err(error) => return write!(out, "{error}"),
     };
-    let second = match set_of(alloc, reading, other) {
+    let second = match set_of(alloc, dialect, other) {
         Ok(set) => set,
         Err(error) => return write!(out, "{error}"),
     };
@@ -216,7 +216,7 @@ fn write_least<W: Write>(alloc: Global, set: &VersionSet, out: &mut W) -> io::Re
 }
 
 /// The set of a text.
-fn set_of(alloc: Global, reading: Reading, text: &str) -> Result<VersionSet, RangeError> {
-    let (pre_releases, compat) = reading;
+fn set_of(alloc: Global, dialect: Dialect, text: &str) -> Result<VersionSet, RangeError> {
+    let (pre_releases, compat) = dialect;
     VersionSet::of_text(alloc, text, compat, pre_releases)
 }

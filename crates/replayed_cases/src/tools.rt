@@ -6,7 +6,7 @@ use std::alloc::Global;
 use std::io;
 use std::io::Write;
 use tool_ranges::meaning::{self, Meaning};
-use tool_ranges::reading;
+use tool_ranges::dialect;
 
 /// Writes what a tool's reading rewrites a text to, or the word of its error.
 pub fn write_rewritten<W: Write>(
@@ -15,7 +15,7 @@ pub fn write_rewritten<W: Write>(
     text: &str,
     out: &mut W,
 ) -> io::Result<()> {
-    match reading::rewrite(alloc, tool.reading(), text) {
+    match dialect::rewrite(alloc, tool.dialect(), text) {
         Ok(set) => write!(out, "{set}"),
         Err(error) => write_error(&error, out),
     }

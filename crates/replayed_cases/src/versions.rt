@@ -3,7 +3,7 @@
 use super::parsing;
 use semver_parser::parser::{Error, Parser};
 use semver_parser::version;
-use semver_parser::version::{Dialect, Identifier, Version};
+use semver_parser::version::{Grammar, Identifier, Version};
 use std::alloc::Global;
 use std::io;
 use std::io::Write;
@@ -29,10 +29,10 @@ pub fn write_read<W: Write>(alloc: Global, text: &str, out: &mut W) -> io::Resul
 pub fn write_read_in<W: Write>(
     alloc: Global,
     text: &str,
-    dialect: Dialect,
+    grammar: Grammar,
     out: &mut W,
 ) -> io::Result<()> {
-    let Some(outline) = version::outline_in(text.as_bytes(), dialect) else {
+    let Some(outline) = version::outline_in(text.as_bytes(), grammar) else {
         return write!(out, "none");
     };
     match outline.version(alloc) {

@@ -5,7 +5,7 @@ use Rattle.std.specs.Fmt.{digits}
 use Rattle.std.specs.Ordering.{is_lt}
 use Rattle.semver_ranges.specs.declared.range.Compat.{Compat}
 use Rattle.semver_ranges.specs.declared.range.Compat.TheVariants.{Cargo, Npm}
-use Rattle.semver_texts.specs.declared.dialect.Dialect.TheVariants.{Crate}
+use Rattle.semver_texts.specs.declared.grammar.Grammar.TheVariants.{Crate}
 use Rattle.semver_ranges.specs.RangeTexts.{IsTooLarge}
 use Rattle.semver_ranges.specs.RangeTree.{PartialTree, one, three, Form, bare, equal, at_most}
 use Rattle.semver_ranges.specs.RangeTree.{greater, tilde, caret, empty, hyphen, simples, SetTree}

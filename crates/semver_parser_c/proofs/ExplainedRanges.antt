@@ -1,18 +1,18 @@
 -- Why a text gives no range, by the numbers of the dialect and of the error.
 use Rattle.std.proofs.Common.{◌≡◌, ℤ, ◌∷◌, arith, inr, subst}
 use Rattle.semver_parser.specs.Texts.{Text}
-use Rattle.tool_ranges.specs.declared.reading.Reading.{Reading}
+use Rattle.tool_ranges.specs.declared.dialect.Dialect.{Dialect}
 use Rattle.semver_parser_c.specs.Numbers.{ok, no_such_reading}
 use Rattle.semver_parser_c.specs.Errors.{IsOneOf, range_errors}
 use Rattle.semver_parser_c.specs.RangeRefusals.{ExplainsBy, ExplainsRange}
-use Rattle.semver_parser_c.specs.Steps.TextErrors.{IsReadingOf}
+use Rattle.semver_parser_c.specs.Steps.TextErrors.{IsDialectOf}
 
 other_number : (n : ℤ) → IsOneOf (ok ∷ range_errors) n → n ≡ no_such_reading → ⊥
 other_number n one is = grind arith
 
-pub explains : (r : Reading) (reading : ℤ) (text : Text) (n : ℤ) → IsReadingOf r reading → IsOneOf (ok ∷ range_errors) n
-    → ExplainsBy r text n → ExplainsRange reading text n
-explains r reading text n only one by = record {
+pub explains : (r : Dialect) (dialect : ℤ) (text : Text) (n : ℤ) → IsDialectOf r dialect → IsOneOf (ok ∷ range_errors) n
+    → ExplainsBy r text n → ExplainsRange dialect text n
+explains r dialect text n only one by = record {
   named = inr (r, only.named);
   no_such_reading = (λ is. absurd (other_number n one is), λ none. absurd (none (r, only.named)));
   range = λ s is. subst (λ x. ExplainsBy x text n) (only.only s is) by;

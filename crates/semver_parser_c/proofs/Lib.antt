@@ -1,7 +1,7 @@
 mod ListedComparators
 mod Steps
 mod TextErrors
-mod Dialects
+mod Grammars
 mod LeastVersions
 mod ComparedVersions
 mod OneAnswer

@@ -7,17 +7,17 @@ use Rattle.std.specs.Ordering.{int_eq}
 use Rattle.std.proofs.lemmas.Bool.Decides.{Decides-int_eq, Decides-or, not_from_Decides}
 use Rattle.semver_parser.specs.Texts.{Text}
 use Rattle.semver_parser.specs.ToolVersions.{IsVersionTextIn}
-use Rattle.semver_parser.specs.declared.version.Dialect.{Dialect}
-use Rattle.semver_parser.specs.declared.version.Dialect.TheVariants as dialect
+use Rattle.semver_parser.specs.declared.version.Grammar.{Grammar}
+use Rattle.semver_parser.specs.declared.version.Grammar.TheVariants as grammar
 use Rattle.semver_parser.proofs.WholeText.{one_outcome}
-use Rattle.tool_ranges.specs.declared.reading.Reading.{Reading}
-use Rattle.tool_ranges.specs.Meanings.{reading_of}
-use Rattle.tool_ranges.specs.Readings.{dialect_of, fits_as}
-use Rattle.semver_parser_c.specs.Readings.{IsDialect, IsReading}
+use Rattle.tool_ranges.specs.declared.dialect.Dialect.{Dialect}
+use Rattle.tool_ranges.specs.Meanings.{dialect_of}
+use Rattle.tool_ranges.specs.Dialects.{grammar_of, fits_as}
+use Rattle.semver_parser_c.specs.Dialects.{IsGrammar, IsDialect}
 use Rattle.semver_parser_c.specs.Numbers as number
 use Rattle.semver_parser_c.specs.Errors.{IsAccepted, IsOneOf, RangeNumbers, RefusesBy, RefusesRange, RefusesText}
 use Rattle.semver_parser_c.specs.Errors.{HasOutcomeIn, RefusedIn, new_range_numbers, outcome_number, range_numbers}
-use Rattle.semver_parser_c.proofs.Dialects.{refused_outcome}
+use Rattle.semver_parser_c.proofs.Grammars.{refused_outcome}
 use Rattle.semver_parser_c.specs.OneAnswer.{AreOne, IsMemory, memory_numbers}
 
 -- tests of lists of numbers, which compute where a law names the lists: one has the number, one has each of another, and none
@@ -96,20 +96,20 @@ uncast n m e e' one = rw (e, e') one
 -- ---- version texts
 
 -- a reading has that number, or none, and then both answers say so
-pub by_dialect : {reading : ℤ} {beside : List ℤ} {n m : ℤ} {IsSame : Type 0} → (n ≡ number.no_such_reading) ⊎ IsReading reading
-    → (m ≡ number.no_such_reading) ↔ ¬ (IsReading reading) → (n ≡ number.no_such_reading) ↔ ¬ (IsReading reading)
-    → (n ≡ number.no_such_reading → m ≡ number.no_such_reading → IsSame) → ((d : Dialect) → IsDialect d reading
+pub by_dialect : {dialect : ℤ} {beside : List ℤ} {n m : ℤ} {IsSame : Type 0} → (n ≡ number.no_such_reading) ⊎ IsDialect dialect
+    → (m ≡ number.no_such_reading) ↔ ¬ (IsDialect dialect) → (n ≡ number.no_such_reading) ↔ ¬ (IsDialect dialect)
+    → (n ≡ number.no_such_reading → m ≡ number.no_such_reading → IsSame) → ((d : Grammar) → IsGrammar d dialect
     → AreOne beside n m IsSame) → AreOne beside n m IsSame
 by_dialect (inl e) q p wrong by =
     let e' = q.1 (p.0 e) in
     record { same = λ _ _. (e ∙ sym e', wrong e e'); beside_memory = λ memory. grind arith }
-by_dialect (inr (r, is)) q p wrong by = by (dialect_of r) (r, is, refl)
+by_dialect (inr (r, is)) q p wrong by = by (grammar_of r) (r, is, refl)
 
 -- the number is that of an outcome of what is no version in the dialect, unless memory ran out
-abbrev pub HasOutcome : Dialect → Text → ℤ → Type 0
+abbrev pub HasOutcome : Grammar → Text → ℤ → Type 0
 HasOutcome d text n = IsUtf8 text → ¬ (IsVersionTextIn d text) → n ≢ number.version_out_of_memory → HasOutcomeIn d text n
 
-pub of_error : (d : Dialect) (text : Text) {n : ℤ} → (IsUtf8 text → ¬ (IsVersionTextIn d text) → n ≢ number.version_out_of_memory
+pub of_error : (d : Grammar) (text : Text) {n : ℤ} → (IsUtf8 text → ¬ (IsVersionTextIn d text) → n ≢ number.version_out_of_memory
     → RefusedIn d text n) → HasOutcome d text n
 of_error d text refused utf8 none found = refused_outcome d text _ none (refused utf8 none found)
 
@@ -119,13 +119,13 @@ tool_outcome none (inl is) q = absurd (none is.0)
 tool_outcome none (inr e) (inl is) = absurd (none is.0)
 tool_outcome none (inr e) (inr e') = e.1 ∙ sym e'.1
 
-same_outcome : (d : Dialect) (text : Text) {n m : ℤ} → ¬ (IsVersionTextIn d text) → HasOutcomeIn d text n → HasOutcomeIn d text m → n ≡ m
-same_outcome dialect.Crate text none (r, is, e) (s, is', e') = e ∙ ap outcome_number (one_outcome text r s is is') ∙ sym e'
-same_outcome dialect.Cargo text none p q = tool_outcome none p q
-same_outcome dialect.Npm text none p q = tool_outcome none p q
+same_outcome : (d : Grammar) (text : Text) {n m : ℤ} → ¬ (IsVersionTextIn d text) → HasOutcomeIn d text n → HasOutcomeIn d text m → n ≡ m
+same_outcome grammar.Crate text none (r, is, e) (s, is', e') = e ∙ ap outcome_number (one_outcome text r s is is') ∙ sym e'
+same_outcome grammar.Cargo text none p q = tool_outcome none p q
+same_outcome grammar.Npm text none p q = tool_outcome none p q
 
 -- two numbers of a text that tell bytes that are no UTF-8 exactly, and else the outcome of what is no version
-pub version_once : (d : Dialect) (text : Text) {n m : ℤ} → (n ≡ number.version_not_utf8) ↔ ¬ (IsUtf8 text)
+pub version_once : (d : Grammar) (text : Text) {n m : ℤ} → (n ≡ number.version_not_utf8) ↔ ¬ (IsUtf8 text)
     → (m ≡ number.version_not_utf8) ↔ ¬ (IsUtf8 text) → (IsUtf8 text → IsVersionTextIn d text → n ≡ m) → HasOutcome d text n
     → HasOutcome d text m → ¬ (IsMemory n) → ¬ (IsMemory m) → n ≡ m
 version_once d text u u' read p q some some' =
@@ -147,7 +147,7 @@ rewrite_exact = number.no_such_reading ∷ exact_range_errors range_numbers
 abbrev pub range_exact : List ℤ
 range_exact = number.no_such_reading ∷ number.no_such_rule ∷ exact_range_errors range_numbers
 
-by_once : {k : RangeNumbers} {Asked : Type 0} {r : Reading} {text : Text} {n m : ℤ} → k.not_utf8 ≢ k.not_a_range
+by_once : {k : RangeNumbers} {Asked : Type 0} {r : Dialect} {text : Text} {n m : ℤ} → k.not_utf8 ≢ k.not_a_range
     → k.not_utf8 ≢ k.too_large → Asked → RefusesBy k Asked r text n → RefusesBy k Asked r text m → IsOneOf (exact_range_errors k) n → n ≡ m
 by_once apart apart' asked p q (inl e) = carried (p.not_utf8 asked) (q.not_utf8 asked) e
 by_once apart apart' asked p q (inr (inl e)) =
@@ -158,25 +158,25 @@ by_once apart apart' asked p q (inr (inr (inl e))) =
     (λ utf8. carried (p.too_large asked utf8) (q.too_large asked utf8) e)
 by_once apart apart' asked p q (inr (inr (inr none))) = absurd none
 
-old_once : {r : Reading} {text : Text} {n m : ℤ} → RefusesBy range_numbers ⊤ r text n → RefusesBy range_numbers ⊤ r text m
+old_once : {r : Dialect} {text : Text} {n m : ℤ} → RefusesBy range_numbers ⊤ r text n → RefusesBy range_numbers ⊤ r text m
     → IsOneOf (exact_range_errors range_numbers) n → n ≡ m
 old_once p q one = by_once (λ e. cc) (λ e. cc) tt p q one
 
-pub new_once : {Asked : Type 0} {r : Reading} {text : Text} {n m : ℤ} → Asked → RefusesBy new_range_numbers Asked r text n
+pub new_once : {Asked : Type 0} {r : Dialect} {text : Text} {n m : ℤ} → Asked → RefusesBy new_range_numbers Asked r text n
     → RefusesBy new_range_numbers Asked r text m → IsOneOf (exact_range_errors new_range_numbers) n → n ≡ m
 new_once asked p q one = by_once (λ e. cc) (λ e. cc) asked p q one
 
-pub text_once : {reading : ℤ} {text : Text} {n m : ℤ} → RefusesText reading text n → RefusesText reading text m
+pub text_once : {dialect : ℤ} {text : Text} {n m : ℤ} → RefusesText dialect text n → RefusesText dialect text m
     → IsOneOf rewrite_exact n → n ≡ m
 text_once p q one = grind (arith, old_once)
 
-pub range_once : {reading rule : ℤ} {text : Text} {n m : ℤ} → RefusesRange reading rule text n → RefusesRange reading rule text m
+pub range_once : {dialect rule : ℤ} {text : Text} {n m : ℤ} → RefusesRange dialect rule text n → RefusesRange dialect rule text m
     → IsOneOf range_exact n → n ≡ m
 range_once p q one = grind (arith, old_once)
 
 -- where no such error is told, the range is accepted
-pub accepted_where : {reading rule : ℤ} {text : Text} {n : ℤ} → RefusesRange reading rule text n → ¬ (IsOneOf range_exact n)
-    → ¬ (¬ (IsAccepted reading rule text))
+pub accepted_where : {dialect rule : ℤ} {text : Text} {n : ℤ} → RefusesRange dialect rule text n → ¬ (IsOneOf range_exact n)
+    → ¬ (¬ (IsAccepted dialect rule text))
 accepted_where {n = n} p not_one none = ⊎_elim
     (λ one. not_one (among (number.no_such_reading ∷ number.no_such_rule ∷ []) range_exact n refl one))
     (λ is.
@@ -184,6 +184,6 @@ accepted_where {n = n} p not_one none = ⊎_elim
     let r = p.range m named in
     not_one (inr (inr (inl ((r.not_utf8 tt).1 (λ utf8.
     not_one (inr (inr (inr (inl ((r.not_a_range tt utf8).1 (λ text.
-    by_bool (fits_as (reading_of m) text.0) (λ fit. none (m, named, utf8, (text.0, text.1, fit)))
+    by_bool (fits_as (dialect_of m) text.0) (λ fit. none (m, named, utf8, (text.0, text.1, fit)))
     (λ large. not_one (inr (inr (inr (inr (inl ((r.too_large tt utf8).1 (text.0, text.1, large))))))))))))))))))))
     p.named

@@ -3,15 +3,15 @@ use Rattle.std.proofs.Common.{◌≢◌, ◌++◌, ℤ, arith}
 use Rattle.std.specs.Prelude.{IsUtf8}
 use Rattle.semver_parser.specs.Texts.{Text}
 use Rattle.semver_parser.specs.ToolVersions.{IsVersionTextIn}
-use Rattle.semver_parser.specs.declared.version.Dialect.{Dialect}
+use Rattle.semver_parser.specs.declared.version.Grammar.{Grammar}
 use Rattle.tool_ranges.specs.declared.meaning.Meaning.{Meaning}
-use Rattle.tool_ranges.specs.Meanings.{reading_of}
-use Rattle.tool_ranges.specs.Readings.{dialect_of}
+use Rattle.tool_ranges.specs.Meanings.{dialect_of}
+use Rattle.tool_ranges.specs.Dialects.{grammar_of}
 use Rattle.semver_parser_c.specs.Numbers.{range_out_of_memory, version_out_of_memory}
 use Rattle.semver_parser_c.specs.Errors.{IsOneOf, RefusesVersion, named_errors, version_errors}
-use Rattle.semver_parser_c.specs.Readings.{IsDialect}
+use Rattle.semver_parser_c.specs.Dialects.{IsGrammar}
 use Rattle.semver_parser_c.specs.Steps.TextErrors.{IsMeaningOf, IsReadable, IsRefused, IsUnjudged}
-use Rattle.semver_parser_c.proofs.Dialects.{of_reading}
+use Rattle.semver_parser_c.proofs.Grammars.{of_dialect}
 use Rattle.semver_parser_c.proofs.TextErrors.{stands}
 
 of_range : (n : ℤ) → IsOneOf named_errors n → IsOneOf (named_errors ++ version_errors) n
@@ -27,9 +27,9 @@ not_range : (n : ℤ) → IsOneOf version_errors n → n ≢ range_out_of_memory
 not_range n one = grind arith
 
 -- the numbers or the range
-pub range_refused : (reading rule : ℤ) (range version : Text) (n : ℤ) → IsRefused reading rule range n → n ≢ range_out_of_memory
-    → IsUnjudged reading rule range version n
-range_refused reading rule range version n told found = record {
+pub range_refused : (dialect rule : ℤ) (range version : Text) (n : ℤ) → IsRefused dialect rule range n → n ≢ range_out_of_memory
+    → IsUnjudged dialect rule range version n
+range_refused dialect rule range version n told found = record {
   one = of_range n told.number;
   found = found;
   refusals = told.refusals;
@@ -40,15 +40,15 @@ range_refused reading rule range version n told found = record {
 }
 
 -- the version, where the range is read
-pub version_refused : (m : Meaning) (reading rule : ℤ) (range version : Text) (n : ℤ) → IsMeaningOf m reading rule
-    → IsReadable (reading_of m) range → RefusesVersion (dialect_of (reading_of m)) version n
-    → (IsUtf8 version → ¬ (IsVersionTextIn (dialect_of (reading_of m)) version)) → IsUnjudged reading rule range version n
-version_refused m reading rule range version n only readable told none =
-    let same = λ (d : Dialect) (is : IsDialect d reading). of_reading (reading_of m) reading d only.named.0 is in
+pub version_refused : (m : Meaning) (dialect rule : ℤ) (range version : Text) (n : ℤ) → IsMeaningOf m dialect rule
+    → IsReadable (dialect_of m) range → RefusesVersion (grammar_of (dialect_of m)) version n
+    → (IsUtf8 version → ¬ (IsVersionTextIn (grammar_of (dialect_of m)) version)) → IsUnjudged dialect rule range version n
+version_refused m dialect rule range version n only readable told none =
+    let same = λ (d : Grammar) (is : IsGrammar d dialect). of_dialect (dialect_of m) dialect d only.named.0 is in
     record {
       one = of_version n told.one;
       found = not_range n told.one;
-      refusals = (stands m reading rule range only readable).each n (grind arith);
+      refusals = (stands m dialect rule range only readable).each n (grind arith);
       accepted = λ read d is v utf8 spells. absurd (none utf8 (v, rw (same d is) spells));
       not_utf8 = λ read. told.not_utf8;
       refused = λ read d is utf8 not found. rw (same d is) at (told.refused utf8 found);

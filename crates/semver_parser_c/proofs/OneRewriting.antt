@@ -1,22 +1,22 @@
 -- A text is rewritten to one set.
 use Rattle.std.proofs.Common.{◌≡◌, ◌∙◌, ℤ, Bool, List, ◌∷◌, arith, ap, subst, sym}
 use Rattle.semver_parser.specs.Texts.{Text}
-use Rattle.tool_ranges.specs.declared.reading.Reading.{Reading}
-use Rattle.tool_ranges.specs.Readings.{SpellsAs, TreeOf}
+use Rattle.tool_ranges.specs.declared.dialect.Dialect.{Dialect}
+use Rattle.tool_ranges.specs.Dialects.{SpellsAs, TreeOf}
 use Rattle.tool_ranges.proofs.ReadingLaws.{one_tree}
 use Rattle.semver_parser_c.specs.Numbers as number
-use Rattle.semver_parser_c.specs.Readings.{reading_number}
+use Rattle.semver_parser_c.specs.Dialects.{dialect_number}
 use Rattle.semver_parser_c.specs.Errors.{range_errors, set_for}
 
 -- the errors of a call that rewrites
 abbrev pub rewrite_errors : List ℤ
 rewrite_errors = number.no_such_reading ∷ range_errors
 
-pub one_reading : (r s : Reading) → reading_number r ≡ reading_number s → r ≡ s
+pub one_reading : (r s : Dialect) → dialect_number r ≡ dialect_number s → r ≡ s
 one_reading r s e = grind arith
 
-pub same_set : (exact : Bool) (text : Text) (reading : ℤ) (r s : Reading) (tree : TreeOf r) (other : TreeOf s) → reading ≡ reading_number r
-    → reading ≡ reading_number s → SpellsAs r tree text → SpellsAs s other text → set_for exact r tree ≡ set_for exact s other
-same_set exact text reading r s tree other is is' h k =
+pub same_set : (exact : Bool) (text : Text) (dialect : ℤ) (r s : Dialect) (tree : TreeOf r) (other : TreeOf s) → dialect ≡ dialect_number r
+    → dialect ≡ dialect_number s → SpellsAs r tree text → SpellsAs s other text → set_for exact r tree ≡ set_for exact s other
+same_set exact text dialect r s tree other is is' h k =
     subst (λ x. (other : TreeOf x) → SpellsAs x other text → set_for exact r tree ≡ set_for exact x other)
     (one_reading r s (sym is ∙ is')) (λ other k. ap (set_for exact r) (one_tree r tree other text h k)) other k

@@ -4,30 +4,30 @@ use Rattle.std.specs.Prelude.{⊤, Err, IsUtf8}
 use Rattle.semver_parser.specs.Texts.{Text}
 use Rattle.semver_parser.specs.declared.RangeError.{RangeError}
 use Rattle.semver_parser.specs.declared.RangeError.TheVariants.{NotARange, NumberTooLarge, OutOfMemory}
-use Rattle.tool_ranges.specs.declared.reading.Reading.{Reading}
+use Rattle.tool_ranges.specs.declared.dialect.Dialect.{Dialect}
 use Rattle.tool_ranges.specs.declared.meaning.Meaning.{Meaning}
-use Rattle.tool_ranges.specs.Meanings.{reading_of}
-use Rattle.tool_ranges.specs.Readings.{RefusesAs}
+use Rattle.tool_ranges.specs.Meanings.{dialect_of}
+use Rattle.tool_ranges.specs.Dialects.{RefusesAs}
 use Rattle.semver_parser_c.specs.declared.range_text.TextError.{TextError}
 use Rattle.semver_parser_c.specs.Numbers.{no_such_reading, no_such_rule, ok, no_room, range_out_of_memory, new_range_out_of_memory}
 use Rattle.semver_parser_c.specs.Errors.{IsAccepted, IsOneOf, RefusesBy, RefusesRange, RefusesText, range_numbers, new_range_numbers}
 use Rattle.semver_parser_c.specs.Errors.{RangeIsRead, named_errors, new_range_errors}
-use Rattle.semver_parser_c.specs.Steps.TextErrors.{IsMeaningOf, IsReadingOf, IsReadable, IsTold, IsRefused, IsTextRefused, Stands}
+use Rattle.semver_parser_c.specs.Steps.TextErrors.{IsMeaningOf, IsDialectOf, IsReadable, IsTold, IsRefused, IsTextRefused, Stands}
 use Rattle.semver_parser_c.specs.Steps.TextErrors.{HasError, IsEitherRefused, TellsBoth, text_error_of, other_numbers}
 
 -- a text has the error that its refusal names
-has : {A : Type 0} (r : Reading) (text : Text) (error : RangeError) → IsUtf8 text → RefusesAs {A = A} r text (Err error)
+has : {A : Type 0} (r : Dialect) (text : Text) (error : RangeError) → IsUtf8 text → RefusesAs {A = A} r text (Err error)
     → HasError r text (text_error_of error)
 has r text NotARange utf8 refuses = search rules
 has r text NumberTooLarge utf8 refuses = search rules
 has r text OutOfMemory utf8 refuses = search rules
 
-pub has_error : {A : Type 0} (r : Reading) (text read : Text) (error : RangeError) (named : TextError) → named ≡ text_error_of error
+pub has_error : {A : Type 0} (r : Dialect) (text read : Text) (error : RangeError) (named : TextError) → named ≡ text_error_of error
     → RefusesAs {A = A} r read (Err error) → read ≡ text → IsUtf8 text → HasError r text named
 has_error r text read error named is refuses same utf8 = rw is (has r text error utf8 (rw same at refuses))
 
 -- where a range is read, it isn't refused by a number that is answered then
-stands_by : (r : Reading) (text : Text) → IsReadable r text → (n : ℤ) → IsOneOf other_numbers n → RefusesBy range_numbers ⊤ r text n
+stands_by : (r : Dialect) (text : Text) → IsReadable r text → (n : ℤ) → IsOneOf other_numbers n → RefusesBy range_numbers ⊤ r text n
 stands_by r text read n one = grind arith
 
 -- and such a number says nothing of the reading and the rule
@@ -35,7 +35,7 @@ not_named : (n : ℤ) → IsOneOf other_numbers n → IsOneOf (no_such_reading �
 not_named n one other = grind arith
 
 -- so of a new range, where both are read
-stands_new : (Asked : Type 0) (r : Reading) (text : Text) → IsReadable r text → (n : ℤ)
+stands_new : (Asked : Type 0) (r : Dialect) (text : Text) → IsReadable r text → (n : ℤ)
     → IsOneOf (ok ∷ no_room ∷ new_range_out_of_memory ∷ []) n → RefusesBy new_range_numbers Asked r text n
 stands_new Asked r text read n one = grind arith
 
@@ -49,32 +49,32 @@ all_stand IsSo each = record {
 }
 
 -- what the reading of the only meaning refuses is what a call refuses that asks for a meaning
-lifted : (m : Meaning) (reading rule : ℤ) (text : Text) (n : ℤ) → IsMeaningOf m reading rule
-    → (IsOneOf (no_such_reading ∷ no_such_rule ∷ []) n → ⊥) → RefusesBy range_numbers ⊤ (reading_of m) text n
-    → RefusesRange reading rule text n
-lifted m reading rule text n only other by = search rules
+lifted : (m : Meaning) (dialect rule : ℤ) (text : Text) (n : ℤ) → IsMeaningOf m dialect rule
+    → (IsOneOf (no_such_reading ∷ no_such_rule ∷ []) n → ⊥) → RefusesBy range_numbers ⊤ (dialect_of m) text n
+    → RefusesRange dialect rule text n
+lifted m dialect rule text n only other by = search rules
 
-pub stands : (m : Meaning) (reading rule : ℤ) (text : Text) → IsMeaningOf m reading rule → IsReadable (reading_of m) text
-    → Stands (RefusesRange reading rule text)
-stands m reading rule text only read =
-    all_stand _ (λ n one. lifted m reading rule text n only (not_named n one) (stands_by (reading_of m) text read n one))
+pub stands : (m : Meaning) (dialect rule : ℤ) (text : Text) → IsMeaningOf m dialect rule → IsReadable (dialect_of m) text
+    → Stands (RefusesRange dialect rule text)
+stands m dialect rule text only read =
+    all_stand _ (λ n one. lifted m dialect rule text n only (not_named n one) (stands_by (dialect_of m) text read n one))
 
-pub stands_text : (r : Reading) (reading : ℤ) (text : Text) → IsReadingOf r reading → IsReadable r text
-    → Stands (RefusesText reading text)
-stands_text r reading text only read =
+pub stands_text : (r : Dialect) (dialect : ℤ) (text : Text) → IsDialectOf r dialect → IsReadable r text
+    → Stands (RefusesText dialect text)
+stands_text r dialect text only read =
     all_stand _ (λ n one.
     let other = not_named n one in
     let by = stands_by r text read n one in
     search rules)
 
 -- an error that the text has, by its number
-pub refused : (m : Meaning) (reading rule : ℤ) (text : Text) (n : ℤ) → IsMeaningOf m reading rule → IsTold (reading_of m) text n
-    → IsRefused reading rule text n
-refused m reading rule text n only told = search rules
+pub refused : (m : Meaning) (dialect rule : ℤ) (text : Text) (n : ℤ) → IsMeaningOf m dialect rule → IsTold (dialect_of m) text n
+    → IsRefused dialect rule text n
+refused m dialect rule text n only told = search rules
 
-pub refused_text : (r : Reading) (reading : ℤ) (text : Text) (n : ℤ) → IsReadingOf r reading → IsTold r text n
-    → IsTextRefused reading text n
-refused_text r reading text n only told = search rules
+pub refused_text : (r : Dialect) (dialect : ℤ) (text : Text) (n : ℤ) → IsDialectOf r dialect → IsTold r text n
+    → IsTextRefused dialect text n
+refused_text r dialect text n only told = search rules
 
 -- ---- where two ranges are compared
 
@@ -83,23 +83,23 @@ not_put : (n : ℤ) → IsOneOf (named_errors ++ new_range_errors) n → (n ≡ 
 not_put n one put = grind arith
 
 -- nothing is refused of a new range that isn't asked for, and what is refused of one is so where it is
-unasked : (Asked : Type 0) (r : Reading) (text : Text) (n : ℤ) → (Asked → ⊥) → IsOneOf named_errors n
+unasked : (Asked : Type 0) (r : Dialect) (text : Text) (n : ℤ) → (Asked → ⊥) → IsOneOf named_errors n
     → RefusesBy new_range_numbers Asked r text n
 unasked Asked r text n never one = grind arith
 
-asked : (Asked : Type 0) (r : Reading) (text : Text) (n : ℤ) → RefusesBy new_range_numbers ⊤ r text n
+asked : (Asked : Type 0) (r : Dialect) (text : Text) (n : ℤ) → RefusesBy new_range_numbers ⊤ r text n
     → RefusesBy new_range_numbers Asked r text n
 asked Asked r text n told = search rules
 
 -- an accepted range is read by a number of another kind than memory
-pub read_of : (reading rule : ℤ) (text : Text) (n : ℤ) → IsAccepted reading rule text → n ≢ range_out_of_memory
-    → RangeIsRead reading rule text n
-read_of reading rule text n accepted found = search rules
+pub read_of : (dialect rule : ℤ) (text : Text) (n : ℤ) → IsAccepted dialect rule text → n ≢ range_out_of_memory
+    → RangeIsRead dialect rule text n
+read_of dialect rule text n accepted found = search rules
 
 -- where the numbers or the old range are refused
-pub not_asked : (reading rule : ℤ) (old new : Text) (n : ℤ) → IsRefused reading rule old n → n ≢ range_out_of_memory
-    → IsEitherRefused reading rule old new n
-not_asked reading rule old new n refusal found =
+pub not_asked : (dialect rule : ℤ) (old new : Text) (n : ℤ) → IsRefused dialect rule old n → n ≢ range_out_of_memory
+    → IsEitherRefused dialect rule old new n
+not_asked dialect rule old new n refusal found =
     let number : IsOneOf (named_errors ++ new_range_errors) n = grind arith in
     record {
       number = number;
@@ -112,16 +112,16 @@ not_asked reading rule old new n refusal found =
     }
 
 -- where the new one is
-pub new_refused : (m : Meaning) (reading rule : ℤ) (old new : Text) (n : ℤ) → IsMeaningOf m reading rule
-    → IsReadable (reading_of m) old → IsOneOf new_range_errors n → RefusesBy new_range_numbers ⊤ (reading_of m) new n
-    → IsEitherRefused reading rule old new n
-new_refused m reading rule old new n only readable one told =
+pub new_refused : (m : Meaning) (dialect rule : ℤ) (old new : Text) (n : ℤ) → IsMeaningOf m dialect rule
+    → IsReadable (dialect_of m) old → IsOneOf new_range_errors n → RefusesBy new_range_numbers ⊤ (dialect_of m) new n
+    → IsEitherRefused dialect rule old new n
+new_refused m dialect rule old new n only readable one told =
     let number : IsOneOf (named_errors ++ new_range_errors) n = grind arith in
     record {
       number = number;
       both = record {
         read = λ put. absurd (not_put n number put);
-        old_range = (stands m reading rule old only readable).each n (grind arith);
+        old_range = (stands m dialect rule old only readable).each n (grind arith);
         new_range = λ k named. rw (← (only.only k named)) (asked _ _ new n told);
         one_memory = grind arith;
       };
@@ -134,27 +134,27 @@ pub named_found : (n : ℤ) → IsOneOf (no_such_reading ∷ no_such_rule ∷ []
 named_found n one = grind arith
 
 -- where both are read
-pub both_stand : (m : Meaning) (reading rule : ℤ) (old new : Text) → IsMeaningOf m reading rule → IsReadable (reading_of m) old
-    → IsReadable (reading_of m) new → (n : ℤ) → IsOneOf (ok ∷ no_room ∷ new_range_out_of_memory ∷ []) n
-    → TellsBoth reading rule old new n
-both_stand m reading rule old new only old_read read n one =
+pub both_stand : (m : Meaning) (dialect rule : ℤ) (old new : Text) → IsMeaningOf m dialect rule → IsReadable (dialect_of m) old
+    → IsReadable (dialect_of m) new → (n : ℤ) → IsOneOf (ok ∷ no_room ∷ new_range_out_of_memory ∷ []) n
+    → TellsBoth dialect rule old new n
+both_stand m dialect rule old new only old_read read n one =
     let found : n ≢ range_out_of_memory = grind arith in
     record {
       read = λ put. (
-        read_of reading rule old n (m, only.named, old_read.0, old_read.1) found,
+        read_of dialect rule old n (m, only.named, old_read.0, old_read.1) found,
         (
           m,
           only.named,
           record { utf8 = read.0; tree = read.1.0; spells = read.1.1; fit = read.1.2; memory = put_found n put },
         ),
       );
-      old_range = (stands m reading rule old only old_read).each n (grind arith);
-      new_range = λ k named. rw (← (only.only k named)) (stands_new _ (reading_of m) new read n one);
+      old_range = (stands m dialect rule old only old_read).each n (grind arith);
+      new_range = λ k named. rw (← (only.only k named)) (stands_new _ (dialect_of m) new read n one);
       one_memory = found;
     }
 
 -- so where memory ran out
-pub neither_refused : (m : Meaning) (reading rule : ℤ) (old new : Text) → IsMeaningOf m reading rule → IsReadable (reading_of m) old
-    → IsReadable (reading_of m) new → IsEitherRefused reading rule old new new_range_out_of_memory
-neither_refused m reading rule old new only old_read read =
-    record { number = grind arith; both = both_stand m reading rule old new only old_read read _ (inr (inr (inl refl))) }
+pub neither_refused : (m : Meaning) (dialect rule : ℤ) (old new : Text) → IsMeaningOf m dialect rule → IsReadable (dialect_of m) old
+    → IsReadable (dialect_of m) new → IsEitherRefused dialect rule old new new_range_out_of_memory
+neither_refused m dialect rule old new only old_read read =
+    record { number = grind arith; both = both_stand m dialect rule old new only old_read read _ (inr (inr (inl refl))) }

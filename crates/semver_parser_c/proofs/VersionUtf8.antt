@@ -15,8 +15,8 @@ use Rattle.semver_texts.specs.Texts.{Text, is_part_byte, is_space, marked}
 use Rattle.semver_texts.specs.Versions.{IdentifierValue, numeric, alphanumeric, VersionValue, numbers}
 use Rattle.semver_texts.specs.VersionGrammar.{SpellsVersion}
 use Rattle.semver_texts.specs.ToolVersions.{AreWhiteSpaces, IsKeptAs, SpellsIn, SpellsNpm, SpellsSemver, is_white_space}
-use Rattle.semver_texts.specs.declared.dialect.Dialect.{Dialect}
-use Rattle.semver_texts.specs.declared.dialect.Dialect.TheVariants.{Crate, Cargo, Npm}
+use Rattle.semver_texts.specs.declared.grammar.Grammar.{Grammar}
+use Rattle.semver_texts.specs.declared.grammar.Grammar.TheVariants.{Crate, Cargo, Npm}
 use Rattle.semver_texts.proofs.Lists.{Passes, all_more, all_zipped, ascii_from, joined_pass, marked_passes, passes_append}
 use Rattle.semver_texts.proofs.Runs.{decimal_is_run}
 use Rattle.semver_texts.proofs.SpelledVersions.{spelled_kept_all}
@@ -160,7 +160,7 @@ npm_utf8 v text (w, _) =
     sign : IsUtf8 w.sign
     sign = ⊎_elim (λ e. subst IsUtf8 (sym e) IsUtf8-nil) (λ e. subst IsUtf8 (sym e) (ascii_utf8 (codes "v") (refl, tt))) w.is_sign
 
-pub version_utf8 : (d : Dialect) (v : VersionValue) (text : Text) → SpellsIn d v text → IsUtf8 text
+pub version_utf8 : (d : Grammar) (v : VersionValue) (text : Text) → SpellsIn d v text → IsUtf8 text
 version_utf8 Crate v text w = crate_utf8 v text w
 version_utf8 Cargo v text w = semver_utf8 v text w
 version_utf8 Npm v text w = npm_utf8 v text w

@@ -4,23 +4,23 @@ use Rattle.std.specs.Prelude.{List, [], ◌∷◌, Result, Ok, Err, length}
 use Rattle.semver_parser.specs.Texts.{Text}
 use Rattle.semver_parser.specs.Versions.{VersionValue}
 use Rattle.semver_parser.specs.ToolVersions.{IsVersionTextIn, SpellsIn}
-use Rattle.semver_parser.specs.declared.version.Dialect.{Dialect}
-use Rattle.semver_parser.specs.declared.version.Dialect.TheVariants as dialect
+use Rattle.semver_parser.specs.declared.version.Grammar.{Grammar}
+use Rattle.semver_parser.specs.declared.version.Grammar.TheVariants as grammar
 use Rattle.semver_parser.specs.VersionReading.{IsOutcomeOf, TextMayRunOut}
 use Rattle.semver_parser.specs.declared.RangeError.{RangeError}
 use Rattle.semver_parser.specs.declared.RangeError.TheVariants as range_error
 use Rattle.semver_parser.specs.ParserState as spec
 use Rattle.semver_parser.specs.ParserState.{ErrorValue}
 use Rattle.semver_parser.specs.RewritingTable.{rewritten, PlainSet}
-use Rattle.tool_ranges.specs.declared.reading.Reading.{Reading}
-use Rattle.tool_ranges.specs.declared.reading.Reading.TheVariants.{Crate}
+use Rattle.tool_ranges.specs.declared.dialect.Dialect.{Dialect}
+use Rattle.tool_ranges.specs.declared.dialect.Dialect.TheVariants.{Crate}
 use Rattle.tool_ranges.specs.declared.meaning.Meaning.{Meaning}
-use Rattle.tool_ranges.specs.Readings.{TreeOf, SpellsAs, fits_as, rewritten_as}
-use Rattle.tool_ranges.specs.Readings.{IsTextAs, HasSetAs, IsTooLargeAs}
-use Rattle.tool_ranges.specs.Meanings.{reading_of}
+use Rattle.tool_ranges.specs.Dialects.{TreeOf, SpellsAs, fits_as, rewritten_as}
+use Rattle.tool_ranges.specs.Dialects.{IsTextAs, HasSetAs, IsTooLargeAs}
+use Rattle.tool_ranges.specs.Meanings.{dialect_of}
 use Rattle.semver_parser_c.specs.Numbers as number
 use Rattle.semver_parser_c.specs.Numbers.{version_out_of_memory}
-use Rattle.semver_parser_c.specs.Readings.{IsReading, IsMeaning, IsNamed, reading_number}
+use Rattle.semver_parser_c.specs.Dialects.{IsDialect, IsMeaning, IsNamed, dialect_number}
 
 -- the number of an error of a version text
 abbrev pub error_number : ErrorValue → ℤ
@@ -97,109 +97,109 @@ abbrev pub named_errors : List ℤ
 named_errors = number.no_such_reading ∷ number.no_such_rule ∷ range_errors
 
 -- what a tree is rewritten to, with exact bounds or without: those of a tool are always exact
-abbrev pub set_for : Bool → (reading : Reading) → TreeOf reading → PlainSet
+abbrev pub set_for : Bool → (dialect : Dialect) → TreeOf dialect → PlainSet
 set_for false (Crate mode) tree = rewritten mode tree
-set_for exact reading tree = rewritten_as reading tree
+set_for exact dialect tree = rewritten_as dialect tree
 
 -- a set of the comparators to which each tree of a text is so rewritten
-abbrev pub IsSetFor : Bool → Reading → Text → PlainSet → Type 0
-IsSetFor exact reading text set = (tree : TreeOf reading) → SpellsAs reading tree text
-    → set ≡ set_for exact reading tree
+abbrev pub IsSetFor : Bool → Dialect → Text → PlainSet → Type 0
+IsSetFor exact dialect text set = (tree : TreeOf dialect) → SpellsAs dialect tree text
+    → set ≡ set_for exact dialect tree
 
 -- what a call refuses of a range text by the number that it answers, where it is asked for: bytes
 -- that are no UTF-8, texts that are no range, and numbers that are too large, all exactly. Memory
 -- runs out only where the text is a range that fits
-pub record RefusesBy (by : RangeNumbers) (Asked : Type 0) (reading : Reading) (text : Text) (n : ℤ)
+pub record RefusesBy (by : RangeNumbers) (Asked : Type 0) (dialect : Dialect) (text : Text) (n : ℤ)
     : Type 0 where
   pub not_utf8 : Asked → (n ≡ by.not_utf8) ↔ ¬ (IsUtf8 text)
-  pub not_a_range : Asked → IsUtf8 text → (n ≡ by.not_a_range) ↔ ¬ (IsTextAs reading text)
-  pub too_large : Asked → IsUtf8 text → (n ≡ by.too_large) ↔ IsTooLargeAs reading text
-  pub out_of_memory : n ≡ by.out_of_memory → HasSetAs reading text
+  pub not_a_range : Asked → IsUtf8 text → (n ≡ by.not_a_range) ↔ ¬ (IsTextAs dialect text)
+  pub too_large : Asked → IsUtf8 text → (n ≡ by.too_large) ↔ IsTooLargeAs dialect text
+  pub out_of_memory : n ≡ by.out_of_memory → HasSetAs dialect text
 
 -- what a call that rewrites refuses by a number: the number of the reading, exactly, and else what
 -- that reading refuses of the text
-pub record RefusesText (reading : ℤ) (text : Text) (n : ℤ) : Type 0 where
-  pub named : (n ≡ number.no_such_reading) ⊎ IsReading reading
-  pub no_such_reading : (n ≡ number.no_such_reading) ↔ ¬ (IsReading reading)
-  pub range : (r : Reading) → reading ≡ reading_number r → RefusesBy range_numbers ⊤ r text n
+pub record RefusesText (dialect : ℤ) (text : Text) (n : ℤ) : Type 0 where
+  pub named : (n ≡ number.no_such_reading) ⊎ IsDialect dialect
+  pub no_such_reading : (n ≡ number.no_such_reading) ↔ ¬ (IsDialect dialect)
+  pub range : (r : Dialect) → dialect ≡ dialect_number r → RefusesBy range_numbers ⊤ r text n
 
 -- what a call that asks what a range means refuses by a number: the number of the reading, exactly,
 -- that of the rule, exactly, and else what that reading refuses of the text
-pub record RefusesRange (reading rule : ℤ) (text : Text) (n : ℤ) : Type 0 where
+pub record RefusesRange (dialect rule : ℤ) (text : Text) (n : ℤ) : Type 0 where
   pub named : IsOneOf (number.no_such_reading ∷ number.no_such_rule ∷ []) n
-      ⊎ IsMeaning reading rule
-  pub no_such_reading : (n ≡ number.no_such_reading) ↔ ¬ (IsReading reading)
+      ⊎ IsMeaning dialect rule
+  pub no_such_reading : (n ≡ number.no_such_reading) ↔ ¬ (IsDialect dialect)
   pub no_such_rule : (n ≡ number.no_such_rule)
-      ↔ (IsReading reading × (¬ (IsMeaning reading rule)))
-  pub range : (m : Meaning) → IsNamed m reading rule
-      → RefusesBy range_numbers ⊤ (reading_of m) text n
+      ↔ (IsDialect dialect × (¬ (IsMeaning dialect rule)))
+  pub range : (m : Meaning) → IsNamed m dialect rule
+      → RefusesBy range_numbers ⊤ (dialect_of m) text n
 
 -- what it refuses of the new range, where it is asked for, if two are compared
 abbrev pub RefusesNewRange : Type 0 → ℤ → ℤ → Text → ℤ → Type 0
-RefusesNewRange Asked reading rule text n = (m : Meaning) → IsNamed m reading rule
-    → RefusesBy new_range_numbers Asked (reading_of m) text n
+RefusesNewRange Asked dialect rule text n = (m : Meaning) → IsNamed m dialect rule
+    → RefusesBy new_range_numbers Asked (dialect_of m) text n
 
 -- the number is the error of a text that spells no version: in the crate's dialect that of its
 -- outcome, in a tool's the one that there is
-abbrev pub RefusedIn : Dialect → Text → ℤ → Type 0
-RefusedIn dialect.Crate text n = (e : ErrorValue) × IsOutcomeOf text (Err e) × (n ≡ error_number e)
-RefusedIn dialect.Cargo text n = n ≡ number.not_a_version
-RefusedIn dialect.Npm text n = n ≡ number.not_a_version
+abbrev pub RefusedIn : Grammar → Text → ℤ → Type 0
+RefusedIn grammar.Crate text n = (e : ErrorValue) × IsOutcomeOf text (Err e) × (n ≡ error_number e)
+RefusedIn grammar.Cargo text n = n ≡ number.not_a_version
+RefusedIn grammar.Npm text n = n ≡ number.not_a_version
 
 -- a text spells a version, or it has the one error
-abbrev pub HasToolOutcome : Dialect → Text → ℤ → Type 0
+abbrev pub HasToolOutcome : Grammar → Text → ℤ → Type 0
 HasToolOutcome d text n = (IsVersionTextIn d text × (n ≡ number.ok))
     ⊎ ((¬ (IsVersionTextIn d text)) × (n ≡ number.not_a_version))
 
 -- it spells a version with a pre-release
-abbrev pub HasPreRelease : Dialect → Text → Type 0
+abbrev pub HasPreRelease : Grammar → Text → Type 0
 HasPreRelease d text = (v : VersionValue) × SpellsIn d v text × (0 < length v.plain.pre)
 
 -- the number is that of the outcome of a text: it spells a version, or it has this error
-abbrev pub HasOutcomeIn : Dialect → Text → ℤ → Type 0
-HasOutcomeIn dialect.Crate text n =
+abbrev pub HasOutcomeIn : Grammar → Text → ℤ → Type 0
+HasOutcomeIn grammar.Crate text n =
     (r : Result VersionValue ErrorValue) × IsOutcomeOf text r × (n ≡ outcome_number r)
-HasOutcomeIn dialect.Cargo text n = HasToolOutcome dialect.Cargo text n
-HasOutcomeIn dialect.Npm text n = HasToolOutcome dialect.Npm text n
+HasOutcomeIn grammar.Cargo text n = HasToolOutcome grammar.Cargo text n
+HasOutcomeIn grammar.Npm text n = HasToolOutcome grammar.Npm text n
 
 -- memory may run out at a text: in the crate's dialect also where its error is sought, in a tool's
 -- at the pre-release of a version alone
-abbrev pub MayRunOutIn : Dialect → Text → Type 0
-MayRunOutIn dialect.Crate text = TextMayRunOut text
-MayRunOutIn dialect.Cargo text = HasPreRelease dialect.Cargo text
-MayRunOutIn dialect.Npm text = HasPreRelease dialect.Npm text
+abbrev pub MayRunOutIn : Grammar → Text → Type 0
+MayRunOutIn grammar.Crate text = TextMayRunOut text
+MayRunOutIn grammar.Cargo text = HasPreRelease grammar.Cargo text
+MayRunOutIn grammar.Npm text = HasPreRelease grammar.Npm text
 
 -- what a call refuses of a version text by the number that it answers: bytes that are no UTF-8,
 -- exactly; a text that spells no version by its error; and a version only if memory runs out.
 -- Memory runs out only where it may
-pub record RefusesVersion (dialect : Dialect) (text : Text) (n : ℤ) : Type 0 where
+pub record RefusesVersion (grammar : Grammar) (text : Text) (n : ℤ) : Type 0 where
   pub one : IsOneOf version_errors n
   pub not_utf8 : (n ≡ number.version_not_utf8) ↔ ¬ (IsUtf8 text)
-  pub accepted : (v : VersionValue) → IsUtf8 text → SpellsIn dialect v text
+  pub accepted : (v : VersionValue) → IsUtf8 text → SpellsIn grammar v text
       → n ≡ version_out_of_memory
-  pub refused : IsUtf8 text → n ≢ version_out_of_memory → RefusedIn dialect text n
-  pub out_of_memory : n ≡ version_out_of_memory → MayRunOutIn dialect text
+  pub refused : IsUtf8 text → n ≢ version_out_of_memory → RefusedIn grammar text n
+  pub out_of_memory : n ≡ version_out_of_memory → MayRunOutIn grammar text
 
 -- the text is a range that fits to a reading, and its memory was found
-pub record IsReadBy (by : RangeNumbers) (reading : Reading) (text : Text) (answer : ℤ)
+pub record IsReadBy (by : RangeNumbers) (dialect : Dialect) (text : Text) (answer : ℤ)
     : Type 0 where
   pub utf8 : IsUtf8 text
-  pub tree : TreeOf reading
-  pub spells : SpellsAs reading tree text
-  pub fit : IsTrue (fits_as reading tree)
+  pub tree : TreeOf dialect
+  pub spells : SpellsAs dialect tree text
+  pub fit : IsTrue (fits_as dialect tree)
   pub memory : answer ≢ by.out_of_memory
 
 -- the numbers name a meaning, and the text is so read by its reading
 abbrev pub RangeIsRead : ℤ → ℤ → Text → ℤ → Type 0
-RangeIsRead reading rule text answer = (m : Meaning) × IsNamed m reading rule
-    × IsReadBy range_numbers (reading_of m) text answer
+RangeIsRead dialect rule text answer = (m : Meaning) × IsNamed m dialect rule
+    × IsReadBy range_numbers (dialect_of m) text answer
 
 -- so of the new range, where two are compared
 abbrev pub NewRangeIsRead : ℤ → ℤ → Text → ℤ → Type 0
-NewRangeIsRead reading rule text answer = (m : Meaning) × IsNamed m reading rule
-    × IsReadBy new_range_numbers (reading_of m) text answer
+NewRangeIsRead dialect rule text answer = (m : Meaning) × IsNamed m dialect rule
+    × IsReadBy new_range_numbers (dialect_of m) text answer
 
 -- the text is a range that fits to the reading that is named
 abbrev pub IsAccepted : ℤ → ℤ → Text → Type 0
-IsAccepted reading rule text = (m : Meaning) × IsNamed m reading rule × IsUtf8 text
-    × HasSetAs (reading_of m) text
+IsAccepted dialect rule text = (m : Meaning) × IsNamed m dialect rule × IsUtf8 text
+    × HasSetAs (dialect_of m) text

@@ -1,5 +1,5 @@
 pub mod Numbers
-pub mod Readings
+pub mod Dialects
 pub mod Errors
 pub mod Places
 pub mod Printing

@@ -3,25 +3,25 @@ use Rattle.std.specs.Prelude.{ℤ, ◌≡◌, ◌↔◌, ◌⊎◌, IsUtf8, List
 use Rattle.semver_parser.specs.Texts.{Text}
 use Rattle.tool_ranges.specs.declared.hints.Hint.{Hint}
 use Rattle.tool_ranges.specs.declared.hints.Hint.TheVariants as hint
-use Rattle.tool_ranges.specs.declared.reading.Reading.{Reading}
-use Rattle.tool_ranges.specs.Readings.{HasSetAs, IsTextAs, IsTooLargeAs}
+use Rattle.tool_ranges.specs.declared.dialect.Dialect.{Dialect}
+use Rattle.tool_ranges.specs.Dialects.{HasSetAs, IsTextAs, IsTooLargeAs}
 use Rattle.semver_parser_c.specs.Numbers as number
 use Rattle.semver_parser_c.specs.Errors.{IsOneOf}
-use Rattle.semver_parser_c.specs.Readings.{IsReading, reading_number}
+use Rattle.semver_parser_c.specs.Dialects.{IsDialect, dialect_number}
 
 -- the number says whether a text gives a range by a reading, or why not; memory may run out in
 -- place of the last two errors
-pub record ExplainsBy (reading : Reading) (text : Text) (n : ℤ) : Type 0 where
-  pub ok : (n ≡ number.ok) ↔ (IsUtf8 text × HasSetAs reading text)
+pub record ExplainsBy (dialect : Dialect) (text : Text) (n : ℤ) : Type 0 where
+  pub ok : (n ≡ number.ok) ↔ (IsUtf8 text × HasSetAs dialect text)
   pub not_utf8 : (n ≡ number.range_not_utf8) ↔ ¬ (IsUtf8 text)
-  pub not_a_range : n ≡ number.not_a_range → ¬ (IsTextAs reading text)
-  pub too_large : n ≡ number.number_too_large → IsTooLargeAs reading text
+  pub not_a_range : n ≡ number.not_a_range → ¬ (IsTextAs dialect text)
+  pub too_large : n ≡ number.number_too_large → IsTooLargeAs dialect text
 
 -- so in the dialect of a number, if there is one
-pub record ExplainsRange (reading : ℤ) (text : Text) (n : ℤ) : Type 0 where
-  pub named : (n ≡ number.no_such_reading) ⊎ IsReading reading
-  pub no_such_reading : (n ≡ number.no_such_reading) ↔ ¬ (IsReading reading)
-  pub range : (r : Reading) → reading ≡ reading_number r → ExplainsBy r text n
+pub record ExplainsRange (dialect : ℤ) (text : Text) (n : ℤ) : Type 0 where
+  pub named : (n ≡ number.no_such_reading) ⊎ IsDialect dialect
+  pub no_such_reading : (n ≡ number.no_such_reading) ↔ ¬ (IsDialect dialect)
+  pub range : (r : Dialect) → dialect ≡ dialect_number r → ExplainsBy r text n
 
 -- there is a place, and perhaps a hint
 abbrev pub IsExplained : ℤ → Type 0

@@ -3,18 +3,18 @@
 ghost use Rattle.std.specs.Prelude.{◌≡◌, ◌≢◌, Err, IfErr, IfOk, IsUtf8};
 ghost use Rattle.semver_parser.specs.Versions.{VersionValue};
 ghost use Rattle.semver_parser.specs.ToolVersions.{IsVersionTextIn, SpellsIn};
-ghost use Rattle.semver_parser.specs.declared.version.Dialect.{Dialect as SomeDialect};
+ghost use Rattle.semver_parser.specs.declared.version.Grammar.{Grammar as SomeDialect};
 ghost use Rattle.semver_parser.specs.Outlines.{version_of};
 ghost use Rattle.tool_ranges.specs.declared.meaning.Meaning.{Meaning as SomeMeaning};
-ghost use Rattle.tool_ranges.specs.Meanings.{meant_as, reading_of};
-ghost use Rattle.tool_ranges.specs.Readings.{SpellsAs, TreeOf, dialect_of};
+ghost use Rattle.tool_ranges.specs.Meanings.{meant_as, dialect_of};
+ghost use Rattle.tool_ranges.specs.Dialects.{SpellsAs, TreeOf, grammar_of};
 ghost use Rattle.semver_parser_c.specs.declared.range_text.TextError.TheVariants.{OutOfMemory};
 ghost use Rattle.semver_parser_c.specs.Errors.{IsAccepted, RefusesRange};
-ghost use Rattle.semver_parser_c.specs.Readings.{IsDialect, IsNamed};
+ghost use Rattle.semver_parser_c.specs.Dialects.{IsGrammar, IsNamed};
 ghost use Rattle.semver_parser_c.specs.Steps.TextErrors.{HasError, IsReadable, IsUnjudged, Stands};
 
 use crate::range_text::{self, TextError};
-use crate::{readings, version_text};
+use crate::{dialects, version_text};
 use semver_parser::laws;
 use semver_parser::version::{self, Outline};
 use std::alloc::Global;
@@ -25,31 +25,31 @@ use tool_ranges::meaning::{self, Meaning};
 pub fn judge(
     alloc: Global,
     range: &[u8],
-    reading: i32,
+    dialect: i32,
     pre_releases: i32,
     version: &[u8],
 ) -> Result<bool, i32>
-    ensures accepted { IfOk result (λ _. IsAccepted reading pre_releases range.now) }
-    ensures stands { IfOk result (λ _. Stands (RefusesRange reading pre_releases range.now)) }
-    ensures read { IfOk result (λ _. (d : SomeDialect) → IsDialect d reading
+    ensures accepted { IfOk result (λ _. IsAccepted dialect pre_releases range.now) }
+    ensures stands { IfOk result (λ _. Stands (RefusesRange dialect pre_releases range.now)) }
+    ensures read { IfOk result (λ _. (d : SomeDialect) → IsGrammar d dialect
         → IsVersionTextIn d version.now) }
     ensures utf8 { IfOk result (λ _. IsUtf8 version.now) }
-    ensures meaning { IfOk result (λ met. (m : SomeMeaning) → IsNamed m reading pre_releases
-        → (tree : TreeOf (reading_of m)) (v : VersionValue)
-        → SpellsAs (reading_of m) tree range.now
-        → SpellsIn (dialect_of (reading_of m)) v version.now
+    ensures meaning { IfOk result (λ met. (m : SomeMeaning) → IsNamed m dialect pre_releases
+        → (tree : TreeOf (dialect_of m)) (v : VersionValue)
+        → SpellsAs (dialect_of m) tree range.now
+        → SpellsIn (grammar_of (dialect_of m)) v version.now
         → met ≡ meant_as m tree v) }
-    ensures refused { IfErr result (IsUnjudged reading pre_releases range.now version.now) }
+    ensures refused { IfErr result (IsUnjudged dialect pre_releases range.now version.now) }
 {
     laws::one_version_in();
-    let meaning = match readings::meaning_of(reading, pre_releases) {
+    let meaning = match dialects::meaning_of(dialect, pre_releases) {
         Ok(meaning) => meaning,
         Err(number) => return Err(number),
     };
-    let dialect = meaning.reading().dialect();
-    let Some(outline) = version::outline_in(version, dialect) else {
+    let grammar = meaning.dialect().grammar();
+    let Some(outline) = version::outline_in(version, grammar) else {
         return match check(meaning, range) {
-            Ok(()) => Err(version_text::error(alloc, version, dialect)),
+            Ok(()) => Err(version_text::error(alloc, version, grammar)),
             Err(error) => Err(range_text::number_of(error)),
         };
     };
@@ -61,11 +61,11 @@ pub fn judge(
 
 /// Whether a range text means the version of an outline, or its error.
 pub fn meets(meaning: Meaning, range: &[u8], version: &Outline<'_>) -> Result<bool, TextError>
-    ensures accepted { IfOk result (λ _. IsReadable (reading_of meaning) range.now) }
-    ensures meaning { IfOk result (λ met. (tree : TreeOf (reading_of meaning))
-        → SpellsAs (reading_of meaning) tree range.now
+    ensures accepted { IfOk result (λ _. IsReadable (dialect_of meaning) range.now) }
+    ensures meaning { IfOk result (λ met. (tree : TreeOf (dialect_of meaning))
+        → SpellsAs (dialect_of meaning) tree range.now
         → met ≡ meant_as meaning tree (version_of version.now)) }
-    ensures error { IfErr result (λ error. HasError (reading_of meaning) range.now error) }
+    ensures error { IfErr result (λ error. HasError (dialect_of meaning) range.now error) }
     ensures no_memory { result ≢ Err OutOfMemory }
 {
     let Ok(text) = std::str::from_utf8(range) else {
@@ -79,8 +79,8 @@ pub fn meets(meaning: Meaning, range: &[u8], version: &Outline<'_>) -> Result<bo
 
 /// Whether a range text is read, or its error.
 pub fn check(meaning: Meaning, range: &[u8]) -> Result<(), TextError>
-    ensures accepted { IfOk result (λ _. IsReadable (reading_of meaning) range.now) }
-    ensures error { IfErr result (λ error. HasError (reading_of meaning) range.now error) }
+    ensures accepted { IfOk result (λ _. IsReadable (dialect_of meaning) range.now) }
+    ensures error { IfErr result (λ error. HasError (dialect_of meaning) range.now error) }
     ensures no_memory { result ≢ Err OutOfMemory }
 {
     let Ok(text) = std::str::from_utf8(range) else {

@@ -28,7 +28,7 @@ use version_sets::laws::{one_flat, one_set as one_normal_set};
 pub fn one_parsed_version(
     alloc: Global,
     text: &[u8],
-    reading: i32,
+    dialect: i32,
     out: &mut ReadVersion,
     other_out: &mut ReadVersion,
 ) -> (i32, i32)
@@ -36,15 +36,15 @@ pub fn one_parsed_version(
     ensures one { AreOne text_errors result.0 result.1 (out.new ≡ other_out.new) }
 {
     one_version_in();
-    let number = semver_parser_proved_parse_version(alloc, text, reading, out);
-    let other = semver_parser_proved_parse_version(alloc, text, reading, other_out);
+    let number = semver_parser_proved_parse_version(alloc, text, dialect, out);
+    let other = semver_parser_proved_parse_version(alloc, text, dialect, other_out);
     (number, other)
 }
 
 /// A text is a version, or no version at one place and for one reason.
 pub fn one_explanation(
     text: &[u8],
-    reading: i32,
+    dialect: i32,
     place: &mut usize,
     other_place: &mut usize,
 ) -> (i32, i32)
@@ -53,8 +53,8 @@ pub fn one_explanation(
 {
     one_longest_front();
     one_reason();
-    let first = semver_parser_proved_explain_version(text, reading, place);
-    let second = semver_parser_proved_explain_version(text, reading, other_place);
+    let first = semver_parser_proved_explain_version(text, dialect, place);
+    let second = semver_parser_proved_explain_version(text, dialect, other_place);
     (first, second)
 }
 
@@ -63,7 +63,7 @@ pub fn one_explanation(
 pub fn one_range_explanation(
     alloc: Global,
     text: &[u8],
-    reading: i32,
+    dialect: i32,
     place: &mut usize,
     other_place: &mut usize,
     hint: &mut i32,
@@ -80,8 +80,8 @@ pub fn one_range_explanation(
 {
     one_place();
     one_limit_place();
-    let number = semver_parser_proved_explain_range(alloc, text, reading, place, hint);
-    let other = semver_parser_proved_explain_range(alloc, text, reading, other_place, other_hint);
+    let number = semver_parser_proved_explain_range(alloc, text, dialect, place, hint);
+    let other = semver_parser_proved_explain_range(alloc, text, dialect, other_place, other_hint);
     (number, other)
 }
 
@@ -89,7 +89,7 @@ pub fn one_range_explanation(
 pub fn one_rewriting(
     alloc: Global,
     text: &[u8],
-    reading: i32,
+    dialect: i32,
     exact: bool,
     out: &mut [u8],
     other_out: &mut [u8],
@@ -101,8 +101,8 @@ pub fn one_rewriting(
     ensures one { AreOne (number.ok ∷ number.no_room ∷ number.range_out_of_memory ∷ [])
         result.0 result.1 ((out.new ≡ other_out.new) × (length.new ≡ other_length.new)) }
 {
-    let number = semver_parser_proved_rewrite(alloc, text, reading, exact, out, length);
-    let other = semver_parser_proved_rewrite(alloc, text, reading, exact, other_out, other_length);
+    let number = semver_parser_proved_rewrite(alloc, text, dialect, exact, out, length);
+    let other = semver_parser_proved_rewrite(alloc, text, dialect, exact, other_out, other_length);
     (number, other)
 }
 
@@ -110,7 +110,7 @@ pub fn one_rewriting(
 pub fn one_comparators(
     alloc: Global,
     text: &[u8],
-    reading: i32,
+    dialect: i32,
     exact: bool,
     comparators: &mut [RewrittenComparator],
     others: &mut [RewrittenComparator],
@@ -132,7 +132,7 @@ pub fn one_comparators(
     let number = semver_parser_proved_comparators(
         alloc,
         text,
-        reading,
+        dialect,
         exact,
         comparators,
         count,
@@ -142,7 +142,7 @@ pub fn one_comparators(
     let other = semver_parser_proved_comparators(
         alloc,
         text,
-        reading,
+        dialect,
         exact,
         others,
         other_count,
@@ -156,7 +156,7 @@ pub fn one_comparators(
 pub fn one_meeting(
     alloc: Global,
     range: &[u8],
-    reading: i32,
+    dialect: i32,
     pre_releases: i32,
     version: &[u8],
     meets: &mut bool,
@@ -169,11 +169,11 @@ pub fn one_meeting(
     ensures version_memory { result.0 ≡ number.version_out_of_memory
         → IsOneOf text_errors result.1 }
 {
-    let number = semver_parser_proved_meets(alloc, range, reading, pre_releases, version, meets);
+    let number = semver_parser_proved_meets(alloc, range, dialect, pre_releases, version, meets);
     let other = semver_parser_proved_meets(
         alloc,
         range,
-        reading,
+        dialect,
         pre_releases,
         version,
         other_meets,
@@ -185,7 +185,7 @@ pub fn one_meeting(
 pub fn one_meetings(
     alloc: Global,
     range: &[u8],
-    reading: i32,
+    dialect: i32,
     pre_releases: i32,
     versions: &[&[u8]],
     answers: &mut [u8],
@@ -203,7 +203,7 @@ pub fn one_meetings(
     let number = semver_parser_proved_meets_each(
         alloc,
         range,
-        reading,
+        dialect,
         pre_releases,
         versions,
         answers,
@@ -211,7 +211,7 @@ pub fn one_meetings(
     let other = semver_parser_proved_meets_each(
         alloc,
         range,
-        reading,
+        dialect,
         pre_releases,
         versions,
         others,
@@ -223,7 +223,7 @@ pub fn one_meetings(
 pub fn one_least(
     alloc: Global,
     range: &[u8],
-    reading: i32,
+    dialect: i32,
     pre_releases: i32,
     out: &mut [u8],
     other_out: &mut [u8],
@@ -235,11 +235,11 @@ pub fn one_least(
     ensures one { AreOne (number.ok ∷ number.no_room ∷ number.range_out_of_memory ∷ [])
         result.0 result.1 ((out.new ≡ other_out.new) × (length.new ≡ other_length.new)) }
 {
-    let number = semver_parser_proved_least(alloc, range, reading, pre_releases, out, length);
+    let number = semver_parser_proved_least(alloc, range, dialect, pre_releases, out, length);
     let other = semver_parser_proved_least(
         alloc,
         range,
-        reading,
+        dialect,
         pre_releases,
         other_out,
         other_length,
@@ -252,7 +252,7 @@ pub fn one_comparison(
     alloc: Global,
     old_range: &[u8],
     new_range: &[u8],
-    reading: i32,
+    dialect: i32,
     pre_releases: i32,
     out: &mut [u8],
     other_out: &mut [u8],
@@ -272,7 +272,7 @@ pub fn one_comparison(
         alloc,
         old_range,
         new_range,
-        reading,
+        dialect,
         pre_releases,
         out,
         length,
@@ -282,7 +282,7 @@ pub fn one_comparison(
         alloc,
         old_range,
         new_range,
-        reading,
+        dialect,
         pre_releases,
         other_out,
         other_length,
@@ -296,7 +296,7 @@ pub fn one_precedence(
     alloc: Global,
     version: &[u8],
     other: &[u8],
-    reading: i32,
+    dialect: i32,
     order: &mut i32,
     other_order: &mut i32,
     in_other: &mut bool,
@@ -310,12 +310,12 @@ pub fn one_precedence(
     ensures in_other { result.0 ≢ number.ok → result.1 ≢ number.ok
         → in_other.new ≡ other_in_other.new }
 {
-    let first = semver_parser_proved_precedence(alloc, version, other, reading, order, in_other);
+    let first = semver_parser_proved_precedence(alloc, version, other, dialect, order, in_other);
     let second = semver_parser_proved_precedence(
         alloc,
         version,
         other,
-        reading,
+        dialect,
         other_order,
         other_in_other,
     );
@@ -326,7 +326,7 @@ pub fn one_precedence(
 pub fn one_set(
     alloc: Global,
     range: &[u8],
-    reading: i32,
+    dialect: i32,
     pre_releases: i32,
     made: &mut [FlatSwitch],
     other_made: &mut [FlatSwitch],
@@ -349,7 +349,7 @@ pub fn one_set(
     let number = semver_parser_proved_set(
         alloc,
         range,
-        reading,
+        dialect,
         pre_releases,
         made,
         count,
@@ -359,7 +359,7 @@ pub fn one_set(
     let other = semver_parser_proved_set(
         alloc,
         range,
-        reading,
+        dialect,
         pre_releases,
         other_made,
         other_count,
@@ -375,15 +375,15 @@ pub fn one_membership(
     switches: &[FlatSwitch],
     bytes: &[u8],
     version: &[u8],
-    reading: i32,
+    dialect: i32,
     is_in: &mut bool,
     other_is_in: &mut bool,
 ) -> (i32, i32)
     requires { is_in.old ≡ other_is_in.old }
     ensures one { AreOne text_errors result.0 result.1 (is_in.new ≡ other_is_in.new) }
 {
-    let number = semver_parser_proved_set_has(alloc, switches, bytes, version, reading, is_in);
-    let other = semver_parser_proved_set_has(alloc, switches, bytes, version, reading, other_is_in);
+    let number = semver_parser_proved_set_has(alloc, switches, bytes, version, dialect, is_in);
+    let other = semver_parser_proved_set_has(alloc, switches, bytes, version, dialect, other_is_in);
     (number, other)
 }
 

@@ -18,7 +18,7 @@ mod meeting;
 mod numbers;
 mod range_refusals;
 mod range_text;
-mod readings;
+mod dialects;
 mod refusals;
 mod set_operations;
 mod sets;
@@ -30,18 +30,18 @@ ghost use Rattle.std.specs.Prelude.{slice_index, take, true};
 ghost use Rattle.semver_parser.specs.Versions.{VersionValue};
 ghost use Rattle.semver_parser.specs.declared.version.Version.{Version};
 ghost use Rattle.semver_parser.specs.ToolVersions.{IsVersionTextIn, SpellsIn};
-ghost use Rattle.semver_parser.specs.declared.version.Dialect.{Dialect};
+ghost use Rattle.semver_parser.specs.declared.version.Grammar.{Grammar};
 ghost use Rattle.semver_parser.specs.Outlines.{OutlineValue, IsOutlineIn, dotted_text};
 ghost use Rattle.semver_parser.specs.Precedence.{precedence};
 ghost use Rattle.semver_parser.specs.PrintedRanges.{set_text};
-ghost use Rattle.tool_ranges.specs.declared.reading.Reading.{Reading};
+ghost use Rattle.tool_ranges.specs.declared.dialect.Dialect.{Dialect};
 ghost use Rattle.tool_ranges.specs.declared.meaning.Meaning.{Meaning};
 ghost use Rattle.tool_ranges.specs.Fronts.{BeginsAs, BeginsFitting, IsPlace};
 ghost use Rattle.tool_ranges.specs.Hints.{limit_of};
-ghost use Rattle.tool_ranges.specs.Readings.{SpellsAs, TreeOf, dialect_of, fits_as};
-ghost use Rattle.tool_ranges.specs.Meanings.{MeansAs, meant_as, reading_of};
+ghost use Rattle.tool_ranges.specs.Dialects.{SpellsAs, TreeOf, grammar_of, fits_as};
+ghost use Rattle.tool_ranges.specs.Meanings.{MeansAs, meant_as, dialect_of};
 ghost use Rattle.semver_parser_c.specs.Numbers as number;
-ghost use Rattle.semver_parser_c.specs.Readings.{IsDialect, IsNamed, IsReading, reading_number};
+ghost use Rattle.semver_parser_c.specs.Dialects.{IsGrammar, IsNamed, IsDialect, dialect_number};
 ghost use Rattle.semver_parser_c.specs.Errors.{IsAccepted, IsOneOf, NewRangeIsRead, RangeIsRead};
 ghost use Rattle.semver_parser_c.specs.Errors.{RefusesNewRange, RefusesRange, RefusesText};
 ghost use Rattle.semver_parser_c.specs.Errors.{HasOutcomeIn, MayRunOutIn, RefusedIn};
@@ -157,38 +157,38 @@ pub struct ComparedRanges {
 pub extern "C" fn semver_parser_proved_parse_version(
     alloc: Global,
     text: &[u8],
-    reading: i32,
+    dialect: i32,
     out: &mut ReadVersion,
 ) -> i32
     ensures numbers { IsOneOf (number.ok ∷ number.no_such_reading ∷ version_errors) result }
     // What is read is the outline of the version that the text spells in the dialect of the
     // reading, with where it has its parts: there are the identifiers, joined by dots. It takes no
     // memory.
-    ensures version { (d : Dialect) → IsDialect d reading → result ≡ number.ok
+    ensures version { (d : Grammar) → IsGrammar d dialect → result ≡ number.ok
         → (o : OutlineValue) × IsOutlineIn d text.now o × (out.new ≡ told o) }
-    ensures parts { (d : Dialect) → IsDialect d reading → result ≡ number.ok
+    ensures parts { (d : Grammar) → IsGrammar d dialect → result ≡ number.ok
         → (v : VersionValue) → SpellsIn d v text.now
         → (bytes_at out.new.pre text.now ≡ dotted_text v.plain.pre)
         × (bytes_at out.new.build text.now ≡ dotted_text v.build) }
-    ensures accepted { (d : Dialect) → IsDialect d reading → (v : VersionValue)
+    ensures accepted { (d : Grammar) → IsGrammar d dialect → (v : VersionValue)
         → IsUtf8 text.now → SpellsIn d v text.now → result ≡ number.ok }
 
     // Errors: the reading, the bytes, the outcome of the text, and memory that ran out.
-    ensures named { (result ≡ number.no_such_reading) ⊎ IsReading reading }
-    ensures no_such_reading { (result ≡ number.no_such_reading) ↔ ¬ (IsReading reading) }
-    ensures not_utf8 { (d : Dialect) → IsDialect d reading
+    ensures named { (result ≡ number.no_such_reading) ⊎ IsDialect dialect }
+    ensures no_such_reading { (result ≡ number.no_such_reading) ↔ ¬ (IsDialect dialect) }
+    ensures not_utf8 { (d : Grammar) → IsGrammar d dialect
         → (result ≡ number.version_not_utf8) ↔ ¬ (IsUtf8 text.now) }
-    ensures outcome { (d : Dialect) → IsDialect d reading → IsUtf8 text.now
+    ensures outcome { (d : Grammar) → IsGrammar d dialect → IsUtf8 text.now
         → result ≢ number.version_out_of_memory → HasOutcomeIn d text.now result }
-    ensures out_of_memory { (d : Dialect) → IsDialect d reading
+    ensures out_of_memory { (d : Grammar) → IsGrammar d dialect
         → result ≡ number.version_out_of_memory → MayRunOutIn d text.now }
     ensures unchanged { result ≢ number.ok → out.new ≡ out.old }
 {
-    let Some(reading) = readings::reading_of(reading) else {
+    let Some(dialect) = dialects::dialect_of(dialect) else {
         return numbers::NO_SUCH_READING;
     };
     semver_parser::laws::one_outlined_version();
-    match version_text::outline(alloc, text, reading.dialect()) {
+    match version_text::outline(alloc, text, dialect.grammar()) {
         Ok(outline) => {
             *out = ReadVersion {
                 major: outline.major(),
@@ -223,26 +223,26 @@ pub extern "C" fn semver_parser_proved_parse_version(
 #[unsafe(no_mangle)]
 pub extern "C" fn semver_parser_proved_explain_version(
     text: &[u8],
-    reading: i32,
+    dialect: i32,
     place: &mut usize,
 ) -> i32
     ensures numbers { IsOneOf (number.ok ∷ number.no_such_reading ∷ reason_numbers) result }
-    ensures named { (result ≡ number.no_such_reading) ⊎ IsReading reading }
-    ensures no_such_reading { (result ≡ number.no_such_reading) ↔ ¬ (IsReading reading) }
-    ensures version { (d : Dialect) → IsDialect d reading
+    ensures named { (result ≡ number.no_such_reading) ⊎ IsDialect dialect }
+    ensures no_such_reading { (result ≡ number.no_such_reading) ↔ ¬ (IsDialect dialect) }
+    ensures version { (d : Grammar) → IsGrammar d dialect
         → (result ≡ number.ok) ↔ IsVersionTextIn d text.now }
-    ensures place { (d : Dialect) → IsDialect d reading → result ≢ number.ok
+    ensures place { (d : Grammar) → IsGrammar d dialect → result ≢ number.ok
         → IsLongestFront d text.now place.new }
-    ensures reason { (d : Dialect) → IsDialect d reading → result ≢ number.ok
+    ensures reason { (d : Grammar) → IsGrammar d dialect → result ≢ number.ok
         → (r : Reason) × IsReason d (take place.new text.now) (byte_at text.now place.new) r
         × (result ≡ reason_number r) }
     ensures unchanged { IsOneOf (number.ok ∷ number.no_such_reading ∷ []) result
         → place.new ≡ place.old }
 {
-    let Some(reading) = readings::reading_of(reading) else {
+    let Some(dialect) = dialects::dialect_of(dialect) else {
         return numbers::NO_SUCH_READING;
     };
-    match refused(text, reading.dialect()) {
+    match refused(text, dialect.grammar()) {
         Some(refusal) => {
             *place = refusal.place;
             refusals::number_of(refusal.reason)
@@ -271,27 +271,27 @@ pub extern "C" fn semver_parser_proved_explain_version(
 pub extern "C" fn semver_parser_proved_explain_range(
     alloc: Global,
     text: &[u8],
-    reading: i32,
+    dialect: i32,
     place: &mut usize,
     hint: &mut i32,
 ) -> i32
     ensures numbers { IsOneOf (number.ok ∷ number.no_such_reading ∷ range_errors) result }
-    ensures refusals { ExplainsRange reading text.now result }
-    ensures place { (r : Reading) → reading ≡ reading_number r → result ≡ number.not_a_range
+    ensures refusals { ExplainsRange dialect text.now result }
+    ensures place { (r : Dialect) → dialect ≡ dialect_number r → result ≡ number.not_a_range
         → IsPlace (BeginsAs r) text.now place.new }
-    ensures limit { (r : Reading) → reading ≡ reading_number r → result ≡ number.number_too_large
+    ensures limit { (r : Dialect) → dialect ≡ dialect_number r → result ≡ number.number_too_large
         → IsPlace (BeginsFitting r) text.now place.new }
     ensures hint { IsExplained result → IsOneOf hint_numbers hint.new }
     // The hint of a number that is too large is the limit of the reading.
-    ensures limit_hint { (r : Reading) → reading ≡ reading_number r
+    ensures limit_hint { (r : Dialect) → dialect ≡ dialect_number r
         → result ≡ number.number_too_large → hint.new ≡ hint_number (Some (limit_of r)) }
     ensures unchanged { (IsExplained result → ⊥)
         → (place.new ≡ place.old) × (hint.new ≡ hint.old) }
 {
-    let Some(reading) = readings::reading_of(reading) else {
+    let Some(dialect) = dialects::dialect_of(dialect) else {
         return numbers::NO_SUCH_READING;
     };
-    let (number, told) = range_refusals::explained(alloc, reading, text);
+    let (number, told) = range_refusals::explained(alloc, dialect, text);
     if let Some((at, what)) = told {
         *place = at;
         *hint = what;
@@ -313,13 +313,13 @@ pub extern "C" fn semver_parser_proved_explain_range(
 /// # Errors
 ///
 /// `NO_SUCH_READING`, whatever the text. Then `RANGE_NOT_UTF8`, those of
-/// `tool_ranges::reading::rewrite`, which are `NOT_A_RANGE`, `NUMBER_TOO_LARGE` and
+/// `tool_ranges::dialect::rewrite`, which are `NOT_A_RANGE`, `NUMBER_TOO_LARGE` and
 /// `RANGE_OUT_OF_MEMORY`, and `NO_ROOM`.
 #[unsafe(no_mangle)]
 pub extern "C" fn semver_parser_proved_rewrite(
     alloc: Global,
     text: &[u8],
-    reading: i32,
+    dialect: i32,
     exact: bool,
     out: &mut [u8],
     length: &mut usize,
@@ -328,17 +328,17 @@ pub extern "C" fn semver_parser_proved_rewrite(
         result }
     // What is put into the buffer is the printed text of what the text is rewritten to.
     ensures rewritten { (result ≡ number.ok) ⊎ (result ≡ number.no_room)
-        → (r : Reading) × (reading ≡ reading_number r)
+        → (r : Dialect) × (dialect ≡ dialect_number r)
         × (tree : TreeOf r) × SpellsAs r tree text.now × IsTrue (fits_as r tree)
         × Puts (set_text (set_for exact r tree)) out.old out.new length.new result }
 
     // Errors of the reading and of the text, whatever the buffer.
-    ensures refusals { RefusesText reading text.now result }
+    ensures refusals { RefusesText dialect text.now result }
     ensures room_unchanged { result ≢ number.ok → out.new ≡ out.old }
     ensures length_unchanged { IsOneOf (number.no_such_reading ∷ range_errors) result
         → length.new ≡ length.old }
 {
-    let set = match range_text::read(alloc, text, reading, exact) {
+    let set = match range_text::read(alloc, text, dialect, exact) {
         Ok(set) => set,
         Err(number) => return number,
     };
@@ -370,7 +370,7 @@ pub extern "C" fn semver_parser_proved_rewrite(
 pub extern "C" fn semver_parser_proved_comparators(
     alloc: Global,
     text: &[u8],
-    reading: i32,
+    dialect: i32,
     exact: bool,
     comparators: &mut [RewrittenComparator],
     count: &mut usize,
@@ -382,7 +382,7 @@ pub extern "C" fn semver_parser_proved_comparators(
     // What is put into the buffers are the comparators that the text is rewritten to, in order,
     // each with the number of its range, and the texts of their pre-releases, one after the other.
     ensures rewritten { (result ≡ number.ok) ⊎ (result ≡ number.no_room)
-        → (r : Reading) × (reading ≡ reading_number r)
+        → (r : Dialect) × (dialect ≡ dialect_number r)
         × (tree : TreeOf r) × SpellsAs r tree text.now × IsTrue (fits_as r tree)
         × PutsBoth
         (record {
@@ -399,19 +399,19 @@ pub extern "C" fn semver_parser_proved_comparators(
         })
         result }
     // At the place that each names is its pre-release, its identifiers joined by dots.
-    ensures pre_releases { result ≡ number.ok → (r : Reading) → reading ≡ reading_number r
+    ensures pre_releases { result ≡ number.ok → (r : Dialect) → dialect ≡ dialect_number r
         → (tree : TreeOf r) → SpellsAs r tree text.now
         → HasPreReleases out.new (take count.new comparators.new)
         (comparators_of (set_for exact r tree)) }
 
     // Errors of the reading and of the text, whatever the buffers.
-    ensures refusals { RefusesText reading text.now result }
+    ensures refusals { RefusesText dialect text.now result }
     ensures rooms_unchanged { result ≢ number.ok
         → (comparators.new ≡ comparators.old) × (out.new ≡ out.old) }
     ensures numbers_unchanged { IsOneOf (number.no_such_reading ∷ range_errors) result
         → (count.new ≡ count.old) × (length.new ≡ length.old) }
 {
-    let rewritten = match range_text::read(alloc, text, reading, exact) {
+    let rewritten = match range_text::read(alloc, text, dialect, exact) {
         Ok(set) => set,
         Err(number) => return number,
     };
@@ -445,7 +445,7 @@ pub extern "C" fn semver_parser_proved_comparators(
 pub extern "C" fn semver_parser_proved_meets(
     alloc: Global,
     range: &[u8],
-    reading: i32,
+    dialect: i32,
     pre_releases: i32,
     version: &[u8],
     meets: &mut bool,
@@ -454,32 +454,32 @@ pub extern "C" fn semver_parser_proved_meets(
     ensures no_memory { result ≢ number.range_out_of_memory }
     ensures numbers { IsOneOf (number.ok ∷ named_errors ++ version_errors) result }
     // An answer is that of the range's own meaning, and comes where both texts are read.
-    ensures meaning { result ≡ number.ok → (m : Meaning) → IsNamed m reading pre_releases
-        → (tree : TreeOf (reading_of m)) (v : VersionValue)
-        → SpellsAs (reading_of m) tree range.now
-        → SpellsIn (dialect_of (reading_of m)) v version.now
+    ensures meaning { result ≡ number.ok → (m : Meaning) → IsNamed m dialect pre_releases
+        → (tree : TreeOf (dialect_of m)) (v : VersionValue)
+        → SpellsAs (dialect_of m) tree range.now
+        → SpellsIn (grammar_of (dialect_of m)) v version.now
         → meets.new ≡ meant_as m tree v }
-    ensures both_read { result ≡ number.ok → RangeIsRead reading pre_releases range.now result
-        × ((d : Dialect) → IsDialect d reading → IsVersionTextIn d version.now) }
-    ensures accepted { RangeIsRead reading pre_releases range.now result
-        → (d : Dialect) → IsDialect d reading → (v : VersionValue) → IsUtf8 version.now
+    ensures both_read { result ≡ number.ok → RangeIsRead dialect pre_releases range.now result
+        × ((d : Grammar) → IsGrammar d dialect → IsVersionTextIn d version.now) }
+    ensures accepted { RangeIsRead dialect pre_releases range.now result
+        → (d : Grammar) → IsGrammar d dialect → (v : VersionValue) → IsUtf8 version.now
         → SpellsIn d v version.now → result ≡ number.ok }
     ensures unchanged { result ≢ number.ok → meets.new ≡ meets.old }
 
     // Errors of the reading, of the rule, and of the range, whatever the version.
-    ensures refusals { RefusesRange reading pre_releases range.now result }
+    ensures refusals { RefusesRange dialect pre_releases range.now result }
 
     // Errors of the version, where the range is read.
-    ensures version_not_utf8 { RangeIsRead reading pre_releases range.now result
+    ensures version_not_utf8 { RangeIsRead dialect pre_releases range.now result
         → (result ≡ number.version_not_utf8) ↔ ¬ (IsUtf8 version.now) }
-    ensures version_refused { RangeIsRead reading pre_releases range.now result
-        → (d : Dialect) → IsDialect d reading → IsUtf8 version.now
+    ensures version_refused { RangeIsRead dialect pre_releases range.now result
+        → (d : Grammar) → IsGrammar d dialect → IsUtf8 version.now
         → ¬ (IsVersionTextIn d version.now) → result ≢ number.version_out_of_memory
         → RefusedIn d version.now result }
-    ensures version_out_of_memory { (d : Dialect) → IsDialect d reading
+    ensures version_out_of_memory { (d : Grammar) → IsGrammar d dialect
         → result ≡ number.version_out_of_memory → MayRunOutIn d version.now }
 {
-    match asking::judge(alloc, range, reading, pre_releases, version) {
+    match asking::judge(alloc, range, dialect, pre_releases, version) {
         Ok(met) => {
             *meets = met;
             numbers::OK
@@ -505,7 +505,7 @@ pub extern "C" fn semver_parser_proved_meets(
 pub extern "C" fn semver_parser_proved_meets_each(
     alloc: Global,
     range: &[u8],
-    reading: i32,
+    dialect: i32,
     pre_releases: i32,
     versions: &[&[u8]],
     answers: &mut [u8],
@@ -514,20 +514,20 @@ pub extern "C" fn semver_parser_proved_meets_each(
     ensures no_memory { length versions.now ≤ 3 → result ≢ number.range_out_of_memory }
     ensures numbers { IsOneOf (number.ok ∷ named_errors) result }
     // Each byte is what there is to say of the text at its place, by the range's own meaning.
-    ensures answers { result ≡ number.ok → (m : Meaning) → IsNamed m reading pre_releases
+    ensures answers { result ≡ number.ok → (m : Meaning) → IsNamed m dialect pre_releases
         → (k : ℕ) → k < length versions.now → k < length answers.old
         → IfSome (slice_get versions.now k)
         (λ text. IsAnswer m range.now text.now (slice_index answers.new k)) }
     ensures after { drop (length versions.now) answers.new
         ≡ drop (length versions.now) answers.old }
-    ensures read { result ≡ number.ok → RangeIsRead reading pre_releases range.now result }
+    ensures read { result ≡ number.ok → RangeIsRead dialect pre_releases range.now result }
     ensures unchanged { result ≢ number.ok → answers.new ≡ answers.old }
 
     // Errors of the reading, of the rule, and of the range.
-    ensures refusals { RefusesRange reading pre_releases range.now result }
+    ensures refusals { RefusesRange dialect pre_releases range.now result }
 {
     let count = versions.len();
-    let question = match meeting::question_of(alloc, range, reading, pre_releases, count) {
+    let question = match meeting::question_of(alloc, range, dialect, pre_releases, count) {
         Ok(question) => question,
         Err(number) => return number,
     };
@@ -553,7 +553,7 @@ pub extern "C" fn semver_parser_proved_meets_each(
 pub extern "C" fn semver_parser_proved_least(
     alloc: Global,
     range: &[u8],
-    reading: i32,
+    dialect: i32,
     pre_releases: i32,
     out: &mut [u8],
     length: &mut usize,
@@ -562,19 +562,19 @@ pub extern "C" fn semver_parser_proved_least(
     // What is put into the buffer is the text of the least version that the range means, and an
     // empty one exactly where it means none.
     ensures least { (result ≡ number.ok) ⊎ (result ≡ number.no_room)
-        → (m : Meaning) → IsNamed m reading pre_releases
-        → (tree : TreeOf (reading_of m)) → SpellsAs (reading_of m) tree range.now
+        → (m : Meaning) → IsNamed m dialect pre_releases
+        → (tree : TreeOf (dialect_of m)) → SpellsAs (dialect_of m) tree range.now
         → (least : Option Version) × TellsLeast (IsMeant m tree) least
         × Puts (text_of least) out.old out.new length.new result }
     ensures read { (result ≡ number.ok) ⊎ (result ≡ number.no_room)
-        → RangeIsRead reading pre_releases range.now result }
+        → RangeIsRead dialect pre_releases range.now result }
 
     // Errors of the reading, of the rule, and of the range, whatever the buffer.
-    ensures refusals { RefusesRange reading pre_releases range.now result }
+    ensures refusals { RefusesRange dialect pre_releases range.now result }
     ensures room_unchanged { result ≢ number.ok → out.new ≡ out.old }
     ensures length_unchanged { IsOneOf named_errors result → length.new ≡ length.old }
 {
-    let meant = match sets::read(alloc, range, reading, pre_releases) {
+    let meant = match sets::read(alloc, range, dialect, pre_releases) {
         Ok((_, set)) => set,
         Err(number) => return number,
     };
@@ -611,7 +611,7 @@ pub extern "C" fn semver_parser_proved_compare(
     alloc: Global,
     old_range: &[u8],
     new_range: &[u8],
-    reading: i32,
+    dialect: i32,
     pre_releases: i32,
     out: &mut [u8],
     length: &mut usize,
@@ -622,26 +622,26 @@ pub extern "C" fn semver_parser_proved_compare(
     // What is put into the buffer are the texts of what is lost, gained and shared by what both
     // ranges themselves mean, and `comparison` says where each is.
     ensures told { (result ≡ number.ok) ⊎ (result ≡ number.no_room)
-        → (m : Meaning) → IsNamed m reading pre_releases → (old new : TreeOf (reading_of m))
-        → SpellsAs (reading_of m) old old_range.now → SpellsAs (reading_of m) new new_range.now
+        → (m : Meaning) → IsNamed m dialect pre_releases → (old new : TreeOf (dialect_of m))
+        → SpellsAs (dialect_of m) old old_range.now → SpellsAs (dialect_of m) new new_range.now
         → (told : Comparison) × Compares m old new told
         × Puts (joined_texts told) out.old out.new length.new result
         × (comparison.new ≡ places_of told) }
     // A part has no length exactly where there is no such version.
     ensures which { (result ≡ number.ok) ⊎ (result ≡ number.no_room)
-        → (m : Meaning) → IsNamed m reading pre_releases → (old new : TreeOf (reading_of m))
-        → SpellsAs (reading_of m) old old_range.now → SpellsAs (reading_of m) new new_range.now
+        → (m : Meaning) → IsNamed m dialect pre_releases → (old new : TreeOf (dialect_of m))
+        → SpellsAs (dialect_of m) old old_range.now → SpellsAs (dialect_of m) new new_range.now
         → TellsWhich m old new comparison.new }
     ensures read { (result ≡ number.ok) ⊎ (result ≡ number.no_room)
-        → RangeIsRead reading pre_releases old_range.now result
-        × NewRangeIsRead reading pre_releases new_range.now result }
+        → RangeIsRead dialect pre_releases old_range.now result
+        × NewRangeIsRead dialect pre_releases new_range.now result }
 
     // Errors of the reading, of the rule, of the old range, and where that is accepted of the new
     // one, whatever the buffer and the memory.
-    ensures refusals { RefusesRange reading pre_releases old_range.now result }
+    ensures refusals { RefusesRange dialect pre_releases old_range.now result }
     ensures new_refusals { RefusesNewRange
-        (IsAccepted reading pre_releases old_range.now)
-        reading pre_releases new_range.now result }
+        (IsAccepted dialect pre_releases old_range.now)
+        dialect pre_releases new_range.now result }
     // Wherever memory runs out, one number says so.
     ensures one_memory { result ≢ number.range_out_of_memory }
     ensures room_unchanged { result ≢ number.ok → out.new ≡ out.old }
@@ -650,7 +650,7 @@ pub extern "C" fn semver_parser_proved_compare(
     ensures comparison_unchanged { IsOneOf (named_errors ++ new_range_errors) result
         → comparison.new ≡ comparison.old }
 {
-    let both = sets::sets_of(alloc, old_range, new_range, reading, pre_releases);
+    let both = sets::sets_of(alloc, old_range, new_range, dialect, pre_releases);
     let (old_set, new_set) = match both {
         Ok(sets) => sets,
         Err(number) => return number,
@@ -682,52 +682,52 @@ pub extern "C" fn semver_parser_proved_precedence(
     alloc: Global,
     version: &[u8],
     other: &[u8],
-    reading: i32,
+    dialect: i32,
     order: &mut i32,
     in_other: &mut bool,
 ) -> i32
     ensures numbers { IsOneOf (number.ok ∷ number.no_such_reading ∷ version_errors) result }
     // The result is the precedence of the versions that both texts spell.
-    ensures precedence { (d : Dialect) → IsDialect d reading → result ≡ number.ok
+    ensures precedence { (d : Grammar) → IsGrammar d dialect → result ≡ number.ok
         → (v w : VersionValue) → SpellsIn d v version.now → SpellsIn d w other.now
         → order.new ≡ order_number (precedence v.plain w.plain) }
-    ensures both_read { (d : Dialect) → IsDialect d reading → result ≡ number.ok
+    ensures both_read { (d : Grammar) → IsGrammar d dialect → result ≡ number.ok
         → IsVersionTextIn d version.now × IsVersionTextIn d other.now }
     ensures both_utf8 { result ≡ number.ok → IsUtf8 version.now × IsUtf8 other.now }
-    ensures accepted { (d : Dialect) → IsDialect d reading → (v w : VersionValue)
+    ensures accepted { (d : Grammar) → IsGrammar d dialect → (v w : VersionValue)
         → IsUtf8 version.now → SpellsIn d v version.now
         → IsUtf8 other.now → SpellsIn d w other.now
         → IsOneOf (number.ok ∷ number.version_out_of_memory ∷ []) result }
     // Memory runs out at two versions only where the other has a pre-release.
-    ensures plain { (d : Dialect) → IsDialect d reading → (v w : VersionValue)
+    ensures plain { (d : Grammar) → IsGrammar d dialect → (v w : VersionValue)
         → IsUtf8 version.now → SpellsIn d v version.now
         → IsUtf8 other.now → SpellsIn d w other.now → w.plain.pre ≡ []
         → result ≡ number.ok }
 
     // An error is that of the reading, of the first text, or of the other where the first spells a
     // version.
-    ensures named { (result ≡ number.no_such_reading) ⊎ IsReading reading }
-    ensures no_such_reading { (result ≡ number.no_such_reading) ↔ ¬ (IsReading reading) }
-    ensures refused { (d : Dialect) → IsDialect d reading → result ≢ number.ok
+    ensures named { (result ≡ number.no_such_reading) ⊎ IsDialect dialect }
+    ensures no_such_reading { (result ≡ number.no_such_reading) ↔ ¬ (IsDialect dialect) }
+    ensures refused { (d : Grammar) → IsGrammar d dialect → result ≢ number.ok
         → RefusesVersion d (at_fault in_other.new version.now other.now) result }
-    ensures in_other { (d : Dialect) → IsDialect d reading → result ≢ number.ok
+    ensures in_other { (d : Grammar) → IsGrammar d dialect → result ≢ number.ok
         → (IsTrue in_other.new ↔ (IsUtf8 version.now × IsVersionTextIn d version.now)) }
     ensures order_unchanged { result ≢ number.ok → order.new ≡ order.old }
     ensures in_other_unchanged { IsOneOf (number.ok ∷ number.no_such_reading ∷ []) result
         → in_other.new ≡ in_other.old }
 {
-    let Some(reading) = readings::reading_of(reading) else {
+    let Some(dialect) = dialects::dialect_of(dialect) else {
         return numbers::NO_SUCH_READING;
     };
     semver_parser::laws::one_outlined_version();
-    let first = match version_text::outline(alloc, version, reading.dialect()) {
+    let first = match version_text::outline(alloc, version, dialect.grammar()) {
         Ok(outline) => outline,
         Err(number) => {
             *in_other = false;
             return number;
         }
     };
-    match version_text::plain_version(alloc, other, reading.dialect()) {
+    match version_text::plain_version(alloc, other, dialect.grammar()) {
         Ok(second) => {
             *order = order_number(first.cmp_precedence(&second));
             numbers::OK
@@ -769,7 +769,7 @@ fn order_number(ordering: Ordering) -> i32
 pub extern "C" fn semver_parser_proved_set(
     alloc: Global,
     range: &[u8],
-    reading: i32,
+    dialect: i32,
     pre_releases: i32,
     made: &mut [FlatSwitch],
     count: &mut usize,
@@ -779,21 +779,21 @@ pub extern "C" fn semver_parser_proved_set(
     ensures numbers { IsOneOf (number.ok ∷ number.no_room ∷ named_errors) result }
     // What is put into the buffers is the set of the versions that the range means.
     ensures set { (result ≡ number.ok) ⊎ (result ≡ number.no_room)
-        → (m : Meaning) → IsNamed m reading pre_releases
+        → (m : Meaning) → IsNamed m dialect pre_releases
         → (set : SetValue) × IsNormal set × IsPrintable set × MeansAs m range.now set
         × PutsSet set (record { old = made.old; new = made.new; told = count.new })
         (record { old = out.old; new = out.new; told = length.new }) result }
     ensures read { (result ≡ number.ok) ⊎ (result ≡ number.no_room)
-        → RangeIsRead reading pre_releases range.now result }
+        → RangeIsRead dialect pre_releases range.now result }
 
     // Errors of the reading, of the rule, and of the range, whatever the buffers.
-    ensures refusals { RefusesRange reading pre_releases range.now result }
+    ensures refusals { RefusesRange dialect pre_releases range.now result }
     ensures rooms_unchanged { result ≢ number.ok
         → (made.new ≡ made.old) × (out.new ≡ out.old) }
     ensures numbers_unchanged { IsOneOf named_errors result
         → (count.new ≡ count.old) × (length.new ≡ length.old) }
 {
-    let set = match sets::read(alloc, range, reading, pre_releases) {
+    let set = match sets::read(alloc, range, dialect, pre_releases) {
         Ok((_, set)) => set,
         Err(number) => return number,
     };
@@ -823,31 +823,31 @@ pub extern "C" fn semver_parser_proved_set_has(
     switches: &[FlatSwitch],
     bytes: &[u8],
     version: &[u8],
-    reading: i32,
+    dialect: i32,
     is_in: &mut bool,
 ) -> i32
     ensures numbers { IsOneOf (number.ok ∷ number.no_such_reading ∷ number.not_a_set
         ∷ version_errors) result }
     // The result is whether the set has the version that the text spells.
-    ensures has { (d : Dialect) → IsDialect d reading → result ≡ number.ok
+    ensures has { (d : Grammar) → IsGrammar d dialect → result ≡ number.ok
         → (set : SetValue) → IsFlat switches.now bytes.now set
         → (v : VersionValue) → SpellsIn d v version.now → is_in.new ≡ has_version set v.plain }
-    ensures read { (d : Dialect) → IsDialect d reading → result ≡ number.ok
+    ensures read { (d : Grammar) → IsGrammar d dialect → result ≡ number.ok
         → IsUtf8 version.now × IsVersionTextIn d version.now
         × ((set : SetValue) × IsFlat switches.now bytes.now set) }
-    ensures accepted { (d : Dialect) → IsDialect d reading → result ≢ number.not_a_set
+    ensures accepted { (d : Grammar) → IsGrammar d dialect → result ≢ number.not_a_set
         → IsUtf8 version.now → IsVersionTextIn d version.now → result ≡ number.ok }
 
     // Errors: the reading, the data, and the version.
-    ensures named { (result ≡ number.no_such_reading) ⊎ IsReading reading }
-    ensures no_such_reading { (result ≡ number.no_such_reading) ↔ ¬ (IsReading reading) }
-    ensures not_a_set { IsReading reading
+    ensures named { (result ≡ number.no_such_reading) ⊎ IsDialect dialect }
+    ensures no_such_reading { (result ≡ number.no_such_reading) ↔ ¬ (IsDialect dialect) }
+    ensures not_a_set { IsDialect dialect
         → (result ≡ number.not_a_set) ↔ IsNoSet switches.now bytes.now }
-    ensures refused { (d : Dialect) → IsDialect d reading → result ≢ number.ok
+    ensures refused { (d : Grammar) → IsGrammar d dialect → result ≢ number.ok
         → result ≢ number.not_a_set → RefusesVersion d version.now result }
     ensures unchanged { result ≢ number.ok → is_in.new ≡ is_in.old }
 {
-    let Some(reading) = readings::reading_of(reading) else {
+    let Some(dialect) = dialects::dialect_of(dialect) else {
         return numbers::NO_SUCH_READING;
     };
     let Some(set) = FlatSet::read(switches, bytes) else {
@@ -855,7 +855,7 @@ pub extern "C" fn semver_parser_proved_set_has(
     };
     semver_parser::laws::one_outlined_version();
     version_sets::laws::one_flat();
-    match version_text::outline(alloc, version, reading.dialect()) {
+    match version_text::outline(alloc, version, dialect.grammar()) {
         Ok(outline) => {
             *is_in = set.has_outline(&outline);
             numbers::OK

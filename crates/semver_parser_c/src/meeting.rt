@@ -4,16 +4,16 @@ ghost use Rattle.std.specs.Prelude.{◌≡◌, ◌≢◌, ◌<◌, ◌≤◌, �
 ghost use Rattle.std.specs.Prelude.{slice_get, slice_index, Err, IfOk, IfErr, IfSome};
 ghost use Rattle.semver_parser.specs.Texts.{Text};
 ghost use Rattle.tool_ranges.specs.declared.meaning.Meaning.{Meaning as SomeMeaning};
-ghost use Rattle.tool_ranges.specs.Meanings.{reading_of};
+ghost use Rattle.tool_ranges.specs.Meanings.{dialect_of};
 ghost use Rattle.semver_parser_c.specs.Numbers as number;
-ghost use Rattle.semver_parser_c.specs.Readings.{IsNamed};
+ghost use Rattle.semver_parser_c.specs.Dialects.{IsNamed};
 ghost use Rattle.semver_parser_c.specs.Errors.{IsAccepted, IsOneOf, RefusesRange, version_errors};
 ghost use Rattle.semver_parser_c.specs.Meetings.{IsAnswer};
 ghost use Rattle.semver_parser_c.specs.Steps.Questions.{IsFilterOf, IsQuestion, IsQuestionOf};
 ghost use Rattle.semver_parser_c.specs.Steps.Questions.{IsVerdict};
 ghost use Rattle.semver_parser_c.specs.Steps.TextErrors.{IsReadable, IsRefused, Stands};
 
-use crate::{asking, numbers, range_text, readings, sets, version_text};
+use crate::{asking, numbers, range_text, dialects, sets, version_text};
 use release_filter::{Filter, Judged};
 use semver_parser::{laws, version};
 use std::alloc::Global;
@@ -34,23 +34,23 @@ pub enum Question<'r> {
 pub fn question_of<'r>(
     alloc: Global,
     range: &'r [u8],
-    reading: i32,
+    dialect: i32,
     pre_releases: i32,
     count: usize,
 ) -> Result<Question<'r>, i32>
-    ensures accepted { IfOk result (λ _. IsAccepted reading pre_releases range.now) }
-    ensures meaning { IfOk result (λ question. (m : SomeMeaning) → IsNamed m reading pre_releases
+    ensures accepted { IfOk result (λ _. IsAccepted dialect pre_releases range.now) }
+    ensures meaning { IfOk result (λ question. (m : SomeMeaning) → IsNamed m dialect pre_releases
         → IsQuestionOf question m range.now) }
-    ensures stands { IfOk result (λ _. Stands (RefusesRange reading pre_releases range.now)) }
-    ensures refused { IfErr result (λ n. IsRefused reading pre_releases range.now n) }
+    ensures stands { IfOk result (λ _. Stands (RefusesRange dialect pre_releases range.now)) }
+    ensures refused { IfErr result (λ n. IsRefused dialect pre_releases range.now n) }
     ensures at_once { count ≤ 3 → result ≢ Err number.range_out_of_memory }
 {
     if count <= AT_ONCE {
-        return text_of(range, reading, pre_releases);
+        return text_of(range, dialect, pre_releases);
     }
-    match sets::read(alloc, range, reading, pre_releases) {
+    match sets::read(alloc, range, dialect, pre_releases) {
         Ok((meaning, set)) => {
-            let filter = Filter::of_versions(set, meaning.reading().dialect());
+            let filter = Filter::of_versions(set, meaning.dialect().grammar());
             Ok(Question::Filter(filter))
         }
         Err(number) => Err(number),
@@ -58,15 +58,15 @@ pub fn question_of<'r>(
 }
 
 /// A range text that is read, as a question, or the number of the error.
-fn text_of<'r>(range: &'r [u8], reading: i32, pre_releases: i32) -> Result<Question<'r>, i32>
-    ensures accepted { IfOk result (λ _. IsAccepted reading pre_releases range.now) }
-    ensures meaning { IfOk result (λ question. (m : SomeMeaning) → IsNamed m reading pre_releases
+fn text_of<'r>(range: &'r [u8], dialect: i32, pre_releases: i32) -> Result<Question<'r>, i32>
+    ensures accepted { IfOk result (λ _. IsAccepted dialect pre_releases range.now) }
+    ensures meaning { IfOk result (λ question. (m : SomeMeaning) → IsNamed m dialect pre_releases
         → IsQuestionOf question m range.now) }
-    ensures stands { IfOk result (λ _. Stands (RefusesRange reading pre_releases range.now)) }
-    ensures refused { IfErr result (λ n. IsRefused reading pre_releases range.now n) }
+    ensures stands { IfOk result (λ _. Stands (RefusesRange dialect pre_releases range.now)) }
+    ensures refused { IfErr result (λ n. IsRefused dialect pre_releases range.now n) }
     ensures no_memory { result ≢ Err number.range_out_of_memory }
 {
-    let meaning = match readings::meaning_of(reading, pre_releases) {
+    let meaning = match dialects::meaning_of(dialect, pre_releases) {
         Ok(meaning) => meaning,
         Err(number) => return Err(number),
     };
@@ -96,19 +96,19 @@ fn judge_by_set(alloc: Global, filter: &Filter, version: &[u8]) -> Result<bool, 
     match filter.judge(version) {
         Judged::Passes(_) => Ok(true),
         Judged::DoesNotPass => Ok(false),
-        Judged::NoVersion => Err(version_text::error(alloc, version, filter.dialect())),
+        Judged::NoVersion => Err(version_text::error(alloc, version, filter.grammar())),
     }
 }
 
 /// Whether a range text that is read means the version of a text, or the number of its error.
 fn judge_by_text(alloc: Global, meaning: Meaning, range: &[u8], version: &[u8]) -> Result<bool, i32>
-    requires { IsReadable (reading_of meaning) range.now }
+    requires { IsReadable (dialect_of meaning) range.now }
     ensures { IsVerdict meaning range.now version.now result }
 {
     laws::one_version_in();
-    let dialect = meaning.reading().dialect();
-    let Some(outline) = version::outline_in(version, dialect) else {
-        return Err(version_text::error(alloc, version, dialect));
+    let grammar = meaning.dialect().grammar();
+    let Some(outline) = version::outline_in(version, grammar) else {
+        return Err(version_text::error(alloc, version, grammar));
     };
     match asking::meets(meaning, range, &outline) {
         Ok(met) => Ok(met),

@@ -12,27 +12,27 @@ use crate::numbers;
 use semver_parser::RangeError;
 use std::alloc::Global;
 use tool_ranges::hints::Hint;
-use tool_ranges::reading::Reading;
+use tool_ranges::dialect::Dialect;
 use tool_ranges::refusals::refused;
 
 /// Whether a text gives a range by a dialect, or why not, by numbers, and then the place and the
 /// number of the hint.
-pub fn explained(alloc: Global, reading: Reading, text: &[u8]) -> (i32, Option<(usize, i32)>)
+pub fn explained(alloc: Global, dialect: Dialect, text: &[u8]) -> (i32, Option<(usize, i32)>)
     ensures number { IsOneOf (number.ok ∷ range_errors) result.0 }
-    ensures by { ExplainsBy reading text.now result.0 }
+    ensures by { ExplainsBy dialect text.now result.0 }
     ensures told { MatchOption result.1 (IsExplained result.0 → ⊥)
         (λ told. IsExplained result.0 × IsOneOf hint_numbers told.1) }
     ensures place { result.0 ≡ number.not_a_range → IfSome result.1
-        (λ told. IsPlace (BeginsAs reading) text.now told.0) }
+        (λ told. IsPlace (BeginsAs dialect) text.now told.0) }
     ensures limit { result.0 ≡ number.number_too_large → IfSome result.1
-        (λ told. IsPlace (BeginsFitting reading) text.now told.0) }
+        (λ told. IsPlace (BeginsFitting dialect) text.now told.0) }
     ensures limit_hint { result.0 ≡ number.number_too_large → IfSome result.1
-        (λ told. told.1 ≡ hint_number (Some (limit_of reading))) }
+        (λ told. told.1 ≡ hint_number (Some (limit_of dialect))) }
 {
     let Ok(text) = std::str::from_utf8(text) else {
         return (numbers::RANGE_NOT_UTF8, None);
     };
-    match refused(alloc, reading, text) {
+    match refused(alloc, dialect, text) {
         Ok(None) => (numbers::OK, None),
         Ok(Some(refusal)) => {
             let told = Some((refusal.place, number_of(refusal.hint)));

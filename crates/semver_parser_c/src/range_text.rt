@@ -4,21 +4,21 @@
 ghost use Rattle.std.specs.Prelude.{◌≡◌, ⊤, IsUtf8, IfOk, IfErr};
 ghost use Rattle.semver_parser.specs.Texts.{Text};
 ghost use Rattle.semver_parser.specs.RangeViews.{set_of};
-ghost use Rattle.tool_ranges.specs.declared.reading.Reading.{Reading as SomeReading};
-ghost use Rattle.tool_ranges.specs.Readings.{HasSetAs, RefusesAs};
+ghost use Rattle.tool_ranges.specs.declared.dialect.Dialect.{Dialect as SomeDialect};
+ghost use Rattle.tool_ranges.specs.Dialects.{HasSetAs, RefusesAs};
 ghost use Rattle.semver_parser_c.specs.Numbers as number;
 ghost use Rattle.semver_parser_c.specs.declared.range_text.TextError.TheVariants.{OutOfMemory};
-ghost use Rattle.semver_parser_c.specs.Readings.{reading_number};
+ghost use Rattle.semver_parser_c.specs.Dialects.{dialect_number};
 ghost use Rattle.semver_parser_c.specs.Errors.{IsOneOf, IsSetFor, RefusesBy, RefusesText};
 ghost use Rattle.semver_parser_c.specs.Errors.{new_range_errors, new_range_numbers};
 ghost use Rattle.semver_parser_c.specs.Printing.{Puts, PutsBoth};
 ghost use Rattle.semver_parser_c.specs.Steps.TextErrors.{HasError, IsReadable, IsTextRefused};
 ghost use Rattle.semver_parser_c.specs.Steps.TextErrors.{IsTold, Stands, text_error_of};
 
-use crate::{numbers, readings};
+use crate::{numbers, dialects};
 use semver_parser::{RangeError, RangeSet};
 use std::alloc::Global;
-use tool_ranges::reading::{self, Reading};
+use tool_ranges::dialect::{self, Dialect};
 
 /// Why a range text isn't read.
 #[derive(Clone, Copy)]
@@ -34,18 +34,18 @@ pub enum TextError {
 }
 
 /// The set of a range text in the dialect of a number, or the number of the error.
-pub fn read(alloc: Global, text: &[u8], reading: i32, exact: bool) -> Result<RangeSet, i32>
-    ensures accepted { IfOk result (λ set. (r : SomeReading) × (reading ≡ reading_number r)
+pub fn read(alloc: Global, text: &[u8], dialect: i32, exact: bool) -> Result<RangeSet, i32>
+    ensures accepted { IfOk result (λ set. (r : SomeDialect) × (dialect ≡ dialect_number r)
         × IsUtf8 text.now × HasSetAs r text.now) }
-    ensures as_rewritten { IfOk result (λ set. (r : SomeReading) → reading ≡ reading_number r
+    ensures as_rewritten { IfOk result (λ set. (r : SomeDialect) → dialect ≡ dialect_number r
         → IsSetFor exact r text.now (set_of set)) }
-    ensures stands { IfOk result (λ set. Stands (RefusesText reading text.now)) }
-    ensures refused { IfErr result (λ n. IsTextRefused reading text.now n) }
+    ensures stands { IfOk result (λ set. Stands (RefusesText dialect text.now)) }
+    ensures refused { IfErr result (λ n. IsTextRefused dialect text.now n) }
 {
-    let Some(reading) = readings::reading_of(reading) else {
+    let Some(dialect) = dialects::dialect_of(dialect) else {
         return Err(numbers::NO_SUCH_READING);
     };
-    match rewritten(alloc, text, reading, exact) {
+    match rewritten(alloc, text, dialect, exact) {
         Ok(set) => Ok(set),
         Err(error) => Err(number_of(error)),
     }
@@ -55,17 +55,17 @@ pub fn read(alloc: Global, text: &[u8], reading: i32, exact: bool) -> Result<Ran
 fn rewritten(
     alloc: Global,
     text: &[u8],
-    reading: Reading,
+    dialect: Dialect,
     exact: bool,
 ) -> Result<RangeSet, TextError>
-    ensures accepted { IfOk result (λ set. IsReadable reading text.now) }
-    ensures as_rewritten { IfOk result (λ set. IsSetFor exact reading text.now (set_of set)) }
-    ensures error { IfErr result (λ error. HasError reading text.now error) }
+    ensures accepted { IfOk result (λ set. IsReadable dialect text.now) }
+    ensures as_rewritten { IfOk result (λ set. IsSetFor exact dialect text.now (set_of set)) }
+    ensures error { IfErr result (λ error. HasError dialect text.now error) }
 {
     let Ok(text) = std::str::from_utf8(text) else {
         return Err(TextError::NotUtf8);
     };
-    match rewritten_text(alloc, text, reading, exact) {
+    match rewritten_text(alloc, text, dialect, exact) {
         Ok(set) => Ok(set),
         Err(error) => Err(text_error_of(error)),
     }
@@ -75,15 +75,15 @@ fn rewritten(
 fn rewritten_text(
     alloc: Global,
     text: &str,
-    reading: Reading,
+    dialect: Dialect,
     exact: bool,
 ) -> Result<RangeSet, RangeError>
-    ensures refusals { RefusesAs reading text.now result }
-    ensures as_rewritten { IfOk result (λ set. IsSetFor exact reading text.now (set_of set)) }
+    ensures refusals { RefusesAs dialect text.now result }
+    ensures as_rewritten { IfOk result (λ set. IsSetFor exact dialect text.now (set_of set)) }
 {
-    match reading {
-        Reading::Crate(compat) if !exact => RangeSet::parse(alloc, text, compat),
-        _ => reading::rewrite(alloc, reading, text),
+    match dialect {
+        Dialect::Crate(compat) if !exact => RangeSet::parse(alloc, text, compat),
+        _ => dialect::rewrite(alloc, dialect, text),
     }
 }
 
@@ -100,8 +100,8 @@ pub fn text_error_of(error: RangeError) -> TextError
 
 /// The number of an error.
 pub fn number_of(error: TextError) -> i32
-    ensures told { (reading : SomeReading) (text : Text) → HasError reading text error
-        → IsTold reading text result }
+    ensures told { (dialect : SomeDialect) (text : Text) → HasError dialect text error
+        → IsTold dialect text result }
     ensures memory { result ≡ number.range_out_of_memory → error ≡ OutOfMemory }
 {
     match error {
@@ -115,8 +115,8 @@ pub fn number_of(error: TextError) -> i32
 /// The number of an error of the new range, where two are compared.
 pub fn new_number_of(error: TextError) -> i32
     ensures one { IsOneOf new_range_errors result }
-    ensures told { (reading : SomeReading) (text : Text) → HasError reading text error
-        → RefusesBy new_range_numbers ⊤ reading text result }
+    ensures told { (dialect : SomeDialect) (text : Text) → HasError dialect text error
+        → RefusesBy new_range_numbers ⊤ dialect text result }
 {
     match error {
         TextError::NotUtf8 => numbers::NEW_RANGE_NOT_UTF8,

@@ -7,9 +7,9 @@ ghost use Rattle.version_sets.specs.Flat.{IsPrintable};
 ghost use Rattle.version_sets.specs.VersionSets.{HasSomeVersion, IsIn};
 ghost use Rattle.version_sets.specs.Comparisons.{TellsLeast};
 ghost use Rattle.tool_ranges.specs.declared.meaning.Meaning.{Meaning as SomeMeaning};
-ghost use Rattle.tool_ranges.specs.Meanings.{MeansAs, reading_of};
+ghost use Rattle.tool_ranges.specs.Meanings.{MeansAs, dialect_of};
 ghost use Rattle.semver_parser_c.specs.Numbers as number;
-ghost use Rattle.semver_parser_c.specs.Readings.{IsNamed};
+ghost use Rattle.semver_parser_c.specs.Dialects.{IsNamed};
 ghost use Rattle.semver_parser_c.specs.Errors.{IsAccepted, IsOneOf, RefusesRange};
 ghost use Rattle.semver_parser_c.specs.Sets.{text_of};
 ghost use Rattle.semver_parser_c.specs.Steps.TextErrors.{HasError, IsEitherRefused, IsMeaningOf};
@@ -17,7 +17,7 @@ ghost use Rattle.semver_parser_c.specs.Steps.TextErrors.{IsReadable, IsRefused, 
 ghost use Rattle.semver_parser_c.specs.Steps.TextErrors.{TellsBoth};
 
 use crate::range_text::{self, TextError};
-use crate::{numbers, readings};
+use crate::{numbers, dialects};
 use semver_parser::version::Version;
 use std::alloc::{AllocError, Global};
 use tool_ranges::meaning::{self, Meaning};
@@ -28,19 +28,19 @@ use version_sets::VersionSet;
 pub fn read(
     alloc: Global,
     range: &[u8],
-    reading: i32,
+    dialect: i32,
     pre_releases: i32,
 ) -> Result<(Meaning, VersionSet), i32>
-    ensures named { IfOk result (λ read. IsMeaningOf read.0 reading pre_releases) }
-    ensures accepted { IfOk result (λ read. IsAccepted reading pre_releases range.now) }
-    ensures meaning { IfOk result (λ read. (m : SomeMeaning) → IsNamed m reading pre_releases
+    ensures named { IfOk result (λ read. IsMeaningOf read.0 dialect pre_releases) }
+    ensures accepted { IfOk result (λ read. IsAccepted dialect pre_releases range.now) }
+    ensures meaning { IfOk result (λ read. (m : SomeMeaning) → IsNamed m dialect pre_releases
         → MeansAs m range.now read.1) }
     ensures printable { IfOk result (λ read. IsPrintable read.1) }
     ensures stands { IfOk result (λ read. Stands
-        (RefusesRange reading pre_releases range.now)) }
-    ensures refused { IfErr result (λ n. IsRefused reading pre_releases range.now n) }
+        (RefusesRange dialect pre_releases range.now)) }
+    ensures refused { IfErr result (λ n. IsRefused dialect pre_releases range.now n) }
 {
-    let meaning = match readings::meaning_of(reading, pre_releases) {
+    let meaning = match dialects::meaning_of(dialect, pre_releases) {
         Ok(meaning) => meaning,
         Err(number) => return Err(number),
     };
@@ -52,10 +52,10 @@ pub fn read(
 
 /// The set of the versions that a range text means, or its error.
 fn read_as(alloc: Global, meaning: Meaning, range: &[u8]) -> Result<VersionSet, TextError>
-    ensures accepted { IfOk result (λ set. IsReadable (reading_of meaning) range.now) }
+    ensures accepted { IfOk result (λ set. IsReadable (dialect_of meaning) range.now) }
     ensures meaning { IfOk result (λ set. MeansAs meaning range.now set) }
     ensures printable { IfOk result IsPrintable }
-    ensures error { IfErr result (λ error. HasError (reading_of meaning) range.now error) }
+    ensures error { IfErr result (λ error. HasError (dialect_of meaning) range.now error) }
 {
     let Ok(text) = std::str::from_utf8(range) else {
         return Err(TextError::NotUtf8);
@@ -72,18 +72,18 @@ pub fn sets_of(
     alloc: Global,
     old_range: &[u8],
     new_range: &[u8],
-    reading: i32,
+    dialect: i32,
     pre_releases: i32,
 ) -> Result<(VersionSet, VersionSet), i32>
-    ensures meaning { IfOk result (λ sets. (m : SomeMeaning) → IsNamed m reading pre_releases
+    ensures meaning { IfOk result (λ sets. (m : SomeMeaning) → IsNamed m dialect pre_releases
         → MeansAs m old_range.now sets.0 × MeansAs m new_range.now sets.1) }
     ensures stands { IfOk result (λ sets. (n : ℤ)
         → IsOneOf (number.ok ∷ number.no_room ∷ number.new_range_out_of_memory ∷ []) n
-        → TellsBoth reading pre_releases old_range.now new_range.now n) }
+        → TellsBoth dialect pre_releases old_range.now new_range.now n) }
     ensures refused { IfErr result (λ n.
-        IsEitherRefused reading pre_releases old_range.now new_range.now n) }
+        IsEitherRefused dialect pre_releases old_range.now new_range.now n) }
 {
-    let meaning = match readings::meaning_of(reading, pre_releases) {
+    let meaning = match dialects::meaning_of(dialect, pre_releases) {
         Ok(meaning) => meaning,
         Err(number) => return Err(number),
     };
@@ -104,9 +104,9 @@ pub fn sets_of(
 /// The set of the versions that a range text means, none where memory ran out, or the number of why
 /// the text is refused.
 fn unless_refused(alloc: Global, meaning: Meaning, range: &[u8]) -> Result<Option<VersionSet>, i32>
-    ensures accepted { IfOk result (λ set. IsReadable (reading_of meaning) range.now) }
+    ensures accepted { IfOk result (λ set. IsReadable (dialect_of meaning) range.now) }
     ensures meaning { IfOk result (λ set. IfSome set (MeansAs meaning range.now)) }
-    ensures refused { IfErr result (λ n. IsTold (reading_of meaning) range.now n) }
+    ensures refused { IfErr result (λ n. IsTold (dialect_of meaning) range.now n) }
     ensures no_memory { IfErr result (λ n. n ≢ number.range_out_of_memory) }
 {
     match read_as(alloc, meaning, range) {

@@ -8,8 +8,8 @@ use Rattle.semver_parser.specs.declared.RangeError.{RangeError}
 use Rattle.semver_parser.specs.declared.RangeError.TheVariants.{NotARange, NumberTooLarge}
 use Rattle.semver_parser.specs.declared.RangeError.TheVariants.{OutOfMemory}
 use Rattle.version_sets.specs.declared.rules.PreReleases.TheVariants.{Stated}
-use Rattle.tool_ranges.specs.Meanings.{meant_as, reading_of}
-use Rattle.tool_ranges.specs.Readings.{IsTextAs, IsTooLargeAs, SpellsAs, TreeOf, dialect_of}
+use Rattle.tool_ranges.specs.Meanings.{meant_as, dialect_of}
+use Rattle.tool_ranges.specs.Dialects.{IsTextAs, IsTooLargeAs, SpellsAs, TreeOf, grammar_of}
 use Rattle.tool_ranges.specs.declared.meaning.Meaning.{Meaning}
 use Rattle.tool_ranges.specs.declared.meaning.Meaning.TheVariants.{Cargo, Npm, Crate}
 
@@ -63,18 +63,18 @@ Decides P This That = ((¬ P) × This) ⊎ (P × That)
 -- each tree of the range says the same of each version that the text spells, and so does the number
 abbrev pub IsMeant : Meaning → Text → Text → ℤ → Type 0
 IsMeant m range version n = (met : Bool) × (n ≡ (if met then meets else does_not_meet))
-    × ((tree : TreeOf (reading_of m)) (v : VersionValue) → SpellsAs (reading_of m) tree range
-    → SpellsIn (dialect_of (reading_of m)) v version → meant_as m tree v ≡ met)
+    × ((tree : TreeOf (dialect_of m)) (v : VersionValue) → SpellsAs (dialect_of m) tree range
+    → SpellsIn (grammar_of (dialect_of m)) v version → meant_as m tree v ≡ met)
 
 -- the range is read first, and the version only then
 abbrev pub IsAnswerOfRange : Meaning → Text → (ℤ → Type 0) → ℤ → Type 0
 IsAnswerOfRange m range IsAnswerOfVersion n =
     Decides (IsUtf8 range) (n ≡ range_not_utf8)
-    (Decides (IsTextAs (reading_of m) range) (n ≡ not_a_range)
-    (Decides (¬ (IsTooLargeAs (reading_of m) range)) (n ≡ number_too_large)
+    (Decides (IsTextAs (dialect_of m) range) (n ≡ not_a_range)
+    (Decides (¬ (IsTooLargeAs (dialect_of m) range)) (n ≡ number_too_large)
     (IsAnswerOfVersion n)))
 
 abbrev pub IsAnswer : Meaning → Text → Text → ℤ → Type 0
 IsAnswer m range version n = IsAnswerOfRange m range
-    (λ n. Decides (IsVersionTextIn (dialect_of (reading_of m)) version) (n ≡ not_a_version)
+    (λ n. Decides (IsVersionTextIn (grammar_of (dialect_of m)) version) (n ≡ not_a_version)
     (IsMeant m range version n)) n

@@ -87,7 +87,7 @@ fn answer(meaning: Meaning, range: &[u8], version: &[u8]) -> i32
     let Ok(range) = std::str::from_utf8(range) else {
         return RANGE_NOT_UTF8;
     };
-    match version::outline_in(version, meaning.reading().dialect()) {
+    match version::outline_in(version, meaning.dialect().grammar()) {
         Some(outline) => match meaning::meets(meaning, range, &outline) {
             Ok(true) => MEETS,
             Ok(false) => DOES_NOT_MEET,

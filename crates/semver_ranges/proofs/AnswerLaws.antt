@@ -4,7 +4,7 @@ use Rattle.std.proofs.lemmas.Bool.{both_ways}
 use Rattle.std.specs.Prelude.{IfOk}
 use Rattle.std.specs.List.{list_all}
 use Rattle.std.specs.Result.{IsOkAnd}
-use Rattle.semver_texts.specs.declared.dialect.Dialect.TheVariants.{Crate}
+use Rattle.semver_texts.specs.declared.grammar.Grammar.TheVariants.{Crate}
 use Rattle.semver_ranges.specs.declared.range.Compat.{Compat}
 use Rattle.semver_ranges.specs.declared.range_set.RangeSet.{RangeSet}
 use Rattle.semver_ranges.specs.declared.range_set.RangeError.{RangeError}

@@ -6,8 +6,8 @@ use Rattle.std.proofs.lemmas.Bool.{and_parts, and_from, not_from_false}
 use Rattle.std.proofs.lemmas.List.Elements.{All-nil, All-cons}
 use Rattle.std.proofs.lemmas.List.Folds.{list_all-append}
 use Rattle.std.specs.List.{list_all, flat_map}
-use Rattle.semver_texts.specs.declared.dialect.Dialect.{Dialect}
-use Rattle.semver_texts.specs.declared.dialect.Dialect.TheVariants.{Crate}
+use Rattle.semver_texts.specs.declared.grammar.Grammar.{Grammar}
+use Rattle.semver_texts.specs.declared.grammar.Grammar.TheVariants.{Crate}
 use Rattle.semver_ranges.specs.declared.range.Compat.{Compat}
 use Rattle.semver_ranges.specs.RangeTree.{PartialTree, Simple, RangeTree, empty, hyphen, simples, SetTree, HasParts, SpellsSimples}
 use Rattle.semver_texts.specs.Texts.{is_part}
@@ -91,7 +91,7 @@ HaveParts : List Simple → Type 0
 HaveParts [] = Unit {0}
 HaveParts (s ∷ ss) = HasParts s.partial × HaveParts ss
 
-module _ (d : Dialect) {fit : Simple → Bool} {written : Simple → List PlainComparator} (prints : Prints fit written) (mode : Compat) where
+module _ (d : Grammar) {fit : Simple → Bool} {written : Simple → List PlainComparator} (prints : Prints fit written) (mode : Compat) where
   simples_printable : (ss : List Simple) → HaveParts ss → list_all (term_fits_by fit) (map of_simple ss) ≡ true
       → are_printable (flat_map written ss) ≡ true
   unfolding HaveParts

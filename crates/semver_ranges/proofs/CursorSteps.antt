@@ -1,7 +1,7 @@
 -- The reader's steps, as the cursor takes them.
 use Rattle.std.proofs.Common.{arith}
 use Rattle.std.proofs.Common.{◌≡◌, false, List, [], ◌∷◌, Some, None, refl}
-use Rattle.semver_texts.specs.declared.dialect.Dialect.{Dialect}
+use Rattle.semver_texts.specs.declared.grammar.Grammar.{Grammar}
 use Rattle.semver_ranges.specs.RangeTree.{PartialTree, one, two, three, Form, after_form}
 use Rattle.semver_texts.specs.Texts.{Text}
 use Rattle.semver_ranges.specs.Steps.Reading.{after_blanks, operator, partial, simple, after_pre}
@@ -44,7 +44,7 @@ major_end a [] e = refl
 major_end a (m ∷ t) e = rw e
 
 -- a simple of its operator and its partial
-pub simple_found : (d : Dialect) (t u v w : Text) (form : Form) (p : PartialTree) → (form, u) ≡ operator d t
+pub simple_found : (d : Grammar) (t u v w : Text) (form : Form) (p : PartialTree) → (form, u) ≡ operator d t
     → partial d (after_form form) u ≡ Some (p, v)
     → w ≡ after_blanks d v
     → simple d t ≡ Some (record { form = form; partial = p }, w)

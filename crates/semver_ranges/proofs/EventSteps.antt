@@ -1,6 +1,6 @@
 -- The events of a text, one after the other.
 use Rattle.std.proofs.Common.{◌≡◌, ◌<◌, Bool, true, false, List, [], ◌∷◌, Option, Some, None, length, refl, sym, ap, ◌∙◌, arith}
-use Rattle.semver_texts.specs.declared.dialect.Dialect.{Dialect}
+use Rattle.semver_texts.specs.declared.grammar.Grammar.{Grammar}
 use Rattle.semver_ranges.specs.declared.partial.LowerBounds.{LowerBounds}
 use Rattle.semver_ranges.specs.RangeTree.{Simple, RangeTree, empty, simples, SetTree}
 use Rattle.semver_texts.specs.Texts.{Text}
@@ -22,7 +22,7 @@ put_none : (ss : List Simple) → put_simples ss None ≡ None
 put_none [] = refl
 put_none (s ∷ ss) = rw (put_none ss)
 
-module _ (d : Dialect) (lower : LowerBounds) where
+module _ (d : Grammar) (lower : LowerBounds) where
   -- a range that is read, and what is left after it
   onto_events : (r : RangeTree) (t : Text) (o : Option SetTree) → read d t ≡ o
       → set_events lower (onto r o) ≡ put_simples (yielded lower r) (put next_range (set_events lower o))

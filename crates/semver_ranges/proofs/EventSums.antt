@@ -4,7 +4,7 @@ use Rattle.std.proofs.Common.{append-nil, append_assoc, Result, Ok, Err}
 use Rattle.std.proofs.Math.Bool.{and-true}
 use Rattle.std.specs.Prelude.{map}
 use Rattle.std.specs.List.{list_all, flat_map}
-use Rattle.semver_texts.specs.declared.dialect.Dialect.{Dialect}
+use Rattle.semver_texts.specs.declared.grammar.Grammar.{Grammar}
 use Rattle.semver_ranges.specs.declared.partial.LowerBounds.{LowerBounds}
 use Rattle.semver_ranges.specs.declared.range.Compat.{Compat}
 use Rattle.semver_ranges.specs.declared.range_set.RangeSet.{RangeSet}
@@ -44,7 +44,7 @@ fit_bars : (fits : Simple → Bool) (fit : Bool) (o : Option (List Event)) → f
 fit_bars fits fit None = refl
 fit_bars fits fit (Some es) = refl
 
-pub fit_next : (d : Dialect) (fits : Simple → Bool) (whole : Option Bool) (fit : Bool) (o : Option (List Event)) (cursor : Events)
+pub fit_next : (d : Grammar) (fits : Simple → Bool) (whole : Option Bool) (fit : Bool) (o : Option (List Event)) (cursor : Events)
     → whole ≡ fitted fits fit o → IsFirst d o event.NextRange cursor
     → (left : Option (List Event)) × HasLeft d cursor left × (whole ≡ fitted fits fit left)
 fit_next d fits whole fit o cursor so_far (one_simple s, left, is, has, e) = absurd is
@@ -78,7 +78,7 @@ module _ (written : Simple → List PlainComparator) (mode : Compat) (lower : Lo
     tree_fits tree es b e f = let same : es ≡ events_of lower tree = cc in sym (set_fits table lower tree) ∙ rw same at f
 
     pub answered_by : (made : SetTree → PlainSet) → ((tree : SetTree) → record { ranges = map made_by tree; compat = mode } ≡ made tree)
-        → (d : Dialect) (t : Text) (o : Option SetTree) (r : Result RangeSet RangeError) → read d t ≡ o
+        → (d : Grammar) (t : Text) (o : Option SetTree) (r : Result RangeSet RangeError) → read d t ≡ o
         → IsAnswerBy (set_events lower o) fit written mode r → IsAnswerOf o fit made r
     answered_by made same d t None (Ok set) is (es, e, fits, has) = cc
     answered_by made same d t None (Err NotARange) is e = refl

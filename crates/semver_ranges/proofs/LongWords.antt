@@ -18,8 +18,8 @@ use Rattle.semver_ranges.specs.RangeTree.{PartialTree, one, two, three, Role, Sp
 use Rattle.semver_ranges.specs.RangeTree.{build_parts}
 use Rattle.semver_ranges.specs.RangeTree.{qualifier, has_short_parts, states_three, is_taken_whole, numbers_and_pre, is_short_word}
 use Rattle.semver_ranges.specs.NpmLengths.{is_short_number, is_short_pre, is_short_build, is_short_version, leading_digits}
-use Rattle.semver_texts.specs.declared.dialect.Dialect.{Dialect}
-use Rattle.semver_texts.specs.declared.dialect.Dialect.TheVariants.{Npm}
+use Rattle.semver_texts.specs.declared.grammar.Grammar.{Grammar}
+use Rattle.semver_texts.specs.declared.grammar.Grammar.TheVariants.{Npm}
 use Rattle.semver_ranges.specs.Steps.NpmLimits.{are_short_parts, marked_length, IsBefore}
 use Rattle.semver_ranges.specs.Steps.Reading.{after_v, component, with_first, whole_word, partial, takes, ends_word}
 use Rattle.semver_texts.proofs.DottedParts.{found_same}
@@ -191,7 +191,7 @@ short_word role p t n h less small =
 
 -- ---- a word before its rest, as it was read
 
-pub before_rest : (d : Dialect) (text after rest : Text) (p : PartialTree) → after ≡ after_v d text
+pub before_rest : (d : Grammar) (text after rest : Text) (p : PartialTree) → after ≡ after_v d text
     → with_first (component after) ≡ Some (p, rest) → IsBefore d p text rest
 before_rest d text after rest p e found =
     let at : PartialAt after (Some (p, rest)) = subst (λ o. PartialAt after o) found (first_sound after _ (component_sound after)) in
@@ -245,7 +245,7 @@ reads_some p t h e = let same = sym (reads_itself p t h) ∙ e in none_of same w
   none_of e = cc
 
 -- a partial that is read, and one that isn't
-module _ (d : Dialect) (role : Role) (text after rest : Text) (p : PartialTree) (e : after ≡ after_v d text)
+module _ (d : Grammar) (role : Role) (text after rest : Text) (p : PartialTree) (e : after ≡ after_v d text)
     (found : with_first (component after) ≡ Some (p, rest)) where
   word_found : partial d role text ≡ whole_word d role (length text) (Some (p, rest))
   word_found = ap (λ t. whole_word d role (length text) (with_first (component t))) (sym e) ∙ ap (whole_word d role (length text)) found

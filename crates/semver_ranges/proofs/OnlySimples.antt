@@ -1,6 +1,6 @@
 -- A text that is one simple.
 use Rattle.std.proofs.Common.{◌≡◌, true, List, [], ◌∷◌, length, Some, refl, arith, append-nil}
-use Rattle.semver_texts.specs.declared.dialect.Dialect.TheVariants.{Crate}
+use Rattle.semver_texts.specs.declared.grammar.Grammar.TheVariants.{Crate}
 use Rattle.semver_ranges.specs.declared.range.Compat.{Compat}
 use Rattle.semver_ranges.specs.RangeTree.{Simple, simples}
 use Rattle.semver_texts.specs.Texts.{Text}

@@ -1,7 +1,7 @@
 -- Range texts and what they are rewritten to: rows that show what the definitions say, each computed from them.
 use Rattle.std.specs.Prelude.{◌≡◌, Option, Some, None, if◌then◌else◌, List, [], ◌∷◌, map, codes, refl}
 use Rattle.std.specs.Fmt.{digits}
-use Rattle.semver_texts.specs.declared.dialect.Dialect.TheVariants.{Crate}
+use Rattle.semver_texts.specs.declared.grammar.Grammar.TheVariants.{Crate}
 use Rattle.semver_ranges.specs.declared.range.Compat.{Compat}
 use Rattle.semver_ranges.specs.declared.range.Compat.TheVariants.{Cargo, Npm}
 use Rattle.semver_ranges.specs.RangeTree.{SetTree}

@@ -3,7 +3,7 @@ use Rattle.std.proofs.Common.{◌≡◌, ℕ, Bool, true, false, ◌||◌, ◌==
 use Rattle.std.proofs.Common.{append_assoc, append-nil, arith}
 use Rattle.std.proofs.lemmas.Bool.{or_left, or_right, and_parts, eqb-true, not_from_false}
 use Rattle.std.proofs.lemmas.Bool.Decides.{nat_tests}
-use Rattle.semver_texts.specs.declared.dialect.Dialect.{Dialect}
+use Rattle.semver_texts.specs.declared.grammar.Grammar.{Grammar}
 use Rattle.semver_ranges.specs.RangeTree.{PartialTree, Form, bare, tilde, Simple, RangeTree, after_form, after_hyphen}
 use Rattle.semver_ranges.specs.RangeTree.{empty, hyphen, simples, SetTree, is_blank, AreBlanks, AreSomeBlanks, SpellsWord, SpellsForm}
 use Rattle.semver_ranges.specs.RangeTree.{SpellsSimple, SpellsSimples, SpellsRange, SpellsPadded, SpellsIn}
@@ -39,7 +39,7 @@ end_no_hyphen : (t : Text) → ends_range t ≡ true → begins_with 45 t ≡ fa
 end_no_hyphen [] e = refl
 end_no_hyphen (b ∷ t) e = grind (arith, nat_tests)
 
-module _ (d : Dialect) where
+module _ (d : Grammar) where
   form_starts : (f : Form) (sign t : Text) → SpellsForm d f sign → starts is_word_byte t ≡ true
       → starts is_simple_byte (sign ++ t) ≡ true
   form_starts bare sign t h e = rw h (word_simple t e)

@@ -9,8 +9,8 @@ use Rattle.semver_texts.proofs.Lists.{by_test}
 use Rattle.semver_texts.proofs.PartRuns.{pieces}
 use Rattle.std.specs.Str.{all_ascii_digits}
 use Rattle.std.specs.List.{list_all, slice_split, join_with_byte}
-use Rattle.semver_texts.specs.declared.dialect.Dialect.{Dialect}
-use Rattle.semver_texts.specs.declared.dialect.Dialect.TheVariants.{Crate, Cargo, Npm}
+use Rattle.semver_texts.specs.declared.grammar.Grammar.{Grammar}
+use Rattle.semver_texts.specs.declared.grammar.Grammar.TheVariants.{Crate, Cargo, Npm}
 use Rattle.semver_ranges.specs.RangeTree.{PartialTree, one, two, three, Form, Simple, is_blank, is_wildcard, is_component}
 use Rattle.semver_ranges.specs.RangeTree.{AreBlanks, SpellsPartial, SpellsWord, IsSignAndBlanks, SpellsForm, SpellsSimple}
 use Rattle.semver_ranges.specs.RangeTree.{Role, after_form, is_word_of_npm}
@@ -146,7 +146,7 @@ partial_starts (two a b) t (h, k, e) = rw (e, append_assoc) (component_starts a 
 partial_starts (three a b c pre build) t (h, k, e) = rw (e, append_assoc) (component_starts a _ (grind arith))
 
 -- a word: a partial after what may be before it
-pub record Word (d : Dialect) (role : Role) (p : PartialTree) (t : Text) : Type 0 where
+pub record Word (d : Grammar) (role : Role) (p : PartialTree) (t : Text) : Type 0 where
   pub front : Text
   pub back : Text
   pub spelled : SpellsPartial p back
@@ -159,7 +159,7 @@ pub no_v : (t : Text) → starts is_component_byte t ≡ true → after_v Npm t 
 no_v [] e = refl
 no_v (b ∷ t) e = grind (arith, nat_tests)
 
-pub word_parts : (d : Dialect) (role : Role) (p : PartialTree) (t : Text) → SpellsWord d role p t → Word d role p t
+pub word_parts : (d : Grammar) (role : Role) (p : PartialTree) (t : Text) → SpellsWord d role p t → Word d role p t
 word_parts Crate role p t h = record { front = []; back = t; spelled = h; taken = refl; after = λ u. refl; text = refl }
 word_parts Cargo role p t h = record { front = []; back = t; spelled = h; taken = refl; after = λ u. refl; text = refl }
 word_parts Npm role p t (front, back, mark, spelled, taken, text) = record {
@@ -182,7 +182,7 @@ pub component_word : (t : Text) → starts is_component_byte t ≡ true → star
 component_word [] e = cc
 component_word (b ∷ t) e = or_left _ _ e
 
-pub word_starts : (d : Dialect) (role : Role) (p : PartialTree) (t : Text) → SpellsWord d role p t → starts is_word_byte t ≡ true
+pub word_starts : (d : Grammar) (role : Role) (p : PartialTree) (t : Text) → SpellsWord d role p t → starts is_word_byte t ≡ true
 word_starts Crate role p t h = component_word t (partial_starts p t h)
 word_starts Cargo role p t h = component_word t (partial_starts p t h)
 word_starts Npm role p t (front, back, mark, spelled, taken, text) = rw text (elim mark [
@@ -191,7 +191,7 @@ word_starts Npm role p t (front, back, mark, spelled, taken, text) = rw text (el
 ])
 
 -- a partial that is a whole word
-abbrev pub WordAt : Dialect → Role → Text → Option (PartialTree × Text) → Type 0
+abbrev pub WordAt : Grammar → Role → Text → Option (PartialTree × Text) → Type 0
 WordAt d role t None = Unit {0}
 WordAt d role t (Some found) =
     (w : Text) × SpellsWord d role found.0 w × (t ≡ w ++ found.1) × (ends_word d found.1 ≡ true)
@@ -204,7 +204,7 @@ taken_word : (role : Role) (p : PartialTree) (t w u : Text) → t ≡ w ++ u →
     → is_word_of_npm role p (length w) ≡ true
 taken_word role p t w u e taken = subst (λ n. is_word_of_npm role p n ≡ true) (length_before t w u e) taken
 
-word_spelled : (d : Dialect) (role : Role) (p : PartialTree) (t back u : Text) → SpellsPartial p back
+word_spelled : (d : Grammar) (role : Role) (p : PartialTree) (t back u : Text) → SpellsPartial p back
     → takes d role p (length t - length u) ≡ true → after_v d t ≡ back ++ u → (w : Text) × SpellsWord d role p w × (t ≡ w ++ u)
 word_spelled Crate role p t back u spelled taken e = (back, spelled, e)
 word_spelled Cargo role p t back u spelled taken e = (back, spelled, e)
@@ -216,7 +216,7 @@ word_spelled Npm role p (b ∷ t) back u spelled taken e = by_test (b == 118)
     (λ n. let whole : b ∷ t ≡ back ++ u = rw n at e in
     (back, ([], back, inl refl, spelled, taken_word role p (b ∷ t) back u whole taken, refl), whole))
 
-module _ (d : Dialect) where
+module _ (d : Grammar) where
   word_sound : (role : Role) (t : Text) (o : Option (PartialTree × Text)) → PartialAt (after_v d t) o
       → WordAt d role t (whole_word d role (length t) o)
   word_sound role t None h = tt

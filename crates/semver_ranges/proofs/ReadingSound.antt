@@ -4,7 +4,7 @@ use Rattle.std.proofs.Common.{Option, Some, None, append_assoc, append-nil, subs
 use Rattle.std.proofs.lemmas.Bool.{and_parts, and_from, eqb-true}
 use Rattle.std.proofs.Common.{arith}
 use Rattle.std.proofs.lemmas.Bool.Decides.{nat_tests}
-use Rattle.semver_texts.specs.declared.dialect.Dialect.{Dialect}
+use Rattle.semver_texts.specs.declared.grammar.Grammar.{Grammar}
 use Rattle.semver_ranges.specs.RangeTree.{PartialTree, Form, bare, Simple, RangeTree, after_form, after_hyphen, is_bare}
 use Rattle.semver_ranges.specs.RangeTree.{SetTree, is_blank, AreBlanks, AreSomeBlanks, SpellsWord, SpellsForm, SpellsSimple, SpellsSimples}
 use Rattle.semver_ranges.specs.RangeTree.{SpellsRange, SpellsPadded, SpellsIn}
@@ -22,7 +22,7 @@ form_bare : (f : Form) → is_bare f ≡ true → f ≡ bare
 form_bare bare e = refl
 form_bare _ e = cc
 
-bare_partial : (d : Dialect) (s : Simple) (w : Text) → is_bare s.form ≡ true → SpellsSimple d s w
+bare_partial : (d : Grammar) (s : Simple) (w : Text) → is_bare s.form ≡ true → SpellsSimple d s w
     → SpellsWord d (after_form bare) s.partial w
 bare_partial d s w e (sign, text, form, spelled, whole) =
     let nothing : sign ≡ [] = subst (λ f. SpellsForm d f sign) (form_bare s.form e) form in
@@ -43,7 +43,7 @@ bars_sound [] = tt
 bars_sound (b ∷ []) = tt
 bars_sound (b ∷ c ∷ t) = grind (arith, nat_tests)
 
-module _ (d : Dialect) where
+module _ (d : Grammar) where
   -- a first simple and the others that are found after it and its gap
   abbrev SimplesAt : Simple → Text → Option (List Simple × Text) → Type 0
   SimplesAt s t None = Unit {0}

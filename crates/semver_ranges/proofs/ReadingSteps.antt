@@ -1,8 +1,8 @@
 -- How the reader's counted loops go on, without the count; and that what is left of a text is shorter.
 use Rattle.std.proofs.Common.{◌≡◌, ℕ, zero, suc, ◌<◌, ◌≤◌, Bool, true, false, List, [], ◌∷◌, length, refl}
 use Rattle.std.proofs.Common.{ap, Option, Some, None, arith, length-append}
-use Rattle.semver_texts.specs.declared.dialect.Dialect.{Dialect}
-use Rattle.semver_texts.specs.declared.dialect.Dialect.TheVariants.{Crate, Cargo, Npm}
+use Rattle.semver_texts.specs.declared.grammar.Grammar.{Grammar}
+use Rattle.semver_texts.specs.declared.grammar.Grammar.TheVariants.{Crate, Cargo, Npm}
 use Rattle.semver_ranges.specs.RangeTree.{PartialTree, Simple, RangeTree, SetTree, is_blank, Role, after_form, after_hyphen}
 use Rattle.semver_texts.specs.Texts.{Text}
 use Rattle.semver_ranges.proofs.ReadingPieces.{front-back, WordAt, partial_sound, starts, is_word_byte, word_starts, SimpleAt}
@@ -26,7 +26,7 @@ some_bytes : (p : ℕ → Bool) (t : Text) → starts p t ≡ true → 0 < lengt
 some_bytes p [] e = cc
 some_bytes p (b ∷ t) e = omega arith
 
-no_simple : (d : Dialect) → simple d [] ≡ None
+no_simple : (d : Grammar) → simple d [] ≡ None
 no_simple Crate = refl
 no_simple Cargo = refl
 no_simple Npm = refl
@@ -46,7 +46,7 @@ abbrev Stops : {X : Type 0} → ℕ → Option (X × Text) → Type 0
 Stops n None = Unit {0}
 Stops n (Some found) = Stopped n found.1
 
-module _ (d : Dialect) where
+module _ (d : Grammar) where
   partial_leaves : (role : Role) (n : ℕ) (t : Text) → length t ≤ n → Leaves n (partial d role t)
   partial_leaves role n t h = left (partial d role t) (partial_sound d role t) where
     left : (o : Option (PartialTree × Text)) → WordAt d role t o → Leaves n o

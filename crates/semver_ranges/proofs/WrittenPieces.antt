@@ -10,8 +10,8 @@ use Rattle.std.specs.Char.{is_ascii_digit}
 use Rattle.std.specs.Int.{is_in_range}
 use Rattle.std.specs.Str.{all_ascii_digits}
 use Rattle.std.specs.List.{list_all, slice_split, join_with_byte}
-use Rattle.semver_texts.specs.declared.dialect.Dialect.{Dialect}
-use Rattle.semver_texts.specs.declared.dialect.Dialect.TheVariants.{Crate, Cargo, Npm}
+use Rattle.semver_texts.specs.declared.grammar.Grammar.{Grammar}
+use Rattle.semver_texts.specs.declared.grammar.Grammar.TheVariants.{Crate, Cargo, Npm}
 use Rattle.semver_ranges.specs.RangeTree.{PartialTree, one, two, three, Form, bare, less, greater, tilde}
 use Rattle.semver_ranges.specs.RangeTree.{Simple, is_blank, is_component, AreBlanks}
 use Rattle.semver_texts.specs.Texts.{is_part}
@@ -62,13 +62,13 @@ no_dotted (b ∷ t) e = grind arith
 abbrev pub is_written : ℕ → Bool
 is_written b = is_partial_byte b || ((b == 42) || (is_in_range 60 62 b || ((b == 94) || ((b == 124) || (b == 126)))))
 
-pub no_blank_byte : (d : Dialect) (b : ℕ) → is_written b ≡ true → is_blank d b ≡ false
+pub no_blank_byte : (d : Grammar) (b : ℕ) → is_written b ≡ true → is_blank d b ≡ false
 no_blank_byte Crate b e = grind (arith, nat_tests)
 no_blank_byte Cargo b e = grind (arith, nat_tests)
 no_blank_byte Npm b e = grind (arith, nat_tests)
 
 -- where a word ends, a partial does
-word_ends_partial : (d : Dialect) (t : Text) → ends_word d t ≡ true → ends_partial t ≡ true
+word_ends_partial : (d : Grammar) (t : Text) → ends_word d t ≡ true → ends_partial t ≡ true
 word_ends_partial d [] e = refl
 word_ends_partial d (b ∷ t) e = let h = no_blank_byte d b in grind (arith, nat_tests)
 
@@ -160,7 +160,7 @@ first_read (three a b c pre build) w u (h, k, text) e =
     (rw (component_read b (46 ∷ (c ++ rest)) (grind arith) refl)
     (rw (component_read c rest (grind arith) (stops_at_qualifier pre build u e)) (after_three_read a b c pre build u k.0 k.1 e)))
 
-pub partial_read : (d : Dialect) (role : Role) (p : PartialTree) (w u : Text) → SpellsWord d role p w → ends_word d u ≡ true
+pub partial_read : (d : Grammar) (role : Role) (p : PartialTree) (w u : Text) → SpellsWord d role p w → ends_word d u ≡ true
     → partial d role (w ++ u) ≡ Some (p, u)
 partial_read d role p w u h e =
     let word = word_parts d role p w h in
@@ -169,7 +169,7 @@ partial_read d role p w u h e =
     rw (word.after u, first_read p word.back u word.spelled (word_ends_partial d u e), taken, e)
 
 -- an operator, before a word
-module _ (d : Dialect) where
+module _ (d : Grammar) where
   pub blanks_after : (blanks t : Text) → AreBlanks d blanks → stops (is_blank d) t ≡ true → after_blanks d (blanks ++ t) ≡ t
   blanks_after = back-append _
 

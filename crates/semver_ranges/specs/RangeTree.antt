@@ -7,8 +7,8 @@ use Rattle.std.specs.Prelude.{◌≡◌, ℕ, Bool, true, false, ◌&&◌, ◌||
 use Rattle.std.specs.Prelude.{◌∷◌, ◌++◌, codes, IsTrue, length, if◌then◌else◌}
 use Rattle.std.specs.Int.{is_in_range}
 use Rattle.std.specs.List.{list_all, join_with_byte}
-use Rattle.semver_texts.specs.declared.dialect.Dialect.{Dialect}
-use Rattle.semver_texts.specs.declared.dialect.Dialect.TheVariants.{Crate, Cargo, Npm}
+use Rattle.semver_texts.specs.declared.grammar.Grammar.{Grammar}
+use Rattle.semver_texts.specs.declared.grammar.Grammar.TheVariants.{Crate, Cargo, Npm}
 use Rattle.semver_texts.specs.Texts.{Text, has_no_leading_zero, is_empty, is_number, is_part}
 use Rattle.semver_texts.specs.Texts.{marked}
 use Rattle.semver_ranges.specs.NpmLengths.{is_short_number, is_short_pre, is_short_build}
@@ -47,17 +47,17 @@ SetTree = List RangeTree
 -- a byte of a blank: a space or a tab, to Cargo a space alone. To npm a space, each byte from the
 -- tab to the carriage return, and those of characters beyond ASCII: which of these are blanks is a
 -- condition on the whole text
-abbrev pub is_blank : Dialect → ℕ → Bool
+abbrev pub is_blank : Grammar → ℕ → Bool
 is_blank Crate b = (b == code " ") || (b == code "\t")
 is_blank Cargo b = b == code " "
 is_blank Npm b = (is_in_range 9 13 b || (b == code " ")) || is_in_range 128 255 b
 
 -- any number of blanks, none included
-abbrev pub AreBlanks : Dialect → Text → Type 0
+abbrev pub AreBlanks : Grammar → Text → Type 0
 AreBlanks d t = IsTrue (list_all (is_blank d) t)
 
 -- one or more blanks
-abbrev pub AreSomeBlanks : Dialect → Text → Type 0
+abbrev pub AreSomeBlanks : Grammar → Text → Type 0
 AreSomeBlanks d t = IsTrue (not (is_empty t)) × AreBlanks d t
 
 -- a wildcard: `x`, `X` or `*`
@@ -152,18 +152,18 @@ abbrev pub is_word_of_npm : Role → PartialTree → ℕ → Bool
 is_word_of_npm role p n = has_no_leading_zeros p && is_short_word role p n
 
 -- a word: to npm one `v` may be before the partial
-abbrev pub SpellsWord : Dialect → Role → PartialTree → Text → Type 0
+abbrev pub SpellsWord : Grammar → Role → PartialTree → Text → Type 0
 SpellsWord Crate role p t = SpellsPartial p t
 SpellsWord Cargo role p t = SpellsPartial p t
 SpellsWord Npm role p t = (front : Text) × (back : Text) × ((front ≡ []) ⊎ (front ≡ codes "v"))
     × SpellsPartial p back × IsTrue (is_word_of_npm role p (length t)) × (t ≡ front ++ back)
 
 -- a sign, then any blanks
-abbrev pub IsSignAndBlanks : Dialect → Text → Text → Type 0
+abbrev pub IsSignAndBlanks : Grammar → Text → Text → Type 0
 IsSignAndBlanks d sign t = (blanks : Text) × AreBlanks d blanks × (t ≡ sign ++ blanks)
 
 -- what is before the partial: nothing, or the operator's sign and any blanks; `~>` is `~`
-abbrev pub SpellsForm : Dialect → Form → Text → Type 0
+abbrev pub SpellsForm : Grammar → Form → Text → Type 0
 SpellsForm d bare t = t ≡ []
 SpellsForm d equal t = IsSignAndBlanks d (codes "=") t
 SpellsForm d less t = IsSignAndBlanks d (codes "<") t
@@ -174,20 +174,20 @@ SpellsForm d tilde t = IsSignAndBlanks d (codes "~") t ⊎ IsSignAndBlanks d (co
 SpellsForm d caret t = IsSignAndBlanks d (codes "^") t
 
 -- a simple's text: what is before the partial, and the partial's
-abbrev pub SpellsSimple : Dialect → Simple → Text → Type 0
+abbrev pub SpellsSimple : Grammar → Simple → Text → Type 0
 SpellsSimple d s t =
     (front : Text) × (back : Text) × SpellsForm d s.form front
     × SpellsWord d (after_form s.form) s.partial back × (t ≡ front ++ back)
 
 -- one or more simples, separated by one or more blanks
-abbrev pub SpellsSimples : Dialect → Simple → List Simple → Text → Type 0
+abbrev pub SpellsSimples : Grammar → Simple → List Simple → Text → Type 0
 SpellsSimples d first [] t = SpellsSimple d first t
 SpellsSimples d first (next ∷ others) t = (front : Text) × (gap : Text) × (back : Text)
     × SpellsSimple d first front × AreSomeBlanks d gap × SpellsSimples d next others back
     × (t ≡ front ++ gap ++ back)
 
 -- a range's text: nothing, two partials round a hyphen between blanks, or simples
-abbrev pub SpellsRange : Dialect → RangeTree → Text → Type 0
+abbrev pub SpellsRange : Grammar → RangeTree → Text → Type 0
 SpellsRange d empty t = t ≡ []
 SpellsRange d (hyphen left right) t = (front : Text) × (gap : Text) × (gap' : Text)
     × (back : Text) × SpellsWord d (after_form bare) left front × AreSomeBlanks d gap
@@ -196,13 +196,13 @@ SpellsRange d (hyphen left right) t = (front : Text) × (gap : Text) × (gap' : 
 SpellsRange d (simples first others) t = SpellsSimples d first others t
 
 -- a range's text between any blanks
-abbrev pub SpellsPadded : Dialect → RangeTree → Text → Type 0
+abbrev pub SpellsPadded : Grammar → RangeTree → Text → Type 0
 SpellsPadded d r t = (before : Text) × (inner : Text) × (after : Text)
     × AreBlanks d before × SpellsRange d r inner × AreBlanks d after
     × (t ≡ before ++ inner ++ after)
 
 -- a tree spells a text of a dialect: one or more ranges between blanks, separated by `||`
-abbrev pub SpellsIn : Dialect → SetTree → Text → Type 0
+abbrev pub SpellsIn : Grammar → SetTree → Text → Type 0
 SpellsIn d [] t = ⊥
 SpellsIn d (range ∷ []) t = SpellsPadded d range t
 SpellsIn d (range ∷ next ∷ others) t = (front : Text) × (back : Text)

@@ -17,7 +17,7 @@ use crate::grammar::{
 };
 use crate::partial::{LowerBounds, Partial};
 use crate::range_set::RangeError;
-use semver_texts::dialect::Dialect;
+use semver_texts::grammar::Grammar;
 use semver_texts::dotted::strip_mark;
 
 /// What is next in a range text.
@@ -44,12 +44,12 @@ impl<'input> Events<'input> {
     /// The events of a text by a dialect. `lower` says how the left side of a hyphen range is
     /// written.
     #[inline(always)]
-    pub fn new(text: &'input [u8], dialect: Dialect, lower: LowerBounds) -> Events<'input>
-        ensures all { HasLeft dialect result (events dialect lower text.now) }
+    pub fn new(text: &'input [u8], grammar: Grammar, lower: LowerBounds) -> Events<'input>
+        ensures all { HasLeft grammar result (events grammar lower text.now) }
         ensures short { length result.rest.now ≤ length text.now }
     {
         Events {
-            rest: after_blanks(text, dialect),
+            rest: after_blanks(text, grammar),
             begins_range: true,
             upper: None,
             lower,
@@ -60,10 +60,10 @@ impl<'input> Events<'input> {
     /// The next event by a dialect, or that the text isn't in its grammar from there on. None at
     /// the end, and after an error.
     #[inline(always)]
-    pub fn next_in(&mut self, dialect: Dialect) -> Option<Result<Event<'input>, RangeError>>
-        ensures gives { NextGives dialect self.old result self.new }
+    pub fn next_in(&mut self, grammar: Grammar) -> Option<Result<Event<'input>, RangeError>>
+        ensures gives { NextGives grammar self.old result self.new }
         ensures ended { result ≡ Some (Err RangeError.NotARange)
-            → HasLeft dialect self.new (Some []) }
+            → HasLeft grammar self.new (Some []) }
         ensures fewer { IfSome result (λ _. size_left self.new < size_left self.old) }
     {
         if let Some(upper) = self.upper {
@@ -73,7 +73,7 @@ impl<'input> Events<'input> {
         if !self.begins_range && self.rest.is_empty() {
             return None;
         }
-        match self.read_event(dialect) {
+        match self.read_event(grammar) {
             Some(event) => Some(Ok(event)),
             None => {
                 self.rest = &[];
@@ -84,33 +84,33 @@ impl<'input> Events<'input> {
 
     /// Goes on after the event at the front of the text; none where the text isn't in the grammar.
     #[inline(always)]
-    fn read_event(&mut self, dialect: Dialect) -> Option<Event<'input>>
+    fn read_event(&mut self, grammar: Grammar) -> Option<Event<'input>>
         requires alone { self.old.upper ≡ None }
         requires some { self.old.begins_range ≡ false → 0 < length self.old.rest.now }
-        ensures { TakesEvent dialect self.old.lower self.old.begins_range self.old.rest.now
+        ensures { TakesEvent grammar self.old.lower self.old.begins_range self.old.rest.now
             result self.new }
     {
         let begins_range = self.begins_range;
         self.begins_range = false;
         if !ends_range(self.rest) {
-            return self.read_in_range(begins_range, dialect);
+            return self.read_in_range(begins_range, grammar);
         }
         if !begins_range {
-            return self.read_bars(dialect);
+            return self.read_bars(grammar);
         }
         Some(Event::Simple(Simple::wildcard()))
     }
 
     /// Goes on after two bars.
     #[inline(always)]
-    fn read_bars(&mut self, dialect: Dialect) -> Option<Event<'input>>
+    fn read_bars(&mut self, grammar: Grammar) -> Option<Event<'input>>
         requires alone { self.old.upper ≡ None }
         requires begun { self.old.begins_range ≡ false }
         requires some { 0 < length self.old.rest.now }
         requires ends { ends_range self.old.rest.now ≡ true }
-        ensures { TakesEvent dialect self.old.lower false self.old.rest.now result self.new }
+        ensures { TakesEvent grammar self.old.lower false self.old.rest.now result self.new }
     {
-        self.rest = after_blanks(after_bars(self.rest)?, dialect);
+        self.rest = after_blanks(after_bars(self.rest)?, grammar);
         self.begins_range = true;
         Some(Event::NextRange)
     }
@@ -118,16 +118,16 @@ impl<'input> Events<'input> {
     /// Goes on after a simple, or after a hyphen range, which begins its range and is yielded in
     /// two.
     #[inline(always)]
-    fn read_in_range(&mut self, begins_range: bool, dialect: Dialect) -> Option<Event<'input>>
+    fn read_in_range(&mut self, begins_range: bool, grammar: Grammar) -> Option<Event<'input>>
         requires alone { self.old.upper ≡ None }
         requires begun { self.old.begins_range ≡ false }
         requires goes_on { ends_range self.old.rest.now ≡ false }
-        ensures { TakesEvent dialect self.old.lower begins_range self.old.rest.now result
+        ensures { TakesEvent grammar self.old.lower begins_range self.old.rest.now result
             self.new }
     {
-        let (simple, rest) = read_simple(self.rest, dialect)?;
+        let (simple, rest) = read_simple(self.rest, grammar)?;
         match strip_mark(rest, b'-') {
-            Some(after) if begins_range => self.read_sides(simple, after, dialect),
+            Some(after) if begins_range => self.read_sides(simple, after, grammar),
             _ => {
                 self.rest = rest;
                 Some(Event::Simple(simple))
@@ -141,16 +141,16 @@ impl<'input> Events<'input> {
         &mut self,
         left: Simple<'input>,
         after: &'input [u8],
-        dialect: Dialect,
+        grammar: Grammar,
     ) -> Option<Event<'input>>
         requires alone { self.old.upper ≡ None }
         requires begun { self.old.begins_range ≡ false }
         requires goes_on { ends_range self.old.rest.now ≡ false }
         requires left { (s : SimpleTree) × IsSimpleOf s left
-            × (simple dialect self.old.rest.now ≡ Some (s, codes "-" ++ after.now)) }
-        ensures { TakesEvent dialect self.old.lower true self.old.rest.now result self.new }
+            × (simple grammar self.old.rest.now ≡ Some (s, codes "-" ++ after.now)) }
+        ensures { TakesEvent grammar self.old.lower true self.old.rest.now result self.new }
     {
-        let (lower, upper, rest) = read_hyphen_range(left, after, dialect, self.lower)?;
+        let (lower, upper, rest) = read_hyphen_range(left, after, grammar, self.lower)?;
         self.rest = rest;
         self.upper = upper;
         Some(Event::Simple(lower))
@@ -161,16 +161,16 @@ impl<'input> Events<'input> {
 fn read_hyphen_range<'input>(
     left: Simple<'input>,
     after: &'input [u8],
-    dialect: Dialect,
+    grammar: Grammar,
     lower: LowerBounds,
 ) -> Option<(Simple<'input>, Option<Simple<'input>>, &'input [u8])>
     ensures { (s : SimpleTree) → IsSimpleOf s left.entry
-        → FindsSides lower (with_right s (right_side dialect (codes "-" ++ after.now))) result }
+        → FindsSides lower (with_right s (right_side grammar (codes "-" ++ after.now))) result }
 {
     let Form::Bare = left.form else {
         return None;
     };
-    let (right, rest) = read_right_side(after, dialect)?;
+    let (right, rest) = read_right_side(after, grammar)?;
     let (lower, upper) = sides(left.partial, right, lower);
     Some((lower, upper, rest))
 }

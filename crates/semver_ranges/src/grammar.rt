@@ -11,7 +11,7 @@ ghost use Rattle.std.specs.Char.{is_ascii_digit};
 ghost use Rattle.semver_texts.specs.Texts.{Text};
 ghost use Rattle.semver_ranges.specs.RangeTree.{one, two, three, is_blank as blank};
 ghost use Rattle.semver_ranges.specs.RangeTree.{PartialTree, has_no_leading_zeros, is_short_word};
-ghost use Rattle.semver_texts.specs.declared.dialect.Dialect.TheVariants as dialect;
+ghost use Rattle.semver_texts.specs.declared.grammar.Grammar.TheVariants as grammar;
 ghost use Rattle.semver_ranges.specs.Steps.Reading.{after_v, takes};
 ghost use Rattle.semver_ranges.specs.Steps.Reading.{back, ends_range, ends_word};
 ghost use Rattle.semver_ranges.specs.Steps.Reading.{component, partial, operator, simple};
@@ -28,7 +28,7 @@ ghost use Rattle.semver_ranges.specs.Steps.NpmLimits.{IsBefore};
 use crate::limits::is_short_word;
 use crate::partial::{Component, Components, Partial};
 use semver_texts::decimals;
-use semver_texts::dialect::Dialect;
+use semver_texts::grammar::Grammar;
 use semver_texts::dotted::{Hyphens, have_no_leading_zeros, marked_part, strip_mark};
 
 /// A word of so many bytes is never too long to npm.
@@ -90,13 +90,13 @@ impl<'input> Simple<'input> {
 /// The right side of a hyphen range after its hyphen, up to the end of the range, and what follows
 /// it.
 #[inline(always)]
-pub(crate) fn read_right_side(after: &[u8], dialect: Dialect) -> Option<(Partial<'_>, &[u8])>
-    ensures { Finds IsPartialOf (right_side dialect (codes "-" ++ after.now)) result }
+pub(crate) fn read_right_side(after: &[u8], grammar: Grammar) -> Option<(Partial<'_>, &[u8])>
+    ensures { Finds IsPartialOf (right_side grammar (codes "-" ++ after.now)) result }
 {
-    let text = after_blank(after, dialect)?;
-    let text = after_blanks(text, dialect);
-    let (right, rest) = read_partial(text, dialect, Role::AfterHyphen)?;
-    let rest = after_blanks(rest, dialect);
+    let text = after_blank(after, grammar)?;
+    let text = after_blanks(text, grammar);
+    let (right, rest) = read_partial(text, grammar, Role::AfterHyphen)?;
+    let rest = after_blanks(rest, grammar);
     if ends_range(rest) {
         Some((right, rest))
     } else {
@@ -107,19 +107,19 @@ pub(crate) fn read_right_side(after: &[u8], dialect: Dialect) -> Option<(Partial
 /// The simple at the front of a text, and what follows it and the blanks after it; none where
 /// there is none.
 #[inline(always)]
-pub(crate) fn read_simple(text: &[u8], dialect: Dialect) -> Option<(Simple<'_>, &[u8])>
-    ensures { Finds IsSimpleOf (simple dialect text.now) result }
+pub(crate) fn read_simple(text: &[u8], grammar: Grammar) -> Option<(Simple<'_>, &[u8])>
+    ensures { Finds IsSimpleOf (simple grammar text.now) result }
 {
-    let (form, rest) = read_operator(text, dialect);
-    let (partial, rest) = read_partial(rest, dialect, Role::AfterForm(form))?;
-    Some((Simple { form, partial }, after_blanks(rest, dialect)))
+    let (form, rest) = read_operator(text, grammar);
+    let (partial, rest) = read_partial(rest, grammar, Role::AfterForm(form))?;
+    Some((Simple { form, partial }, after_blanks(rest, grammar)))
 }
 
 // Answer: equation.
 /// The operator at the front of a text, and what follows it and its blanks.
 #[inline(always)]
-pub fn read_operator(text: &[u8], dialect: Dialect) -> (Form, &[u8])
-    ensures { (form_of result.0, result.1.now) ≡ operator dialect text.now }
+pub fn read_operator(text: &[u8], grammar: Grammar) -> (Form, &[u8])
+    ensures { (form_of result.0, result.1.now) ≡ operator grammar text.now }
 {
     let (form, rest) = match text {
         [b'^', rest @ ..] => (Form::Caret, rest),
@@ -132,16 +132,16 @@ pub fn read_operator(text: &[u8], dialect: Dialect) -> (Form, &[u8])
         [b'=', rest @ ..] => (Form::Equal, rest),
         _ => return (Form::Bare, text),
     };
-    (form, after_blanks(rest, dialect))
+    (form, after_blanks(rest, grammar))
 }
 
 /// The partial at the front of a text, up to the end of its word, and what follows it.
 #[inline(always)]
-fn read_partial(text: &[u8], dialect: Dialect, role: Role) -> Option<(Partial<'_>, &[u8])>
-    ensures { Finds IsPartialOf (partial dialect (role_of role) text.now) result }
+fn read_partial(text: &[u8], grammar: Grammar, role: Role) -> Option<(Partial<'_>, &[u8])>
+    ensures { Finds IsPartialOf (partial grammar (role_of role) text.now) result }
 {
-    let (written, rest) = read_components(after_v(text, dialect))?;
-    if ends_word(rest, dialect) && takes(text, rest, &written, dialect, role) {
+    let (written, rest) = read_components(after_v(text, grammar))?;
+    if ends_word(rest, grammar) && takes(text, rest, &written, grammar, role) {
         Some((
             Partial::new(written.major, written.minor, written.patch, written.pre),
             rest,
@@ -153,25 +153,25 @@ fn read_partial(text: &[u8], dialect: Dialect, role: Role) -> Option<(Partial<'_
 
 /// What follows one `v`, to npm.
 #[inline(always)]
-pub(crate) fn after_v(text: &[u8], dialect: Dialect) -> &[u8]
-    ensures { result.now ≡ after_v dialect text.now }
+pub(crate) fn after_v(text: &[u8], grammar: Grammar) -> &[u8]
+    ensures { result.now ≡ after_v grammar text.now }
 {
-    match (dialect, text) {
-        (Dialect::Npm, [b'v', rest @ ..]) => rest,
+    match (grammar, text) {
+        (Grammar::Npm, [b'v', rest @ ..]) => rest,
         _ => text,
     }
 }
 
 /// Whether the word is read that is before a rest.
 #[inline(always)]
-fn takes(text: &[u8], rest: &[u8], written: &Components<'_>, dialect: Dialect, role: Role) -> bool
-    requires { (p : PartialTree) × IsBefore dialect p text.now rest.now }
-    ensures { (p : PartialTree) → IsBefore dialect p text.now rest.now → AreWritten p written.now
-        → result ≡ takes dialect (role_of role) p (length text.now - length rest.now) }
+fn takes(text: &[u8], rest: &[u8], written: &Components<'_>, grammar: Grammar, role: Role) -> bool
+    requires { (p : PartialTree) × IsBefore grammar p text.now rest.now }
+    ensures { (p : PartialTree) → IsBefore grammar p text.now rest.now → AreWritten p written.now
+        → result ≡ takes grammar (role_of role) p (length text.now - length rest.now) }
 {
-    match dialect {
-        Dialect::Crate | Dialect::Cargo => true,
-        Dialect::Npm => has_no_leading_zeros(written) && is_short(text, rest, role),
+    match grammar {
+        Grammar::Crate | Grammar::Cargo => true,
+        Grammar::Npm => has_no_leading_zeros(written) && is_short(text, rest, role),
     }
 }
 
@@ -186,8 +186,8 @@ fn has_no_leading_zeros(written: &Components<'_>) -> bool
 /// Whether the word isn't too long to npm that is before a rest.
 #[inline(always)]
 fn is_short(text: &[u8], rest: &[u8], role: Role) -> bool
-    requires { (p : PartialTree) × IsBefore dialect.Npm p text.now rest.now }
-    ensures { (p : PartialTree) → IsBefore dialect.Npm p text.now rest.now
+    requires { (p : PartialTree) × IsBefore grammar.Npm p text.now rest.now }
+    ensures { (p : PartialTree) → IsBefore grammar.Npm p text.now rest.now
         → result ≡ is_short_word (role_of role) p (length text.now - length rest.now) }
 {
     let len = text.len() - rest.len();
@@ -319,11 +319,11 @@ fn with_digit(value: Option<u64>, digit: u8) -> Option<u64>
 // Answer: equation.
 /// What follows the blanks at the front of a text.
 #[inline(always)]
-pub fn after_blanks(text: &[u8], dialect: Dialect) -> &[u8]
-    ensures { result.now ≡ after_blanks dialect text.now }
+pub fn after_blanks(text: &[u8], grammar: Grammar) -> &[u8]
+    ensures { result.now ≡ after_blanks grammar text.now }
 {
     for at in 0..text.len() {
-        if !is_blank(text[at], dialect) {
+        if !is_blank(text[at], grammar) {
             return &text[at..];
         }
     }
@@ -332,13 +332,13 @@ pub fn after_blanks(text: &[u8], dialect: Dialect) -> &[u8]
 
 /// What follows one blank, where the text begins with it.
 #[inline(always)]
-fn after_blank(text: &[u8], dialect: Dialect) -> Option<&[u8]>
+fn after_blank(text: &[u8], grammar: Grammar) -> Option<&[u8]>
     ensures { MatchOption result
-        ((b : ℕ) (t : Text) → text.now ≡ b ∷ t → blank dialect b ≡ false)
-        (λ rest. (b : ℕ) × (blank dialect b ≡ true) × (text.now ≡ b ∷ rest.now)) }
+        ((b : ℕ) (t : Text) → text.now ≡ b ∷ t → blank grammar b ≡ false)
+        (λ rest. (b : ℕ) × (blank grammar b ≡ true) × (text.now ≡ b ∷ rest.now)) }
 {
     match text {
-        [first, rest @ ..] if is_blank(*first, dialect) => Some(rest),
+        [first, rest @ ..] if is_blank(*first, grammar) => Some(rest),
         _ => None,
     }
 }
@@ -365,24 +365,24 @@ pub(crate) fn ends_range(text: &[u8]) -> bool
 
 /// Whether a word ends here: at the end of the text, at a blank, or at a bar.
 #[inline(always)]
-fn ends_word(text: &[u8], dialect: Dialect) -> bool
-    ensures { result ≡ ends_word dialect text.now }
+fn ends_word(text: &[u8], grammar: Grammar) -> bool
+    ensures { result ≡ ends_word grammar text.now }
 {
     match text {
         [] => true,
-        [first, ..] => is_blank(*first, dialect) || *first == b'|',
+        [first, ..] => is_blank(*first, grammar) || *first == b'|',
     }
 }
 
 /// Whether a byte is one of a blank.
 #[inline(always)]
-fn is_blank(byte: u8, dialect: Dialect) -> bool
-    ensures { result ≡ blank dialect byte }
+fn is_blank(byte: u8, grammar: Grammar) -> bool
+    ensures { result ≡ blank grammar byte }
 {
-    match dialect {
-        Dialect::Crate => byte == b' ' || byte == b'\t',
-        Dialect::Cargo => byte == b' ',
-        Dialect::Npm => is_white_space(byte),
+    match grammar {
+        Grammar::Crate => byte == b' ' || byte == b'\t',
+        Grammar::Cargo => byte == b' ',
+        Grammar::Npm => is_white_space(byte),
     }
 }
 
@@ -390,7 +390,7 @@ fn is_blank(byte: u8, dialect: Dialect) -> bool
 /// the crate's dialect stay small.
 #[inline(never)]
 fn is_white_space(byte: u8) -> bool
-    ensures { result ≡ blank dialect.Npm byte }
+    ensures { result ≡ blank grammar.Npm byte }
 {
     matches!(byte, b'\t'..=b'\r' | b' ' | 128..=255)
 }

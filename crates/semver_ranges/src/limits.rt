@@ -11,11 +11,11 @@ ghost use Rattle.semver_ranges.specs.Steps.CursorViews.{role_of};
 ghost use Rattle.semver_ranges.specs.Steps.NpmLimits.{are_short_parts, is_short_as, marked_length};
 ghost use Rattle.semver_ranges.specs.Steps.PartialViews.{AreWritten};
 ghost use Rattle.semver_ranges.specs.Steps.Reading.{after_v};
-ghost use Rattle.semver_texts.specs.declared.dialect.Dialect.TheVariants as dialect;
+ghost use Rattle.semver_texts.specs.declared.grammar.Grammar.TheVariants as grammar;
 
 use crate::grammar::{Form, Role, after_v, read_components};
 use crate::partial::{Component, Components};
-use semver_texts::dialect::Dialect;
+use semver_texts::grammar::Grammar;
 use semver_texts::dotted::split_at_dot;
 
 /// How many characters the version of a comparator may have: node-semver's `MAX_LENGTH`.
@@ -38,11 +38,11 @@ enum Kind {
 /// where no word is long.
 #[inline(never)]
 pub(crate) fn is_short_word(word: &[u8], role: Role) -> bool
-    requires { (p : PartialTree) × SpellsPartial p (after_v dialect.Npm word.now) }
-    ensures { (p : PartialTree) → SpellsPartial p (after_v dialect.Npm word.now)
+    requires { (p : PartialTree) × SpellsPartial p (after_v grammar.Npm word.now) }
+    ensures { (p : PartialTree) → SpellsPartial p (after_v grammar.Npm word.now)
         → result ≡ is_short_word (role_of role) p (length word.now) }
 {
-    let partial = after_v(word, Dialect::Npm);
+    let partial = after_v(word, Grammar::Npm);
     match read_components(partial) {
         Some((written, _)) => is_short_partial(word.len(), partial, &written, role),
         None => false,

@@ -2,7 +2,7 @@
 
 ghost use Rattle.std.specs.Prelude.{Some, ◌≡◌, ◌⊎◌, ◌∷◌, true, [], IsTrue};
 ghost use Rattle.std.specs.Prelude.{IfOk, IfSome, IsOkAnd};
-ghost use Rattle.semver_texts.specs.declared.dialect.Dialect.TheVariants.{Crate};
+ghost use Rattle.semver_texts.specs.declared.grammar.Grammar.TheVariants.{Crate};
 ghost use Rattle.semver_ranges.specs.RangeTree.{Simple as SimpleTree, SetTree, Spells, simples};
 ghost use Rattle.semver_texts.specs.Versions.{PlainVersion};
 ghost use Rattle.semver_ranges.specs.OwnMeaning.{meets_tree};
@@ -25,7 +25,7 @@ use crate::partial::{LowerBounds, Partial, RaisedBounds};
 use crate::range::{Comparator, Compat, Range};
 use crate::rewriting::{Bounds, rewritten};
 use crate::table::{Table, read_by};
-use semver_texts::dialect::Dialect;
+use semver_texts::grammar::Grammar;
 use semver_texts::printing::write_joined;
 use std::alloc::{AllocError, Global};
 use std::fmt;
@@ -206,7 +206,7 @@ fn read_only_simple(text: &[u8], compat: Compat) -> Option<(Partial<'_>, Bounds)
     if text.len() > LONGEST_ONLY_SIMPLE {
         return None;
     }
-    let (simple, rest) = read_simple(text, Dialect::Crate)?;
+    let (simple, rest) = read_simple(text, Grammar::Crate)?;
     if !rest.is_empty() {
         return None;
     }
@@ -257,7 +257,7 @@ impl Table for Rows {
 
     ghost written = { λ rows s. written_simple (pre_of rows.raised) rows.compat s };
 
-    const DIALECT: Dialect = Dialect::Crate;
+    const DIALECT: Grammar = Grammar::Crate;
 
     #[inline(always)]
     fn size(&self, simple: &Simple<'_>) -> (bool, usize) {

@@ -3,7 +3,7 @@
 ghost use Rattle.std.specs.Prelude.{◌≡◌, ◌++◌, [], Some, List, map, true, Bool, IsTrue};
 ghost use Rattle.std.specs.Prelude.{IfOk, MatchResult};
 ghost use Rattle.std.specs.List.{list_all};
-ghost use Rattle.semver_texts.specs.declared.dialect.Dialect.{Dialect as DialectView};
+ghost use Rattle.semver_texts.specs.declared.grammar.Grammar.{Grammar as DialectView};
 ghost use Rattle.semver_ranges.specs.RangeTree.{Simple as SimpleTree};
 ghost use Rattle.semver_ranges.specs.RewritingTable.{PlainComparator};
 ghost use Rattle.semver_ranges.specs.RangeViews.{comparator_of, range_of};
@@ -17,7 +17,7 @@ use crate::grammar::Simple;
 use crate::partial::LowerBounds;
 use crate::range::{Comparator, Compat, Range};
 use crate::range_set::{RangeError, RangeSet};
-use semver_texts::dialect::Dialect;
+use semver_texts::grammar::Grammar;
 use std::alloc::{AllocError, Global};
 
 /// A table: which simples fit, and which comparators stand for each.
@@ -29,7 +29,7 @@ pub trait Table {
     ghost written: { Self → SimpleTree → List PlainComparator };
 
     /// The dialect of the texts.
-    const DIALECT: Dialect;
+    const DIALECT: Grammar;
 
     /// Whether the numbers of a simple fit, and how many comparators stand for it. Vectors are
     /// asked for at this size.
@@ -88,12 +88,12 @@ fn survey<T: Table>(text: &[u8], lower: LowerBounds, table: &T) -> Result<Sizes,
         × IsTrue (list_all (event_fits (T.fit table.now)) es))
         (λ e. IsRefusalBy (events T.DIALECT lower text.now) (T.fit table.now) e) }
 {
-    let dialect = T::DIALECT;
-    let mut events = Events::new(text, dialect, lower);
+    let grammar = T::DIALECT;
+    let mut events = Events::new(text, grammar, lower);
     let mut comparators = [0usize; REMEMBERED];
     let mut ended = 0usize;
     let mut fit = true;
-    while let Some(event) = events.next_in(dialect) {
+    while let Some(event) = events.next_in(grammar) {
         match event? {
             Event::Simple(simple) => {
                 let (fits, count) = table.size(&simple);
@@ -135,11 +135,11 @@ fn build<T: Table>(
         → events T.DIALECT lower text.now ≡ Some es
         → map range_of ranges.items ≡ ranges_by (T.written table.now) compat [] es) }
 {
-    let dialect = T::DIALECT;
-    let mut events = Events::new(text, dialect, lower);
+    let grammar = T::DIALECT;
+    let mut events = Events::new(text, grammar, lower);
     let mut ranges = Vec::with_capacity(alloc, sizes.ranges)?;
     let mut comparator_set = Vec::with_capacity(alloc, sizes.comparators[0])?;
-    while let Some(event) = events.next_in(dialect) {
+    while let Some(event) = events.next_in(grammar) {
         let Ok(event) = event else {
             return Ok(ranges);
         };

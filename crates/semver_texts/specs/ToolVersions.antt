@@ -10,8 +10,8 @@ use Rattle.semver_texts.specs.Texts.{Text, IsNumber, has_no_leading_zero, is_par
 use Rattle.semver_texts.specs.Versions.{IdentifierValue, numeric, alphanumeric, VersionValue}
 use Rattle.semver_texts.specs.Versions.{numbers}
 use Rattle.semver_texts.specs.VersionGrammar.{SpellsVersion}
-use Rattle.semver_texts.specs.declared.dialect.Dialect.{Dialect}
-use Rattle.semver_texts.specs.declared.dialect.Dialect.TheVariants.{Crate, Cargo, Npm}
+use Rattle.semver_texts.specs.declared.grammar.Grammar.{Grammar}
+use Rattle.semver_texts.specs.declared.grammar.Grammar.TheVariants.{Crate, Cargo, Npm}
 
 -- the text is kept as the identifier: one or more letters, digits and hyphens (SemVer 2.0.0,
 -- sections 9 and 10). The canonical decimal of a number below 2^64 is kept as that number, any
@@ -83,14 +83,14 @@ abbrev pub SpellsNpm : VersionValue → Text → Type 0
 SpellsNpm v text = SpellsNpmAtAnyLength v text × (characters text ≤ 256)
 
 -- the text spells the version in a dialect
-abbrev pub SpellsIn : Dialect → VersionValue → Text → Type 0
+abbrev pub SpellsIn : Grammar → VersionValue → Text → Type 0
 SpellsIn Crate v text = SpellsVersion v text
 SpellsIn Cargo v text = SpellsSemver v text
 SpellsIn Npm v text = SpellsNpm v text
 
 -- some version is spelled so
-abbrev pub IsVersionTextIn : Dialect → Text → Type 0
-IsVersionTextIn dialect text = (v : VersionValue) × SpellsIn dialect v text
+abbrev pub IsVersionTextIn : Grammar → Text → Type 0
+IsVersionTextIn grammar text = (v : VersionValue) × SpellsIn grammar v text
 
 -- how many bytes of a version text are before its numbers
 abbrev pub before_numbers : Text → ℕ

@@ -5,7 +5,7 @@
 
 pub mod bytes;
 pub mod decimals;
-pub mod dialect;
+pub mod grammar;
 pub mod dotted;
 pub mod laws;
 pub mod precedence;

@@ -10,8 +10,8 @@ use Rattle.semver_texts.specs.Texts.{Text, is_space, marked}
 use Rattle.semver_texts.specs.ToolVersions.{IsKeptAs, IsVersionTextIn, SpellsIn, before_numbers}
 use Rattle.semver_texts.specs.Versions.{IdentifierValue, VersionValue}
 use Rattle.semver_texts.specs.VersionGrammar.{SpellsVersion}
-use Rattle.semver_texts.specs.declared.dialect.Dialect.{Dialect}
-use Rattle.semver_texts.specs.declared.dialect.Dialect.TheVariants.{Crate}
+use Rattle.semver_texts.specs.declared.grammar.Grammar.{Grammar}
+use Rattle.semver_texts.specs.declared.grammar.Grammar.TheVariants.{Crate}
 use Rattle.semver_texts.proofs.Lists.{prefix_is}
 use Rattle.semver_texts.proofs.SpelledVersions.{kept_texts}
 use Rattle.semver_versions.specs.Outlines.{OutlineValue, IsOutlineIn, IsOutlineOf, StandsAt, after_mark, dotted_text, outline_after}
@@ -36,14 +36,14 @@ after_is before v ts us pre build =
       build = build_is i;
     })
 
-pub outlined_version : (d : Dialect) (before : ℕ) (o : OutlineValue) (u v : VersionValue) (text : Text) → SpellsIn d u text
+pub outlined_version : (d : Grammar) (before : ℕ) (o : OutlineValue) (u v : VersionValue) (text : Text) → SpellsIn d u text
     → o ≡ outline_after before u → SpellsIn d v text → v ≡ version_of o
 outlined_version d before o u v text a is b =
     let read = (read_of d v text b).2 in
     after_is before v read.pre_texts read.build_texts read.pre read.build
     ∙ ap version_of (ap (outline_after before) (one_version_in d v u text b a) ∙ sym is)
 
-pub its_version_in : (d : Dialect) (o : OutlineValue) (v : VersionValue) (text : Text) → IsOutlineIn d text o → SpellsIn d v text
+pub its_version_in : (d : Grammar) (o : OutlineValue) (v : VersionValue) (text : Text) → IsOutlineIn d text o → SpellsIn d v text
     → v ≡ version_of o
 its_version_in d o v text is w = outlined_version d (before_numbers text) o is.0 v text is.1 is.2 w
 
@@ -97,7 +97,7 @@ to_pre a b c = simp append_assoc
 to_build : (a b c e : Text) → a ++ (b ++ (c ++ e)) ≡ (a ++ (b ++ c)) ++ e
 to_build a b c e = simp append_assoc
 
-both_stand : (d : Dialect) (text : Text) (o : OutlineValue) → IsOutlineIn d text o
+both_stand : (d : Grammar) (text : Text) (o : OutlineValue) → IsOutlineIn d text o
     → StandsAt o.pre_offset o.pre text × StandsAt o.build_offset o.build text
 both_stand d text o (v, spells, e) =
     let read = read_of d v text spells in
@@ -122,7 +122,7 @@ both_stand d text o (v, spells, e) =
 
 -- ---- the result
 
-module _ (d : Dialect) (text : Text) where
+module _ (d : Grammar) (text : Text) where
   pub exactly_in : (found : Option OutlineValue) → IsOutlinedBy d text found → (o : OutlineValue) → (found ≡ Some o) ↔ IsOutlineIn d text o
   exactly_in None none o = (λ e. cc, λ w. absurd (none (w.0, w.1)))
   exactly_in (Some found) is o = (

@@ -4,7 +4,7 @@ use Rattle.std.specs.Prelude.{slice_index}
 use Rattle.semver_texts.specs.Texts.{BeginsWithNumbers, is_part_byte, is_space}
 use Rattle.semver_texts.specs.Versions.{IdentifierValue, VersionValue}
 use Rattle.semver_texts.specs.VersionGrammar.{SpellsIdentifier, SpellsPart, SpellsCore, SpellsVersion}
-use Rattle.semver_texts.specs.declared.dialect.Dialect.TheVariants.{Crate}
+use Rattle.semver_texts.specs.declared.grammar.Grammar.TheVariants.{Crate}
 use Rattle.semver_texts.proofs.Lists.{Passes, all_more, marked_passes}
 use Rattle.semver_texts.proofs.SpelledVersions.{spelled_kept_all}
 use Rattle.semver_versions.proofs.DialectOutlines.{no_space}

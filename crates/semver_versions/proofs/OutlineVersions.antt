@@ -4,7 +4,7 @@ use Rattle.std.specs.Prelude.{◌==◌, ◌↔◌, Option, Some, None, Result, O
 use Rattle.semver_texts.specs.Texts.{Text, cut_at_dots, is_empty}
 use Rattle.semver_texts.specs.VersionGrammar.{SpellsVersion}
 use Rattle.semver_texts.specs.Versions.{IdentifierValue, VersionValue}
-use Rattle.semver_texts.specs.declared.dialect.Dialect.TheVariants.{Crate}
+use Rattle.semver_texts.specs.declared.grammar.Grammar.TheVariants.{Crate}
 use Rattle.std.proofs.lemmas.Bool.Decides.{nat_tests}
 use Rattle.semver_texts.proofs.PartRuns.{pieces}
 use Rattle.semver_versions.specs.Outlines.{OutlineValue, IsOutlineAfter, identifier_of, version_of}

@@ -12,8 +12,8 @@ use Rattle.semver_texts.specs.Texts.{Text, BeginsWithNumbers, has_no_leading_zer
 use Rattle.semver_texts.specs.ToolVersions.{AreWhiteSpaces, SpellsIn, SpellsSemver, before_numbers, characters, goes_on}
 use Rattle.semver_texts.specs.Versions.{VersionValue, numbers}
 use Rattle.semver_texts.specs.VersionGrammar.{SpellsVersion}
-use Rattle.semver_texts.specs.declared.dialect.Dialect.{Dialect}
-use Rattle.semver_texts.specs.declared.dialect.Dialect.TheVariants.{Crate, Cargo, Npm}
+use Rattle.semver_texts.specs.declared.grammar.Grammar.{Grammar}
+use Rattle.semver_texts.specs.declared.grammar.Grammar.TheVariants.{Crate, Cargo, Npm}
 use Rattle.semver_texts.proofs.Lists.{Passes, all_more, passes_append, joined_pass}
 use Rattle.semver_texts.proofs.Numbers.{all_digits, canonical_decimal}
 use Rattle.semver_texts.proofs.SpelledVersions.{spelled_kept_all}
@@ -76,14 +76,14 @@ up_to (b ∷ front) text all d = rw (all.0, up_to front text all.1 d, one-add) r
 outer_no_digit : (b : ℕ) → is_outer b ≡ true → no_digit b ≡ true
 outer_no_digit b h = grind (arith, nat_tests)
 
-sign_passes : (d : Dialect) (sign rest : Text) → IsSign d sign rest → Passes no_digit sign
+sign_passes : (d : Grammar) (sign rest : Text) → IsSign d sign rest → Passes no_digit sign
 sign_passes Crate sign rest is = rw is tt
 sign_passes Cargo sign rest is = rw is tt
 sign_passes Npm sign rest is = ⊎_elim (λ v. rw v (refl, tt)) (λ none. rw (none.0) tt) is
 
 -- ---- what is before them
 
-module _ (d : Dialect) (text rest : Text) (at : IsBefore d text rest) where
+module _ (d : Grammar) (text rest : Text) (at : IsBefore d text rest) where
   abbrev pub front_of : Text
   front_of = at.0 ++ at.1
 
@@ -99,23 +99,23 @@ module _ (d : Dialect) (text rest : Text) (at : IsBefore d text rest) where
   pub bytes_before : Digit rest → length text ≡ before_numbers text + length rest
   bytes_before digit = omega (arith, ap length front_then, length-append front_of rest, front_len digit)
 
-pub no_around : (d : Dialect) (text : Text) → Digit text → around_size d text ≡ 0
+pub no_around : (d : Grammar) (text : Text) → Digit text → around_size d text ≡ 0
 no_around d text digit = rw digit.whole (no_size d digit.byte digit.rest (digit_dotted digit.byte digit.digit))
 
 no_v : (text : Text) → Digit text → slice_index text 0 ≡ 118 → ⊥
 no_v text d e = digit_no_v d.byte d.digit (sym (ap (λ t. slice_index t 0) d.whole) ∙ e)
 
 -- numbers at the front of a text
-pub at_front : (d : Dialect) (text : Text) → Digit text → IsBefore d text text
+pub at_front : (d : Grammar) (text : Text) → Digit text → IsBefore d text text
 at_front d text digit = ([], [], none_around d, no_sign d, refl, no_around d text digit)
   where
-    no_sign : (d : Dialect) → IsSign d [] text
+    no_sign : (d : Grammar) → IsSign d [] text
     no_sign Crate = refl
     no_sign Cargo = refl
     no_sign Npm = inr (refl, no_v text digit)
 
 -- the rest is the same
-one_sign : (d : Dialect) (sign other rest left : Text) → IsSign d sign rest → IsSign d other left → sign ++ rest ≡ other ++ left
+one_sign : (d : Grammar) (sign other rest left : Text) → IsSign d sign rest → IsSign d other left → sign ++ rest ≡ other ++ left
     → rest ≡ left
 one_sign Crate sign other rest left a b e = sym (ap (λ t. t ++ rest) a) ∙ e ∙ ap (λ t. t ++ left) b
 one_sign Cargo sign other rest left a b e = sym (ap (λ t. t ++ rest) a) ∙ e ∙ ap (λ t. t ++ left) b
@@ -129,7 +129,7 @@ one_sign Npm sign other rest left a b e =
     (λ also. same [] [] none.0 also.0) b)
     a
 
-one_before : (d : Dialect) (text rest left : Text) → IsBefore d text rest → IsBefore d text left → rest ≡ left
+one_before : (d : Grammar) (text rest left : Text) → IsBefore d text rest → IsBefore d text left → rest ≡ left
 one_before d text rest left a b =
     one_sign d a.1 b.1 rest left a.3 b.3 (same_around d a.0 b.0 _ _ a.2 b.2 (sym a.4 ∙ b.4) a.5 b.5).1
 
@@ -142,10 +142,10 @@ to_right : (a b c e : Text) → (a ++ (b ++ c)) ++ e ≡ a ++ (b ++ (c ++ e))
 to_right a b c e = simp append_assoc
 
 -- what is read of it, from which the text follows
-abbrev pub IsReadOf : Dialect → VersionValue → Text → Type 0
+abbrev pub IsReadOf : Grammar → VersionValue → Text → Type 0
 IsReadOf d v text = (rest : Text) × IsBefore d text rest × IsRead d v rest × IsShort d (characters text)
 
-module _ (d : Dialect) (each : (ts : List Text) → list_all is_part ts ≡ true → AreIdentifiers (hyphens_of d) ts)
+module _ (d : Grammar) (each : (ts : List Text) → list_all is_part ts ≡ true → AreIdentifiers (hyphens_of d) ts)
     (zeros : (ts : List Text) → list_all has_no_leading_zero ts ≡ true → ZerosFit d ts) where
   semver_read : (v : VersionValue) (core after : Text) → SpellsSemver v core → NumbersFit d v.plain.major v.plain.minor v.plain.patch
       → AreAround d after → IsRead d v (core ++ after)
@@ -166,13 +166,13 @@ module _ (d : Dialect) (each : (ts : List Text) → list_all is_part ts ≡ true
     whole = ap (λ t. t ++ after) w.spelled ∙ to_right (three v) (marked (codes "-") w.pre_texts) (marked (codes "+") w.build_texts) after;
   }
 
-abbrev core_of : {d : Dialect} {v : VersionValue} {rest : Text} → IsRead d v rest → Text
+abbrev core_of : {d : Grammar} {v : VersionValue} {rest : Text} → IsRead d v rest → Text
 core_of {v = v} w = three v ++ (marked (codes "-") w.pre_texts ++ marked (codes "+") w.build_texts)
 
-core_then : {d : Dialect} {v : VersionValue} {rest : Text} (w : IsRead d v rest) → rest ≡ core_of w ++ w.after
+core_then : {d : Grammar} {v : VersionValue} {rest : Text} (w : IsRead d v rest) → rest ≡ core_of w ++ w.after
 core_then {v = v} w = w.whole ∙ sym (to_right (three v) (marked (codes "-") w.pre_texts) (marked (codes "+") w.build_texts) w.after)
 
-semver_core : {d : Dialect} {v : VersionValue} {rest : Text} (w : IsRead d v rest) → list_all has_no_leading_zero w.pre_texts ≡ true
+semver_core : {d : Grammar} {v : VersionValue} {rest : Text} (w : IsRead d v rest) → list_all has_no_leading_zero w.pre_texts ≡ true
     → SpellsSemver v (core_of w)
 semver_core w no_zeros = record {
   pre_texts = w.pre_texts;
@@ -220,7 +220,7 @@ crate_before {text = text} w = (
   no_around Crate (w.core ++ w.after) (digit_begins (its_numbers (crate_read w))),
 )
 
-pub read_of : (d : Dialect) (v : VersionValue) (text : Text) → SpellsIn d v text → IsReadOf d v text
+pub read_of : (d : Grammar) (v : VersionValue) (text : Text) → SpellsIn d v text → IsReadOf d v text
 read_of Crate v text w = (w.core ++ w.after, crate_before w, crate_read w, tt)
 read_of Cargo v text w =
     let read = subst (IsRead Cargo v) (append-nil text)
@@ -244,7 +244,7 @@ read_of Npm v text (w, short) =
     )
 
 -- and a text that is read as it spells it
-spells_of : (d : Dialect) (v : VersionValue) (text rest : Text) → IsBefore d text rest → IsRead d v rest → IsShort d (characters text)
+spells_of : (d : Grammar) (v : VersionValue) (text rest : Text) → IsBefore d text rest → IsRead d v rest → IsShort d (characters text)
     → SpellsIn d v text
 spells_of Crate v text rest at w short = record {
   before = at.0;
@@ -289,20 +289,20 @@ spells_of Npm v text rest at w short = (
 
 -- ---- a text spells one version
 
-module _ (d : Dialect) (v : VersionValue) (text rest : Text) (at : IsBefore d text rest) (w : SpellsIn d v text) where
+module _ (d : Grammar) (v : VersionValue) (text rest : Text) (at : IsBefore d text rest) (w : SpellsIn d v text) where
   pub read_after : IsRead d v rest
   read_after = let read = read_of d v text w in subst (IsRead d v) (one_before d text read.0 rest read.1 at) read.2
 
-pub short_of : (d : Dialect) (v : VersionValue) (text : Text) → SpellsIn d v text → IsShort d (characters text)
+pub short_of : (d : Grammar) (v : VersionValue) (text : Text) → SpellsIn d v text → IsShort d (characters text)
 short_of d v text w = (read_of d v text w).3
 
-pub one_version_in : (d : Dialect) (v u : VersionValue) (text : Text) → SpellsIn d v text → SpellsIn d u text → v ≡ u
+pub one_version_in : (d : Grammar) (v u : VersionValue) (text : Text) → SpellsIn d v text → SpellsIn d u text → v ≡ u
 one_version_in d v u text a b =
     let read = read_of d v text a in one_read d v u read.0 read.2 (read_after d u text read.0 read.1 b)
 
 -- ---- its outline
 
-pub whole_outlined : (d : Dialect) (text rest : Text) (found : Option OutlineValue) → IsBefore d text rest
+pub whole_outlined : (d : Grammar) (text rest : Text) (found : Option OutlineValue) → IsBefore d text rest
     → IsShort d (characters text) → IsOutlinedAt d (before_numbers text) rest found → IsOutlinedBy d text found
 whole_outlined d text rest None at short none = λ w. none w.0 (read_after d w.0 text rest at w.1)
 whole_outlined d text rest (Some o) at short is = (is.0, spells_of d is.0 text rest at is.1 short, is.2)
@@ -343,7 +343,7 @@ module _ (text : Text) (major minor patch : ℕ) (rest : Text) (n : BeginsWithNu
           omega (arith, sum_by-cons (λ x. cond (begins x) 1 0) b (front ++ more), first, one_each front more all.1)
 
   -- numbers alone are within the limit
-  pub short_numbers : (d : Dialect) → (length rest == 0) ≡ true → IsShort d (characters text)
+  pub short_numbers : (d : Grammar) → (length rest == 0) ≡ true → IsShort d (characters text)
   short_numbers Crate e = tt
   short_numbers Cargo e = tt
   short_numbers Npm e =

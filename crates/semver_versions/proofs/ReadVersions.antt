@@ -10,8 +10,8 @@ use Rattle.semver_texts.specs.Texts.{Text, BeginsWithNumbers, cut_at_dots, is_do
 use Rattle.semver_texts.specs.Versions.{VersionValue}
 use Rattle.semver_texts.specs.PrintedText.{identifier_text}
 use Rattle.semver_texts.specs.ToolVersions.{IsKeptAs}
-use Rattle.semver_texts.specs.declared.dialect.Dialect.{Dialect}
-use Rattle.semver_texts.specs.declared.dialect.Dialect.TheVariants.{Crate, Cargo, Npm}
+use Rattle.semver_texts.specs.declared.grammar.Grammar.{Grammar}
+use Rattle.semver_texts.specs.declared.grammar.Grammar.TheVariants.{Crate, Cargo, Npm}
 use Rattle.semver_texts.specs.Steps.DottedParts.{marked_part}
 use Rattle.semver_texts.proofs.DottedParts.{found_same}
 use Rattle.semver_texts.proofs.Numbers.{same_numbers}
@@ -26,7 +26,7 @@ use Rattle.semver_versions.proofs.WhiteSpaces.{is_outer, none_around, outer_byte
 
 -- ---- what may be after a version begins with no byte of it
 
-after_outer : (d : Dialect) (after : Text) → AreAround d after → is_outer (slice_index after 0) ≡ true
+after_outer : (d : Grammar) (after : Text) → AreAround d after → is_outer (slice_index after 0) ≡ true
 after_outer d [] around = refl
 after_outer d (b ∷ after) around = (outer_bytes d (b ∷ after) around).0
 
@@ -47,7 +47,7 @@ no_digit b h = grind (arith, nat_tests)
 is_none : {X : Type 0} {x : X} → None ≡ Some x → ⊥
 is_none e = cc
 
-module _ (d : Dialect) (text : Text) where
+module _ (d : Grammar) (text : Text) where
   module _ (pre build : Text) (w : AreParts d text pre build) where
     outer : is_outer (slice_index w.after 0) ≡ true
     outer = after_outer d w.after w.around
@@ -93,7 +93,7 @@ module _ (d : Dialect) (text : Text) where
           }
 
 -- the parts with their marks are within what follows the numbers
-pub parts_fit : (d : Dialect) (rest pre build : Text) → AreParts d rest pre build
+pub parts_fit : (d : Grammar) (rest pre build : Text) → AreParts d rest pre build
     → length (marked (codes "-") (cut_at_dots pre)) + length (marked (codes "+") (cut_at_dots build)) ≤ length rest
 parts_fit d rest pre build w =
     omega (
@@ -108,7 +108,7 @@ parts_fit d rest pre build w =
 abbrev pub version_with : ℕ → ℕ → ℕ → Text → Text → VersionValue
 version_with major minor patch pre build = version_of (outline_with major minor patch 0 pre build)
 
-module _ (d : Dialect) (text rest pre build : Text) (major minor patch : ℕ) (n : BeginsWithNumbers text major minor patch rest)
+module _ (d : Grammar) (text rest pre build : Text) (major minor patch : ℕ) (n : BeginsWithNumbers text major minor patch rest)
     (w : AreParts d rest pre build) where
   pre_kept : AllZip IsKeptAs (map identifier_of (cut_at_dots pre)) (cut_at_dots pre)
   pre_kept = all_kept (cut_at_dots pre) (are_parts (hyphens_of d) _ w.pre_each)
@@ -168,7 +168,7 @@ module _ (d : Dialect) (text rest pre build : Text) (major minor patch : ℕ) (n
       (version_with major minor patch pre build, is_read fits, its_outline before numbers_end at)
 
 -- no parts, where nothing follows the numbers
-pub no_parts : (d : Dialect) (text : Text) → (length text == 0) ≡ true → AreParts d text [] []
+pub no_parts : (d : Grammar) (text : Text) → (length text == 0) ≡ true → AreParts d text [] []
 no_parts d [] e = record {
   after = [];
   pre_each = no_identifiers (hyphens_of d);
@@ -178,7 +178,7 @@ no_parts d [] e = record {
   split = refl;
 }
   where
-    no_zeros : (d : Dialect) → ZerosFit d []
+    no_zeros : (d : Grammar) → ZerosFit d []
     no_zeros Crate = tt
     no_zeros Cargo = refl
     no_zeros Npm = refl
@@ -186,7 +186,7 @@ no_parts d (b ∷ text) e = absurd (omega (arith, eqb-true (length (b ∷ text))
 
 -- ---- and its numbers and its parts, from a version
 
-module _ {d : Dialect} {v : VersionValue} {text : Text} (w : IsRead d v text) where
+module _ {d : Grammar} {v : VersionValue} {text : Text} (w : IsRead d v text) where
   abbrev pub marked_rest : Text
   marked_rest = marked (codes "-") w.pre_texts ++ (marked (codes "+") w.build_texts ++ w.after)
 
@@ -246,7 +246,7 @@ module _ {d : Dialect} {v : VersionValue} {text : Text} (w : IsRead d v text) wh
 
 -- ---- a text is read as one version
 
-pub one_read : (d : Dialect) (v u : VersionValue) (text : Text) → IsRead d v text → IsRead d u text → v ≡ u
+pub one_read : (d : Grammar) (v u : VersionValue) (text : Text) → IsRead d v text → IsRead d u text → v ≡ u
 one_read d v u text a b =
     let same = same_numbers text _ _ _ _ _ _ _ _ (its_numbers a) (its_numbers b) in
     let parts = subst (λ t. AreParts d t (pre_of a) (build_of a)) same.3 (its_parts a) in

@@ -10,8 +10,8 @@ use Rattle.std.proofs.lemmas.List.{take-append-drop, take_at, drop_at}
 use Rattle.std.proofs.lemmas.List.Folds.{concat-append, list_all-append}
 use Rattle.semver_texts.specs.Texts.{Text, is_dotted_byte, is_space}
 use Rattle.semver_texts.specs.ToolVersions.{is_white_space}
-use Rattle.semver_texts.specs.declared.dialect.Dialect.{Dialect}
-use Rattle.semver_texts.specs.declared.dialect.Dialect.TheVariants.{Crate, Cargo, Npm}
+use Rattle.semver_texts.specs.declared.grammar.Grammar.{Grammar}
+use Rattle.semver_texts.specs.declared.grammar.Grammar.TheVariants.{Crate, Cargo, Npm}
 use Rattle.semver_texts.proofs.Lists.{Passes, by_test, passes_append}
 use Rattle.semver_versions.specs.Steps.Reading.{AreAround, around_size, is_around}
 
@@ -25,7 +25,7 @@ beyond : (b : ℕ) → 128 ≤ b → is_outer b ≡ true
 beyond b h = grind (arith, nat_tests)
 
 -- each is white space of npm
-is_white : (d : Dialect) (c : Text) → is_around d c ≡ true → is_white_space c ≡ true
+is_white : (d : Grammar) (c : Text) → is_around d c ≡ true → is_white_space c ≡ true
 is_white Crate [] e = cc
 is_white Crate (a ∷ []) e = grind (arith, nat_tests)
 is_white Crate (a ∷ b ∷ t) e = cc
@@ -44,7 +44,7 @@ some_character : (c : Text) → is_white_space c ≡ true → 0 < length c
 some_character [] e = cc
 some_character (a ∷ t) e = omega arith
 
-size_of : (d : Dialect) (c more : Text) → is_around d c ≡ true → around_size d (c ++ more) ≡ length c
+size_of : (d : Grammar) (c more : Text) → is_around d c ≡ true → around_size d (c ++ more) ≡ length c
 size_of Crate [] more e = cc
 size_of Crate (a ∷ []) more e = rw e refl
 size_of Crate (a ∷ b ∷ t) more e = cc
@@ -56,7 +56,7 @@ size_of Npm (a ∷ b ∷ c ∷ []) more e = grind (arith, nat_tests)
 size_of Npm (a ∷ b ∷ c ∷ d ∷ t) more e = cc
 
 -- a letter or a digit begins none
-pub no_size : (d : Dialect) (b : ℕ) (t : Text) → is_dotted_byte b ≡ true → around_size d (b ∷ t) ≡ 0
+pub no_size : (d : Grammar) (b : ℕ) (t : Text) → is_dotted_byte b ≡ true → around_size d (b ∷ t) ≡ 0
 no_size Crate b [] e = grind (arith, nat_tests)
 no_size Crate b (c ∷ []) e = grind (arith, nat_tests)
 no_size Crate b (c ∷ d ∷ t) e = grind (arith, nat_tests)
@@ -65,14 +65,14 @@ no_size Npm b [] e = grind (arith, nat_tests)
 no_size Npm b (c ∷ []) e = grind (arith, nat_tests)
 no_size Npm b (c ∷ d ∷ t) e = grind (arith, nat_tests)
 
-pub none_size : (d : Dialect) → around_size d [] ≡ 0
+pub none_size : (d : Grammar) → around_size d [] ≡ 0
 none_size Crate = refl
 none_size Cargo = refl
 none_size Npm = refl
 
 -- ---- any number of them
 
-module _ (d : Dialect) where
+module _ (d : Grammar) where
   -- what the size counts is one
   counted : (t : Text) → 0 < around_size d t → is_around d (take (around_size d t) t) ≡ true
   counted t some = by_test (is_around d (take 1 t)) (λ y. rw (y) y)
@@ -164,7 +164,7 @@ nothing_around t w = w.whole ∙ none w.each w.are
 pub left_is : (t : Text) (n : ℕ) → take (length t - n) (drop n t) ≡ drop n t
 left_is t n = ap (λ k. take k (drop n t)) (sym (length-drop n t)) ∙ take-length (drop n t)
 
-pub goes_on : (d : Dialect) (bytes rest : Text) (len : ℕ) → (spaces : Text) × AreAround d spaces × (bytes ≡ spaces ++ rest)
+pub goes_on : (d : Grammar) (bytes rest : Text) (len : ℕ) → (spaces : Text) × AreAround d spaces × (bytes ≡ spaces ++ rest)
     → len ≡ around_size d rest → (len ≡ 0 → ⊥) → (spaces : Text) × AreAround d spaces × (bytes ≡ spaces ++ drop len rest)
 goes_on d bytes rest len w size some = (
   w.0 ++ take len rest,

@@ -9,7 +9,7 @@ use Rattle.semver_texts.specs.Texts.{Text, cut_at_dots, is_number, is_space}
 use Rattle.semver_texts.specs.ToolVersions.{SpellsIn, before_numbers}
 use Rattle.semver_texts.specs.Versions.{IdentifierValue, numeric, alphanumeric, VersionValue}
 use Rattle.semver_texts.specs.Versions.{numbers}
-use Rattle.semver_texts.specs.declared.dialect.Dialect.{Dialect}
+use Rattle.semver_texts.specs.declared.grammar.Grammar.{Grammar}
 use Rattle.semver_texts.specs.PrintedText.{identifier_text, plain_text}
 use Rattle.semver_texts.specs.VersionGrammar.{SpellsVersion}
 
@@ -58,8 +58,8 @@ abbrev pub IsOutlineOf : Text → OutlineValue → Type 0
 IsOutlineOf text o = IsOutlineAfter (prefix_len is_space text) text o
 
 -- it is the outline of a version that the text spells in a dialect
-abbrev pub IsOutlineIn : Dialect → Text → OutlineValue → Type 0
-IsOutlineIn dialect text o = (v : VersionValue) × SpellsIn dialect v text
+abbrev pub IsOutlineIn : Grammar → Text → OutlineValue → Type 0
+IsOutlineIn grammar text o = (v : VersionValue) × SpellsIn grammar v text
     × (o ≡ outline_after (before_numbers text) v)
 
 -- the identifier that a text of letters, digits and hyphens is kept as

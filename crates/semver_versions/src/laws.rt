@@ -4,8 +4,8 @@ ghost use Rattle.semver_texts.specs.Texts.{Text};
 ghost use Rattle.semver_texts.specs.Versions.{VersionValue};
 ghost use Rattle.semver_texts.specs.ToolVersions.{SpellsIn};
 ghost use Rattle.semver_texts.specs.VersionGrammar.{SpellsVersion};
-ghost use Rattle.semver_texts.specs.declared.dialect.Dialect.{Dialect};
-ghost use Rattle.semver_texts.specs.declared.dialect.Dialect.TheVariants.{Crate};
+ghost use Rattle.semver_texts.specs.declared.grammar.Grammar.{Grammar};
+ghost use Rattle.semver_texts.specs.declared.grammar.Grammar.TheVariants.{Crate};
 ghost use Rattle.semver_versions.specs.Outlines.{IsOutlineIn, IsOutlineOf, OutlineValue};
 ghost use Rattle.semver_versions.specs.Outlines.{version_of};
 
@@ -17,14 +17,14 @@ pub fn one_version()
 
 /// No text spells two versions in a dialect.
 pub fn one_version_in()
-    ensures same_version { (dialect : Dialect) (v w : VersionValue) (text : Text)
-        → SpellsIn dialect v text → SpellsIn dialect w text → v ≡ w }
+    ensures same_version { (grammar : Grammar) (v w : VersionValue) (text : Text)
+        → SpellsIn grammar v text → SpellsIn grammar w text → v ≡ w }
 {}
 
 /// The outline of a text is of the version that the text spells.
 pub fn one_outlined_version()
-    ensures same_version { (dialect : Dialect) (o : OutlineValue) (v : VersionValue) (text : Text)
-        → IsOutlineIn dialect text o → SpellsIn dialect v text → v ≡ version_of o }
+    ensures same_version { (grammar : Grammar) (o : OutlineValue) (v : VersionValue) (text : Text)
+        → IsOutlineIn grammar text o → SpellsIn grammar v text → v ≡ version_of o }
     // In the crate's dialect an outline is that of the crate's grammar.
     ensures same_outline { (o : OutlineValue) (text : Text)
         → IsOutlineIn Crate text o ↔ IsOutlineOf text o }

@@ -11,14 +11,14 @@ ghost use Rattle.std.specs.Prelude.{MatchOption, slice_index};
 ghost use Rattle.std.specs.Char.{is_ascii_digit};
 ghost use Rattle.semver_texts.specs.Texts.{Text, BeginsWithNumbers, cut_at_dots};
 ghost use Rattle.semver_texts.specs.ToolVersions.{characters};
-ghost use Rattle.semver_texts.specs.declared.dialect.Dialect.TheVariants.{Npm};
+ghost use Rattle.semver_texts.specs.declared.grammar.Grammar.TheVariants.{Npm};
 ghost use Rattle.semver_versions.specs.Steps.Reading.{AreAround, AreParts, IsBefore, IsOutlinedAt};
 ghost use Rattle.semver_versions.specs.Steps.Reading.{IsOutlinedBy, IsShort, NumbersFit, ZerosFit};
 ghost use Rattle.semver_versions.specs.Steps.Reading.{around_size, hyphens_of};
 
 use crate::outlines::{Outline, with_parts};
 use semver_texts::decimals::{begins_with_digit, numbers_at_digit};
-use semver_texts::dialect::Dialect;
+use semver_texts::grammar::Grammar;
 use semver_texts::dotted::{Hyphens, have_no_leading_zeros, marked_part, strip_mark};
 
 /// No number of a version of npm is above this, the greatest that JavaScript has exactly.
@@ -30,17 +30,17 @@ const CHARACTERS: usize = 256;
 /// How many bytes the character at the front has, if it may be before and after a version; else 0.
 /// npm takes what JavaScript calls white space.
 #[inline(always)]
-fn around_len(bytes: &[u8], dialect: Dialect) -> usize
-    ensures size { result ≡ around_size dialect bytes.now }
+fn around_len(bytes: &[u8], grammar: Grammar) -> usize
+    ensures size { result ≡ around_size grammar bytes.now }
     ensures within { result ≤ length bytes.now }
 {
-    match dialect {
-        Dialect::Crate => match bytes {
+    match grammar {
+        Grammar::Crate => match bytes {
             [b' ' | b'\t' | b'\n' | b'\r', ..] => 1,
             _ => 0,
         },
-        Dialect::Cargo => 0,
-        Dialect::Npm => match bytes {
+        Grammar::Cargo => 0,
+        Grammar::Npm => match bytes {
             [9..=13 | 32, ..] => 1,
             [0xC2, 0xA0, ..] => 2,
             [0xE1, 0x9A, 0x80, ..]
@@ -55,13 +55,13 @@ fn around_len(bytes: &[u8], dialect: Dialect) -> usize
 
 /// What follows the characters at the front that may be before and after a version.
 #[inline(never)]
-fn after_around(bytes: &[u8], dialect: Dialect) -> &[u8]
-    ensures { (spaces : Text) × AreAround dialect spaces × (bytes.now ≡ spaces ++ result.now)
-        × (around_size dialect result.now ≡ 0) }
+fn after_around(bytes: &[u8], grammar: Grammar) -> &[u8]
+    ensures { (spaces : Text) × AreAround grammar spaces × (bytes.now ≡ spaces ++ result.now)
+        × (around_size grammar result.now ≡ 0) }
 {
     let mut rest = bytes;
     loop {
-        let len = around_len(rest, dialect);
+        let len = around_len(rest, grammar);
         if len == 0 {
             return rest;
         }
@@ -71,13 +71,13 @@ fn after_around(bytes: &[u8], dialect: Dialect) -> &[u8]
 
 /// What follows all that is taken before the numbers, by npm one `v` too.
 #[inline(never)]
-fn after_front(bytes: &[u8], dialect: Dialect) -> &[u8]
-    ensures { IsBefore dialect bytes.now result.now }
+fn after_front(bytes: &[u8], grammar: Grammar) -> &[u8]
+    ensures { IsBefore grammar bytes.now result.now }
 {
-    let rest = after_around(bytes, dialect);
-    match dialect {
-        Dialect::Crate | Dialect::Cargo => rest,
-        Dialect::Npm => match strip_mark(rest, b'v') {
+    let rest = after_around(bytes, grammar);
+    match grammar {
+        Grammar::Crate | Grammar::Cargo => rest,
+        Grammar::Npm => match strip_mark(rest, b'v') {
             Some(after) => after,
             None => rest,
         },
@@ -87,16 +87,16 @@ fn after_front(bytes: &[u8], dialect: Dialect) -> &[u8]
 /// What follows all that is taken before the numbers, if it begins with a digit. For speed, a digit
 /// at the front is seen first: nothing is before it.
 #[inline(always)]
-fn at_digit(bytes: &[u8], dialect: Dialect) -> Option<&[u8]>
-    ensures { MatchOption result ((rest : Text) × IsBefore dialect bytes.now rest
+fn at_digit(bytes: &[u8], grammar: Grammar) -> Option<&[u8]>
+    ensures { MatchOption result ((rest : Text) × IsBefore grammar bytes.now rest
         × (is_ascii_digit (slice_index rest 0) ≡ false))
-        (λ rest. IsBefore dialect bytes.now rest.now
+        (λ rest. IsBefore grammar bytes.now rest.now
         × (is_ascii_digit (slice_index rest.now 0) ≡ true)) }
 {
     if begins_with_digit(bytes) {
         return Some(bytes);
     }
-    let rest = after_front(bytes, dialect);
+    let rest = after_front(bytes, grammar);
     if begins_with_digit(rest) {
         Some(rest)
     } else {
@@ -106,11 +106,11 @@ fn at_digit(bytes: &[u8], dialect: Dialect) -> Option<&[u8]>
 
 /// Whether the bytes may be after a version.
 #[inline(always)]
-fn may_end(bytes: &[u8], dialect: Dialect) -> bool
-    ensures yes { result ≡ true → AreAround dialect bytes.now }
-    ensures no { result ≡ false → ¬ (AreAround dialect bytes.now) }
+fn may_end(bytes: &[u8], grammar: Grammar) -> bool
+    ensures yes { result ≡ true → AreAround grammar bytes.now }
+    ensures no { result ≡ false → ¬ (AreAround grammar bytes.now) }
 {
-    bytes.is_empty() || after_around(bytes, dialect).is_empty()
+    bytes.is_empty() || after_around(bytes, grammar).is_empty()
 }
 
 /// Whether the numbers of a version are within npm's limit.
@@ -125,32 +125,32 @@ fn are_small(major: u64, minor: u64, patch: u64) -> bool
 /// Whether the numbers of a version are within the limit, which npm alone has. For speed, small
 /// numbers are seen first.
 #[inline(always)]
-fn fit(major: u64, minor: u64, patch: u64, dialect: Dialect) -> bool
-    ensures yes { result ≡ true → NumbersFit dialect major minor patch }
-    ensures no { result ≡ false → ¬ (NumbersFit dialect major minor patch) }
+fn fit(major: u64, minor: u64, patch: u64, grammar: Grammar) -> bool
+    ensures yes { result ≡ true → NumbersFit grammar major minor patch }
+    ensures no { result ≡ false → ¬ (NumbersFit grammar major minor patch) }
 {
     if are_small(major, minor, patch) {
         return true;
     }
-    match dialect {
-        Dialect::Crate | Dialect::Cargo => true,
-        Dialect::Npm => false,
+    match grammar {
+        Grammar::Crate | Grammar::Cargo => true,
+        Grammar::Npm => false,
     }
 }
 
 /// Whether so many characters and those of these bytes are within the limit, which npm alone has.
 #[inline(always)]
-fn is_short(before: usize, bytes: &[u8], dialect: Dialect) -> bool
+fn is_short(before: usize, bytes: &[u8], grammar: Grammar) -> bool
     requires { before + length bytes.now < 2 ^ 64 }
-    ensures yes { result ≡ true → IsShort dialect (before + characters bytes.now) }
-    ensures no { result ≡ false → ¬ (IsShort dialect (before + characters bytes.now)) }
+    ensures yes { result ≡ true → IsShort grammar (before + characters bytes.now) }
+    ensures no { result ≡ false → ¬ (IsShort grammar (before + characters bytes.now)) }
 {
     if before + bytes.len() <= CHARACTERS {
         return true;
     }
-    match dialect {
-        Dialect::Crate | Dialect::Cargo => true,
-        Dialect::Npm => before + count_characters(bytes) <= CHARACTERS,
+    match grammar {
+        Grammar::Crate | Grammar::Cargo => true,
+        Grammar::Npm => before + count_characters(bytes) <= CHARACTERS,
     }
 }
 
@@ -171,13 +171,13 @@ fn count_characters(bytes: &[u8]) -> usize
 
 /// Whether the identifiers of a pre-release may begin with zeros so.
 #[inline(always)]
-fn zeros_fit(pre: &[u8], dialect: Dialect) -> bool
-    ensures yes { result ≡ true → ZerosFit dialect (cut_at_dots pre.now) }
-    ensures no { result ≡ false → ¬ (ZerosFit dialect (cut_at_dots pre.now)) }
+fn zeros_fit(pre: &[u8], grammar: Grammar) -> bool
+    ensures yes { result ≡ true → ZerosFit grammar (cut_at_dots pre.now) }
+    ensures no { result ≡ false → ¬ (ZerosFit grammar (cut_at_dots pre.now)) }
 {
-    match dialect {
-        Dialect::Crate => true,
-        Dialect::Cargo | Dialect::Npm => have_no_leading_zeros(pre),
+    match grammar {
+        Grammar::Crate => true,
+        Grammar::Cargo | Grammar::Npm => have_no_leading_zeros(pre),
     }
 }
 
@@ -185,26 +185,26 @@ fn zeros_fit(pre: &[u8], dialect: Dialect) -> bool
 /// mark, and what may be after a version; nothing where there are none. For speed, it is compiled
 /// for either kind of hyphens.
 #[inline(never)]
-fn parts(bytes: &[u8], dialect: Dialect) -> Option<(&[u8], &[u8])>
-    ensures { MatchOption result ((pre build : Text) → ¬ (AreParts dialect bytes.now pre build))
-        (λ r. AreParts dialect bytes.now r.0.now r.1.now) }
+fn parts(bytes: &[u8], grammar: Grammar) -> Option<(&[u8], &[u8])>
+    ensures { MatchOption result ((pre build : Text) → ¬ (AreParts grammar bytes.now pre build))
+        (λ r. AreParts grammar bytes.now r.0.now r.1.now) }
 {
-    match dialect {
-        Dialect::Crate => parts_with(bytes, Hyphens::BetweenRuns, dialect),
-        Dialect::Cargo | Dialect::Npm => parts_with(bytes, Hyphens::Any, dialect),
+    match grammar {
+        Grammar::Crate => parts_with(bytes, Hyphens::BetweenRuns, grammar),
+        Grammar::Cargo | Grammar::Npm => parts_with(bytes, Hyphens::Any, grammar),
     }
 }
 
 /// The parts of a version, whose identifiers may have such hyphens.
 #[inline(always)]
-fn parts_with(bytes: &[u8], hyphens: Hyphens, dialect: Dialect) -> Option<(&[u8], &[u8])>
-    requires { hyphens ≡ hyphens_of dialect }
-    ensures { MatchOption result ((pre build : Text) → ¬ (AreParts dialect bytes.now pre build))
-        (λ r. AreParts dialect bytes.now r.0.now r.1.now) }
+fn parts_with(bytes: &[u8], hyphens: Hyphens, grammar: Grammar) -> Option<(&[u8], &[u8])>
+    requires { hyphens ≡ hyphens_of grammar }
+    ensures { MatchOption result ((pre build : Text) → ¬ (AreParts grammar bytes.now pre build))
+        (λ r. AreParts grammar bytes.now r.0.now r.1.now) }
 {
     let (pre, rest) = marked_part(bytes, b'-', hyphens)?;
     let (build, rest) = marked_part(rest, b'+', hyphens)?;
-    if may_end(rest, dialect) && zeros_fit(pre, dialect) {
+    if may_end(rest, grammar) && zeros_fit(pre, grammar) {
         Some((pre, build))
     } else {
         None
@@ -220,15 +220,15 @@ fn with_rest(
     patch: u64,
     numbers_end: usize,
     rest: &[u8],
-    dialect: Dialect,
+    grammar: Grammar,
 ) -> Option<Outline<'_>>
     requires within { numbers_end + length rest.now < 2 ^ 64 }
-    requires fit { NumbersFit dialect major minor patch }
+    requires fit { NumbersFit grammar major minor patch }
     ensures { (text : Text) (before : ℕ) → BeginsWithNumbers text major minor patch rest.now
         → numbers_end + length rest.now ≡ before + length text
-        → IsOutlinedAt dialect before text result }
+        → IsOutlinedAt grammar before text result }
 {
-    let (pre, build) = parts(rest, dialect)?;
+    let (pre, build) = parts(rest, grammar)?;
     Some(with_parts(major, minor, patch, numbers_end, pre, build))
 }
 
@@ -242,33 +242,33 @@ fn after_numbers(
     patch: u64,
     numbers_end: usize,
     rest: &[u8],
-    dialect: Dialect,
+    grammar: Grammar,
 ) -> Option<Outline<'_>>
     requires { numbers_end + length rest.now < 2 ^ 64 }
     ensures { (text : Text) (before : ℕ) → BeginsWithNumbers text major minor patch rest.now
         → numbers_end + length rest.now ≡ before + length text
-        → IsOutlinedAt dialect before text result }
+        → IsOutlinedAt grammar before text result }
 {
-    if !fit(major, minor, patch, dialect) {
+    if !fit(major, minor, patch, grammar) {
         return None;
     }
     if rest.is_empty() {
         return Some(with_parts(major, minor, patch, numbers_end, &[], &[]));
     }
-    with_rest(major, minor, patch, numbers_end, rest, dialect)
+    with_rest(major, minor, patch, numbers_end, rest, grammar)
 }
 
 /// The outline of the version that the bytes spell, if they spell one.
 #[inline(always)]
-pub(crate) fn outline(input: &[u8], dialect: Dialect) -> Option<Outline<'_>>
-    ensures { IsOutlinedBy dialect input.now result }
+pub(crate) fn outline(input: &[u8], grammar: Grammar) -> Option<Outline<'_>>
+    ensures { IsOutlinedBy grammar input.now result }
 {
-    if !is_short(0, input, dialect) {
+    if !is_short(0, input, grammar) {
         return None;
     }
-    let at = at_digit(input, dialect)?;
+    let at = at_digit(input, grammar)?;
     let (major, minor, patch, rest) = numbers_at_digit(at)?;
-    after_numbers(major, minor, patch, input.len() - rest.len(), rest, dialect)
+    after_numbers(major, minor, patch, input.len() - rest.len(), rest, grammar)
 }
 
 /// The outline of the version that a text spells, if it spells one, and if the text begins with
@@ -280,14 +280,14 @@ pub(crate) fn outline_of_numbers(
     patch: u64,
     numbers_end: usize,
     rest: &[u8],
-    dialect: Dialect,
+    grammar: Grammar,
 ) -> Option<Outline<'_>>
     requires { numbers_end + length rest.now < 2 ^ 64 }
     ensures { (text : Text) → BeginsWithNumbers text major minor patch rest.now
-        → length text ≡ numbers_end + length rest.now → IsOutlinedBy dialect text result }
+        → length text ≡ numbers_end + length rest.now → IsOutlinedBy grammar text result }
 {
-    if !rest.is_empty() && !is_short(numbers_end, rest, dialect) {
+    if !rest.is_empty() && !is_short(numbers_end, rest, grammar) {
         return None;
     }
-    after_numbers(major, minor, patch, numbers_end, rest, dialect)
+    after_numbers(major, minor, patch, numbers_end, rest, grammar)
 }

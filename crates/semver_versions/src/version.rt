@@ -18,7 +18,7 @@ ghost use Rattle.semver_versions.specs.Outlines.{OutlineValue, StandsAt, version
 
 pub use crate::outlines::Outline;
 use crate::reader;
-pub use semver_texts::dialect::Dialect;
+pub use semver_texts::grammar::Grammar;
 pub use semver_texts::precedence::cmp_precedence;
 pub use semver_texts::version::{Identifier, Version};
 use std::alloc::{AllocError, Global};
@@ -116,7 +116,7 @@ pub fn outline_bytes(input: &[u8]) -> Option<Outline<'_>>
     ensures places { IfSome result (λ o. StandsAt o.pre_offset o.pre input.now
         × StandsAt o.build_offset o.build input.now) }
 {
-    outline_in(input, Dialect::Crate)
+    outline_in(input, Grammar::Crate)
 }
 
 // Answer: law answer_laws::versions::one_outline_in.
@@ -125,18 +125,18 @@ pub fn outline_bytes(input: &[u8]) -> Option<Outline<'_>>
 ///
 /// The bytes need not be UTF-8, and it does not allocate. `docs/GRAMMAR.md` has the grammars.
 #[inline(always)]
-pub fn outline_in(input: &[u8], dialect: Dialect) -> Option<Outline<'_>>
+pub fn outline_in(input: &[u8], grammar: Grammar) -> Option<Outline<'_>>
     // An outline is returned exactly if it is that of a version that the bytes spell.
-    ensures outlined { (o : OutlineValue) → (result ≡ Some o) ↔ IsOutlineIn dialect input.now o }
+    ensures outlined { (o : OutlineValue) → (result ≡ Some o) ↔ IsOutlineIn grammar input.now o }
     // None is returned exactly if the bytes spell no version.
-    ensures none { (result ≡ None) ↔ ¬ (IsVersionTextIn dialect input.now) }
+    ensures none { (result ≡ None) ↔ ¬ (IsVersionTextIn grammar input.now) }
     // The version that the outline is of is the one that the bytes spell.
-    ensures version { IfSome result (λ o. SpellsIn dialect (version_of o) input.now) }
+    ensures version { IfSome result (λ o. SpellsIn grammar (version_of o) input.now) }
     // Both texts are in the input at their offsets.
     ensures places { IfSome result (λ o. StandsAt o.pre_offset o.pre input.now
         × StandsAt o.build_offset o.build input.now) }
 {
-    reader::outline(input, dialect)
+    reader::outline(input, grammar)
 }
 
 // Answer: free, beside its conditions (law one_outline_of_numbers): must-fail/major_is_zero.edit.
@@ -153,18 +153,18 @@ pub fn outline_of_numbers(
     patch: u64,
     numbers_end: usize,
     rest: &[u8],
-    dialect: Dialect,
+    grammar: Grammar,
 ) -> Option<Outline<'_>>
     requires fits { numbers_end + length rest.now < 2 ^ 64 }
     // An outline is returned exactly if it is that of a version that the text spells.
     ensures outlined { (text : Text) (o : OutlineValue)
         → BeginsWithNumbers text major minor patch rest.now
         → length text ≡ numbers_end + length rest.now
-        → (result ≡ Some o) ↔ IsOutlineIn dialect text o }
+        → (result ≡ Some o) ↔ IsOutlineIn grammar text o }
     // None is returned exactly if the text spells no version.
     ensures none { (text : Text) → BeginsWithNumbers text major minor patch rest.now
         → length text ≡ numbers_end + length rest.now
-        → (result ≡ None) ↔ ¬ (IsVersionTextIn dialect text) }
+        → (result ≡ None) ↔ ¬ (IsVersionTextIn grammar text) }
 {
-    reader::outline_of_numbers(major, minor, patch, numbers_end, rest, dialect)
+    reader::outline_of_numbers(major, minor, patch, numbers_end, rest, grammar)
 }

@@ -97,7 +97,7 @@ pub extern "C" fn speed_meets_npm(range: &[u8], version: &[u8]) -> u64
 /// What a range text says of the version of a text.
 #[inline(always)]
 fn meets_as(meaning: Meaning, range: &str, version: &[u8]) -> u64 {
-    let Some(outline) = version::outline_in(version, meaning.reading().dialect()) else {
+    let Some(outline) = version::outline_in(version, meaning.dialect().grammar()) else {
         return u64::MAX;
     };
     match meaning::meets(meaning, range, &outline) {

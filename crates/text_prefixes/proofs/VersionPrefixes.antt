@@ -7,8 +7,8 @@ use Rattle.semver_texts.specs.Texts.{Text, has_no_leading_zero, is_part, is_spac
 use Rattle.semver_texts.specs.ToolVersions.{AreWhiteSpaces, IsVersionTextIn, SpellsSemver, characters, is_white_space}
 use Rattle.semver_texts.specs.VersionGrammar.{IsIdentifierText, SpellsIdentifier}
 use Rattle.semver_texts.specs.Versions.{VersionValue, numbers}
-use Rattle.semver_texts.specs.declared.dialect.Dialect.{Dialect}
-use Rattle.semver_texts.specs.declared.dialect.Dialect.TheVariants.{Crate, Cargo, Npm}
+use Rattle.semver_texts.specs.declared.grammar.Grammar.{Grammar}
+use Rattle.semver_texts.specs.declared.grammar.Grammar.TheVariants.{Crate, Cargo, Npm}
 use Rattle.semver_versions.proofs.CutIdentifiers.{spelled_are}
 use Rattle.semver_versions.proofs.KeptTexts.{all_kept, each_passes, identifiers_are_parts, kept_parts, kept_spelled_all}
 use Rattle.semver_versions.specs.Outlines.{identifier_of}
@@ -19,7 +19,7 @@ use Rattle.text_prefixes.proofs.Leaves.{IsBuild, IsPartWith, IsPre, IsBelow, IsW
 use Rattle.text_prefixes.specs.VersionCompletions.{byte_completions, version_completions}
 
 -- the completions of the versions, which are all UTF-8
-pub record IsKnown (d : Dialect) : Type 0 where
+pub record IsKnown (d : Grammar) : Type 0 where
   pub completions : AreCompletions (IsVersionTextIn d) version_completions
   pub utf8 : (t : Text) → IsVersionTextIn d t → IsUtf8 t
   pub bytes : (t rest : Text) → IsVersionTextIn d (t ++ rest) → GoesOn (IsVersionTextIn d) byte_completions t
@@ -230,7 +230,7 @@ crate =
 
 -- ---- each dialect's
 
-pub known : (d : Dialect) → IsKnown d
+pub known : (d : Grammar) → IsKnown d
 known Crate = crate
 known Cargo = cargo
 known Npm = npm

@@ -9,8 +9,8 @@ use Rattle.std.specs.Int.{is_in_range}
 use Rattle.std.specs.List.{list_all}
 use Rattle.semver_texts.specs.Texts.{Text, is_part_byte}
 use Rattle.semver_texts.specs.Versions.{VersionValue}
-use Rattle.semver_texts.specs.declared.dialect.Dialect.{Dialect}
-use Rattle.semver_texts.specs.declared.dialect.Dialect.TheVariants.{Crate, Cargo, Npm}
+use Rattle.semver_texts.specs.declared.grammar.Grammar.{Grammar}
+use Rattle.semver_texts.specs.declared.grammar.Grammar.TheVariants.{Crate, Cargo, Npm}
 use Rattle.text_prefixes.specs.VersionPrefixes.{IsPrefixIn, SpellsAtAnyLength}
 use Rattle.text_prefixes.specs.declared.reasons.Reason.{Reason}
 use Rattle.text_prefixes.specs.declared.reasons.Reason.TheVariants.{Empty, NotThreeNumbers}
@@ -21,12 +21,12 @@ use Rattle.text_prefixes.specs.declared.reasons.Reason.TheVariants.{TooLong, Tex
 -- ---- the prefix
 
 -- the prefix and these bytes are a version, whatever its length
-abbrev pub Completes : Dialect → Text → Text → Type 0
-Completes dialect prefix more = (v : VersionValue) × SpellsAtAnyLength dialect v (prefix ++ more)
+abbrev pub Completes : Grammar → Text → Text → Type 0
+Completes grammar prefix more = (v : VersionValue) × SpellsAtAnyLength grammar v (prefix ++ more)
 
 -- some version begins so, but each is longer than the dialect allows
-abbrev pub IsTooLong : Dialect → Text → Type 0
-IsTooLong dialect text = ((more : Text) × Completes dialect text more) × ¬ (IsPrefixIn dialect text)
+abbrev pub IsTooLong : Grammar → Text → Type 0
+IsTooLong grammar text = ((more : Text) × Completes grammar text more) × ¬ (IsPrefixIn grammar text)
 
 -- its last bytes; 0 before its first
 abbrev pub from_end : Text → ℕ → ℕ
@@ -84,20 +84,20 @@ reason_by version letter zero too_long prefix (Some b) = if too_long then TooLon
     else (if zero then EmptyIdentifier else LeadingZero)))))
 
 -- the reason at a prefix and the byte after it
-pub record IsReason (dialect : Dialect) (prefix : Text) (next : Option ℕ) (reason : Reason) : Type 0
+pub record IsReason (grammar : Grammar) (prefix : Text) (next : Option ℕ) (reason : Reason) : Type 0
   where
     pub version : Bool
     pub letter : Bool
     pub zero : Bool
     pub too_long : Bool
-    pub is_version : IsTrue version ↔ Completes dialect prefix []
-    pub takes_letter : IsTrue letter ↔ Completes dialect prefix (codes "a")
-    pub takes_zero : IsTrue zero ↔ Completes dialect prefix (codes "0")
-    pub is_too_long : IsTrue too_long ↔ IsTooLong dialect (prefix ++ byte_text next)
+    pub is_version : IsTrue version ↔ Completes grammar prefix []
+    pub takes_letter : IsTrue letter ↔ Completes grammar prefix (codes "a")
+    pub takes_zero : IsTrue zero ↔ Completes grammar prefix (codes "0")
+    pub is_too_long : IsTrue too_long ↔ IsTooLong grammar (prefix ++ byte_text next)
     pub is : reason ≡ reason_by version letter zero too_long prefix next
 
 -- the dialects without a limit of the length
-abbrev pub IsUnlimited : Dialect → Type 0
+abbrev pub IsUnlimited : Grammar → Type 0
 IsUnlimited Crate = Unit {0}
 IsUnlimited Cargo = Unit {0}
 IsUnlimited Npm = ⊥

@@ -4,7 +4,7 @@ ghost use Rattle.text_prefixes.specs.VersionCompletions.{byte_completions};
 ghost use Rattle.text_prefixes.specs.VersionPrefixes.{IsPrefixIn};
 
 use crate::reasons::is_version;
-use semver_texts::dialect::Dialect;
+use semver_texts::grammar::Grammar;
 use std::alloc::{AllocError, Global};
 
 /// What completes a prefix.
@@ -35,10 +35,10 @@ const COMPLETIONS: [&[u8]; 23] = [
 ];
 
 /// Whether some version begins with the bytes.
-pub fn is_prefix(alloc: Global, prefix: &[u8], dialect: Dialect) -> Result<bool, AllocError>
-    ensures { IfOk result (λ found. IsTrue found ↔ IsPrefixIn dialect prefix.now) }
+pub fn is_prefix(alloc: Global, prefix: &[u8], grammar: Grammar) -> Result<bool, AllocError>
+    ensures { IfOk result (λ found. IsTrue found ↔ IsPrefixIn grammar prefix.now) }
 {
-    goes_on(alloc, prefix, &COMPLETIONS, dialect)
+    goes_on(alloc, prefix, &COMPLETIONS, grammar)
 }
 
 /// Whether the bytes with one of the completions are a version.
@@ -46,17 +46,17 @@ fn goes_on(
     alloc: Global,
     prefix: &[u8],
     completions: &[&[u8]],
-    dialect: Dialect,
+    grammar: Grammar,
 ) -> Result<bool, AllocError>
     requires { map (λ completion. completion.now) completions.now ≡ byte_completions }
-    ensures { IfOk result (λ found. IsTrue found ↔ IsPrefixIn dialect prefix.now) }
+    ensures { IfOk result (λ found. IsTrue found ↔ IsPrefixIn grammar prefix.now) }
 {
     let mut buffer = Vec::with_capacity(alloc, prefix.len().saturating_add(8))?;
     for completion in completions {
         buffer.clear();
         buffer.extend_from_slice(prefix)?;
         buffer.extend_from_slice(completion)?;
-        if is_version(buffer.as_slice(), dialect) {
+        if is_version(buffer.as_slice(), grammar) {
             return Ok(true);
         }
     }

@@ -7,7 +7,7 @@ ghost use Rattle.text_prefixes.specs.Reasons.{is_ascii_white, is_blank, is_separ
 
 use crate::versions::offset;
 use semver_texts::bytes::is_part_byte;
-use semver_texts::dialect::Dialect;
+use semver_texts::grammar::Grammar;
 use semver_versions::version::outline_in;
 use std::alloc::{AllocError, Global};
 
@@ -125,19 +125,19 @@ fn reason_by(
 }
 
 /// Whether the bytes are a version.
-pub(crate) fn is_version(bytes: &[u8], dialect: Dialect) -> bool
-    ensures { IsTrue result ↔ IsVersionTextIn dialect bytes.now }
+pub(crate) fn is_version(bytes: &[u8], grammar: Grammar) -> bool
+    ensures { IsTrue result ↔ IsVersionTextIn grammar bytes.now }
 {
-    outline_in(bytes, dialect).is_some()
+    outline_in(bytes, grammar).is_some()
 }
 
 /// Whether the prefix and one more byte are a version.
-fn takes(alloc: Global, prefix: &[u8], byte: u8, dialect: Dialect) -> Result<bool, AllocError>
-    ensures { IfOk result (λ found. IsTrue found ↔ IsVersionTextIn dialect (prefix.now ++ byte ∷ [])) }
+fn takes(alloc: Global, prefix: &[u8], byte: u8, grammar: Grammar) -> Result<bool, AllocError>
+    ensures { IfOk result (λ found. IsTrue found ↔ IsVersionTextIn grammar (prefix.now ++ byte ∷ [])) }
 {
     let mut buffer = Vec::from_slice(alloc, prefix)?;
     buffer.push(byte)?;
-    Ok(is_version(buffer.as_slice(), dialect))
+    Ok(is_version(buffer.as_slice(), grammar))
 }
 
 /// The byte at a offset, if there is one.
@@ -152,24 +152,24 @@ fn byte_at(input: &[u8], offset: usize) -> Option<u8>
 }
 
 /// Where and why a text is no version, or none if it is one.
-pub fn refused(alloc: Global, input: &[u8], dialect: Dialect) -> Result<Option<Refusal>, AllocError>
-    requires { IsUnlimited dialect }
-    ensures version { IfOk result (λ refusal. MatchOption refusal (IsVersionTextIn dialect input.now)
-        (λ r. ¬ (IsVersionTextIn dialect input.now))) }
+pub fn refused(alloc: Global, input: &[u8], grammar: Grammar) -> Result<Option<Refusal>, AllocError>
+    requires { IsUnlimited grammar }
+    ensures version { IfOk result (λ refusal. MatchOption refusal (IsVersionTextIn grammar input.now)
+        (λ r. ¬ (IsVersionTextIn grammar input.now))) }
     ensures offset { IfOk result (λ refusal. MatchOption refusal (Unit {0})
-        (λ r. IsLongestVersionPrefix dialect input.now r.offset)) }
+        (λ r. IsLongestVersionPrefix grammar input.now r.offset)) }
     ensures reason { IfOk result (λ refusal. MatchOption refusal (Unit {0})
-        (λ r. IsReason dialect (take r.offset input.now) (byte_at input.now r.offset) r.reason)) }
-    ensures out_of_memory { IfErr result (λ _. ¬ (IsVersionTextIn dialect input.now)) }
+        (λ r. IsReason grammar (take r.offset input.now) (byte_at input.now r.offset) r.reason)) }
+    ensures out_of_memory { IfErr result (λ _. ¬ (IsVersionTextIn grammar input.now)) }
 {
-    if is_version(input, dialect) {
+    if is_version(input, grammar) {
         return Ok(None);
     }
-    let offset = offset(alloc, input, dialect)?;
+    let offset = offset(alloc, input, grammar)?;
     let prefix = &input[..offset];
-    let version = is_version(prefix, dialect);
-    let letter = takes(alloc, prefix, b'a', dialect)?;
-    let zero = takes(alloc, prefix, b'0', dialect)?;
+    let version = is_version(prefix, grammar);
+    let letter = takes(alloc, prefix, b'a', grammar)?;
+    let zero = takes(alloc, prefix, b'0', grammar)?;
     let reason = reason_by(version, letter, zero, false, prefix, byte_at(input, offset));
     Ok(Some(Refusal { offset, reason }))
 }

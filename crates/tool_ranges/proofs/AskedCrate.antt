@@ -3,7 +3,7 @@ use Rattle.std.proofs.Common.{◌≡◌, true, false, Some, None, refl, sym, ap,
 use Rattle.std.proofs.lemmas.Bool.{both_ways}
 use Rattle.std.specs.Prelude.{Ok, Err}
 use Rattle.semver_texts.specs.Texts.{Text}
-use Rattle.semver_texts.specs.declared.dialect.Dialect.TheVariants as dialect
+use Rattle.semver_texts.specs.declared.grammar.Grammar.TheVariants as grammar
 use Rattle.semver_ranges.specs.declared.range.Compat.{Compat}
 use Rattle.semver_ranges.specs.declared.range_set.RangeError.{RangeError}
 use Rattle.semver_ranges.specs.declared.range_set.RangeError.TheVariants.{NotARange, NumberTooLarge, OutOfMemory}
@@ -12,33 +12,33 @@ use Rattle.semver_ranges.specs.RewritingTable.{fits}
 use Rattle.semver_ranges.specs.Steps.Reading.{read}
 use Rattle.semver_ranges.proofs.ReadingComplete.{tree_read}
 use Rattle.semver_ranges.proofs.ReadingSound.{read_sound}
-use Rattle.tool_ranges.specs.declared.reading.Reading.TheVariants as reading
+use Rattle.tool_ranges.specs.declared.dialect.Dialect.TheVariants as dialect
 use Rattle.tool_ranges.specs.declared.tally.Terms.TheVariants.{Crate}
-use Rattle.tool_ranges.specs.Readings.{RefusesAs}
+use Rattle.tool_ranges.specs.Dialects.{RefusesAs}
 use Rattle.tool_ranges.specs.Steps.Asking.{Refuses}
 use Rattle.std.proofs.lemmas.Grind.{common_steps}
 
-pub one_read : (t : Text) (tree other : SetTree) → read dialect.Crate t ≡ Some tree → Spells other t → tree ≡ other
+pub one_read : (t : Text) (tree other : SetTree) → read grammar.Crate t ≡ Some tree → Spells other t → tree ≡ other
 one_read t tree other e h = grind (arith, common_steps, tree_read)
 
-none_read : (t : Text) (tree : SetTree) → read dialect.Crate t ≡ None → Spells tree t → ⊥
+none_read : (t : Text) (tree : SetTree) → read grammar.Crate t ≡ None → Spells tree t → ⊥
 none_read t tree e h = grind (arith, common_steps, tree_read)
 
 module _ (compat : Compat) (t : Text) where
-  not_large : (tree : SetTree) → read dialect.Crate t ≡ Some tree → fits compat tree ≡ true
+  not_large : (tree : SetTree) → read grammar.Crate t ≡ Some tree → fits compat tree ≡ true
       → (other : SetTree) → Spells other t → fits compat other ≡ false → ⊥
   not_large tree e fit other h large = both_ways _ large (sym (ap (fits compat) (one_read t tree other e h)) ∙ fit)
 
-  pub answered : {A : Type 0} (x : A) (tree : SetTree) → read dialect.Crate t ≡ Some tree → fits compat tree ≡ true
-      → RefusesAs (reading.Crate compat) t (Ok x)
+  pub answered : {A : Type 0} (x : A) (tree : SetTree) → read grammar.Crate t ≡ Some tree → fits compat tree ≡ true
+      → RefusesAs (dialect.Crate compat) t (Ok x)
   answered x tree e fit = record {
-    accepted = (tree, read_sound dialect.Crate t tree e, fit);
-    not_a_range = (λ wrong. cc, λ none. absurd (none (tree, read_sound dialect.Crate t tree e)));
+    accepted = (tree, read_sound grammar.Crate t tree e, fit);
+    not_a_range = (λ wrong. cc, λ none. absurd (none (tree, read_sound grammar.Crate t tree e)));
     too_large = (λ wrong. cc, λ (other, h, large). absurd (not_large tree e fit other h large));
     out_of_memory = λ wrong. cc;
   }
 
-  pub refused : {A : Type 0} (e : RangeError) → Refuses (Crate compat) t e → RefusesAs {A = A} (reading.Crate compat) t (Err e)
+  pub refused : {A : Type 0} (e : RangeError) → Refuses (Crate compat) t e → RefusesAs {A = A} (dialect.Crate compat) t (Err e)
   refused NotARange none = record {
     accepted = tt;
     not_a_range = (λ _ (tree, h). none_read t tree none h, λ _. refl);
@@ -47,8 +47,8 @@ module _ (compat : Compat) (t : Text) where
   }
   refused NumberTooLarge (tree, is, large) = record {
     accepted = tt;
-    not_a_range = (λ wrong. cc, λ none. absurd (none (tree, read_sound dialect.Crate t tree is)));
-    too_large = (λ _. (tree, read_sound dialect.Crate t tree is, large), λ _. refl);
+    not_a_range = (λ wrong. cc, λ none. absurd (none (tree, read_sound grammar.Crate t tree is)));
+    too_large = (λ _. (tree, read_sound grammar.Crate t tree is, large), λ _. refl);
     out_of_memory = λ wrong. cc;
   }
   refused OutOfMemory h = absurd h

@@ -23,7 +23,7 @@ use Rattle.tool_ranges.specs.ToolTable.{written_in}
 use Rattle.tool_ranges.specs.declared.tally.Tally.{Tally}
 use Rattle.tool_ranges.specs.declared.tally.Terms.{Terms}
 use Rattle.tool_ranges.specs.declared.tally.Terms.TheVariants.{Npm, NpmAll, Crate}
-use Rattle.tool_ranges.specs.Steps.Asking.{Refuses, Says, after, begun, dialect_of, ended, lower_of, range_every, range_met, taken}
+use Rattle.tool_ranges.specs.Steps.Asking.{Refuses, Says, after, begun, grammar_of, ended, lower_of, range_every, range_met, taken}
 use Rattle.tool_ranges.specs.Steps.Asking.{term_fits, term_met}
 use Rattle.tool_ranges.proofs.ToolRows.{npm_table}
 use Rattle.std.proofs.Common.{rules}
@@ -109,17 +109,17 @@ module _ (terms : Terms) (v : PlainVersion) (counts : Bool) where
   -- ---- a whole text
   module _ (t : Text) where
     abbrev Told : Option (Option Tally) → Type 0
-    Told o = told true (begun counts) (events (dialect_of terms) (lower_of terms) t) ≡ o
+    Told o = told true (begun counts) (events (grammar_of terms) (lower_of terms) t) ≡ o
 
-    pub none_read : Told None → read (dialect_of terms) t ≡ None
+    pub none_read : Told None → read (grammar_of terms) t ≡ None
     none_read e = search rules
 
     whole : (tree : SetTree) → list_all (event_fits (term_fits terms)) (events_of (lower_of terms) tree) ≡ fits_by (term_fits terms) tree
     whole tree = set_fits (table_of terms).1 (lower_of terms) tree
 
     pub large : Told (Some None) → Refuses terms t NumberTooLarge
-    large e = at (read (dialect_of terms) t) refl e where
-      at : (o : Option SetTree) → read (dialect_of terms) t ≡ o
+    large e = at (read (grammar_of terms) t) refl e where
+      at : (o : Option SetTree) → read (grammar_of terms) t ≡ o
           → told true (begun counts) (set_events (lower_of terms) o) ≡ Some None → Refuses terms t NumberTooLarge
       at None is e = cc
       at (Some tree) is e = by_test _
@@ -128,11 +128,11 @@ module _ (terms : Terms) (v : PlainVersion) (counts : Bool) where
           (λ n. (tree, is, n))
 
     pub says : (tally : Tally) → Told (Some (Some tally)) → Says terms v counts t tally
-    says tally e = at (read (dialect_of terms) t) refl e where
-      at : (o : Option SetTree) → read (dialect_of terms) t ≡ o
+    says tally e = at (read (grammar_of terms) t) refl e where
+      at : (o : Option SetTree) → read (grammar_of terms) t ≡ o
           → told true (begun counts) (set_events (lower_of terms) o) ≡ Some (Some tally) → Says terms v counts t tally
       at None is e = cc
-      at (Some []) is e = absurd (read_sound (dialect_of terms) t [] is)
+      at (Some []) is e = absurd (read_sound (grammar_of terms) t [] is)
       at (Some (r ∷ others)) is e = by_test (fits_by (term_fits terms) (r ∷ others))
           (λ y. let fit = whole (r ∷ others)
           ∙ y in

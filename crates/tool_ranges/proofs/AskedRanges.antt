@@ -3,7 +3,7 @@ use Rattle.std.proofs.Common.{◌≡◌, Bool, true, false, ◌&&◌, ◌||◌, 
 use Rattle.std.proofs.Math.Bool.{and-true}
 use Rattle.std.specs.List.{list_all, list_any}
 use Rattle.std.proofs.lemmas.List.Folds.{list_all-map}
-use Rattle.semver_texts.specs.declared.dialect.Dialect.TheVariants as dialect
+use Rattle.semver_texts.specs.declared.grammar.Grammar.TheVariants as grammar
 use Rattle.semver_texts.specs.Texts.{Text, is_empty}
 use Rattle.semver_texts.specs.Versions.{PlainVersion}
 use Rattle.semver_texts.proofs.Lists.{by_test}
@@ -116,7 +116,7 @@ module _ (v : PlainVersion) where
         (λ r. and-true _ ∙ crate_terms r) tree
 
 -- ---- what is refused of a text of npm
-pub npm_refusal : (t : Text) (e : RangeError) → Refuses Npm t e → IsRefusalOf (read dialect.Npm t) is_safe_simple e
+pub npm_refusal : (t : Text) (e : RangeError) → Refuses Npm t e → IsRefusalOf (read grammar.Npm t) is_safe_simple e
 npm_refusal t NotARange h = h
 npm_refusal t NumberTooLarge h = h
 npm_refusal t OutOfMemory h = absurd h

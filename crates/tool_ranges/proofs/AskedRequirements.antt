@@ -15,8 +15,8 @@ use Rattle.semver_ranges.specs.Terms.{of_simple}
 use Rattle.tool_ranges.specs.AllPreReleases.{meets_requirement_with_all}
 use Rattle.tool_ranges.specs.CargoGrammar.{SpellsRequirement}
 use Rattle.tool_ranges.specs.CargoMeaning.{as_read}
-use Rattle.tool_ranges.specs.Readings.{RefusesAs}
-use Rattle.tool_ranges.specs.declared.reading.Reading.TheVariants as reading
+use Rattle.tool_ranges.specs.Dialects.{RefusesAs}
+use Rattle.tool_ranges.specs.declared.dialect.Dialect.TheVariants as dialect
 use Rattle.tool_ranges.specs.Steps.Asking.{RefusesRequired, SaysRequired, comparator_met, requirement_met}
 use Rattle.tool_ranges.specs.Steps.CargoReading.{comparator_at, EndsAs}
 use Rattle.tool_ranges.proofs.RequirementLaws.{answered, same_comparators}
@@ -94,7 +94,7 @@ module _ (takes_all : Bool) (v : PlainVersion) (counts : Bool) where
 
 -- what a call answers that asks
 pub record IsRequired (takes_all : Bool) (v : PlainVersion) (counts : Bool) (text : Text) (r : Result Bool RangeError) : Type 0 where
-  pub refusals : RefusesAs reading.Cargo text r
+  pub refusals : RefusesAs dialect.Cargo text r
   pub no_memory : r ≡ Err OutOfMemory → ⊥
   pub says : IfOk r (λ said. (tree : List Simple) → SpellsRequirement tree text → said ≡ requirement_met takes_all v counts tree)
 

@@ -4,7 +4,7 @@ use Rattle.std.proofs.Common.{Option, Some, None, append_assoc, append-nil, inl,
 use Rattle.std.proofs.lemmas.Bool.{and_from, eqb-true}
 use Rattle.std.proofs.lemmas.List.Folds.{list_all-append}
 use Rattle.semver_texts.specs.Texts.{Text}
-use Rattle.semver_texts.specs.declared.dialect.Dialect.TheVariants.{Cargo}
+use Rattle.semver_texts.specs.declared.grammar.Grammar.TheVariants.{Cargo}
 use Rattle.semver_ranges.specs.RangeTree.{PartialTree, Form, bare, equal, less, at_most, greater, at_least, tilde, caret, Simple}
 use Rattle.semver_ranges.specs.RangeTree.{is_blank, AreBlanks, SpellsPartial, SpellsForm}
 use Rattle.semver_ranges.specs.Steps.Reading.{front, after_blanks, operator, with_first, component}

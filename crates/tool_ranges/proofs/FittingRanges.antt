@@ -6,7 +6,7 @@ use Rattle.std.proofs.Math.Bool.{and-true}
 use Rattle.std.specs.List.{Contains, list_all}
 use Rattle.std.proofs.lemmas.Bool.{and_parts, and_from}
 use Rattle.semver_texts.specs.Texts.{Text, is_empty}
-use Rattle.semver_texts.specs.declared.dialect.Dialect.{Dialect}
+use Rattle.semver_texts.specs.declared.grammar.Grammar.{Grammar}
 use Rattle.semver_texts.proofs.Lists.{by_test}
 use Rattle.semver_ranges.specs.declared.range.Compat.{Compat}
 use Rattle.semver_ranges.specs.RangeTree.{PartialTree, one, two, three, Simple, RangeTree, empty, hyphen, simples, SetTree}
@@ -129,7 +129,7 @@ module _ (f : ℕ → Bool) (limit : IsLimit f) (two_fits : f 2 ≡ true) (tool 
         npm = w.npm role;
       }
 
-  fitting_word : (d : Dialect) (form : Form) (role : Role) (p : PartialTree) (front rest : Text) → is_empty front ≡ false
+  fitting_word : (d : Grammar) (form : Form) (role : Role) (p : PartialTree) (front rest : Text) → is_empty front ≡ false
       → SpellsWord d role p (front ++ rest) → Right (record { form = form; partial = p })
       → WordGoesOn IsFittingRest (λ tree. Right (record { form = form; partial = tree })) d role front
   fitting_word d form role p front rest some h right =
@@ -142,7 +142,7 @@ module _ (f : ℕ → Bool) (limit : IsLimit f) (two_fits : f 2 ≡ true) (tool 
       (omega (arith, few_stated (components tree), at_most_three tree))
       (front_fits tree p shape (stated_fit f limit tool mode at_least (stated p) (to_fits (left_side p) right))))
 
-  left_plain : (d : Dialect) (p : PartialTree) (front rest : Text) → is_empty front ≡ false
+  left_plain : (d : Grammar) (p : PartialTree) (front rest : Text) → is_empty front ≡ false
       → SpellsWord d (after_form bare) p (front ++ rest) → Right (left_side p)
       → WordGoesOn IsPlainRest (λ tree. Right (left_side tree)) d (after_form bare) front
   left_plain d p front rest some h right =
@@ -151,7 +151,7 @@ module _ (f : ℕ → Bool) (limit : IsLimit f) (two_fits : f 2 ≡ true) (tool 
 
   -- ---- ranges
 
-  left_on : (d : Dialect) (front : Text) → WordGoesOn IsPlainRest (λ tree. Right (left_side tree)) d (after_form bare) front
+  left_on : (d : Grammar) (front : Text) → WordGoesOn IsPlainRest (λ tree. Right (left_side tree)) d (after_form bare) front
       → RangeGoesOn d IsFittingRest Right front
   left_on d front w = record {
     tree = hyphen w.tree (one (codes "1"));
@@ -165,7 +165,7 @@ module _ (f : ℕ → Bool) (limit : IsLimit f) (two_fits : f 2 ≡ true) (tool 
     right = (w.right, right_one at_most);
   }
 
-  blanks_on : (d : Dialect) (p : PartialTree) (front blanks : Text) → SpellsWord d (after_form bare) p front → AreBlanks d blanks
+  blanks_on : (d : Grammar) (p : PartialTree) (front blanks : Text) → SpellsWord d (after_form bare) p front → AreBlanks d blanks
       → Right (left_side p) → RangeGoesOn d IsFittingRest Right (front ++ blanks)
   blanks_on d p front blanks word are right = record {
     tree = hyphen p (one (codes "1"));
@@ -179,7 +179,7 @@ module _ (f : ℕ → Bool) (limit : IsLimit f) (two_fits : f 2 ≡ true) (tool 
     right = (right, right_one at_most);
   }
 
-  pub fitting_rests : (d : Dialect) → AreRests d IsFittingRest Right
+  pub fitting_rests : (d : Grammar) → AreRests d IsFittingRest Right
   fitting_rests d = record {
     nothing = (0, omega arith, refl);
     bar = (8, omega arith, refl);
@@ -193,7 +193,7 @@ module _ (f : ℕ → Bool) (limit : IsLimit f) (two_fits : f 2 ≡ true) (tool 
 
   -- ---- the terms of a set are its simples and sides
 
-  module _ (d : Dialect) where
+  module _ (d : Grammar) where
     all_right : (ss : List Simple) → list_all (term_fits_by fit) (map of_simple ss) ≡ true → AreRight d IsFittingRest Right ss
     all_right [] h = tt
     all_right (s ∷ ss) h = let both = and_parts (fit s) _ h in (both.0, all_right ss both.1)

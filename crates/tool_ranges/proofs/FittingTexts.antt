@@ -7,20 +7,20 @@ use Rattle.std.proofs.lemmas.List.Elements.{All-contains, All-from_recursion}
 use Rattle.std.proofs.lemmas.List.Folds.{list_all-append}
 use Rattle.std.proofs.lemmas.Str.{chars-append}
 use Rattle.semver_texts.specs.Texts.{Text}
-use Rattle.semver_texts.specs.declared.dialect.Dialect.TheVariants as dialect
+use Rattle.semver_texts.specs.declared.grammar.Grammar.TheVariants as grammar
 use Rattle.semver_ranges.specs.declared.range.Compat.{Compat}
 use Rattle.semver_ranges.specs.declared.range.Compat.TheVariants as compat
 use Rattle.semver_ranges.specs.RangeTree.{Simple}
 use Rattle.semver_ranges.specs.Partials.{stated, fits_u64}
 use Rattle.semver_ranges.specs.RewritingTable.{simple_fits}
-use Rattle.tool_ranges.specs.declared.reading.Reading.{Reading}
-use Rattle.tool_ranges.specs.declared.reading.Reading.TheVariants.{Cargo, Npm, Crate}
+use Rattle.tool_ranges.specs.declared.dialect.Dialect.{Dialect}
+use Rattle.tool_ranges.specs.declared.dialect.Dialect.TheVariants.{Cargo, Npm, Crate}
 use Rattle.tool_ranges.specs.CargoMeaning.{as_read, named}
 use Rattle.tool_ranges.specs.CargoTable.{requirement_fits}
 use Rattle.tool_ranges.specs.Fronts.{BeginsFitting}
 use Rattle.tool_ranges.specs.NpmGrammar.{may_stand}
 use Rattle.tool_ranges.specs.NpmTable.{is_safe, is_safe_simple}
-use Rattle.tool_ranges.specs.Readings.{HasSetAs}
+use Rattle.tool_ranges.specs.Dialects.{HasSetAs}
 use Rattle.tool_ranges.specs.Steps.Places.{rests}
 use Rattle.tool_ranges.specs.declared.place.Wanted.{Wanted}
 use Rattle.tool_ranges.specs.declared.place.Wanted.TheVariants.{Any, Fitting}
@@ -104,13 +104,13 @@ still_stand wanted t rest more utf8 h is =
 
 -- ---- each reading
 
-pub fitting_on : (reading : Reading) (t : Text) → IsUtf8 t → BeginsFitting reading t
-    → (more : Text) × IsFittingRest more × HasSetAs reading (t ++ more)
+pub fitting_on : (dialect : Dialect) (t : Text) → IsUtf8 t → BeginsFitting dialect t
+    → (more : Text) × IsFittingRest more × HasSetAs dialect (t ++ more)
 fitting_on Cargo t utf8 (rest, (tree, spelled, fits)) =
     let w = requirement_goes_on IsFittingRest RightOfCargo cargo_rests tree t rest spelled (all_right tree fits) in
     (w.more, w.is_rest, (w.tree, w.spelled, all_fit w.tree w.right))
 fitting_on Npm t utf8 (rest, (tree, spelled, fits)) =
-    let w = fitting_set is_safe safe_limit refl true compat.Npm is_safe_simple npm_table dialect.Npm tree t rest spelled.spelled fits in (
+    let w = fitting_set is_safe safe_limit refl true compat.Npm is_safe_simple npm_table grammar.Npm tree t rest spelled.spelled fits in (
       w.more,
       w.is_rest,
       (
@@ -120,5 +120,5 @@ fitting_on Npm t utf8 (rest, (tree, spelled, fits)) =
       ),
     )
 fitting_on (Crate mode) t utf8 (rest, (tree, spelled, fits)) =
-    let w = fitting_set fits_u64 u64_limit refl false mode (simple_fits mode) (crate_table mode) dialect.Crate tree t rest spelled fits in
+    let w = fitting_set fits_u64 u64_limit refl false mode (simple_fits mode) (crate_table mode) grammar.Crate tree t rest spelled fits in
     (w.more, w.is_rest, (w.tree, w.spelled, w.fits))

@@ -2,7 +2,7 @@
 use Rattle.std.proofs.Common.{◌≡◌, ◌-◌, ◌≤◌, true, false, ◌==◌, length, get_or, take, drop, Some, None, rules}
 use Rattle.std.proofs.Common.{refl, arith}
 use Rattle.semver_texts.specs.Texts.{Text}
-use Rattle.semver_texts.specs.declared.dialect.Dialect.TheVariants.{Cargo}
+use Rattle.semver_texts.specs.declared.grammar.Grammar.TheVariants.{Cargo}
 use Rattle.semver_ranges.specs.RangeTree.{PartialTree, Form, Simple}
 use Rattle.semver_ranges.specs.Steps.Reading.{after_blanks, operator, with_first, component}
 use Rattle.tool_ranges.specs.CargoGrammar.{is_of_cargo}

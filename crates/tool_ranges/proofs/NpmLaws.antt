@@ -5,7 +5,7 @@ use Rattle.std.specs.Prelude.{IfOk, Result, Ok, Err}
 use Rattle.std.specs.List.{list_all}
 use Rattle.std.specs.Str.{chars}
 use Rattle.semver_texts.specs.Texts.{Text}
-use Rattle.semver_texts.specs.declared.dialect.Dialect.TheVariants.{Npm}
+use Rattle.semver_texts.specs.declared.grammar.Grammar.TheVariants.{Npm}
 use Rattle.semver_ranges.specs.declared.partial.LowerBounds.{LowerBounds}
 use Rattle.semver_ranges.specs.declared.range.Compat.TheVariants as compat
 use Rattle.semver_ranges.specs.declared.range_set.RangeSet.{RangeSet}
@@ -21,8 +21,8 @@ use Rattle.semver_ranges.proofs.ReadingComplete.{tree_read}
 use Rattle.semver_ranges.proofs.AnsweredLaws.{set_printable}
 use Rattle.tool_ranges.specs.NpmGrammar.{may_stand, SpellsNpm}
 use Rattle.tool_ranges.specs.NpmTable.{is_safe_simple, npm_fits, rewritten_npm}
-use Rattle.tool_ranges.specs.Readings.{HasSetAs, IsTooLargeAs, RefusesAs}
-use Rattle.tool_ranges.specs.declared.reading.Reading.TheVariants as reading
+use Rattle.tool_ranges.specs.Dialects.{HasSetAs, IsTooLargeAs, RefusesAs}
+use Rattle.tool_ranges.specs.declared.dialect.Dialect.TheVariants as dialect
 use Rattle.tool_ranges.specs.Steps.LowerBounds.{set_begun}
 use Rattle.tool_ranges.proofs.ToolRows.{npm_prints}
 use Rattle.std.proofs.lemmas.Grind.{common_steps}
@@ -37,14 +37,14 @@ read_one t tree tree' e h = grind (arith, common_steps, npm_read)
 none_read : (t : Text) (tree : SetTree) → read Npm t ≡ None → SpellsNpm tree t → ⊥
 none_read t tree e h = grind (arith, common_steps, npm_read)
 
-unfit : (t : Text) (tree : SetTree) → read Npm t ≡ Some tree → npm_fits tree ≡ true → IsTooLargeAs reading.Npm t → ⊥
+unfit : (t : Text) (tree : SetTree) → read Npm t ≡ Some tree → npm_fits tree ≡ true → IsTooLargeAs dialect.Npm t → ⊥
 unfit t tree e f (tree', s, large) = grind (arith, common_steps, both_ways, npm_fits, read_one)
 
 module _ (t : Text) (stand : list_all may_stand (chars t) ≡ true) where
   spelled : (tree : SetTree) → read Npm t ≡ Some tree → SpellsNpm tree t
   spelled tree e = record { spelled = read_sound Npm t tree e; characters = stand }
 
-  pub answered : {A : Type 0} (x : A) (tree : SetTree) → read Npm t ≡ Some tree → npm_fits tree ≡ true → RefusesAs reading.Npm t (Ok x)
+  pub answered : {A : Type 0} (x : A) (tree : SetTree) → read Npm t ≡ Some tree → npm_fits tree ≡ true → RefusesAs dialect.Npm t (Ok x)
   answered x tree e fit = record {
     accepted = (tree, spelled tree e, fit);
     not_a_range = (λ e'. cc, λ none. absurd (none (tree, spelled tree e)));
@@ -52,7 +52,7 @@ module _ (t : Text) (stand : list_all may_stand (chars t) ≡ true) where
     out_of_memory = λ e'. cc;
   }
 
-  pub refused : {A : Type 0} (e : RangeError) → IsRefusalOf (read Npm t) is_safe_simple e → RefusesAs {A = A} reading.Npm t (Err e)
+  pub refused : {A : Type 0} (e : RangeError) → IsRefusalOf (read Npm t) is_safe_simple e → RefusesAs {A = A} dialect.Npm t (Err e)
   refused NotARange none = record {
     accepted = tt;
     not_a_range = (λ e (tree, h). none_read t tree none h, λ _. refl);
@@ -77,7 +77,7 @@ abbrev pub IsAnswer : LowerBounds → Text → Result RangeSet RangeError → Ty
 IsAnswer lower t r = IsAnswerOf (read Npm t) is_safe_simple (set_begun lower) r
 
 pub refuses : (lower : LowerBounds) (t : Text) → list_all may_stand (chars t) ≡ true → (r : Result RangeSet RangeError) → IsAnswer lower t r
-    → RefusesAs reading.Npm t r
+    → RefusesAs dialect.Npm t r
 refuses lower t stand (Ok set) (tree, e, fit, same) = answered t stand set tree e fit
 refuses lower t stand (Err e) is = refused t stand e is
 
@@ -87,7 +87,7 @@ begun lower t (Ok set) (tree, e, fit, same) = λ tree' h. same ∙ ap (set_begun
 begun lower t (Err e) is = tt
 
 -- a text of which there is a set
-pub set_of_text : {A : Type 0} (t : Text) (x : A) → HasSetAs reading.Npm t → RefusesAs reading.Npm t (Ok x)
+pub set_of_text : {A : Type 0} (t : Text) (x : A) → HasSetAs dialect.Npm t → RefusesAs dialect.Npm t (Ok x)
 set_of_text t x (tree, h, fit) = grind (arith, common_steps, npm_read)
 
 -- what it is rewritten to is printable

@@ -5,7 +5,7 @@ use Rattle.std.proofs.lemmas.List.Folds.{list_all-append}
 use Rattle.std.proofs.Math.Bool.{and-false}
 use Rattle.std.specs.List.{filter, flat_map, list_all}
 use Rattle.std.specs.Prelude.{Some}
-use Rattle.semver_texts.specs.declared.dialect.Dialect.TheVariants as dialect
+use Rattle.semver_texts.specs.declared.grammar.Grammar.TheVariants as grammar
 use Rattle.semver_texts.specs.Texts.{Text, is_empty}
 use Rattle.semver_texts.specs.Versions.{PlainVersion, numbers}
 use Rattle.semver_texts.proofs.Lists.{by_test}
@@ -74,8 +74,8 @@ begun_parts Lowest (two a b) h = tt
 begun_parts Lowest (three a b c [] build) h = (refl, h.1)
 begun_parts Lowest (three a b c (part ∷ pre) build) h = h
 
-word_has : (role : Role) (p : PartialTree) (t : Text) → SpellsWord dialect.Npm role p t → HasParts p
-word_has role p t h = (word_parts dialect.Npm role p t h).spelled.1
+word_has : (role : Role) (p : PartialTree) (t : Text) → SpellsWord grammar.Npm role p t → HasParts p
+word_has role p t h = (word_parts grammar.Npm role p t h).spelled.1
 
 module _ (lower : LowerBounds) where
   abbrev rows : Simple → List PlainComparator
@@ -91,7 +91,7 @@ module _ (lower : LowerBounds) where
   one_row : (s : Simple) → are_printable (rows s) ≡ true → are_printable (flat_map rows (s ∷ [])) ≡ true
   one_row s e = both (rows s) [] e refl
 
-  simples_print : (first : Simple) (others : List Simple) (t : Text) → SpellsSimples dialect.Npm first others t
+  simples_print : (first : Simple) (others : List Simple) (t : Text) → SpellsSimples grammar.Npm first others t
       → list_all (term_fits_by is_safe_simple) (map of_simple (first ∷ others)) ≡ true
       → are_printable (flat_map rows (first ∷ others)) ≡ true
   simples_print first [] t (head, tail, f, p, eq) e =
@@ -101,7 +101,7 @@ module _ (lower : LowerBounds) where
       both (rows first) (flat_map rows (next ∷ others)) (each first (word_has (after_form first.form) first.partial tail p) parts.0)
       (simples_print next others back more parts.1)
 
-  range_prints : (r : RangeTree) (t : Text) → SpellsRange dialect.Npm r t → list_all (term_fits_by is_safe_simple) (terms r) ≡ true
+  range_prints : (r : RangeTree) (t : Text) → SpellsRange grammar.Npm r t → list_all (term_fits_by is_safe_simple) (terms r) ≡ true
       → are_printable (flat_map rows (yielded lower r)) ≡ true
   range_prints empty t h e = one_row wildcard (each wildcard tt npm_table.empty_fits)
   range_prints (simples first others) t h e = simples_print first others t h e
@@ -118,12 +118,12 @@ module _ (lower : LowerBounds) where
       rw (m, n) (both (rows (left_side (begun_as lower l))) (flat_map rows (right_side r ∷ [])) (left l here parts.0)
       (one_row (right_side r) (each (right_side r) there (and_parts _ _ parts.1).0)))))
 
-  padded_prints : (r : RangeTree) (t : Text) → SpellsPadded dialect.Npm r t → list_all (term_fits_by is_safe_simple) (terms r) ≡ true
+  padded_prints : (r : RangeTree) (t : Text) → SpellsPadded grammar.Npm r t → list_all (term_fits_by is_safe_simple) (terms r) ≡ true
       → are_printable (range_begun lower r).comparators ≡ true
   padded_prints r t (before, inner, after, b, h, a, eq) e = range_prints r inner h e
 
   -- where a text of npm begins with the lowest pre-releases, and where not
-  pub begun_set_prints : (tree : SetTree) (t : Text) → SpellsIn dialect.Npm tree t → npm_fits tree ≡ true
+  pub begun_set_prints : (tree : SetTree) (t : Text) → SpellsIn grammar.Npm tree t → npm_fits tree ≡ true
       → HasPrintableRanges (set_begun lower tree)
   begun_set_prints [] t h e = absurd h
   begun_set_prints (r ∷ []) t h e = and_from _ _ (padded_prints r t h (and_parts _ _ e).0) refl

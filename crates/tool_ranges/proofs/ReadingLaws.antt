@@ -3,14 +3,14 @@ use Rattle.std.proofs.Common.{◌≡◌, Ok, arith, rules}
 use Rattle.semver_texts.specs.Texts.{Text}
 use Rattle.semver_ranges.specs.RangeTexts.{Refuses}
 use Rattle.semver_ranges.proofs.ReadingComplete.{same_tree}
-use Rattle.tool_ranges.specs.declared.reading.Reading.{Reading}
-use Rattle.tool_ranges.specs.declared.reading.Reading.TheVariants.{Cargo, Npm, Crate}
-use Rattle.tool_ranges.specs.Readings.{TreeOf, SpellsAs}
+use Rattle.tool_ranges.specs.declared.dialect.Dialect.{Dialect}
+use Rattle.tool_ranges.specs.declared.dialect.Dialect.TheVariants.{Cargo, Npm, Crate}
+use Rattle.tool_ranges.specs.Dialects.{TreeOf, SpellsAs}
 use Rattle.tool_ranges.proofs.RequirementLaws.{same_comparators}
 use Rattle.std.proofs.lemmas.Grind.{common_steps}
 
 -- a text has one tree
-pub one_tree : (reading : Reading) (tree other : TreeOf reading) (t : Text) → SpellsAs reading tree t → SpellsAs reading other t
+pub one_tree : (dialect : Dialect) (tree other : TreeOf dialect) (t : Text) → SpellsAs dialect tree t → SpellsAs dialect other t
     → tree ≡ other
 one_tree Cargo tree other t h k = same_comparators other tree t k.comparators h.comparators
 one_tree Npm tree other t h k = grind (arith, common_steps, same_tree)

@@ -13,8 +13,8 @@ use Rattle.semver_ranges.specs.declared.range_set.RangeError.TheVariants.{NotARa
 use Rattle.semver_ranges.specs.RangeTree.{Simple}
 use Rattle.tool_ranges.specs.CargoGrammar.{SpellsComparators, SpellsRequirement}
 use Rattle.tool_ranges.specs.CargoTable.{requirement_fits, written_one}
-use Rattle.tool_ranges.specs.Readings.{RefusesAs}
-use Rattle.tool_ranges.specs.declared.reading.Reading.TheVariants as reading
+use Rattle.tool_ranges.specs.Dialects.{RefusesAs}
+use Rattle.tool_ranges.specs.declared.dialect.Dialect.TheVariants as dialect
 use Rattle.tool_ranges.specs.Steps.CargoReading.{comparator_at, in_one_range, IsRefusal, IsRewritten, IsRewrittenOne, IsSurveyedAs}
 use Rattle.tool_ranges.proofs.ComparatorReading.{ended_read, parted_read}
 use Rattle.tool_ranges.proofs.RequirementSteps.{at_last, at_start, first_left}
@@ -42,7 +42,7 @@ surveyed_same t tree tree' surveyed is h = grind (arith, common_steps, same_comp
 -- ---- refusals
 
 pub answered : {A : Type 0} (t : Text) (x : A) (tree : List Simple) → SpellsRequirement tree t → requirement_fits tree ≡ true
-    → RefusesAs reading.Cargo t (Ok x)
+    → RefusesAs dialect.Cargo t (Ok x)
 answered t x tree h fit = record {
   accepted = (tree, h, fit);
   not_a_range = search rules;
@@ -50,7 +50,7 @@ answered t x tree h fit = record {
   out_of_memory = λ e. cc;
 }
 
-pub refused : {A : Type 0} (t : Text) (e : RangeError) → IsRefusal t e → RefusesAs {A = A} reading.Cargo t (Err e)
+pub refused : {A : Type 0} (t : Text) (e : RangeError) → IsRefusal t e → RefusesAs {A = A} dialect.Cargo t (Err e)
 refused t NotARange none = search rules
 refused t NumberTooLarge (tree, h, large) = search rules
 refused t OutOfMemory (tree, h, fit) = record {

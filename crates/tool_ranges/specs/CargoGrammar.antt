@@ -3,7 +3,7 @@ use Rattle.std.specs.Prelude.{◌≡◌, ◌≤◌, Bool, true, false, ◌&&◌,
 use Rattle.std.specs.Prelude.{if◌then◌else◌, List, [], ◌∷◌, ◌++◌, length, codes, IsTrue}
 use Rattle.std.specs.List.{list_all, list_any}
 use Rattle.semver_texts.specs.Texts.{Text, is_empty}
-use Rattle.semver_texts.specs.declared.dialect.Dialect.TheVariants.{Cargo}
+use Rattle.semver_texts.specs.declared.grammar.Grammar.TheVariants.{Cargo}
 use Rattle.semver_ranges.specs.RangeTree.{Form, is_bare, bare, equal, less, at_most, greater}
 use Rattle.semver_ranges.specs.RangeTree.{at_least, tilde, caret, PartialTree, one, Simple}
 use Rattle.semver_ranges.specs.RangeTree.{AreBlanks, components, has_no_leading_zeros, qualifier}

@@ -1,11 +1,11 @@
 -- The hint of a number that is too large.
 use Rattle.tool_ranges.specs.declared.hints.Hint.{Hint}
 use Rattle.tool_ranges.specs.declared.hints.Hint.TheVariants.{Limit, NpmLimit}
-use Rattle.tool_ranges.specs.declared.reading.Reading.{Reading}
-use Rattle.tool_ranges.specs.declared.reading.Reading.TheVariants.{Cargo, Npm, Crate}
+use Rattle.tool_ranges.specs.declared.dialect.Dialect.{Dialect}
+use Rattle.tool_ranges.specs.declared.dialect.Dialect.TheVariants.{Cargo, Npm, Crate}
 
 -- the limit of the numbers of a reading: 2^53 - 1 to npm, and 2^64 - 1 to the others
-abbrev pub limit_of : Reading → Hint
+abbrev pub limit_of : Dialect → Hint
 limit_of Cargo = Limit
 limit_of Npm = NpmLimit
 limit_of (Crate mode) = Limit

@@ -7,7 +7,7 @@ pub mod NpmMeaning
 pub mod NpmTable
 pub mod AllPreReleases
 pub mod Steps
-pub mod Readings
+pub mod Dialects
 pub mod Fronts
 pub mod Hints
 pub mod Meanings

@@ -6,7 +6,7 @@ use Rattle.std.specs.Int.{is_in_range}
 use Rattle.std.specs.List.{list_all}
 use Rattle.std.specs.Str.{chars}
 use Rattle.semver_texts.specs.Texts.{Text}
-use Rattle.semver_texts.specs.declared.dialect.Dialect.TheVariants.{Npm}
+use Rattle.semver_texts.specs.declared.grammar.Grammar.TheVariants.{Npm}
 use Rattle.semver_ranges.specs.RangeTree.{SetTree, SpellsIn}
 
 -- what JavaScript calls white space, beyond ASCII

@@ -14,8 +14,8 @@ ghost use Rattle.semver_ranges.specs.RewritingTable.{fits, rewritten};
 ghost use Rattle.tool_ranges.specs.CargoGrammar.{SpellsRequirement};
 ghost use Rattle.tool_ranges.specs.CargoMeaning.{meets_requirement};
 ghost use Rattle.tool_ranges.specs.CargoTable.{rewritten_requirement};
-ghost use Rattle.tool_ranges.specs.Readings.{RefusesAs};
-ghost use Rattle.tool_ranges.specs.declared.reading.Reading.TheVariants as reading;
+ghost use Rattle.tool_ranges.specs.Dialects.{RefusesAs};
+ghost use Rattle.tool_ranges.specs.declared.dialect.Dialect.TheVariants as dialect;
 ghost use Rattle.tool_ranges.specs.Steps.CargoReading.{EndsAs, IsRefusal, IsRewritten};
 ghost use Rattle.tool_ranges.specs.Steps.CargoReading.{in_one_range, set_with, IsRewrittenOne};
 ghost use Rattle.tool_ranges.specs.Steps.CargoReading.{IsSetOf, IsSurveyedAs};
@@ -65,7 +65,7 @@ const MOST_COMPARATORS: usize = 32;
 pub fn rewrite(alloc: Global, requirement: &str) -> Result<RangeSet, RangeError>
     // What isn't a requirement and what is too large is refused, exactly; all else is read. What is
     // answered is what each tree of the text is rewritten to.
-    ensures refusals { RefusesAs reading.Cargo requirement.now result }
+    ensures refusals { RefusesAs dialect.Cargo requirement.now result }
     ensures as_rewritten { IfOk result (λ set. (tree : List SimpleTree)
         → SpellsRequirement tree requirement.now → set_of set ≡ rewritten_requirement tree) }
     // A release meets the answer exactly if the requirement means it.

@@ -4,7 +4,7 @@ ghost use Rattle.std.specs.Prelude.{◌≡◌};
 ghost use Rattle.tool_ranges.specs.Hints.{limit_of};
 
 use crate::ending::Ending;
-use crate::reading::Reading;
+use crate::dialect::Dialect;
 
 /// What may have been meant where a text stops being a range: what another dialect takes there, or
 /// which rule of the dialect is broken.
@@ -40,20 +40,20 @@ pub enum Hint {
 
 /// What may have been meant at the place at which a text stops being a range, if there is something
 /// to say.
-pub(crate) fn hint_at(reading: Reading, text: &str, place: usize) -> Option<Hint> {
+pub(crate) fn hint_at(dialect: Dialect, text: &str, place: usize) -> Option<Hint> {
     let front = text.as_bytes().get(..place)?;
     let next = text.as_bytes().get(place).copied();
     let ending = Ending::of(front);
-    if !matches!(reading, Reading::Crate(..)) && ending.has_leading_zero(front, next) {
+    if !matches!(dialect, Dialect::Crate(..)) && ending.has_leading_zero(front, next) {
         return Some(Hint::LeadingZero);
     }
-    match (reading, next?) {
+    match (dialect, next?) {
         (_, b'-' | b'+') if ending.is_partial() => Some(Hint::ThreeNumbers),
-        (Reading::Cargo, next) => of_cargo(front, ending, next),
-        (Reading::Npm, next) if ending.may_be_too_long(front, next) => Some(Hint::NpmLength),
-        (Reading::Npm, b',') => Some(Hint::NpmComma),
-        (Reading::Crate(..), b',') => Some(Hint::CrateComma),
-        (Reading::Crate(..), b'v') if may_begin(front) => Some(Hint::CrateV),
+        (Dialect::Cargo, next) => of_cargo(front, ending, next),
+        (Dialect::Npm, next) if ending.may_be_too_long(front, next) => Some(Hint::NpmLength),
+        (Dialect::Npm, b',') => Some(Hint::NpmComma),
+        (Dialect::Crate(..), b',') => Some(Hint::CrateComma),
+        (Dialect::Crate(..), b'v') if may_begin(front) => Some(Hint::CrateV),
         _ => None,
     }
 }
@@ -77,12 +77,12 @@ fn of_cargo(front: &[u8], ending: Ending, next: u8) -> Option<Hint> {
 }
 
 /// Which limit a number of a range is above.
-pub(crate) fn limit(reading: Reading) -> Hint
-    ensures { result ≡ limit_of reading }
+pub(crate) fn limit(dialect: Dialect) -> Hint
+    ensures { result ≡ limit_of dialect }
 {
-    match reading {
-        Reading::Npm => Hint::NpmLimit,
-        Reading::Cargo | Reading::Crate(_) => Hint::Limit,
+    match dialect {
+        Dialect::Npm => Hint::NpmLimit,
+        Dialect::Cargo | Dialect::Crate(_) => Hint::Limit,
     }
 }
 

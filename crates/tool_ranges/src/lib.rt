@@ -10,7 +10,7 @@ pub mod laws;
 pub mod meaning;
 pub mod npm;
 pub mod place;
-pub mod reading;
+pub mod dialect;
 pub mod refusals;
 mod rows;
 mod tally;

@@ -3,16 +3,16 @@
 ghost use Rattle.std.specs.Prelude.{◌≡◌, ◌≢◌, ◌&&◌, Bool, true, Err, IfOk};
 ghost use Rattle.semver_texts.specs.Texts.{Text, is_empty};
 ghost use Rattle.semver_texts.specs.Versions.{PlainVersion, without_build};
-ghost use Rattle.tool_ranges.specs.declared.reading.Reading.{Reading};
+ghost use Rattle.tool_ranges.specs.declared.dialect.Dialect.{Dialect};
 ghost use Rattle.semver_parser.specs.Outlines.{version_of};
 ghost use Rattle.version_sets.specs.Flat.{IsPrintable};
 ghost use Rattle.version_sets.specs.PreReleaseRules.{numbers_fit};
-ghost use Rattle.tool_ranges.specs.Readings.{RefusesAs, SpellsAs, TreeOf};
-ghost use Rattle.tool_ranges.specs.Meanings.{IsSetBy, MeansAs, meant_as, reading_of};
+ghost use Rattle.tool_ranges.specs.Dialects.{RefusesAs, SpellsAs, TreeOf};
+ghost use Rattle.tool_ranges.specs.Meanings.{IsSetBy, MeansAs, meant_as, dialect_of};
 ghost use Rattle.tool_ranges.specs.Steps.Asking.{asked_of, of_releases};
 
 use crate::asked::Asked;
-use crate::reading::Reading;
+use crate::dialect::Dialect;
 use crate::{cargo, npm, tally};
 use semver_parser::version::Outline;
 use semver_ranges::{Compat, RangeError};
@@ -43,17 +43,17 @@ pub enum Meaning {
 impl Meaning {
     // Answer: equation.
     /// Returns the dialect.
-    pub fn reading(self) -> Reading
-        ensures { result ≡ reading_of self }
+    pub fn dialect(self) -> Dialect
+        ensures { result ≡ dialect_of self }
     {
         match self {
-            Meaning::Cargo => Reading::Cargo,
-            Meaning::CargoAll => Reading::Cargo,
-            Meaning::CargoReleases => Reading::Cargo,
-            Meaning::Npm => Reading::Npm,
-            Meaning::NpmAll => Reading::Npm,
-            Meaning::NpmReleases => Reading::Npm,
-            Meaning::Crate(compat, _) => Reading::Crate(compat),
+            Meaning::Cargo => Dialect::Cargo,
+            Meaning::CargoAll => Dialect::Cargo,
+            Meaning::CargoReleases => Dialect::Cargo,
+            Meaning::Npm => Dialect::Npm,
+            Meaning::NpmAll => Dialect::Npm,
+            Meaning::NpmReleases => Dialect::Npm,
+            Meaning::Crate(compat, _) => Dialect::Crate(compat),
         }
     }
 }
@@ -74,7 +74,7 @@ impl Meaning {
 /// a set.
 pub fn read(alloc: Global, meaning: Meaning, range: &str) -> Result<VersionSet, RangeError>
     // What the reading's grammar hasn't and what is too large is refused, exactly.
-    ensures refusals { RefusesAs (reading_of meaning) range.now result }
+    ensures refusals { RefusesAs (dialect_of meaning) range.now result }
     // A version is in the set exactly if the text means it.
     ensures meaning { IfOk result (λ set. MeansAs meaning range.now set) }
     // Its identifiers can be read back from their texts.
@@ -98,12 +98,12 @@ fn releases_of(
     alloc: Global,
     read: Result<VersionSet, RangeError>,
 ) -> Result<VersionSet, RangeError>
-    ensures refusals { (reading : Reading) (t : Text) → RefusesAs reading t read
-        → RefusesAs reading t result }
-    ensures releases { (reading : Reading) (t : Text)
-        (meets : TreeOf reading → PlainVersion → Bool)
-        → IfOk read (λ set. IsSetBy reading t meets set)
-        → IfOk result (λ set. IsSetBy reading t
+    ensures refusals { (dialect : Dialect) (t : Text) → RefusesAs dialect t read
+        → RefusesAs dialect t result }
+    ensures releases { (dialect : Dialect) (t : Text)
+        (meets : TreeOf dialect → PlainVersion → Bool)
+        → IfOk read (λ set. IsSetBy dialect t meets set)
+        → IfOk result (λ set. IsSetBy dialect t
         (λ tree v. is_empty v.pre && meets tree v) set) }
     ensures printable { IfOk result IsPrintable }
 {
@@ -129,11 +129,11 @@ fn releases_of(
 #[inline(always)]
 pub fn meets(meaning: Meaning, range: &str, version: &Outline<'_>) -> Result<bool, RangeError>
     // What the dialect's grammar hasn't and what is too large is refused, exactly.
-    ensures refusals { RefusesAs (reading_of meaning) range.now result }
+    ensures refusals { RefusesAs (dialect_of meaning) range.now result }
     ensures no_memory { result ≢ Err RangeError.OutOfMemory }
     // The answer is what the text says of the version.
-    ensures meaning { IfOk result (λ met. (tree : TreeOf (reading_of meaning))
-        → SpellsAs (reading_of meaning) tree range.now
+    ensures meaning { IfOk result (λ met. (tree : TreeOf (dialect_of meaning))
+        → SpellsAs (dialect_of meaning) tree range.now
         → met ≡ meant_as meaning tree (version_of version.now)) }
 {
     ask(meaning, range, &Asked::of(version))
@@ -145,7 +145,7 @@ pub fn meets(meaning: Meaning, range: &str, version: &Outline<'_>) -> Result<boo
 #[inline(never)]
 pub fn check(meaning: Meaning, range: &str) -> Result<(), RangeError>
     // What the dialect's grammar hasn't and what is too large is refused, exactly.
-    ensures refusals { RefusesAs (reading_of meaning) range.now result }
+    ensures refusals { RefusesAs (dialect_of meaning) range.now result }
     ensures no_memory { result ≢ Err RangeError.OutOfMemory }
 {
     match ask(meaning, range, &Asked::zero()) {
@@ -158,10 +158,10 @@ pub fn check(meaning: Meaning, range: &str) -> Result<(), RangeError>
 #[inline(always)]
 fn ask(meaning: Meaning, range: &str, version: &Asked<'_>) -> Result<bool, RangeError>
     requires { numbers_fit (asked_of version.now) ≡ true }
-    ensures refusals { RefusesAs (reading_of meaning) range.now result }
+    ensures refusals { RefusesAs (dialect_of meaning) range.now result }
     ensures no_memory { result ≢ Err RangeError.OutOfMemory }
-    ensures meaning { IfOk result (λ met. (tree : TreeOf (reading_of meaning))
-        → SpellsAs (reading_of meaning) tree range.now
+    ensures meaning { IfOk result (λ met. (tree : TreeOf (dialect_of meaning))
+        → SpellsAs (dialect_of meaning) tree range.now
         → met ≡ meant_as meaning tree (without_build (asked_of version.now))) }
 {
     match meaning {

@@ -4,7 +4,7 @@ ghost use Rattle.std.specs.Prelude.{◌≡◌, [], IsTrue, IfOk};
 ghost use Rattle.std.specs.List.{list_all};
 ghost use Rattle.std.specs.Str.{chars};
 ghost use Rattle.semver_texts.specs.Versions.{PlainVersion};
-ghost use Rattle.semver_texts.specs.declared.dialect.Dialect.TheVariants as dialect;
+ghost use Rattle.semver_texts.specs.declared.grammar.Grammar.TheVariants as grammar;
 ghost use Rattle.semver_ranges.specs.declared.range.Compat.TheVariants.{Npm};
 ghost use Rattle.semver_ranges.specs.RangeTree.{SetTree, Spells};
 ghost use Rattle.semver_ranges.specs.RangeViews.{set_of};
@@ -16,8 +16,8 @@ ghost use Rattle.tool_ranges.specs.Steps.LowerBounds.{set_begun, written_for};
 ghost use Rattle.tool_ranges.specs.NpmGrammar.{is_white_space_beyond_ascii, may_stand, SpellsNpm};
 ghost use Rattle.tool_ranges.specs.NpmMeaning.{meets_npm};
 ghost use Rattle.tool_ranges.specs.NpmTable.{is_safe_simple, rewritten_npm};
-ghost use Rattle.tool_ranges.specs.Readings.{RefusesAs};
-ghost use Rattle.tool_ranges.specs.declared.reading.Reading.TheVariants as reading;
+ghost use Rattle.tool_ranges.specs.Dialects.{RefusesAs};
+ghost use Rattle.tool_ranges.specs.declared.dialect.Dialect.TheVariants as dialect;
 
 mod asking;
 mod reading;
@@ -30,7 +30,7 @@ use semver_ranges::grammar::Simple;
 use semver_ranges::partial::LowerBounds;
 use semver_ranges::table::{Table, read_by};
 use semver_ranges::{Comparator, Compat, RangeError, RangeSet};
-use semver_texts::dialect::Dialect;
+use semver_texts::grammar::Grammar;
 use std::alloc::{AllocError, Global};
 
 // Answer: law answer_laws::ranges::one_npm_rewrite.
@@ -57,7 +57,7 @@ use std::alloc::{AllocError, Global};
 pub fn rewrite(alloc: Global, range: &str) -> Result<RangeSet, RangeError>
     // What isn't in npm's grammar and what is too large is refused, exactly; all else is read. What
     // is answered is what each tree of the text is rewritten to.
-    ensures refusals { RefusesAs reading.Npm range.now result }
+    ensures refusals { RefusesAs dialect.Npm range.now result }
     ensures as_rewritten { IfOk result (λ set. (tree : SetTree) → SpellsNpm tree range.now
         → set_of set ≡ rewritten_npm tree) }
     // A release meets the answer exactly if the text means it.
@@ -76,7 +76,7 @@ pub fn rewrite(alloc: Global, range: &str) -> Result<RangeSet, RangeError>
 
 /// The set of a text, with lower bounds as they are asked for.
 fn rewritten(alloc: Global, range: &str, lower: LowerBounds) -> Result<RangeSet, RangeError>
-    ensures refusals { RefusesAs reading.Npm range.now result }
+    ensures refusals { RefusesAs dialect.Npm range.now result }
     ensures begun { IfOk result (λ set. (tree : SetTree) → SpellsNpm tree range.now
         → set_of set ≡ set_begun lower tree) }
     ensures printable { IfOk result (λ set. HasPrintableRanges (set_of set)) }
@@ -121,13 +121,13 @@ struct Rows {
 }
 
 impl Table for Rows {
-    ghost DIALECT = { dialect.Npm };
+    ghost DIALECT = { grammar.Npm };
 
     ghost fit = { λ _ s. is_safe_simple s };
 
     ghost written = { λ rows s. written_for rows.lower Npm s };
 
-    const DIALECT: Dialect = Dialect::Npm;
+    const DIALECT: Grammar = Grammar::Npm;
 
     #[inline(always)]
     fn size(&self, simple: &Simple<'_>) -> (bool, usize) {

@@ -6,12 +6,12 @@ ghost use Rattle.std.specs.List.{Any};
 ghost use Rattle.std.specs.Prelude.{◌≡◌, ◌≢◌, ◌<◌, ◌≤◌, ◌↔◌, ◌++◌, ℕ, IfErr, IfOk, IsTrue, map};
 ghost use Rattle.std.specs.Str.{IsCharBoundary};
 ghost use Rattle.tool_ranges.specs.Fronts.{BeginsAs, BeginsFitting, IsPlace};
-ghost use Rattle.tool_ranges.specs.Meanings.{reading_of};
-ghost use Rattle.tool_ranges.specs.Readings.{IsTextAs, RefusesAs};
+ghost use Rattle.tool_ranges.specs.Meanings.{dialect_of};
+ghost use Rattle.tool_ranges.specs.Dialects.{IsTextAs, RefusesAs};
 ghost use Rattle.tool_ranges.specs.Steps.Places.{BeginsBy, GoesOnBy, IsWanted};
 
 use crate::meaning::{self, Meaning};
-use crate::reading::Reading;
+use crate::dialect::Dialect;
 use semver_ranges::RangeError;
 use std::alloc::{AllocError, Global};
 use version_sets::PreReleases;
@@ -47,12 +47,12 @@ const FITTING_RESTS: [&str; 13] = [
 /// # Errors
 ///
 /// `AllocError` if the allocation of the buffer fails.
-pub fn error_place(alloc: Global, reading: Reading, text: &str) -> Result<usize, AllocError>
+pub fn error_place(alloc: Global, dialect: Dialect, text: &str) -> Result<usize, AllocError>
     // Some range text begins with what is before the place, and none with a longer front.
-    ensures place { IfOk result (λ place. IsPlace (BeginsAs reading) text.now place) }
-    ensures out_of_memory { IfErr result (λ _. ¬ (IsTextAs reading text.now)) }
+    ensures place { IfOk result (λ place. IsPlace (BeginsAs dialect) text.now place) }
+    ensures out_of_memory { IfErr result (λ _. ¬ (IsTextAs dialect text.now)) }
 {
-    longest(alloc, Wanted::Any, reading, text)
+    longest(alloc, Wanted::Any, dialect, text)
 }
 
 /// The place of the first character of a text with a number that is too large after which no text
@@ -62,23 +62,23 @@ pub fn error_place(alloc: Global, reading: Reading, text: &str) -> Result<usize,
 ///
 /// It takes time in n log n for n bytes, and allocates one buffer of n + 5 bytes if the text has no
 /// set. `Err` is out of memory.
-pub(crate) fn limit_place(alloc: Global, reading: Reading, text: &str) -> Result<usize, AllocError>
+pub(crate) fn limit_place(alloc: Global, dialect: Dialect, text: &str) -> Result<usize, AllocError>
     // Some text with a set begins with what is before the place, and none with a longer front.
-    ensures place { IfOk result (λ place. IsPlace (BeginsFitting reading) text.now place) }
+    ensures place { IfOk result (λ place. IsPlace (BeginsFitting dialect) text.now place) }
 {
-    longest(alloc, Wanted::Fitting, reading, text)
+    longest(alloc, Wanted::Fitting, dialect, text)
 }
 
 /// The end of the longest front of a text that begins what is wanted.
-fn longest(alloc: Global, wanted: Wanted, reading: Reading, text: &str) -> Result<usize, AllocError>
-    ensures place { IfOk result (λ place. IsPlace (BeginsBy wanted reading) text.now place) }
-    ensures out_of_memory { IfErr result (λ _. ¬ (IsWanted wanted reading text.now)) }
+fn longest(alloc: Global, wanted: Wanted, dialect: Dialect, text: &str) -> Result<usize, AllocError>
+    ensures place { IfOk result (λ place. IsPlace (BeginsBy wanted dialect) text.now place) }
+    ensures out_of_memory { IfErr result (λ _. ¬ (IsWanted wanted dialect text.now)) }
 {
-    if is_wanted(wanted, reading, text) {
+    if is_wanted(wanted, dialect, text) {
         return Ok(text.len());
     }
     let mut buffer = String::with_capacity(alloc, text.len().saturating_add(5))?;
-    if begins(wanted, reading, text, &mut buffer)? {
+    if begins(wanted, dialect, text, &mut buffer)? {
         return Ok(text.len());
     }
     let mut good = 0;
@@ -88,7 +88,7 @@ fn longest(alloc: Global, wanted: Wanted, reading: Reading, text: &str) -> Resul
         if middle == good {
             return Ok(good);
         }
-        if begins(wanted, reading, &text[..middle], &mut buffer)? {
+        if begins(wanted, dialect, &text[..middle], &mut buffer)? {
             good = middle;
         } else {
             bad = middle;
@@ -122,35 +122,35 @@ fn between(text: &str, good: usize, bad: usize) -> usize
 /// Whether a front begins what is wanted.
 fn begins(
     wanted: Wanted,
-    reading: Reading,
+    dialect: Dialect,
     front: &str,
     buffer: &mut String,
 ) -> Result<bool, AllocError>
-    ensures { IfOk result (λ found. IsTrue found ↔ GoesOnBy wanted reading front.now) }
+    ensures { IfOk result (λ found. IsTrue found ↔ GoesOnBy wanted dialect front.now) }
 {
     match wanted {
-        Wanted::Any => is_some_wanted(wanted, reading, front, &RESTS, buffer),
-        Wanted::Fitting => is_some_wanted(wanted, reading, front, &FITTING_RESTS, buffer),
+        Wanted::Any => is_some_wanted(wanted, dialect, front, &RESTS, buffer),
+        Wanted::Fitting => is_some_wanted(wanted, dialect, front, &FITTING_RESTS, buffer),
     }
 }
 
 /// Whether a front with one of the rests is what is wanted.
 fn is_some_wanted(
     wanted: Wanted,
-    reading: Reading,
+    dialect: Dialect,
     front: &str,
     rests: &[&str],
     buffer: &mut String,
 ) -> Result<bool, AllocError>
     ensures { IfOk result (λ found. IsTrue found
-        ↔ Any (λ rest. IsWanted wanted reading (front.now ++ rest))
+        ↔ Any (λ rest. IsWanted wanted dialect (front.now ++ rest))
         (map (λ rest. rest.now) rests.now)) }
 {
     for rest in rests {
         buffer.clear();
         buffer.push_str(front)?;
         buffer.push_str(rest)?;
-        if is_wanted(wanted, reading, buffer.as_str()) {
+        if is_wanted(wanted, dialect, buffer.as_str()) {
             return Ok(true);
         }
     }
@@ -159,10 +159,10 @@ fn is_some_wanted(
 
 /// Whether a text is what is wanted: a range text, one with a number that is too large included, or
 /// one that has a set.
-fn is_wanted(wanted: Wanted, reading: Reading, text: &str) -> bool
-    ensures { IsTrue result ↔ IsWanted wanted reading text.now }
+fn is_wanted(wanted: Wanted, dialect: Dialect, text: &str) -> bool
+    ensures { IsTrue result ↔ IsWanted wanted dialect text.now }
 {
-    match check(reading, text) {
+    match check(dialect, text) {
         Ok(()) => true,
         Err(RangeError::NumberTooLarge) => matches!(wanted, Wanted::Any),
         Err(RangeError::NotARange) => false,
@@ -171,20 +171,20 @@ fn is_wanted(wanted: Wanted, reading: Reading, text: &str) -> bool
 }
 
 /// What a dialect refuses of a text.
-pub(crate) fn check(reading: Reading, text: &str) -> Result<(), RangeError>
-    ensures refusals { RefusesAs reading text.now result }
+pub(crate) fn check(dialect: Dialect, text: &str) -> Result<(), RangeError>
+    ensures refusals { RefusesAs dialect text.now result }
     ensures no_memory { result ≢ Err RangeError.OutOfMemory }
 {
-    meaning::check(some_meaning(reading), text)
+    meaning::check(some_meaning(dialect), text)
 }
 
 /// A meaning by a dialect.
-fn some_meaning(reading: Reading) -> Meaning
-    ensures { reading_of result ≡ reading }
+fn some_meaning(dialect: Dialect) -> Meaning
+    ensures { dialect_of result ≡ dialect }
 {
-    match reading {
-        Reading::Cargo => Meaning::Cargo,
-        Reading::Npm => Meaning::Npm,
-        Reading::Crate(compat) => Meaning::Crate(compat, PreReleases::Excluded),
+    match dialect {
+        Dialect::Cargo => Meaning::Cargo,
+        Dialect::Npm => Meaning::Npm,
+        Dialect::Crate(compat) => Meaning::Crate(compat, PreReleases::Excluded),
     }
 }

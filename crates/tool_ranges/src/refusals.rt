@@ -6,11 +6,11 @@ ghost use Rattle.semver_ranges.specs.declared.range_set.RangeError.TheVariants.{
 ghost use Rattle.semver_ranges.specs.declared.range_set.RangeError.TheVariants.{OutOfMemory};
 ghost use Rattle.tool_ranges.specs.Fronts.{BeginsAs, BeginsFitting, IsPlace};
 ghost use Rattle.tool_ranges.specs.Hints.{limit_of};
-ghost use Rattle.tool_ranges.specs.Readings.{HasSetAs, IsTextAs, IsTooLargeAs};
+ghost use Rattle.tool_ranges.specs.Dialects.{HasSetAs, IsTextAs, IsTooLargeAs};
 
 use crate::hints::{self, Hint};
 use crate::place::{check, error_place, limit_place};
-use crate::reading::Reading;
+use crate::dialect::Dialect;
 use semver_ranges::RangeError;
 use std::alloc::{AllocError, Global};
 
@@ -38,56 +38,56 @@ pub struct Refusal {
 ///
 /// `AllocError` if an allocation fails. It allocates only if the text gives no range, and then one
 /// buffer of about its length.
-pub fn refused(alloc: Global, reading: Reading, text: &str) -> Result<Option<Refusal>, AllocError>
+pub fn refused(alloc: Global, dialect: Dialect, text: &str) -> Result<Option<Refusal>, AllocError>
     // Nothing is refused of a text that gives a range.
-    ensures range { IfOk result (λ found. (found ≡ None) ↔ HasSetAs reading text.now) }
+    ensures range { IfOk result (λ found. (found ≡ None) ↔ HasSetAs dialect text.now) }
     ensures not_a_range { IfOk result (λ found. IfSome found (λ refusal.
-        (refusal.error ≡ NotARange) ↔ ¬ (IsTextAs reading text.now))) }
+        (refusal.error ≡ NotARange) ↔ ¬ (IsTextAs dialect text.now))) }
     ensures too_large { IfOk result (λ found. IfSome found (λ refusal.
-        (refusal.error ≡ NumberTooLarge) ↔ IsTooLargeAs reading text.now)) }
+        (refusal.error ≡ NumberTooLarge) ↔ IsTooLargeAs dialect text.now)) }
     ensures no_memory { IfOk result (λ found. IfSome found (λ refusal.
         refusal.error ≢ OutOfMemory)) }
     // Some range text begins with what is before the place, and none with a longer front.
     ensures place { IfOk result (λ found. IfSome found (λ refusal. refusal.error ≡ NotARange
-        → IsPlace (BeginsAs reading) text.now refusal.place)) }
+        → IsPlace (BeginsAs dialect) text.now refusal.place)) }
     // Some text that gives a range begins with it, and none with a longer front.
     ensures limit { IfOk result (λ found. IfSome found (λ refusal. refusal.error ≡ NumberTooLarge
-        → IsPlace (BeginsFitting reading) text.now refusal.place)) }
+        → IsPlace (BeginsFitting dialect) text.now refusal.place)) }
     // The hint of a number that is too large is the limit of the dialect.
     ensures limit_hint { IfOk result (λ found. IfSome found (λ refusal.
-        refusal.error ≡ NumberTooLarge → refusal.hint ≡ Some (limit_of reading))) }
+        refusal.error ≡ NumberTooLarge → refusal.hint ≡ Some (limit_of dialect))) }
     // Memory runs out only in place of an error.
-    ensures out_of_memory { IfErr result (λ _. ¬ (HasSetAs reading text.now)) }
+    ensures out_of_memory { IfErr result (λ _. ¬ (HasSetAs dialect text.now)) }
 {
-    let Err(error) = check(reading, text) else {
+    let Err(error) = check(dialect, text) else {
         return Ok(None);
     };
-    let (place, hint) = explained(alloc, reading, text, &error)?;
+    let (place, hint) = explained(alloc, dialect, text, &error)?;
     Ok(Some(Refusal { error, place, hint }))
 }
 
 /// The place of an error of a text, and the hint.
 fn explained(
     alloc: Global,
-    reading: Reading,
+    dialect: Dialect,
     text: &str,
     error: &RangeError,
 ) -> Result<(usize, Option<Hint>), AllocError>
     ensures place { IfOk result (λ told. error.now ≡ NotARange
-        → IsPlace (BeginsAs reading) text.now told.0) }
+        → IsPlace (BeginsAs dialect) text.now told.0) }
     ensures limit { IfOk result (λ told. error.now ≡ NumberTooLarge
-        → IsPlace (BeginsFitting reading) text.now told.0) }
+        → IsPlace (BeginsFitting dialect) text.now told.0) }
     ensures limit_hint { IfOk result (λ told. error.now ≡ NumberTooLarge
-        → told.1 ≡ Some (limit_of reading)) }
+        → told.1 ≡ Some (limit_of dialect)) }
 {
     match error {
         RangeError::NumberTooLarge => {
-            let place = limit_place(alloc, reading, text)?;
-            Ok((place, Some(hints::limit(reading))))
+            let place = limit_place(alloc, dialect, text)?;
+            Ok((place, Some(hints::limit(dialect))))
         }
         _ => {
-            let place = error_place(alloc, reading, text)?;
-            Ok((place, hints::hint_at(reading, text, place)))
+            let place = error_place(alloc, dialect, text)?;
+            Ok((place, hints::hint_at(dialect, text, place)))
         }
     }
 }

@@ -5,10 +5,10 @@ ghost use Rattle.std.specs.Prelude.{◌≡◌, ◌≢◌, true, Err, IfOk, Match
 ghost use Rattle.std.specs.List.{list_any};
 ghost use Rattle.semver_ranges.specs.RangeTree.{Simple as SimpleTree, SetTree, Spells};
 ghost use Rattle.semver_ranges.specs.Steps.CursorViews.{IsSimpleOf};
-ghost use Rattle.tool_ranges.specs.declared.reading.Reading.TheVariants as reading;
-ghost use Rattle.tool_ranges.specs.Readings.{RefusesAs};
+ghost use Rattle.tool_ranges.specs.declared.dialect.Dialect.TheVariants as dialect;
+ghost use Rattle.tool_ranges.specs.Dialects.{RefusesAs};
 ghost use Rattle.tool_ranges.specs.Steps.Asking.{Refuses, Says, asked_of, begun, ended, taken};
-ghost use Rattle.tool_ranges.specs.Steps.Asking.{dialect_of, lower_of, range_met};
+ghost use Rattle.tool_ranges.specs.Steps.Asking.{grammar_of, lower_of, range_met};
 ghost use Rattle.tool_ranges.specs.Steps.Asking.{term_fits, term_met};
 
 use crate::asked::Asked;
@@ -19,7 +19,7 @@ use semver_ranges::grammar::Simple;
 use semver_ranges::partial::LowerBounds;
 use semver_ranges::rewriting::rewritten;
 use semver_ranges::{Compat, RangeError};
-use semver_texts::dialect::Dialect;
+use semver_texts::grammar::Grammar;
 
 /// By which definition a version meets a term.
 #[derive(Clone, Copy)]
@@ -35,12 +35,12 @@ pub(crate) enum Terms {
 impl Terms {
     /// The dialect of the texts.
     #[inline(always)]
-    fn dialect(self) -> Dialect
-        ensures { result ≡ dialect_of self }
+    fn grammar(self) -> Grammar
+        ensures { result ≡ grammar_of self }
     {
         match self {
-            Terms::Npm | Terms::NpmAll => Dialect::Npm,
-            Terms::Crate(_) => Dialect::Crate,
+            Terms::Npm | Terms::NpmAll => Grammar::Npm,
+            Terms::Crate(_) => Grammar::Crate,
         }
     }
 
@@ -154,11 +154,11 @@ pub(crate) fn ask(
     ensures { MatchResult result (λ tally. Says terms (asked_of version.now) counts text.now tally)
         (λ e. Refuses terms text.now e) }
 {
-    let dialect = terms.dialect();
-    let mut events = Events::new(text, dialect, terms.lower());
+    let grammar = terms.grammar();
+    let mut events = Events::new(text, grammar, terms.lower());
     let mut fit = true;
     let mut tally = Tally::new(counts);
-    while let Some(event) = events.next_in(dialect) {
+    while let Some(event) = events.next_in(grammar) {
         match event? {
             Event::Simple(simple) => {
                 fit &= fits(terms, &simple);
@@ -182,7 +182,7 @@ pub(crate) fn ask_crate(
     version: &Asked<'_>,
     counts: bool,
 ) -> Result<bool, RangeError>
-    ensures refusals { RefusesAs (reading.Crate compat) range.now result }
+    ensures refusals { RefusesAs (dialect.Crate compat) range.now result }
     ensures no_memory { result ≢ Err RangeError.OutOfMemory }
     ensures meaning { IfOk result (λ met. (tree : SetTree) → Spells tree range.now
         → met ≡ list_any (range_met (Terms.Crate compat) (asked_of version.now) counts) tree) }

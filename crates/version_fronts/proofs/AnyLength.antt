@@ -6,8 +6,8 @@ use Rattle.semver_texts.specs.Texts.{Text, marked}
 use Rattle.semver_texts.specs.ToolVersions.{IsVersionTextIn, SpellsSemver, characters}
 use Rattle.semver_texts.specs.VersionGrammar.{SpellsCore}
 use Rattle.semver_texts.specs.Versions.{VersionValue}
-use Rattle.semver_texts.specs.declared.dialect.Dialect.{Dialect}
-use Rattle.semver_texts.specs.declared.dialect.Dialect.TheVariants.{Crate, Cargo, Npm}
+use Rattle.semver_texts.specs.declared.grammar.Grammar.{Grammar}
+use Rattle.semver_texts.specs.declared.grammar.Grammar.TheVariants.{Crate, Cargo, Npm}
 use Rattle.version_fronts.proofs.Identifiers.{IsTool, build_kept, crate_spelled, kept_build, kept_pre, pre_kept, spelled_crate}
 use Rattle.version_fronts.proofs.Spaces.{Outer}
 use Rattle.version_fronts.proofs.Suffixes.{Ahead, Fresh, Tail}
@@ -20,7 +20,7 @@ use Rattle.version_fronts.specs.declared.states.Which.TheVariants.{Major}
 abbrev three : ℕ → ℕ → ℕ → Text
 three major minor patch = join_with_byte 46 (map decimal (major ∷ minor ∷ patch ∷ []))
 
-record AreNumbers (d : Dialect) (t : Text) : Type 0 where
+record AreNumbers (d : Grammar) (t : Text) : Type 0 where
   major : ℕ
   minor : ℕ
   patch : ℕ
@@ -31,7 +31,7 @@ record AreNumbers (d : Dialect) (t : Text) : Type 0 where
   whole : t ≡ three major minor patch ++ rest
   tail : Tail d rest
 
-numbers_from : (d : Dialect) (t : Text) → Ahead d Major t → AreNumbers d t
+numbers_from : (d : Grammar) (t : Text) → Ahead d Major t → AreNumbers d t
 numbers_from d t w =
     let second = w.next.next in
     let third = second.next.next in
@@ -50,7 +50,7 @@ numbers_from d t w =
       tail = third.next;
     }
 
-numbers_to : (d : Dialect) (t : Text) → AreNumbers d t → Ahead d Major t
+numbers_to : (d : Grammar) (t : Text) → AreNumbers d t → Ahead d Major t
 numbers_to d t w = record {
   n = w.major;
   rest = 46 ∷ (decimal w.minor ++ (46 ∷ (decimal w.patch ++ w.rest)));
@@ -75,7 +75,7 @@ numbers_to d t w = record {
 
 -- ---- Cargo's and npm's
 
-record IsSemver (d : Dialect) (t : Text) : Type 0 where
+record IsSemver (d : Grammar) (t : Text) : Type 0 where
   v : VersionValue
   core : Text
   after : Text
@@ -86,12 +86,12 @@ record IsSemver (d : Dialect) (t : Text) : Type 0 where
   outer : Outer d after
   whole : t ≡ core ++ after
 
-tool_fits : (d : Dialect) → (n : ℕ) → n ≤ greatest d → n < 2 ^ 64
+tool_fits : (d : Grammar) → (n : ℕ) → n ≤ greatest d → n < 2 ^ 64
 tool_fits Crate n h = omega arith
 tool_fits Cargo n h = omega arith
 tool_fits Npm n h = omega arith
 
-semver_from : (d : Dialect) → IsTool d → (t : Text) → AreNumbers d t → IsSemver d t
+semver_from : (d : Grammar) → IsTool d → (t : Text) → AreNumbers d t → IsSemver d t
 semver_from d tool t w =
     let build = w.tail.next in
     let pre_ids = pre_kept d tool w.tail.parts w.tail.each in
@@ -125,7 +125,7 @@ semver_from d tool t w =
           ∙ sym (append_assoc front _ build.rest);
     }
 
-semver_to : (d : Dialect) → IsTool d → (t : Text) → IsSemver d t → AreNumbers d t
+semver_to : (d : Grammar) → IsTool d → (t : Text) → IsSemver d t → AreNumbers d t
 semver_to d tool t w =
     let front : Text = three w.v.plain.major w.v.plain.minor w.v.plain.patch in
     let pre : Text = marked (45 ∷ []) w.spells.pre_texts in
@@ -236,7 +236,7 @@ npm_fits n h = omega arith
 cargo_fits : (n : ℕ) → n < 2 ^ 64 → n ≤ greatest Cargo
 cargo_fits n h = omega arith
 
-pub spelled_from : (d : Dialect) (t : Text) → Fresh d t → (v : VersionValue) × SpellsAtAnyLength d v t
+pub spelled_from : (d : Grammar) (t : Text) → Fresh d t → (v : VersionValue) × SpellsAtAnyLength d v t
 spelled_from Crate t w =
     let core = core_from w.rest (numbers_from Crate w.rest w.numbers) in (
       core.v,
@@ -274,7 +274,7 @@ spelled_from Npm t w =
       },
     )
 
-pub spelled_to : (d : Dialect) (v : VersionValue) (t : Text) → SpellsAtAnyLength d v t → Fresh d t
+pub spelled_to : (d : Grammar) (v : VersionValue) (t : Text) → SpellsAtAnyLength d v t → Fresh d t
 spelled_to Crate v t w = record {
   spaces = w.before;
   sign = [];
@@ -329,17 +329,17 @@ spelled_to Npm v t w = record {
 
 -- ---- with npm's limit of its length
 
-abbrev pub IsShort : Dialect → Text → Type 0
+abbrev pub IsShort : Grammar → Text → Type 0
 IsShort Crate t = Unit {0}
 IsShort Cargo t = Unit {0}
 IsShort Npm t = characters t ≤ 256
 
-pub limited : (d : Dialect) (t : Text) → (v : VersionValue) × SpellsAtAnyLength d v t → IsShort d t → IsVersionTextIn d t
+pub limited : (d : Grammar) (t : Text) → (v : VersionValue) × SpellsAtAnyLength d v t → IsShort d t → IsVersionTextIn d t
 limited Crate t w short = w
 limited Cargo t w short = w
 limited Npm t w short = (w.0, (w.1, short))
 
-pub unlimited : (d : Dialect) (t : Text) → IsVersionTextIn d t → ((v : VersionValue) × SpellsAtAnyLength d v t) × IsShort d t
+pub unlimited : (d : Grammar) (t : Text) → IsVersionTextIn d t → ((v : VersionValue) × SpellsAtAnyLength d v t) × IsShort d t
 unlimited Crate t w = (w, tt)
 unlimited Cargo t w = (w, tt)
 unlimited Npm t w = ((w.0, w.1.0), w.1.1)

@@ -8,8 +8,8 @@ use Rattle.std.proofs.lemmas.Bool.Decides.{nat_tests}
 use Rattle.std.proofs.lemmas.List.Sums.{sum_by-cons}
 use Rattle.semver_texts.specs.Texts.{Text}
 use Rattle.semver_texts.specs.ToolVersions.{characters, goes_on}
-use Rattle.semver_texts.specs.declared.dialect.Dialect.{Dialect}
-use Rattle.semver_texts.specs.declared.dialect.Dialect.TheVariants.{Crate, Cargo, Npm}
+use Rattle.semver_texts.specs.declared.grammar.Grammar.{Grammar}
+use Rattle.semver_texts.specs.declared.grammar.Grammar.TheVariants.{Crate, Cargo, Npm}
 use Rattle.semver_texts.proofs.Lists.{by_test}
 use Rattle.version_fronts.proofs.Cases.{by_option, not_none}
 use Rattle.version_fronts.proofs.Suffixes.{no_truth}
@@ -60,12 +60,12 @@ ending (Identifier section Begun) = []
 ending (After space) = fill space
 ending Refused = []
 
-pub zeros_end : (d : Dialect) → accepts (state_from d (Before Complete) zeros) ≡ true
+pub zeros_end : (d : Grammar) → accepts (state_from d (Before Complete) zeros) ≡ true
 zeros_end Crate = refl
 zeros_end Cargo = refl
 zeros_end Npm = refl
 
-before_ends : (d : Dialect) (space : Space) → accepts (state_from d (Before space) (fill space ++ zeros)) ≡ true
+before_ends : (d : Grammar) (space : Space) → accepts (state_from d (Before space) (fill space ++ zeros)) ≡ true
 before_ends d Complete = zeros_end d
 before_ends d C2 = zeros_end d
 before_ends d E1 = zeros_end d
@@ -78,7 +78,7 @@ before_ends d E380 = zeros_end d
 before_ends d EF = zeros_end d
 before_ends d EFBB = zeros_end d
 
-after_ends : (d : Dialect) (space : Space) → accepts (state_from d (After space) (fill space)) ≡ true
+after_ends : (d : Grammar) (space : Space) → accepts (state_from d (After space) (fill space)) ≡ true
 after_ends d Complete = refl
 after_ends d C2 = refl
 after_ends d E1 = refl
@@ -91,7 +91,7 @@ after_ends d E380 = refl
 after_ends d EF = refl
 after_ends d EFBB = refl
 
-identifier_ends : (d : Dialect) (section : Section) (part : Part)
+identifier_ends : (d : Grammar) (section : Section) (part : Part)
     → accepts (state_from d (Identifier section part) (ending (Identifier section part))) ≡ true
 identifier_ends d section Zero = refl
 identifier_ends d section Begun = refl
@@ -102,7 +102,7 @@ identifier_ends Cargo Build NotBegun = refl
 identifier_ends Npm Pre NotBegun = refl
 identifier_ends Npm Build NotBegun = refl
 
-pub ending_accepts : (d : Dialect) (s : State) → is_refused s ≡ false → accepts (state_from d s (ending s)) ≡ true
+pub ending_accepts : (d : Grammar) (s : State) → is_refused s ≡ false → accepts (state_from d s (ending s)) ≡ true
 ending_accepts d (Before space) e = before_ends d space
 ending_accepts d (NoDigit Major) e = refl
 ending_accepts d (NoDigit Minor) e = refl
@@ -238,7 +238,7 @@ same_number Major n m = refl
 same_number Minor n m = refl
 same_number Patch n m = refl
 
-begins_lessens : (d : Dialect) (space : Space) (b : ℕ) → Lessens (Before space) b (begins d space b)
+begins_lessens : (d : Grammar) (space : Space) (b : ℕ) → Lessens (Before space) b (begins d space b)
 begins_lessens d Complete b =
     by_test (is_sign d b) (λ y. rw y (λ go. omega arith)) (λ n. rw n (first_lessens (Before Complete) Major b major_needs))
 begins_lessens d C2 b = of_refused (Before C2) b
@@ -252,18 +252,18 @@ begins_lessens d E380 b = of_refused (Before E380) b
 begins_lessens d EF b = of_refused (Before EF) b
 begins_lessens d EFBB b = of_refused (Before EFBB) b
 
-before_lessens : (d : Dialect) (space : Space) (b : ℕ) (o : Option Space) → Lessens (Before space) b (before_or o (begins d space b))
+before_lessens : (d : Grammar) (space : Space) (b : ℕ) (o : Option Space) → Lessens (Before space) b (before_or o (begins d space b))
 before_lessens d space b None = begins_lessens d space b
 before_lessens d space b (Some more) = λ go. omega arith
 
-after_lessens : (d : Dialect) (which : Which) (n b : ℕ) → Lessens (Number which n) b (after_number d which b)
+after_lessens : (d : Grammar) (which : Which) (n b : ℕ) → Lessens (Number which n) b (after_number d which b)
 after_lessens d Major n b =
     by_test (b == 46) (λ y. rw y (λ go. omega (arith, same_size b 46 y refl))) (λ o. rw o (of_refused (Number Major n) b))
 after_lessens d Minor n b =
     by_test (b == 46) (λ y. rw y (λ go. omega (arith, same_size b 46 y refl))) (λ o. rw o (of_refused (Number Minor n) b))
 after_lessens d Patch n b = none_needed (Number Patch n) b (after_number d Patch b) refl
 
-number_lessens : (d : Dialect) (which : Which) (n b : ℕ) → Lessens (Number which n) b (number d which n b)
+number_lessens : (d : Grammar) (which : Which) (n b : ℕ) → Lessens (Number which n) b (number d which n b)
 number_lessens d which n b =
     by_test (is_ascii_digit b)
     (λ y. by_test (n == 0) (λ z. rw (y, z) (of_refused (Number which n) b))
@@ -272,25 +272,25 @@ number_lessens d which n b =
     (λ large. rw (y, some, large) (of_refused (Number which n) b))))
     (λ o. rw o (after_lessens d which n b))
 
-part_size : (d : Dialect) (section : Section) (part p : Part) (b : ℕ) → in_part d section part b ≡ Some p → size b ≡ 1
+part_size : (d : Grammar) (section : Section) (part p : Part) (b : ℕ) → in_part d section part b ≡ Some p → size b ≡ 1
 part_size d section part p b e =
     by_test (is_ascii_alphanumeric b) (λ y. alphanumeric_size b y)
     (λ n. by_test (b == 45) (λ y. same_size b 45 y refl) (λ o. absurd (not_none p (rw (n, o) at e))))
 
-unended_lessens : (d : Dialect) (section : Section) (part : Part) (b : ℕ) → may_end part ≡ false → need (Identifier section part) ≡ 1
+unended_lessens : (d : Grammar) (section : Section) (part : Part) (b : ℕ) → may_end part ≡ false → need (Identifier section part) ≡ 1
     → Lessens (Identifier section part) b (identifier d section part b)
 unended_lessens d section part b e one =
     by_option (in_part d section part b) (λ none. rw (none, e) (of_refused (Identifier section part) b))
     (λ p is. λ go. omega (arith, one, part_size d section part p b is))
 
-identifier_lessens : (d : Dialect) (section : Section) (part : Part) (b : ℕ)
+identifier_lessens : (d : Grammar) (section : Section) (part : Part) (b : ℕ)
     → Lessens (Identifier section part) b (identifier d section part b)
 identifier_lessens d section NotBegun b = unended_lessens d section NotBegun b refl refl
 identifier_lessens d section LeadingZero b = unended_lessens d section LeadingZero b refl refl
 identifier_lessens d section Zero b = none_needed (Identifier section Zero) b (identifier d section Zero b) refl
 identifier_lessens d section Begun b = none_needed (Identifier section Begun) b (identifier d section Begun b) refl
 
-lessens : (d : Dialect) (s : State) (b : ℕ) → Lessens s b (step d s b)
+lessens : (d : Grammar) (s : State) (b : ℕ) → Lessens s b (step d s b)
 lessens d (Before space) b = before_lessens d space b (more_space d space b)
 lessens d (NoDigit which) b = first_lessens (NoDigit which) which b (which_needs which)
 lessens d (Number which n) b = number_lessens d which n b
@@ -313,7 +313,7 @@ accepted_needs (Identifier section Begun) e = refl
 accepted_needs (After space) e = refl
 accepted_needs Refused e = no_truth e
 
-from_refused : (d : Dialect) (t : Text) → accepts (state_from d Refused t) ≡ false
+from_refused : (d : Grammar) (t : Text) → accepts (state_from d Refused t) ≡ false
 from_refused d [] = refl
 from_refused d (b ∷ t) = from_refused d t
 
@@ -325,19 +325,19 @@ refused_is (Identifier section part) e = no_truth e
 refused_is (After space) e = no_truth e
 refused_is Refused e = refl
 
-pub not_refused : (d : Dialect) (s : State) (t : Text) → accepts (state_from d s t) ≡ true → is_refused s ≡ false
+pub not_refused : (d : Grammar) (s : State) (t : Text) → accepts (state_from d s t) ≡ true → is_refused s ≡ false
 not_refused d s t e =
     by_test (is_refused s)
     (λ y. no_truth (sym (from_refused d t) ∙ ap (λ x. accepts (state_from d x t)) (sym (refused_is s y)) ∙ e)) (λ n. n)
 
-pub needed : (d : Dialect) (s : State) (t : Text) → accepts (state_from d s t) ≡ true → need s ≤ characters t
+pub needed : (d : Grammar) (s : State) (t : Text) → accepts (state_from d s t) ≡ true → need s ≤ characters t
 needed d s [] e = omega (arith, accepted_needs s e)
 needed d s (b ∷ t) e =
     omega (arith, lessens d s b (not_refused d (step d s b) t e), needed d (step d s b) t e, one_more_character b t)
 
 -- ---- within a character of white space
 
-no_ascii : (d : Dialect) (space : Space) (b : ℕ) → is_complete space ≡ false → b < 128 → more_space d space b ≡ None
+no_ascii : (d : Grammar) (space : Space) (b : ℕ) → is_complete space ≡ false → b < 128 → more_space d space b ≡ None
 no_ascii d Complete b e small = no_truth (sym e)
 no_ascii d C2 b e small = grind (arith, nat_tests)
 no_ascii d E1 b e small = grind (arith, nat_tests)
@@ -350,7 +350,7 @@ no_ascii d E380 b e small = grind (arith, nat_tests)
 no_ascii d EF b e small = grind (arith, nat_tests)
 no_ascii d EFBB b e small = grind (arith, nat_tests)
 
-begins_cut : (d : Dialect) (space : Space) (b : ℕ) → is_complete space ≡ false → begins d space b ≡ Refused
+begins_cut : (d : Grammar) (space : Space) (b : ℕ) → is_complete space ≡ false → begins d space b ≡ Refused
 begins_cut d Complete b e = no_truth (sym e)
 begins_cut d C2 b e = refl
 begins_cut d E1 b e = refl
@@ -363,7 +363,7 @@ begins_cut d E380 b e = refl
 begins_cut d EF b e = refl
 begins_cut d EFBB b e = refl
 
-cut_refuses : (d : Dialect) (s : State) (b : ℕ) → is_cut s ≡ true → b < 128 → step d s b ≡ Refused
+cut_refuses : (d : Grammar) (s : State) (b : ℕ) → is_cut s ≡ true → b < 128 → step d s b ≡ Refused
 cut_refuses d (Before space) b e small =
     let cut = not-true (is_complete space) e in
     ap (λ o. before_or o (begins d space b)) (no_ascii d space b cut small) ∙ begins_cut d space b cut
@@ -381,7 +381,7 @@ cut_accepts (Identifier section part) e = no_truth e
 cut_accepts (After space) e = not-true (is_complete space) e
 cut_accepts Refused e = no_truth e
 
-pub not_cut : (d : Dialect) (s : State) (t : Text) → AllByRecursion (λ b. b < 128) t → accepts (state_from d s t) ≡ true → is_cut s ≡ false
+pub not_cut : (d : Grammar) (s : State) (t : Text) → AllByRecursion (λ b. b < 128) t → accepts (state_from d s t) ≡ true → is_cut s ≡ false
 not_cut d s [] all e = by_test (is_cut s) (λ y. no_truth (sym (cut_accepts s y) ∙ e)) (λ n. n)
 not_cut d s (b ∷ t) all e =
     by_test (is_cut s)

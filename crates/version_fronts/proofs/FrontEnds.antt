@@ -9,8 +9,8 @@ use Rattle.std.proofs.lemmas.Bool.Decides.{nat_tests}
 use Rattle.std.proofs.lemmas.List.{reverse-append}
 use Rattle.std.proofs.lemmas.List.Folds.{list_all-append}
 use Rattle.semver_texts.specs.Texts.{Text, is_part_byte, is_space}
-use Rattle.semver_texts.specs.declared.dialect.Dialect.{Dialect}
-use Rattle.semver_texts.specs.declared.dialect.Dialect.TheVariants.{Crate, Cargo, Npm}
+use Rattle.semver_texts.specs.declared.grammar.Grammar.{Grammar}
+use Rattle.semver_texts.specs.declared.grammar.Grammar.TheVariants.{Crate, Cargo, Npm}
 use Rattle.semver_texts.proofs.Lists.{by_test}
 use Rattle.version_fronts.proofs.Cases.{by_option, not_none, some_if_is}
 use Rattle.version_fronts.proofs.Suffixes.{no_truth}
@@ -118,7 +118,7 @@ EndsIn Refused t = Unit {0}
 
 -- ---- each step
 
-white_no_part : (d : Dialect) (space s : Space) (b : ℕ) → more_space d space b ≡ Some s → is_part_byte b ≡ false
+white_no_part : (d : Grammar) (space s : Space) (b : ℕ) → more_space d space b ≡ Some s → is_part_byte b ≡ false
 white_no_part Crate Complete s b e =
     let is = (some_if_is (is_space b) Complete s e).0 in grind (arith, nat_tests)
 white_no_part Cargo Complete s b e = absurd (not_none s e)
@@ -157,7 +157,7 @@ module _ (t : Text) (b : ℕ) where
   last_digit : is_ascii_digit b ≡ false → ends_in_digit (t ++ b ∷ []) ≡ false
   last_digit e = ap is_ascii_digit (last_is t b) ∙ e
 
-  after_white : (d : Dialect) (space : Space) → has_no_digit t ≡ false → EndsIn (after d space b) (t ++ b ∷ [])
+  after_white : (d : Grammar) (space : Space) → has_no_digit t ≡ false → EndsIn (after d space b) (t ++ b ∷ [])
   after_white d space some =
       by_option (more_space d space b) (λ none. rw none tt)
       (λ s e. let none = white_no_part d space s b e in
@@ -184,7 +184,7 @@ module _ (t : Text) (b : ℕ) where
       zeros : (b : ℕ) → is_ascii_digit b ≡ true → (x : Bool) → x ≡ false → ((b == 48) && not x) ≡ (b - 48 == 0)
       zeros b y x e = grind (arith, nat_tests)
 
-  before_begins : (d : Dialect) (space : Space) → EndsIn (Before space) t → EndsIn (begins d space b) (t ++ b ∷ [])
+  before_begins : (d : Grammar) (space : Space) → EndsIn (Before space) t → EndsIn (begins d space b) (t ++ b ∷ [])
   before_begins Crate Complete w = first_number Major (no_digit_last t w.0)
   before_begins Cargo Complete w = first_number Major (no_digit_last t w.0)
   before_begins Npm Complete w =
@@ -211,7 +211,7 @@ module _ (t : Text) (b : ℕ) where
   before_begins d EF w = tt
   before_begins d EFBB w = tt
 
-  before_goes : (d : Dialect) (space : Space) → EndsIn (Before space) t → EndsIn (before d space b) (t ++ b ∷ [])
+  before_goes : (d : Grammar) (space : Space) → EndsIn (Before space) t → EndsIn (before d space b) (t ++ b ∷ [])
   before_goes d space w =
       by_option (more_space d space b) (λ none. rw none (before_begins d space w))
       (λ s e. let none = white_no_part d space s b e in
@@ -227,14 +227,14 @@ module _ (t : Text) (b : ℕ) where
   not_begun : has_no_digit t ≡ false → EndsInIdentifier NotBegun (t ++ b ∷ [])
   not_begun some = record { some_digit = still_digits some; last = λ e. no_truth e }
 
-  after_goes : (d : Dialect) (which : Which) → has_no_digit t ≡ false → EndsIn (after_number d which b) (t ++ b ∷ [])
+  after_goes : (d : Grammar) (which : Which) → has_no_digit t ≡ false → EndsIn (after_number d which b) (t ++ b ∷ [])
   after_goes d Major some = by_test (b == 46) (λ y. rw y (a_dot some y)) (λ n. rw n tt)
   after_goes d Minor some = by_test (b == 46) (λ y. rw y (a_dot some y)) (λ n. rw n tt)
   after_goes d Patch some =
       by_test (b == 45) (λ y. rw y (not_begun some))
       (λ n. by_test (b == 43) (λ y. rw (n, y) (not_begun some)) (λ o. rw (n, o) (after_white d Complete some)))
 
-  number_goes : (d : Dialect) (which : Which) (n : ℕ) → EndsInNumber n t → EndsIn (number d which n b) (t ++ b ∷ [])
+  number_goes : (d : Grammar) (which : Which) (n : ℕ) → EndsInNumber n t → EndsIn (number d which n b) (t ++ b ∷ [])
   number_goes d which n w =
       by_test (is_ascii_digit b)
       (λ y. by_test (n == 0) (λ z. rw (y, z) tt)
@@ -250,12 +250,12 @@ module _ (t : Text) (b : ℕ) where
       no_zero : (x : Bool) → x ≡ true → (n == 0) ≡ false → ((b == 48) && not x) ≡ (n * 10 + (b - 48) == 0)
       no_zero x e some = grind (arith, nat_tests)
 
-  part_goes : (d : Dialect) (section : Section) (part p : Part) → in_part d section part b ≡ Some p → is_part_byte b ≡ true
+  part_goes : (d : Grammar) (section : Section) (part p : Part) → in_part d section part b ≡ Some p → is_part_byte b ≡ true
   part_goes d section part p e =
       by_test (is_ascii_alphanumeric b) (λ y. alphanumeric_part b y)
       (λ n. by_test (b == 45) (λ y. rw (n, y) refl) (λ o. absurd (not_none p (rw (n, o) at e))))
 
-  after_identifier_goes : (d : Dialect) (section : Section) → has_no_digit t ≡ false
+  after_identifier_goes : (d : Grammar) (section : Section) → has_no_digit t ≡ false
       → EndsIn (after_identifier d section b) (t ++ b ∷ [])
   after_identifier_goes d Pre some =
       by_test (b == 46) (λ y. rw y (not_begun some))
@@ -263,7 +263,7 @@ module _ (t : Text) (b : ℕ) where
   after_identifier_goes d Build some =
       by_test (b == 46) (λ y. rw y (not_begun some)) (λ n. rw n (after_white d Complete some))
 
-  identifier_goes : (d : Dialect) (section : Section) (part : Part) → has_no_digit t ≡ false
+  identifier_goes : (d : Grammar) (section : Section) (part : Part) → has_no_digit t ≡ false
       → EndsIn (identifier d section part b) (t ++ b ∷ [])
   identifier_goes d section part some =
       by_option (in_part d section part b)
@@ -273,7 +273,7 @@ module _ (t : Text) (b : ℕ) where
         last = λ may. ap is_part_byte (last_is t b) ∙ part_goes d section part p e;
       }))
 
-  one_more : (d : Dialect) (s : State) → EndsIn s t → EndsIn (step d s b) (t ++ b ∷ [])
+  one_more : (d : Grammar) (s : State) → EndsIn s t → EndsIn (step d s b) (t ++ b ∷ [])
   one_more d (Before space) w = before_goes d space w
   one_more d (NoDigit Major) w = first_number Major (no_digit_last t w.0)
   one_more d (NoDigit Minor) w = first_number Minor w.digit
@@ -283,12 +283,12 @@ module _ (t : Text) (b : ℕ) where
   one_more d (After space) w = after_white d space w.some_digit
   one_more d Refused w = tt
 
-from_front : (d : Dialect) (s : State) (t more : Text) → EndsIn s t → EndsIn (state_from d s more) (t ++ more)
+from_front : (d : Grammar) (s : State) (t more : Text) → EndsIn s t → EndsIn (state_from d s more) (t ++ more)
 from_front d s t [] w = subst (EndsIn s) (sym (append-nil t)) w
 from_front d s t (b ∷ more) w =
     subst (EndsIn (state_from d (step d s b) more)) (append_assoc t (b ∷ []) more)
     (from_front d (step d s b) (t ++ b ∷ []) more (one_more t b d s w))
 
 -- every text ends as its state says
-pub ends_in : (d : Dialect) (t : Text) → EndsIn (state_after d t) t
+pub ends_in : (d : Grammar) (t : Text) → EndsIn (state_after d t) t
 ends_in d t = from_front d (Before Complete) [] t (refl, refl)

@@ -7,8 +7,8 @@ use Rattle.std.proofs.lemmas.List.Elements.{Contains-append_left}
 use Rattle.std.proofs.lemmas.List.Folds.{list_all-append}
 use Rattle.std.specs.List.{Contains}
 use Rattle.semver_texts.specs.Texts.{Text, is_empty}
-use Rattle.semver_texts.specs.declared.dialect.Dialect.{Dialect}
-use Rattle.semver_texts.specs.declared.dialect.Dialect.TheVariants.{Crate, Cargo, Npm}
+use Rattle.semver_texts.specs.declared.grammar.Grammar.{Grammar}
+use Rattle.semver_texts.specs.declared.grammar.Grammar.TheVariants.{Crate, Cargo, Npm}
 use Rattle.semver_ranges.specs.RangeTree.{PartialTree, one, Simple, RangeTree, empty, hyphen, simples, SetTree, Form, bare, equal}
 use Rattle.semver_ranges.specs.RangeTree.{less, at_most, greater, at_least, tilde, caret, Role, after_form, after_hyphen, is_blank}
 use Rattle.semver_ranges.specs.RangeTree.{AreBlanks, AreSomeBlanks, SpellsPartial, SpellsWord, IsSignAndBlanks, SpellsForm, SpellsSimple}
@@ -31,7 +31,7 @@ pub record PartialGoes (IsRest : Text → Type 0) (Right : PartialTree → Type 
   pub npm : (v : ℕ) → v ≤ 1 → is_word_of_npm role p (v + length (front ++ rest)) ≡ true
       → is_word_of_npm role tree (v + length (front ++ more)) ≡ true
 
-pub record WordGoesOn (IsRest : Text → Type 0) (Right : PartialTree → Type 0) (d : Dialect) (role : Role) (front : Text) : Type 0 where
+pub record WordGoesOn (IsRest : Text → Type 0) (Right : PartialTree → Type 0) (d : Grammar) (role : Role) (front : Text) : Type 0 where
   pub tree : PartialTree
   pub more : Text
   pub is_rest : IsRest more
@@ -42,7 +42,7 @@ module _ (IsRest : Text → Type 0) (Right : PartialTree → Type 0) (star : IsR
     (role : Role) (p : PartialTree)
     (goes : (front rest : Text) → is_empty front ≡ false → SpellsPartial p (front ++ rest)
     → PartialGoes IsRest Right role p front rest) where
-  of_partial : (d : Dialect) (front rest : Text) → PartialGoes IsRest Right role p front rest
+  of_partial : (d : Grammar) (front rest : Text) → PartialGoes IsRest Right role p front rest
       → ((tree : PartialTree) (t : Text) → SpellsPartial tree t → SpellsWord d role tree t) → WordGoesOn IsRest Right d role front
   of_partial d front rest w word = record {
     tree = w.tree;
@@ -105,7 +105,7 @@ module _ (IsRest : Text → Type 0) (Right : PartialTree → Type 0) (star : IsR
       subst (λ x. WordGoesOn IsRest Right Npm role (x ∷ m)) first
       (with_v m rest (subst (SpellsPartial p) same spelled) (subst (λ k. is_word_of_npm role p k ≡ true) (omega arith) h))
 
-  pub word_by : (d : Dialect) (front rest : Text) → is_empty front ≡ false → SpellsWord d role p (front ++ rest)
+  pub word_by : (d : Grammar) (front rest : Text) → is_empty front ≡ false → SpellsWord d role p (front ++ rest)
       → WordGoesOn IsRest Right d role front
   word_by Crate front rest some h = of_partial Crate front rest (goes front rest some h) (λ tree t w. w)
   word_by Cargo front rest some h = of_partial Cargo front rest (goes front rest some h) (λ tree t w. w)
@@ -144,24 +144,24 @@ module _ (Right : PartialTree → Type 0) (right_star : Right (one (codes "*")))
         npm = npm_taken role p w.tree front rest (rest_text w.more) w.shape w.short w.spelled;
       }
 
-  pub plain_word : (d : Dialect) (front rest : Text) → is_empty front ≡ false → SpellsWord d role p (front ++ rest)
+  pub plain_word : (d : Grammar) (front rest : Text) → is_empty front ≡ false → SpellsWord d role p (front ++ rest)
       → WordGoesOn IsPlainRest Right d role front
   plain_word = word_by IsPlainRest Right (wildcard, refl) right_star role p plain_goes
 
 -- the word `1`
-pub number_word : (d : Dialect) (role : Role) → SpellsWord d role (one (codes "1")) (codes "1")
+pub number_word : (d : Grammar) (role : Role) → SpellsWord d role (one (codes "1")) (codes "1")
 number_word Crate role = (refl, tt, refl)
 number_word Cargo role = (refl, tt, refl)
 number_word Npm role = ([], codes "1", inl refl, (refl, tt, refl), refl, refl)
 
 -- ---- blanks and signs
 
-space_is_blank : (d : Dialect) → is_blank d 32 ≡ true
+space_is_blank : (d : Grammar) → is_blank d 32 ≡ true
 space_is_blank Crate = refl
 space_is_blank Cargo = refl
 space_is_blank Npm = refl
 
-module _ (d : Dialect) where
+module _ (d : Grammar) where
   pub blanks_front : (x y : Text) → AreBlanks d (x ++ y) → AreBlanks d x
   blanks_front x y h = (and_parts _ _ (sym (list_all-append (is_blank d) x y) ∙ h)).0
 
@@ -227,7 +227,7 @@ module _ (d : Dialect) where
 
 -- ---- what has to be known of the fronts of words, and of the rests with which they go on
 
-module _ (d : Dialect) (IsRest : Text → Type 0) (Right : Simple → Type 0) where
+module _ (d : Grammar) (IsRest : Text → Type 0) (Right : Simple → Type 0) where
   abbrev pub AreRight : List Simple → Type 0
   AreRight [] = Unit {0}
   AreRight (s ∷ ss) = Right s × AreRight ss
@@ -269,7 +269,7 @@ module _ (d : Dialect) (IsRest : Text → Type 0) (Right : Simple → Type 0) wh
     pub left_alone : (p : PartialTree) (front blanks : Text) → SpellsWord d (after_form bare) p front → AreBlanks d blanks
         → Right (left_side p) → RangeGoesOn (front ++ blanks)
 
-module _ (d : Dialect) (IsRest : Text → Type 0) (Right : Simple → Type 0) (rests : AreRests d IsRest Right) where
+module _ (d : Grammar) (IsRest : Text → Type 0) (Right : Simple → Type 0) (rests : AreRests d IsRest Right) where
   -- ---- simples
 
   record SimpleGoesOn (front : Text) : Type 0 where
@@ -574,7 +574,7 @@ IsTextRest t = Contains (plain_texts ++ (codes "|" ∷ codes " 1" ∷ [])) t
 pub text_rest : (t : Text) → IsPlainRest t → IsTextRest t
 text_rest t w = Contains-append_left plain_texts (codes "|" ∷ codes " 1" ∷ []) t (plain_text t w)
 
-pub plain_rests : (d : Dialect) → AreRests d IsTextRest (λ s. Unit {0})
+pub plain_rests : (d : Grammar) → AreRests d IsTextRest (λ s. Unit {0})
 plain_rests d = record {
   nothing = (0, omega arith, refl);
   bar = (3, omega arith, refl);
@@ -618,7 +618,7 @@ plain_rests d = record {
       right = (tt, tt);
     }
 
-pub set_front : (d : Dialect) (tree : SetTree) (front rest : Text) → SpellsIn d tree (front ++ rest)
+pub set_front : (d : Grammar) (tree : SetTree) (front rest : Text) → SpellsIn d tree (front ++ rest)
     → SetGoesOn d IsTextRest (λ s. Unit {0}) (plain_rests d) front
 set_front d tree front rest h = set_goes_on d IsTextRest (λ s. Unit {0}) (plain_rests d) tree front rest h (each tree)
   where

@@ -14,8 +14,8 @@ use Rattle.semver_texts.specs.Steps.Decimals as decimals
 use Rattle.semver_texts.specs.ToolVersions.{IsKeptAs}
 use Rattle.semver_texts.specs.VersionGrammar.{IsIdentifierText, SpellsIdentifier}
 use Rattle.semver_texts.specs.Versions.{IdentifierValue, numeric, alphanumeric}
-use Rattle.semver_texts.specs.declared.dialect.Dialect.{Dialect}
-use Rattle.semver_texts.specs.declared.dialect.Dialect.TheVariants.{Crate, Cargo, Npm}
+use Rattle.semver_texts.specs.declared.grammar.Grammar.{Grammar}
+use Rattle.semver_texts.specs.declared.grammar.Grammar.TheVariants.{Crate, Cargo, Npm}
 use Rattle.semver_texts.proofs.Lists.{Passes, all_more, by_test}
 use Rattle.semver_texts.proofs.Numbers.{IsCanonical, all_digits, canonical_decimal, canonical_from_IsNumber, canonical_from_is_number}
 use Rattle.semver_texts.proofs.Numbers.{decimal_canonical, is_number_true}
@@ -31,12 +31,12 @@ abbrev pub at_part : (Part → Bool) → Option Part → Bool
 at_part f None = false
 at_part f (Some part) = f part
 
-abbrev pub finishes : Dialect → Section → Part → Text → Bool
+abbrev pub finishes : Grammar → Section → Part → Text → Bool
 finishes d section part [] = may_end part
 finishes d section part (b ∷ t) = at_part (λ p. finishes d section p t) (in_part d section part b)
 
 -- whether the text is an identifier
-abbrev pub is_good : Dialect → Section → Text → Bool
+abbrev pub is_good : Grammar → Section → Text → Bool
 is_good d section t = finishes d section NotBegun t
 
 -- ---- Cargo's and npm's
@@ -231,39 +231,39 @@ all_same p q same [] = refl
 all_same p q same (x ∷ xs) = rw (same x, all_same p q same xs) refl
 
 -- the tools' dialects
-abbrev pub IsTool : Dialect → Type 0
+abbrev pub IsTool : Grammar → Type 0
 IsTool Crate = ⊥
 IsTool Cargo = Unit {0}
 IsTool Npm = Unit {0}
 
-tool_pre : (d : Dialect) → IsTool d → (t : Text) → is_good d Pre t ≡ (is_part t && has_no_leading_zero t)
+tool_pre : (d : Grammar) → IsTool d → (t : Text) → is_good d Pre t ≡ (is_part t && has_no_leading_zero t)
 tool_pre Crate w t = absurd w
 tool_pre Cargo w t = pre_cargo t
 tool_pre Npm w t = pre_npm t
 
-tool_build : (d : Dialect) → IsTool d → (t : Text) → is_good d Build t ≡ is_part t
+tool_build : (d : Grammar) → IsTool d → (t : Text) → is_good d Build t ≡ is_part t
 tool_build Crate w t = absurd w
 tool_build Cargo w t = build_cargo t
 tool_build Npm w t = build_npm t
 
-pub pre_kept : (d : Dialect) → IsTool d → (ts : List Text) → list_all (is_good d Pre) ts ≡ true
+pub pre_kept : (d : Grammar) → IsTool d → (ts : List Text) → list_all (is_good d Pre) ts ≡ true
     → (ids : List IdentifierValue) × AllZip IsKeptAs ids ts × (list_all has_no_leading_zero ts ≡ true)
 pre_kept d tool ts e =
     let both = and_parts (list_all is_part ts) _ (sym (all_both is_part has_no_leading_zero (is_good d Pre) (tool_pre d tool) ts) ∙ e) in
     let ids = all_zip IsKeptAs is_part kept ts both.0 in (ids.0, ids.1, both.1)
 
-pub build_kept : (d : Dialect) → IsTool d → (ts : List Text) → list_all (is_good d Build) ts ≡ true
+pub build_kept : (d : Grammar) → IsTool d → (ts : List Text) → list_all (is_good d Build) ts ≡ true
     → (ids : List IdentifierValue) × AllZip IsKeptAs ids ts
 build_kept d tool ts e =
     all_zip IsKeptAs is_part kept ts (sym (all_same (is_good d Build) is_part (tool_build d tool) ts) ∙ e)
 
-pub kept_pre : (d : Dialect) → IsTool d → (ids : List IdentifierValue) (ts : List Text) → AllZip IsKeptAs ids ts
+pub kept_pre : (d : Grammar) → IsTool d → (ids : List IdentifierValue) (ts : List Text) → AllZip IsKeptAs ids ts
     → list_all has_no_leading_zero ts ≡ true → list_all (is_good d Pre) ts ≡ true
 kept_pre d tool ids ts all zeros =
     all_both is_part has_no_leading_zero (is_good d Pre) (tool_pre d tool) ts
     ∙ rw (zip_all IsKeptAs is_part kept_part ids ts all, zeros) refl
 
-pub kept_build : (d : Dialect) → IsTool d → (ids : List IdentifierValue) (ts : List Text) → AllZip IsKeptAs ids ts
+pub kept_build : (d : Grammar) → IsTool d → (ids : List IdentifierValue) (ts : List Text) → AllZip IsKeptAs ids ts
     → list_all (is_good d Build) ts ≡ true
 kept_build d tool ids ts all =
     all_same (is_good d Build) is_part (tool_build d tool) ts ∙ zip_all IsKeptAs is_part kept_part ids ts all

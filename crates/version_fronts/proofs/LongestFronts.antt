@@ -4,7 +4,7 @@ use Rattle.std.specs.Prelude.{◌↔◌, IsTrue}
 use Rattle.std.proofs.lemmas.Bool.{both_ways, cases_lt}
 use Rattle.std.proofs.lemmas.List.{take_more}
 use Rattle.semver_texts.specs.Texts.{Text}
-use Rattle.semver_texts.specs.declared.dialect.Dialect.{Dialect}
+use Rattle.semver_texts.specs.declared.grammar.Grammar.{Grammar}
 use Rattle.version_fronts.proofs.FrontTexts.{empty_front, prefix_front}
 use Rattle.version_fronts.proofs.ReasonFacts.{whole_is_front}
 use Rattle.version_fronts.specs.Fronts.{IsFrontIn, IsLongestFront, IsWholeFrontIn}
@@ -12,14 +12,14 @@ use Rattle.version_fronts.specs.Steps.Scanning.{HasRead}
 use Rattle.version_fronts.specs.declared.scanner.Scanner.{Scanner}
 
 -- the text was scanned up to a place, and the longest front so far ends at another
-pub record IsScanned (d : Dialect) (input : Text) (at : ℕ) (scanner : Scanner) (place : ℕ) (read : Scanner) : Type 0 where
+pub record IsScanned (d : Grammar) (input : Text) (at : ℕ) (scanner : Scanner) (place : ℕ) (read : Scanner) : Type 0 where
   pub scanned : HasRead d (take at input) scanner
   pub read_so_far : HasRead d (take place input) read
   pub within : place ≤ at
   pub front : IsWholeFrontIn d (take place input)
   pub no_longer : (n : ℕ) → place < n → n ≤ at → ¬ (IsWholeFrontIn d (take n input))
 
-module _ (d : Dialect) (input : Text) where
+module _ (d : Grammar) (input : Text) where
   pub begun : (s : Scanner) → HasRead d [] s → IsScanned d input 0 s 0 s
   begun s w = record {
     scanned = w;
@@ -36,13 +36,13 @@ module _ (d : Dialect) (input : Text) where
         record { within = omega arith; front = w.front; no_longer = λ n more less. w.no_longer n more (omega arith) }
 
     module _ (inside : at < length input) (next : Scanner)
-        (push : (dialect : Dialect) (text : Text) → HasRead dialect text scanner
-        → HasRead dialect (text ++ get_or input at 0 ∷ []) next) where
+        (push : (grammar : Grammar) (text : Text) → HasRead grammar text scanner
+        → HasRead grammar (text ++ get_or input at 0 ∷ []) next) where
       pub one_more : HasRead d (take (at + 1) input) next
       one_more = subst (λ t. HasRead d t next) (sym (take_more input at 0 inside)) (push d (take at input) w.scanned)
 
-      module _ (b : Bool) (front_is : (dialect : Dialect) (text : Text) → HasRead dialect text next
-          → IsTrue b ↔ IsFrontIn dialect text) where
+      module _ (b : Bool) (front_is : (grammar : Grammar) (text : Text) → HasRead grammar text next
+          → IsTrue b ↔ IsFrontIn grammar text) where
         pub stops : b ≡ false → IsLongestFront d input place
         stops e =
             let within = w.within in
@@ -56,8 +56,8 @@ module _ (d : Dialect) (input : Text) where
                   (λ before. w.no_longer n more before front) (cases_lt at n);
             }
 
-      module _ (b : Bool) (whole_is : (dialect : Dialect) (text : Text) → HasRead dialect text next
-          → IsTrue b ↔ IsWholeFrontIn dialect text) where
+      module _ (b : Bool) (whole_is : (grammar : Grammar) (text : Text) → HasRead grammar text next
+          → IsTrue b ↔ IsWholeFrontIn grammar text) where
         pub further : b ≡ true → IsScanned d input (at + 1) next (at + 1) next
         further e = record {
           scanned = one_more;

@@ -6,7 +6,7 @@ use Rattle.std.specs.Char.{is_ascii_digit}
 use Rattle.std.proofs.lemmas.Bool.{and_parts, both_ways, not-false, not-true}
 use Rattle.semver_texts.specs.Texts.{Text}
 use Rattle.semver_texts.specs.ToolVersions.{IsVersionTextIn, characters}
-use Rattle.semver_texts.specs.declared.dialect.Dialect.{Dialect}
+use Rattle.semver_texts.specs.declared.grammar.Grammar.{Grammar}
 use Rattle.semver_texts.proofs.Lists.{by_test}
 use Rattle.version_fronts.proofs.AnyLength.{spelled_from, spelled_to}
 use Rattle.version_fronts.proofs.Endings.{accepted_needs, ending, ending_accepts, not_cut, not_refused}
@@ -32,14 +32,14 @@ use Rattle.version_fronts.specs.declared.states.State.{State}
 use Rattle.version_fronts.specs.declared.states.State.TheVariants.{Before, NoDigit, Number, Identifier, After, Refused}
 use Rattle.version_fronts.specs.declared.states.Which.{Which}
 use Rattle.version_fronts.specs.declared.states.Which.TheVariants.{Major, Minor, Patch}
-use Rattle.semver_texts.specs.declared.dialect.Dialect.TheVariants.{Crate, Cargo, Npm}
+use Rattle.semver_texts.specs.declared.grammar.Grammar.TheVariants.{Crate, Cargo, Npm}
 
 -- ---- what a letter and a zero do
 
-abbrev letter_after : Dialect → State → Bool
+abbrev letter_after : Grammar → State → Bool
 letter_after d s = accepts (step d s 97)
 
-abbrev zero_after : Dialect → State → Bool
+abbrev zero_after : Grammar → State → Bool
 zero_after d s = accepts (step d s 48)
 
 and_false : (x y : Bool) → y ≡ false → (x && y) ≡ false
@@ -58,7 +58,7 @@ not_blank (b ∷ t) e =
 
 -- ---- at the end of a text
 
-module _ (d : Dialect) (t : Text) (too_long : Bool) where
+module _ (d : Grammar) (t : Text) (too_long : Bool) where
   numbers_end : (s : State) → is_blank t ≡ false → letter_after d s ≡ false → reason.NotThreeNumbers
       ≡ reason_by (accepts s) (letter_after d s) (zero_after d s) too_long t None
   numbers_end s blank letter = rw (blank, letter) refl
@@ -69,7 +69,7 @@ module _ (d : Dialect) (t : Text) (too_long : Bool) where
   identifier_end s blank letter r e = e ∙ rw (blank, letter) refl
 
 -- a letter goes on with each identifier, and with nothing else
-letter_begins : (d : Dialect) (section : Section) (part : Part) → letter_after d (Identifier section part) ≡ true
+letter_begins : (d : Grammar) (section : Section) (part : Part) → letter_after d (Identifier section part) ≡ true
 letter_begins Crate section NotBegun = refl
 letter_begins Cargo Pre NotBegun = refl
 letter_begins Cargo Build NotBegun = refl
@@ -79,21 +79,21 @@ letter_begins d section Zero = refl
 letter_begins d section LeadingZero = refl
 letter_begins d section Begun = refl
 
-zero_begins : (d : Dialect) (section : Section) → zero_after d (Identifier section NotBegun) ≡ true
+zero_begins : (d : Grammar) (section : Section) → zero_after d (Identifier section NotBegun) ≡ true
 zero_begins Crate section = refl
 zero_begins Cargo Pre = refl
 zero_begins Cargo Build = refl
 zero_begins Npm Pre = refl
 zero_begins Npm Build = refl
 
-no_letter_after : (d : Dialect) (which : Which) (n : ℕ) → letter_after d (Number which n) ≡ false
+no_letter_after : (d : Grammar) (which : Which) (n : ℕ) → letter_after d (Number which n) ≡ false
 no_letter_after d Major n = refl
 no_letter_after d Minor n = refl
 no_letter_after Crate Patch n = refl
 no_letter_after Cargo Patch n = refl
 no_letter_after Npm Patch n = refl
 
-end_is : (d : Dialect) (s : State) (t : Text) (too_long : Bool) → EndsIn s t → is_refused s ≡ false → accepts s ≡ false → is_cut s ≡ false
+end_is : (d : Grammar) (s : State) (t : Text) (too_long : Bool) → EndsIn s t → is_refused s ≡ false → accepts s ≡ false → is_cut s ≡ false
     → at_end s ≡ reason_by (accepts s) (letter_after d s) (zero_after d s) too_long t None
 end_is d (Before space) t too_long w alive no_version uncut = rw (w.1) refl
 end_is d (NoDigit Major) t too_long w alive no_version uncut = numbers_end d t too_long (NoDigit Major) w.1 refl
@@ -117,7 +117,7 @@ end_is d Refused t too_long w alive no_version uncut = no_truth (sym alive)
 
 -- ---- at a byte
 
-module _ (d : Dialect) (t : Text) (b : ℕ) where
+module _ (d : Grammar) (t : Text) (b : ℕ) where
   abbrev by_state : State → Reason
   by_state s = reason_by (accepts s) (letter_after d s) (zero_after d s) false t (Some b)
 
@@ -158,7 +158,7 @@ module _ (d : Dialect) (t : Text) (b : ℕ) where
 digit_is_part : (t : Text) → ends_in_digit t ≡ true → ends_in_part t ≡ true
 digit_is_part t e = rw e refl
 
-module _ (d : Dialect) (t : Text) (b : ℕ) where
+module _ (d : Grammar) (t : Text) (b : ℕ) where
   unexpected_before : (s : State) → accepts s ≡ false → letter_after d s ≡ false → has_no_digit t ≡ true → ends_in_digit t ≡ false
       → reason.UnexpectedCharacter ≡ by_state d t b s
   unexpected_before s none letter digits last =
@@ -200,7 +200,7 @@ module _ (d : Dialect) (t : Text) (b : ℕ) where
   byte_is (Before Complete) w alive uncut =
       unexpected_before (Before Complete) refl (before_letter d) w.0 (ends_no_digit w.0)
     where
-      before_letter : (d : Dialect) → letter_after d (Before Complete) ≡ false
+      before_letter : (d : Grammar) → letter_after d (Before Complete) ≡ false
       before_letter Crate = refl
       before_letter Cargo = refl
       before_letter Npm = refl
@@ -246,7 +246,7 @@ module _ (d : Dialect) (t : Text) (b : ℕ) where
 
 -- ---- what completes a front
 
-module _ (d : Dialect) (t : Text) where
+module _ (d : Grammar) (t : Text) where
   completes_from : (more : Text) → accepts (state_from d (state_after d t) more) ≡ true → Completes d t more
   completes_from more e = spelled_from d (t ++ more) (suffix_from d (Before Complete) (t ++ more) (ap accepts (after_more d t more) ∙ e))
 
@@ -256,7 +256,7 @@ module _ (d : Dialect) (t : Text) where
   completes : (more : Text) → IsTrue (accepts (state_from d (state_after d t) more)) ↔ Completes d t more
   completes more = (λ e. completes_from more e, λ w. completes_to more w)
 
-module _ (d : Dialect) (t : Text) (s : Scanner) (w : HasRead d t s) where
+module _ (d : Grammar) (t : Text) (s : Scanner) (w : HasRead d t s) where
   too_long_from : is_too_long s ≡ true → IsTooLong d t
   too_long_from e =
       let both = and_parts _ _ e in
@@ -265,7 +265,7 @@ module _ (d : Dialect) (t : Text) (s : Scanner) (w : HasRead d t s) where
         λ front. both_ways _ (dead both.1) ((front_is d t s w).1 front),
       )
     where
-      dead : exceeds s.dialect s.characters (need s.state) ≡ true → is_alive s ≡ false
+      dead : exceeds s.grammar s.characters (need s.state) ≡ true → is_alive s ≡ false
       dead e = and_false (not (is_refused s.state)) _ (ap not e)
 
   too_long_to : IsTooLong d t → is_too_long s ≡ true
@@ -273,7 +273,7 @@ module _ (d : Dialect) (t : Text) (s : Scanner) (w : HasRead d t s) where
       let alive : is_refused s.state ≡ false =
       ap is_refused w.1 ∙ not_refused d (state_after d t) long.0.0 (completes_to d t long.0.0 long.0.1) in
       by_test (is_too_long s) (λ y. y)
-      (λ n. absurd (long.1 ((front_is d t s w).0 (alive_else alive (exceeds s.dialect s.characters (need s.state)) n))))
+      (λ n. absurd (long.1 ((front_is d t s w).0 (alive_else alive (exceeds s.grammar s.characters (need s.state)) n))))
     where
       alive_else : is_refused s.state ≡ false → (x : Bool) → (not (is_refused s.state) && x) ≡ false
           → (not (is_refused s.state) && not x) ≡ true
@@ -284,21 +284,21 @@ module _ (d : Dialect) (t : Text) (s : Scanner) (w : HasRead d t s) where
 
 -- ---- the reason of a scanner
 
-whole_parts : (d : Dialect) (t : Text) → IsWholeFrontIn d t → (is_refused (state_after d t) ≡ false) × (is_cut (state_after d t) ≡ false)
+whole_parts : (d : Grammar) (t : Text) → IsWholeFrontIn d t → (is_refused (state_after d t) ≡ false) × (is_cut (state_after d t) ≡ false)
 whole_parts d t front =
     let parts = front_to d t front.0 front.2 in (parts.1, not_cut d (state_after d t) front.0 front.1 parts.0)
 
-pub whole_is_front : (d : Dialect) (t : Text) → IsWholeFrontIn d t → IsFrontIn d t
+pub whole_is_front : (d : Grammar) (t : Text) → IsWholeFrontIn d t → IsFrontIn d t
 whole_is_front d t front = (front.0, front.2)
 
-no_version : (d : Dialect) (t : Text) → IsWholeFrontIn d t → ¬ (IsVersionTextIn d t) → accepts (state_after d t) ≡ false
+no_version : (d : Grammar) (t : Text) → IsWholeFrontIn d t → ¬ (IsVersionTextIn d t) → accepts (state_after d t) ≡ false
 no_version d t front none =
     by_test (accepts (state_after d t))
     (λ y. absurd (none (accepted_version d t y
     (ap (exceeds d (min 257 (characters t))) (sym (accepted_needs (state_after d t) y)) ∙ (front_to d t front.0 front.2).2))))
     (λ n. n)
 
-module _ (d : Dialect) (t : Text) (s : Scanner) (w : HasRead d t s) (front : IsWholeFrontIn d t) where
+module _ (d : Grammar) (t : Text) (s : Scanner) (w : HasRead d t s) (front : IsWholeFrontIn d t) where
   pub reason_at_end : ¬ (IsVersionTextIn d t) → IsReason d t None (at_end s.state)
   reason_at_end none =
       let parts = whole_parts d t front in
@@ -357,7 +357,7 @@ same_test true false P f g = sym (g.1 (f.0 refl))
 same_test false true P f g = f.1 (g.0 refl)
 same_test false false P f g = refl
 
-pub one_reason : (d : Dialect) (front : Text) (next : Option ℕ) (x y : Reason) → IsReason d front next x → IsReason d front next y → x ≡ y
+pub one_reason : (d : Grammar) (front : Text) (next : Option ℕ) (x y : Reason) → IsReason d front next x → IsReason d front next y → x ≡ y
 one_reason d front next x y a b =
     a.is
     ∙ (λ i. reason_by (same_test a.version b.version _ a.is_version b.is_version i)

@@ -7,8 +7,8 @@ use Rattle.std.proofs.lemmas.Bool.{and_parts, eqb-true}
 use Rattle.std.proofs.lemmas.Bool.Decides.{nat_tests}
 use Rattle.semver_texts.specs.Texts.{Text, is_dotted_byte, is_space}
 use Rattle.semver_texts.specs.ToolVersions.{AreWhiteSpaces, is_white_space}
-use Rattle.semver_texts.specs.declared.dialect.Dialect.{Dialect}
-use Rattle.semver_texts.specs.declared.dialect.Dialect.TheVariants.{Crate, Cargo, Npm}
+use Rattle.semver_texts.specs.declared.grammar.Grammar.{Grammar}
+use Rattle.semver_texts.specs.declared.grammar.Grammar.TheVariants.{Crate, Cargo, Npm}
 use Rattle.semver_texts.proofs.Lists.{Passes, by_test}
 use Rattle.version_fronts.proofs.Cases.{not_none, same_some, some_if_is}
 use Rattle.version_fronts.specs.Steps.Scanning.{more_space, opened, some_if}
@@ -16,12 +16,12 @@ use Rattle.version_fronts.specs.declared.states.Space.{Space}
 use Rattle.version_fronts.specs.declared.states.Space.TheVariants.{Complete, C2, E1, E19A, E2, E280, E281, E3, E380, EF, EFBB}
 
 -- what stands on either side of a version
-abbrev pub Outer : Dialect → Text → Type 0
+abbrev pub Outer : Grammar → Text → Type 0
 Outer Crate t = Passes is_space t
 Outer Cargo t = t ≡ []
 Outer Npm t = AreWhiteSpaces t
 
-pub none_outer : (d : Dialect) → Outer d []
+pub none_outer : (d : Grammar) → Outer d []
 none_outer Crate = tt
 none_outer Cargo = refl
 none_outer Npm = record { each = []; are = refl; whole = refl }
@@ -61,7 +61,7 @@ Fill EF L t = Filled (begun_bytes EF) L t
 Fill EFBB L t = Filled (begun_bytes EFBB) L t
 
 -- white space in front changes nothing
-abbrev pub Closed : Dialect → (Text → Type 0) → Type 0
+abbrev pub Closed : Grammar → (Text → Type 0) → Type 0
 Closed Crate L = (b : ℕ) (t : Text) → is_space b ≡ true → L t → L (b ∷ t)
 Closed Cargo L = Unit {0}
 Closed Npm L = (c t : Text) → is_white_space c ≡ true → L t → L (c ++ t)
@@ -111,7 +111,7 @@ module _ (L : Text → Type 0) (b : ℕ) (t : Text) where
       (λ n5. let both = some_if_is (b == 0xEF) EF s (rw (n, n2, n3, n4, n5) at e) in
       first closed 0xEF both.0 (subst (λ x. Fill x L t) (sym both.1) w))))))
 
-  pub filled_more : (d : Dialect) → Closed d L → (space s : Space) → more_space d space b ≡ Some s → Fill s L t → Fill space L (b ∷ t)
+  pub filled_more : (d : Grammar) → Closed d L → (space s : Space) → more_space d space b ≡ Some s → Fill s L t → Fill space L (b ∷ t)
   filled_more Crate closed Complete s e w =
       let both = some_if_is (is_space b) Complete s e in closed b t both.0 (subst (λ x. Fill x L t) (sym both.1) w)
   filled_more Cargo closed Complete s e w = absurd (not_none s e)
@@ -131,7 +131,7 @@ module _ (L : Text → Type 0) (b : ℕ) (t : Text) where
   filled_more d closed EF s e w = further_if (begun_bytes EF) 0xBB EFBB s (λ x. x) e w
   filled_more d closed EFBB s e w = last (begun_bytes EFBB) (b == 0xBF) s (λ y. rw y refl) e w
 
-pub outer_closed : (d : Dialect) → Closed d (Outer d)
+pub outer_closed : (d : Grammar) → Closed d (Outer d)
 outer_closed Crate = λ b t y w. (y, w)
 outer_closed Cargo = tt
 outer_closed Npm = λ c t y w. record { each = c ∷ w.each; are = rw (y, w.are) refl; whole = ap (λ x. c ++ x) w.whole }
@@ -158,7 +158,7 @@ white_begins b t ((c ∷ r) ∷ cs) e is =
 space_outer : (b : ℕ) → is_space b ≡ true → is_outer b ≡ true
 space_outer b e = grind (arith, nat_tests)
 
-pub outer_first : (d : Dialect) (b : ℕ) (t : Text) → Outer d (b ∷ t) → is_outer b ≡ true
+pub outer_first : (d : Grammar) (b : ℕ) (t : Text) → Outer d (b ∷ t) → is_outer b ≡ true
 outer_first Crate b t w = space_outer b w.0
 outer_first Cargo b t w = cc
 outer_first Npm b t w = white_begins b t w.each w.are w.whole

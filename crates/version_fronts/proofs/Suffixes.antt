@@ -10,8 +10,8 @@ use Rattle.std.proofs.lemmas.Bool.{and_from, both_ways, eq-eqb, eqb-true, leb-tr
 use Rattle.std.proofs.lemmas.Bool.Decides.{nat_tests}
 use Rattle.std.proofs.lemmas.Str.{digit_value_digit}
 use Rattle.semver_texts.specs.Texts.{Text, marked}
-use Rattle.semver_texts.specs.declared.dialect.Dialect.{Dialect}
-use Rattle.semver_texts.specs.declared.dialect.Dialect.TheVariants.{Crate, Cargo, Npm}
+use Rattle.semver_texts.specs.declared.grammar.Grammar.{Grammar}
+use Rattle.semver_texts.specs.declared.grammar.Grammar.TheVariants.{Crate, Cargo, Npm}
 use Rattle.semver_texts.proofs.Lists.{Passes, by_test}
 use Rattle.semver_texts.proofs.Numbers.{IsCanonical, decimal_canonical}
 use Rattle.semver_texts.proofs.SpelledVersions.{all_passes}
@@ -35,7 +35,7 @@ use Rattle.version_fronts.specs.declared.states.Which.TheVariants.{Major, Minor,
 -- ---- the suffixes of versions
 
 -- identifiers, of the first of which something was read, and then such a text
-pub record InIdentifiers (d : Dialect) (section : Section) (part : Part) (L : Text → Type 0) (t : Text) : Type 0 where
+pub record InIdentifiers (d : Grammar) (section : Section) (part : Part) (L : Text → Type 0) (t : Text) : Type 0 where
   pub first : Text
   pub others : List Text
   pub rest : Text
@@ -45,25 +45,25 @@ pub record InIdentifiers (d : Dialect) (section : Section) (part : Part) (L : Te
   pub next : L rest
 
 -- identifiers after their mark, or nothing, and then such a text
-pub record AreMarked (d : Dialect) (section : Section) (mark : ℕ) (L : Text → Type 0) (t : Text) : Type 0 where
+pub record AreMarked (d : Grammar) (section : Section) (mark : ℕ) (L : Text → Type 0) (t : Text) : Type 0 where
   pub parts : List Text
   pub rest : Text
   pub each : list_all (is_good d section) parts ≡ true
   pub whole : t ≡ marked (mark ∷ []) parts ++ rest
   pub next : L rest
 
-abbrev pub BuildTail : Dialect → Text → Type 0
+abbrev pub BuildTail : Grammar → Text → Type 0
 BuildTail d t = AreMarked d Build 43 (Outer d) t
 
-abbrev pub Tail : Dialect → Text → Type 0
+abbrev pub Tail : Grammar → Text → Type 0
 Tail d t = AreMarked d Pre 45 (BuildTail d) t
 
-abbrev pub AfterSection : Dialect → Section → Text → Type 0
+abbrev pub AfterSection : Grammar → Section → Text → Type 0
 AfterSection d Pre t = BuildTail d t
 AfterSection d Build t = Outer d t
 
 -- a number, and then such a text
-pub record AtNumber (d : Dialect) (L : Text → Type 0) (t : Text) : Type 0 where
+pub record AtNumber (d : Grammar) (L : Text → Type 0) (t : Text) : Type 0 where
   pub n : ℕ
   pub rest : Text
   pub fits : n ≤ greatest d
@@ -75,16 +75,16 @@ pub record Dotted (L : Text → Type 0) (t : Text) : Type 0 where
   pub whole : t ≡ 46 ∷ rest
   pub next : L rest
 
-abbrev pub AfterNumber : Dialect → Which → Text → Type 0
+abbrev pub AfterNumber : Grammar → Which → Text → Type 0
 AfterNumber d Major t = Dotted (AtNumber d (Dotted (AtNumber d (Tail d)))) t
 AfterNumber d Minor t = Dotted (AtNumber d (Tail d)) t
 AfterNumber d Patch t = Tail d t
 
-abbrev pub Ahead : Dialect → Which → Text → Type 0
+abbrev pub Ahead : Grammar → Which → Text → Type 0
 Ahead d which t = AtNumber d (AfterNumber d which) t
 
 -- more digits of a number, and then such a text
-pub record InDigits (d : Dialect) (n : ℕ) (L : Text → Type 0) (t : Text) : Type 0 where
+pub record InDigits (d : Grammar) (n : ℕ) (L : Text → Type 0) (t : Text) : Type 0 where
   pub digits : Text
   pub rest : Text
   pub are : Passes is_ascii_digit digits
@@ -93,13 +93,13 @@ pub record InDigits (d : Dialect) (n : ℕ) (L : Text → Type 0) (t : Text) : T
   pub whole : t ≡ digits ++ rest
   pub next : L rest
 
-abbrev pub IsSign : Dialect → Text → Type 0
+abbrev pub IsSign : Grammar → Text → Type 0
 IsSign Crate t = t ≡ []
 IsSign Cargo t = t ≡ []
 IsSign Npm t = (t ≡ []) ⊎ (t ≡ 118 ∷ [])
 
 -- a whole version, of any length
-pub record Fresh (d : Dialect) (t : Text) : Type 0 where
+pub record Fresh (d : Grammar) (t : Text) : Type 0 where
   pub spaces : Text
   pub sign : Text
   pub rest : Text
@@ -108,7 +108,7 @@ pub record Fresh (d : Dialect) (t : Text) : Type 0 where
   pub numbers : Ahead d Major rest
   pub whole : t ≡ spaces ++ (sign ++ rest)
 
-abbrev pub Suffix : Dialect → State → Text → Type 0
+abbrev pub Suffix : Grammar → State → Text → Type 0
 Suffix d (Before space) t = Fill space (Fresh d) t
 Suffix d (NoDigit which) t = Ahead d which t
 Suffix d (Number which n) t = n ≤ greatest d → InDigits d n (AfterNumber d which) t
@@ -121,27 +121,27 @@ Suffix d Refused t = ⊥
 pub no_truth : {A : Type 0} → false ≡ true → A
 no_truth e = cc
 
-no_build : (d : Dialect) (t : Text) → Outer d t → BuildTail d t
+no_build : (d : Grammar) (t : Text) → Outer d t → BuildTail d t
 no_build d t w = record { parts = []; rest = t; each = refl; whole = refl; next = w }
 
-no_parts : (d : Dialect) (t : Text) → BuildTail d t → Tail d t
+no_parts : (d : Grammar) (t : Text) → BuildTail d t → Tail d t
 no_parts d t w = record { parts = []; rest = t; each = refl; whole = refl; next = w }
 
-outer_tail : (d : Dialect) (t : Text) → Outer d t → Tail d t
+outer_tail : (d : Grammar) (t : Text) → Outer d t → Tail d t
 outer_tail d t w = no_parts d t (no_build d t w)
 
-outer_after : (d : Dialect) (section : Section) (t : Text) → Outer d t → AfterSection d section t
+outer_after : (d : Grammar) (section : Section) (t : Text) → Outer d t → AfterSection d section t
 outer_after d Pre t w = no_build d t w
 outer_after d Build t w = w
 
-last_identifier : (d : Dialect) (section : Section) (part : Part) (t : Text) → may_end part ≡ true → AfterSection d section t
+last_identifier : (d : Grammar) (section : Section) (part : Part) (t : Text) → may_end part ≡ true → AfterSection d section t
     → Suffix d (Identifier section part) t
 last_identifier d section part t e w = record { first = []; others = []; rest = t; ends = e; each = refl; whole = refl; next = w }
 
-no_digits : (d : Dialect) (n : ℕ) (L : Text → Type 0) (t : Text) → L t → n ≤ greatest d → InDigits d n L t
+no_digits : (d : Grammar) (n : ℕ) (L : Text → Type 0) (t : Text) → L t → n ≤ greatest d → InDigits d n L t
 no_digits d n L t w fits = record { digits = []; rest = t; are = tt; zero = λ z. refl; small = fits; whole = refl; next = w }
 
-nothing_more : (d : Dialect) (s : State) → accepts s ≡ true → Suffix d s []
+nothing_more : (d : Grammar) (s : State) → accepts s ≡ true → Suffix d s []
 nothing_more d (Before space) e = no_truth e
 nothing_more d (NoDigit which) e = no_truth e
 nothing_more d (Number Major n) e = no_truth e
@@ -169,12 +169,12 @@ digit_is b y = let range : (48 ≤ b) × (b ≤ 57) = grind (arith, nat_tests) i
 pub first_value : (b : ℕ) → is_ascii_digit b ≡ true → 0 * 10 + digit_value b ≡ b - 48
 first_value b y = omega (arith, digit_is b y)
 
-small_digit : (d : Dialect) (b : ℕ) → is_ascii_digit b ≡ true → b - 48 ≤ greatest d
+small_digit : (d : Grammar) (b : ℕ) → is_ascii_digit b ≡ true → b - 48 ≤ greatest d
 small_digit Crate b y = let range : (48 ≤ b) × (b ≤ 57) = grind (arith, nat_tests) in omega arith
 small_digit Cargo b y = let range : (48 ≤ b) × (b ≤ 57) = grind (arith, nat_tests) in omega arith
 small_digit Npm b y = let range : (48 ≤ b) × (b ≤ 57) = grind (arith, nat_tests) in omega arith
 
-pub greatest_fits : (d : Dialect) (n : ℕ) → n ≤ greatest d → n < 2 ^ 64
+pub greatest_fits : (d : Grammar) (n : ℕ) → n ≤ greatest d → n < 2 ^ 64
 greatest_fits Crate n h = omega arith
 greatest_fits Cargo n h = omega arith
 greatest_fits Npm n h = omega arith
@@ -182,7 +182,7 @@ greatest_fits Npm n h = omega arith
 zero_digit : (b : ℕ) → is_ascii_digit b ≡ true → b ≡ 48 → b - 48 ≡ 0
 zero_digit b y e = omega arith
 
-module _ (d : Dialect) (L : Text → Type 0) (b : ℕ) (t : Text) (y : is_ascii_digit b ≡ true) where
+module _ (d : Grammar) (L : Text → Type 0) (b : ℕ) (t : Text) (y : is_ascii_digit b ≡ true) where
   begin_number : InDigits d (b - 48) L t → AtNumber d L (b ∷ t)
   begin_number w =
       let run : Text = b ∷ w.digits in
@@ -213,7 +213,7 @@ module _ (d : Dialect) (L : Text → Type 0) (b : ℕ) (t : Text) (y : is_ascii_
     next = w.next;
   }
 
-first_more : (d : Dialect) (which : Which) (b : ℕ) (t : Text) → Suffix d (first_digit which b) t → Ahead d which (b ∷ t)
+first_more : (d : Grammar) (which : Which) (b : ℕ) (t : Text) → Suffix d (first_digit which b) t → Ahead d which (b ∷ t)
 first_more d which b t w =
     by_test (is_ascii_digit b)
     (λ y. let digits : Suffix d (Number which (b - 48)) t = rw y at w in
@@ -222,7 +222,7 @@ first_more d which b t w =
 
 -- ---- identifiers
 
-module _ (d : Dialect) (section : Section) (L : Text → Type 0) (part : Part) where
+module _ (d : Grammar) (section : Section) (L : Text → Type 0) (part : Part) where
   in_identifier : (b : ℕ) (t : Text) (p : Part) → in_part d section part b ≡ Some p → InIdentifiers d section p L t
       → InIdentifiers d section part L (b ∷ t)
   in_identifier b t p e w = record {
@@ -246,7 +246,7 @@ module _ (d : Dialect) (section : Section) (L : Text → Type 0) (part : Part) w
     next = w.next;
   }
 
-begin_marked : (d : Dialect) (section : Section) (mark : ℕ) (L : Text → Type 0) (t : Text) → InIdentifiers d section NotBegun L t
+begin_marked : (d : Grammar) (section : Section) (mark : ℕ) (L : Text → Type 0) (t : Text) → InIdentifiers d section NotBegun L t
     → AreMarked d section mark L (mark ∷ t)
 begin_marked d section mark L t w = record {
   parts = w.first ∷ w.others;
@@ -258,12 +258,12 @@ begin_marked d section mark L t w = record {
 
 -- ---- white space
 
-after_more : (d : Dialect) (space : Space) (b : ℕ) (t : Text) → Suffix d (after d space b) t → Fill space (Outer d) (b ∷ t)
+after_more : (d : Grammar) (space : Space) (b : ℕ) (t : Text) → Suffix d (after d space b) t → Fill space (Outer d) (b ∷ t)
 after_more d space b t w =
     by_option (more_space d space b) (λ none. absurd (subst (λ o. Suffix d (after_if o) t) none w))
     (λ s e. filled_more (Outer d) b t d (outer_closed d) space s e (subst (λ o. Suffix d (after_if o) t) e w))
 
-fresh_closed : (d : Dialect) → Closed d (Fresh d)
+fresh_closed : (d : Grammar) → Closed d (Fresh d)
 fresh_closed Crate = λ b t y w. record {
   spaces = b ∷ w.spaces;
   sign = w.sign;
@@ -286,12 +286,12 @@ fresh_closed Npm = λ c t y w. record {
 
 -- ---- before the version
 
-unsigned : (d : Dialect) → IsSign d []
+unsigned : (d : Grammar) → IsSign d []
 unsigned Crate = refl
 unsigned Cargo = refl
 unsigned Npm = inl refl
 
-fresh_from : (d : Dialect) (t : Text) → Ahead d Major t → Fresh d t
+fresh_from : (d : Grammar) (t : Text) → Ahead d Major t → Fresh d t
 fresh_from d t w = record {
   spaces = [];
   sign = [];
@@ -313,7 +313,7 @@ signed_from t w = record {
   whole = refl;
 }
 
-begins_more : (d : Dialect) (space : Space) (b : ℕ) (t : Text) → Suffix d (begins d space b) t → Fill space (Fresh d) (b ∷ t)
+begins_more : (d : Grammar) (space : Space) (b : ℕ) (t : Text) → Suffix d (begins d space b) t → Fill space (Fresh d) (b ∷ t)
 begins_more Crate Complete b t w = fresh_from Crate (b ∷ t) (first_more Crate Major b t w)
 begins_more Cargo Complete b t w = fresh_from Cargo (b ∷ t) (first_more Cargo Major b t w)
 begins_more Npm Complete b t w =
@@ -330,7 +330,7 @@ begins_more d E380 b t w = absurd w
 begins_more d EF b t w = absurd w
 begins_more d EFBB b t w = absurd w
 
-before_more : (d : Dialect) (space : Space) (b : ℕ) (t : Text) → Suffix d (before d space b) t → Fill space (Fresh d) (b ∷ t)
+before_more : (d : Grammar) (space : Space) (b : ℕ) (t : Text) → Suffix d (before d space b) t → Fill space (Fresh d) (b ∷ t)
 before_more d space b t w =
     by_option (more_space d space b)
     (λ none. begins_more d space b t (subst (λ o. Suffix d (before_or o (begins d space b)) t) none w))
@@ -341,7 +341,7 @@ before_more d space b t w =
 dotted : (L : Text → Type 0) (b : ℕ) (t : Text) → (b == 46) ≡ true → L t → Dotted L (b ∷ t)
 dotted L b t y w = record { rest = t; whole = ap (λ x. x ∷ t) (eqb-true b 46 y); next = w }
 
-after_number_more : (d : Dialect) (which : Which) (b : ℕ) (t : Text) → Suffix d (after_number d which b) t
+after_number_more : (d : Grammar) (which : Which) (b : ℕ) (t : Text) → Suffix d (after_number d which b) t
     → AfterNumber d which (b ∷ t)
 after_number_more d Major b t w = by_test (b == 46) (λ y. dotted _ b t y (rw y at w)) (λ n. absurd (rw n at w))
 after_number_more d Minor b t w = by_test (b == 46) (λ y. dotted _ b t y (rw y at w)) (λ n. absurd (rw n at w))
@@ -353,7 +353,7 @@ after_number_more d Patch b t w =
     (subst (λ x. BuildTail d (x ∷ t)) (sym (eqb-true b 43 y)) (begin_marked d Build 43 (Outer d) t (rw (n, y) at w))))
     (λ o. outer_tail d (b ∷ t) (after_more d Complete b t (rw (n, o) at w))))
 
-number_more : (d : Dialect) (which : Which) (n b : ℕ) (t : Text) → Suffix d (number d which n b) t → Suffix d (Number which n) (b ∷ t)
+number_more : (d : Grammar) (which : Which) (n b : ℕ) (t : Text) → Suffix d (number d which n b) t → Suffix d (Number which n) (b ∷ t)
 number_more d which n b t w = λ fits.
     by_test (is_ascii_digit b)
     (λ y. by_test (n == 0) (λ z. absurd (rw (y, z) at w))
@@ -363,7 +363,7 @@ number_more d which n b t w = λ fits.
     (λ large. absurd (rw (y, some, large) at w))))
     (λ other. no_digits d n (AfterNumber d which) (b ∷ t) (after_number_more d which b t (rw other at w)) fits)
 
-after_identifier_more : (d : Dialect) (section : Section) (part : Part) (b : ℕ) (t : Text) → may_end part ≡ true
+after_identifier_more : (d : Grammar) (section : Section) (part : Part) (b : ℕ) (t : Text) → may_end part ≡ true
     → Suffix d (after_identifier d section b) t → Suffix d (Identifier section part) (b ∷ t)
 after_identifier_more d section part b t e w =
     by_test (b == 46)
@@ -380,7 +380,7 @@ after_identifier_more d section part b t e w =
         (λ o. last_identifier d Pre part (b ∷ t) e (no_build d (b ∷ t) (after_more d Complete b t (rw (n, o) at w))))
     others Build n w = last_identifier d Build part (b ∷ t) e (after_more d Complete b t (rw n at w))
 
-identifier_more : (d : Dialect) (section : Section) (part : Part) (b : ℕ) (t : Text) → Suffix d (identifier d section part b) t
+identifier_more : (d : Grammar) (section : Section) (part : Part) (b : ℕ) (t : Text) → Suffix d (identifier d section part b) t
     → Suffix d (Identifier section part) (b ∷ t)
 identifier_more d section part b t w =
     let other : State = if may_end part then after_identifier d section b else Refused in
@@ -390,7 +390,7 @@ identifier_more d section part b t w =
     (λ n. absurd (rw n at (subst (λ o. Suffix d (identifier_or section o other) t) none w))))
     (λ p e. in_identifier d section (AfterSection d section) part b t p e (subst (λ o. Suffix d (identifier_or section o other) t) e w))
 
-one_more : (d : Dialect) (s : State) (b : ℕ) (t : Text) → Suffix d (step d s b) t → Suffix d s (b ∷ t)
+one_more : (d : Grammar) (s : State) (b : ℕ) (t : Text) → Suffix d (step d s b) t → Suffix d s (b ∷ t)
 one_more d (Before space) b t w = before_more d space b t w
 one_more d (NoDigit which) b t w = first_more d which b t w
 one_more d (Number which n) b t w = number_more d which n b t w
@@ -399,6 +399,6 @@ one_more d (After space) b t w = after_more d space b t w
 one_more d Refused b t w = absurd w
 
 -- what is read to an accepting state
-pub suffix_from : (d : Dialect) (s : State) (t : Text) → accepts (state_from d s t) ≡ true → Suffix d s t
+pub suffix_from : (d : Grammar) (s : State) (t : Text) → accepts (state_from d s t) ≡ true → Suffix d s t
 suffix_from d s [] e = nothing_more d s e
 suffix_from d s (b ∷ t) e = one_more d s b t (suffix_from d (step d s b) t e)

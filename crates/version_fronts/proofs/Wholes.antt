@@ -11,8 +11,8 @@ use Rattle.std.proofs.lemmas.Bool.Decides.{nat_tests}
 use Rattle.std.proofs.lemmas.Fmt.{decimal_nonempty}
 use Rattle.semver_texts.specs.Texts.{Text, is_space, marked}
 use Rattle.semver_texts.specs.ToolVersions.{is_white_space}
-use Rattle.semver_texts.specs.declared.dialect.Dialect.{Dialect}
-use Rattle.semver_texts.specs.declared.dialect.Dialect.TheVariants.{Crate, Cargo, Npm}
+use Rattle.semver_texts.specs.declared.grammar.Grammar.{Grammar}
+use Rattle.semver_texts.specs.declared.grammar.Grammar.TheVariants.{Crate, Cargo, Npm}
 use Rattle.semver_texts.proofs.Lists.{Passes, by_test}
 use Rattle.semver_texts.proofs.Numbers.{IsCanonical, all_digits, canonical_decimal, digits_value_number}
 use Rattle.version_fronts.proofs.Cases.{by_option}
@@ -34,20 +34,20 @@ use Rattle.version_fronts.specs.declared.states.State.TheVariants.{Before, NoDig
 use Rattle.version_fronts.specs.declared.states.Which.{Which}
 use Rattle.version_fronts.specs.declared.states.Which.TheVariants.{Major, Minor, Patch}
 
-pub state_append : (d : Dialect) (s : State) (x y : Text) → state_from d s (x ++ y) ≡ state_from d (state_from d s x) y
+pub state_append : (d : Grammar) (s : State) (x y : Text) → state_from d s (x ++ y) ≡ state_from d (state_from d s x) y
 state_append d s [] y = refl
 state_append d s (b ∷ x) y = state_append d (step d s b) x y
 
 -- ---- white space
 
 -- white space goes on so before and after a version
-abbrev GoesOn : Dialect → (Space → State) → Type 0
+abbrev GoesOn : Grammar → (Space → State) → Type 0
 GoesOn d wrap = (space s : Space) (b : ℕ) → more_space d space b ≡ Some s → step d (wrap space) b ≡ wrap s
 
-before_goes_on : (d : Dialect) → GoesOn d Before
+before_goes_on : (d : Grammar) → GoesOn d Before
 before_goes_on d space s b e = ap (λ o. before_or o (begins d space b)) e
 
-after_goes_on : (d : Dialect) → GoesOn d After
+after_goes_on : (d : Grammar) → GoesOn d After
 after_goes_on d space s b e = ap after_if e
 
 -- the states on the way through a character
@@ -132,7 +132,7 @@ through_spaces wrap on [] all = refl
 through_spaces wrap on (b ∷ t) all =
     ap (λ s. state_from Crate s t) (on Complete Complete b (rw (all.0) refl)) ∙ through_spaces wrap on t all.1
 
-through_outer : (d : Dialect) (wrap : Space → State) → GoesOn d wrap → (t : Text) → Outer d t
+through_outer : (d : Grammar) (wrap : Space → State) → GoesOn d wrap → (t : Text) → Outer d t
     → state_from d (wrap Complete) t ≡ wrap Complete
 through_outer Crate wrap on t w = through_spaces wrap on t w
 through_outer Cargo wrap on t w = ap (state_from Cargo (wrap Complete)) w
@@ -155,15 +155,15 @@ not_hyphen b e = grind (arith, nat_tests)
 not_plus : (b : ℕ) → is_outer b ≡ true → (b == 43) ≡ false
 not_plus b e = grind (arith, nat_tests)
 
-after_part : (d : Dialect) (section : Section) (part : Part) (b : ℕ) → may_end part ≡ true → is_outer b ≡ true
+after_part : (d : Grammar) (section : Section) (part : Part) (b : ℕ) → may_end part ≡ true → is_outer b ≡ true
     → step d (Identifier section part) b ≡ after d Complete b
 after_part d Pre part b e o = rw (not_part b o, not_hyphen b o, e, not_dot b o, not_plus b o) refl
 after_part d Build part b e o = rw (not_part b o, not_hyphen b o, e, not_dot b o) refl
 
-after_patch : (d : Dialect) (n b : ℕ) → is_outer b ≡ true → step d (Number Patch n) b ≡ after d Complete b
+after_patch : (d : Grammar) (n b : ℕ) → is_outer b ≡ true → step d (Number Patch n) b ≡ after d Complete b
 after_patch d n b o = rw (not_digit b o, not_hyphen b o, not_plus b o) refl
 
-after_accepts : (d : Dialect) (s : State) → accepts s ≡ true → ((b : ℕ) → is_outer b ≡ true → step d s b ≡ after d Complete b) → (t : Text)
+after_accepts : (d : Grammar) (s : State) → accepts s ≡ true → ((b : ℕ) → is_outer b ≡ true → step d s b ≡ after d Complete b) → (t : Text)
     → Outer d t → accepts (state_from d s t) ≡ true
 after_accepts d s e same [] w = e
 after_accepts d s e same (b ∷ t) w =
@@ -172,10 +172,10 @@ after_accepts d s e same (b ∷ t) w =
 
 -- ---- identifiers
 
-abbrev at_end : Dialect → Section → Part → ℕ → State
+abbrev at_end : Grammar → Section → Part → ℕ → State
 at_end d section part b = if may_end part then after_identifier d section b else Refused
 
-module _ (d : Dialect) (section : Section) (rest : Text)
+module _ (d : Grammar) (section : Section) (rest : Text)
     (next : (part : Part) → may_end part ≡ true → accepts (state_from d (Identifier section part) rest) ≡ true) where
   through_identifier : (part : Part) (t : Text) → finishes d section part t ≡ true
       → accepts (state_from d (Identifier section part) (t ++ rest)) ≡ true
@@ -185,11 +185,11 @@ module _ (d : Dialect) (section : Section) (rest : Text)
       (λ p is. ap (λ o. accepts (state_from d (identifier_or section o (at_end d section part b)) (t ++ rest))) is
       ∙ through_identifier p t (sym (ap (at_part (λ q. finishes d section q t)) is) ∙ e))
 
-through_dot : (d : Dialect) (section : Section) (part : Part) (t : Text) → may_end part ≡ true
+through_dot : (d : Grammar) (section : Section) (part : Part) (t : Text) → may_end part ≡ true
     → state_from d (Identifier section part) (46 ∷ t) ≡ state_from d (Identifier section NotBegun) t
 through_dot d section part t e = rw e refl
 
-module _ (d : Dialect) (section : Section) (rest : Text)
+module _ (d : Grammar) (section : Section) (rest : Text)
     (next : (part : Part) → may_end part ≡ true → accepts (state_from d (Identifier section part) rest) ≡ true) where
   through_identifiers : (part : Part) (t : Text) (ts : List Text) → finishes d section part t ≡ true
       → list_all (is_good d section) ts ≡ true
@@ -204,7 +204,7 @@ module _ (d : Dialect) (section : Section) (rest : Text)
 
 -- ---- the tail of a version
 
-through_build : (d : Dialect) (s : State) → accepts s ≡ true → ((b : ℕ) → is_outer b ≡ true → step d s b ≡ after d Complete b)
+through_build : (d : Grammar) (s : State) → accepts s ≡ true → ((b : ℕ) → is_outer b ≡ true → step d s b ≡ after d Complete b)
     → step d s 43 ≡ Identifier Build NotBegun → (t : Text) → BuildTail d t → accepts (state_from d s t) ≡ true
 through_build d s e same plus t w =
     ap (λ x. accepts (state_from d s x)) w.whole ∙ by_parts w.parts w.each
@@ -219,7 +219,7 @@ through_build d s e same plus t w =
         (λ part may. after_accepts d (Identifier Build part) may (λ b o. after_part d Build part b may o) w.rest w.next)
         NotBegun p parts both.0 both.1
 
-through_tail : (d : Dialect) (n : ℕ) (t : Text) → Tail d t → accepts (state_from d (Number Patch n) t) ≡ true
+through_tail : (d : Grammar) (n : ℕ) (t : Text) → Tail d t → accepts (state_from d (Number Patch n) t) ≡ true
 through_tail d n t w =
     ap (λ x. accepts (state_from d (Number Patch n) x)) w.whole ∙ by_parts w.parts w.each
   where
@@ -239,7 +239,7 @@ at_least : (n : ℕ) (ds : Text) → n ≤ digits_value_after 10 n ds
 at_least n [] = omega arith
 at_least n (b ∷ ds) = let more = at_least (n * 10 + digit_value b) ds in omega arith
 
-through_digits : (d : Dialect) (which : Which) (n : ℕ) (ds : Text) → Passes is_ascii_digit ds → (n ≡ 0 → ds ≡ [])
+through_digits : (d : Grammar) (which : Which) (n : ℕ) (ds : Text) → Passes is_ascii_digit ds → (n ≡ 0 → ds ≡ [])
     → digits_value_after 10 n ds ≤ greatest d → state_from d (Number which n) ds ≡ Number which (digits_value_after 10 n ds)
 through_digits d which n [] all zero small = refl
 through_digits d which n (b ∷ ds) all zero small =
@@ -259,10 +259,10 @@ through_digits d which n (b ∷ ds) all zero small =
     positive : (n k : ℕ) → (n == 0) ≡ false → n * 10 + k ≡ 0 → ⊥
     positive n k e z = both_ways (n == 0) e (grind (arith, nat_tests))
 
-abbrev BeginsNumber : Dialect → State → Which → Type 0
+abbrev BeginsNumber : Grammar → State → Which → Type 0
 BeginsNumber d s which = (b : ℕ) → is_ascii_digit b ≡ true → step d s b ≡ first_digit which b
 
-through_run : (d : Dialect) (s : State) (which : Which) → BeginsNumber d s which → (run : Text) → 0 < length run → IsCanonical run
+through_run : (d : Grammar) (s : State) (which : Which) → BeginsNumber d s which → (run : Text) → 0 < length run → IsCanonical run
     → digits_value 10 run ≤ greatest d → state_from d s run ≡ Number which (digits_value 10 run)
 through_run d s which start [] some c small = absurd (omega (arith, some))
 through_run d s which start (b ∷ ds) some c small =
@@ -279,7 +279,7 @@ through_run d s which start (b ∷ ds) some c small =
     range : (b : ℕ) → is_ascii_digit b ≡ true → (48 ≤ b) × (b ≤ 57)
     range b y = grind (arith, nat_tests)
 
-through_number : (d : Dialect) (s : State) (which : Which) → BeginsNumber d s which → (n : ℕ) → n ≤ greatest d
+through_number : (d : Grammar) (s : State) (which : Which) → BeginsNumber d s which → (n : ℕ) → n ≤ greatest d
     → state_from d s (decimal n) ≡ Number which n
 through_number d s which start n fits =
     let small = greatest_fits d n fits in
@@ -289,27 +289,27 @@ through_number d s which start n fits =
     ∙ ap (Number which) value
 
 -- a number, and what accepts after it
-at_number : (d : Dialect) (s : State) (which : Which) → BeginsNumber d s which → (L : Text → Type 0)
+at_number : (d : Grammar) (s : State) (which : Which) → BeginsNumber d s which → (L : Text → Type 0)
     → ((n : ℕ) (t : Text) → L t → accepts (state_from d (Number which n) t) ≡ true) → (t : Text) → AtNumber d L t
     → accepts (state_from d s t) ≡ true
 at_number d s which start L next t w =
     ap (λ x. accepts (state_from d s x)) w.whole ∙ ap accepts (state_append d s (decimal w.n) w.rest)
     ∙ ap (λ x. accepts (state_from d x w.rest)) (through_number d s which start w.n w.fits) ∙ next w.n w.rest w.next
 
-ahead_begins : (d : Dialect) (which : Which) → BeginsNumber d (NoDigit which) which
+ahead_begins : (d : Grammar) (which : Which) → BeginsNumber d (NoDigit which) which
 ahead_begins d which b y = refl
 
-patch_ahead : (d : Dialect) (t : Text) → AtNumber d (Tail d) t → accepts (state_from d (NoDigit Patch) t) ≡ true
+patch_ahead : (d : Grammar) (t : Text) → AtNumber d (Tail d) t → accepts (state_from d (NoDigit Patch) t) ≡ true
 patch_ahead d t w = at_number d (NoDigit Patch) Patch (ahead_begins d Patch) (Tail d) (through_tail d) t w
 
-minor_after : (d : Dialect) (n : ℕ) (t : Text) → Dotted (AtNumber d (Tail d)) t → accepts (state_from d (Number Minor n) t) ≡ true
+minor_after : (d : Grammar) (n : ℕ) (t : Text) → Dotted (AtNumber d (Tail d)) t → accepts (state_from d (Number Minor n) t) ≡ true
 minor_after d n t w = ap (λ x. accepts (state_from d (Number Minor n) x)) w.whole ∙ patch_ahead d w.rest w.next
 
-minor_ahead : (d : Dialect) (t : Text) → AtNumber d (Dotted (AtNumber d (Tail d))) t → accepts (state_from d (NoDigit Minor) t) ≡ true
+minor_ahead : (d : Grammar) (t : Text) → AtNumber d (Dotted (AtNumber d (Tail d))) t → accepts (state_from d (NoDigit Minor) t) ≡ true
 minor_ahead d t w =
     at_number d (NoDigit Minor) Minor (ahead_begins d Minor) (Dotted (AtNumber d (Tail d))) (minor_after d) t w
 
-major_after : (d : Dialect) (n : ℕ) (t : Text) → AfterNumber d Major t → accepts (state_from d (Number Major n) t) ≡ true
+major_after : (d : Grammar) (n : ℕ) (t : Text) → AfterNumber d Major t → accepts (state_from d (Number Major n) t) ≡ true
 major_after d n t w = ap (λ x. accepts (state_from d (Number Major n) x)) w.whole ∙ minor_ahead d w.rest w.next
 
 -- ---- before the version
@@ -323,15 +323,15 @@ none_opened b y = grind (arith, nat_tests)
 no_sign : (b : ℕ) → is_ascii_digit b ≡ true → (b == 118) ≡ false
 no_sign b y = grind (arith, nat_tests)
 
-version_begins : (d : Dialect) → BeginsNumber d (Before Complete) Major
+version_begins : (d : Grammar) → BeginsNumber d (Before Complete) Major
 version_begins Crate b y = rw (no_space b y) refl
 version_begins Cargo b y = refl
 version_begins Npm b y = ap (λ o. before_or o (begins Npm Complete b)) (none_opened b y) ∙ rw (no_sign b y) refl
 
-through_major : (d : Dialect) (s : State) → BeginsNumber d s Major → (t : Text) → Ahead d Major t → accepts (state_from d s t) ≡ true
+through_major : (d : Grammar) (s : State) → BeginsNumber d s Major → (t : Text) → Ahead d Major t → accepts (state_from d s t) ≡ true
 through_major d s start t w = at_number d s Major start (AfterNumber d Major) (major_after d) t w
 
-through_sign : (d : Dialect) (sign t : Text) → IsSign d sign → Ahead d Major t
+through_sign : (d : Grammar) (sign t : Text) → IsSign d sign → Ahead d Major t
     → accepts (state_from d (Before Complete) (sign ++ t)) ≡ true
 through_sign Crate sign t is w =
     ap (λ x. accepts (state_from Crate (Before Complete) (x ++ t))) is ∙ through_major Crate (Before Complete) (version_begins Crate) t w
@@ -344,7 +344,7 @@ through_sign Npm sign t is w =
     ∙ through_major Npm (NoDigit Major) (ahead_begins Npm Major) t w) is
 
 -- each version is read to an accepting state
-pub whole_accepts : (d : Dialect) (t : Text) → Fresh d t → accepts (state_from d (Before Complete) t) ≡ true
+pub whole_accepts : (d : Grammar) (t : Text) → Fresh d t → accepts (state_from d (Before Complete) t) ≡ true
 whole_accepts d t w =
     ap (λ x. accepts (state_from d (Before Complete) x)) w.whole
     ∙ ap accepts (state_append d (Before Complete) w.spaces (w.sign ++ w.rest))

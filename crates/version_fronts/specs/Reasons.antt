@@ -9,7 +9,7 @@ use Rattle.std.specs.Int.{is_in_range}
 use Rattle.std.specs.List.{list_all}
 use Rattle.semver_texts.specs.Texts.{Text, is_part_byte}
 use Rattle.semver_texts.specs.Versions.{VersionValue}
-use Rattle.semver_texts.specs.declared.dialect.Dialect.{Dialect}
+use Rattle.semver_texts.specs.declared.grammar.Grammar.{Grammar}
 use Rattle.version_fronts.specs.Fronts.{IsFrontIn, SpellsAtAnyLength}
 use Rattle.version_fronts.specs.declared.reasons.Reason.{Reason}
 use Rattle.version_fronts.specs.declared.reasons.Reason.TheVariants.{Empty, NotThreeNumbers}
@@ -20,12 +20,12 @@ use Rattle.version_fronts.specs.declared.reasons.Reason.TheVariants.{TooLong, Te
 -- ---- the front
 
 -- the front and these bytes are a version, whatever its length
-abbrev pub Completes : Dialect → Text → Text → Type 0
-Completes dialect front more = (v : VersionValue) × SpellsAtAnyLength dialect v (front ++ more)
+abbrev pub Completes : Grammar → Text → Text → Type 0
+Completes grammar front more = (v : VersionValue) × SpellsAtAnyLength grammar v (front ++ more)
 
 -- some version begins so, but each is longer than the dialect allows
-abbrev pub IsTooLong : Dialect → Text → Type 0
-IsTooLong dialect text = ((more : Text) × Completes dialect text more) × ¬ (IsFrontIn dialect text)
+abbrev pub IsTooLong : Grammar → Text → Type 0
+IsTooLong grammar text = ((more : Text) × Completes grammar text more) × ¬ (IsFrontIn grammar text)
 
 -- its last bytes; 0 before its first
 abbrev pub from_end : Text → ℕ → ℕ
@@ -83,14 +83,14 @@ reason_by version letter zero too_long front (Some b) = if too_long then TooLong
     else (if zero then EmptyIdentifier else LeadingZero)))))
 
 -- the reason at a front and the byte after it
-pub record IsReason (dialect : Dialect) (front : Text) (next : Option ℕ) (reason : Reason) : Type 0
+pub record IsReason (grammar : Grammar) (front : Text) (next : Option ℕ) (reason : Reason) : Type 0
   where
     pub version : Bool
     pub letter : Bool
     pub zero : Bool
     pub too_long : Bool
-    pub is_version : IsTrue version ↔ Completes dialect front []
-    pub takes_letter : IsTrue letter ↔ Completes dialect front (codes "a")
-    pub takes_zero : IsTrue zero ↔ Completes dialect front (codes "0")
-    pub is_too_long : IsTrue too_long ↔ IsTooLong dialect (front ++ byte_text next)
+    pub is_version : IsTrue version ↔ Completes grammar front []
+    pub takes_letter : IsTrue letter ↔ Completes grammar front (codes "a")
+    pub takes_zero : IsTrue zero ↔ Completes grammar front (codes "0")
+    pub is_too_long : IsTrue too_long ↔ IsTooLong grammar (front ++ byte_text next)
     pub is : reason ≡ reason_by version letter zero too_long front next

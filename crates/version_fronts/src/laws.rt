@@ -3,38 +3,38 @@
 ghost use Rattle.std.specs.Prelude.{◌≡◌, ◌++◌, ℕ, [], Option};
 ghost use Rattle.semver_texts.specs.Texts.{Text};
 ghost use Rattle.semver_texts.specs.ToolVersions.{IsVersionTextIn};
-ghost use Rattle.semver_texts.specs.declared.dialect.Dialect.{Dialect};
+ghost use Rattle.semver_texts.specs.declared.grammar.Grammar.{Grammar};
 ghost use Rattle.version_fronts.specs.Fronts.{IsFrontIn, IsLongestFront, IsWholeFrontIn};
 ghost use Rattle.version_fronts.specs.Reasons.{IsReason};
 ghost use Rattle.version_fronts.specs.declared.reasons.Reason.{Reason};
 
 use crate::reasons::{Refusal, refused};
-use semver_texts::dialect::Dialect;
+use semver_texts::grammar::Grammar;
 
 /// What begins a front is one, so is nothing, and so is each version.
 pub fn fronts_begin_fronts()
-    ensures shorter { (dialect : Dialect) (text more : Text) → IsFrontIn dialect (text ++ more)
-        → IsFrontIn dialect text }
-    ensures empty { (dialect : Dialect) → IsWholeFrontIn dialect [] }
-    ensures whole { (dialect : Dialect) (text : Text) → IsVersionTextIn dialect text
-        → IsWholeFrontIn dialect text }
+    ensures shorter { (grammar : Grammar) (text more : Text) → IsFrontIn grammar (text ++ more)
+        → IsFrontIn grammar text }
+    ensures empty { (grammar : Grammar) → IsWholeFrontIn grammar [] }
+    ensures whole { (grammar : Grammar) (text : Text) → IsVersionTextIn grammar text
+        → IsWholeFrontIn grammar text }
 {}
 
 /// A text has one longest front.
 pub fn one_longest_front()
-    ensures same_place { (dialect : Dialect) (text : Text) (m n : ℕ) → IsLongestFront dialect text m
-        → IsLongestFront dialect text n → m ≡ n }
+    ensures same_place { (grammar : Grammar) (text : Text) (m n : ℕ) → IsLongestFront grammar text m
+        → IsLongestFront grammar text n → m ≡ n }
 {}
 
 /// A front and what follows it have one reason.
 pub fn one_reason()
-    ensures same_reason { (dialect : Dialect) (front : Text) (next : Option ℕ) (x y : Reason)
-        → IsReason dialect front next x → IsReason dialect front next y → x ≡ y }
+    ensures same_reason { (grammar : Grammar) (front : Text) (next : Option ℕ) (x y : Reason)
+        → IsReason grammar front next x → IsReason grammar front next y → x ≡ y }
 {}
 
 /// `refused` has one answer.
-pub fn one_refused(input: &[u8], dialect: Dialect) -> (Option<Refusal>, Option<Refusal>)
+pub fn one_refused(input: &[u8], grammar: Grammar) -> (Option<Refusal>, Option<Refusal>)
     ensures one { result.0 ≡ result.1 }
 {
-    (refused(input, dialect), refused(input, dialect))
+    (refused(input, grammar), refused(input, grammar))
 }

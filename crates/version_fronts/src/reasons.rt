@@ -9,7 +9,7 @@ ghost use Rattle.version_fronts.specs.Steps.Scanning.{HasRead};
 
 use crate::scanner::Scanner;
 use crate::states::{Part, State, Which};
-use semver_texts::dialect::Dialect;
+use semver_texts::grammar::Grammar;
 
 /// Why a text is no version.
 #[derive(Clone, Copy, PartialEq, Eq)]
@@ -129,11 +129,11 @@ pub(crate) fn at_byte(state: State, byte: u8) -> Reason
 
 /// The longest front of whole characters that the text begins with: its end, and what was read of
 /// it.
-fn longest_front(input: &[u8], dialect: Dialect) -> (usize, Scanner)
-    ensures longest { IsLongestFront dialect input.now result.0 }
-    ensures read { HasRead dialect (take result.0 input.now) result.1 }
+fn longest_front(input: &[u8], grammar: Grammar) -> (usize, Scanner)
+    ensures longest { IsLongestFront grammar input.now result.0 }
+    ensures read { HasRead grammar (take result.0 input.now) result.1 }
 {
-    let mut scanner = Scanner::new(dialect);
+    let mut scanner = Scanner::new(grammar);
     let mut read = scanner;
     let mut place = 0;
     for at in 0..input.len() {
@@ -153,20 +153,20 @@ fn longest_front(input: &[u8], dialect: Dialect) -> (usize, Scanner)
 /// Where and why a text is no version, or none if it is one. Does not allocate.
 ///
 /// ```text
-/// refused(b"1.2.03", Dialect::Cargo)    // at 5: LeadingZero
-/// refused(b"1.2", Dialect::Npm)         // at 3: NotThreeNumbers
-/// refused(b"1.2.3 x", Dialect::Npm)     // at 6: TextAfter
-/// refused(b" v1.2.3", Dialect::Npm)     // None
+/// refused(b"1.2.03", Grammar::Cargo)    // at 5: LeadingZero
+/// refused(b"1.2", Grammar::Npm)         // at 3: NotThreeNumbers
+/// refused(b"1.2.3 x", Grammar::Npm)     // at 6: TextAfter
+/// refused(b" v1.2.3", Grammar::Npm)     // None
 /// ```
-pub fn refused(input: &[u8], dialect: Dialect) -> Option<Refusal>
-    ensures version { MatchOption result (IsVersionTextIn dialect input.now)
-        (λ r. ¬ (IsVersionTextIn dialect input.now)) }
+pub fn refused(input: &[u8], grammar: Grammar) -> Option<Refusal>
+    ensures version { MatchOption result (IsVersionTextIn grammar input.now)
+        (λ r. ¬ (IsVersionTextIn grammar input.now)) }
     ensures place { MatchOption result (Unit {0})
-        (λ r. IsLongestFront dialect input.now r.place) }
+        (λ r. IsLongestFront grammar input.now r.place) }
     ensures reason { MatchOption result (Unit {0})
-        (λ r. IsReason dialect (take r.place input.now) (byte_at input.now r.place) r.reason) }
+        (λ r. IsReason grammar (take r.place input.now) (byte_at input.now r.place) r.reason) }
 {
-    let (place, read) = longest_front(input, dialect);
+    let (place, read) = longest_front(input, grammar);
     if place < input.len() {
         let reason = read.reason_at(input[place]);
         Some(Refusal { place, reason })

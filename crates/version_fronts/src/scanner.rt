@@ -2,7 +2,7 @@
 ghost use Rattle.std.specs.Prelude.{◌≡◌, ◌↔◌, IsTrue, None, Some, not, ◌&&◌, [], ◌∷◌, ◌++◌};
 ghost use Rattle.semver_texts.specs.Texts.{Text};
 ghost use Rattle.semver_texts.specs.ToolVersions.{IsVersionTextIn};
-ghost use Rattle.semver_texts.specs.declared.dialect.Dialect.{Dialect};
+ghost use Rattle.semver_texts.specs.declared.grammar.Grammar.{Grammar};
 ghost use Rattle.version_fronts.specs.Fronts.{IsFrontIn, IsWholeFrontIn};
 ghost use Rattle.version_fronts.specs.Reasons.{IsReason};
 ghost use Rattle.version_fronts.specs.Steps.Scanning.{HasRead, accepts, counted, exceeds};
@@ -10,7 +10,7 @@ ghost use Rattle.version_fronts.specs.Steps.Scanning.{is_alive, is_cut, is_too_l
 
 use crate::reasons::{Reason, at_byte, at_end};
 use crate::states::{Space, State, accepts, is_cut, is_refused, need, step};
-use semver_texts::dialect::Dialect;
+use semver_texts::grammar::Grammar;
 
 /// No version text of npm has more characters.
 const CHARACTERS: u16 = 256;
@@ -31,7 +31,7 @@ fn counted(characters: u16, byte: u8) -> u16
 /// copies as a number does.
 ///
 /// ```text
-/// let mut scanner = Scanner::new(Dialect::Npm);
+/// let mut scanner = Scanner::new(Grammar::Npm);
 /// scanner.push(b'v');
 /// scanner.is_front(); // true: `v1.2.3` begins so
 /// scanner.push(b'v');
@@ -39,7 +39,7 @@ fn counted(characters: u16, byte: u8) -> u16
 /// ```
 #[derive(Clone, Copy)]
 pub struct Scanner {
-    dialect: Dialect,
+    grammar: Grammar,
     state: State,
     /// How many characters were read, up to one more than npm takes.
     characters: u16,
@@ -48,11 +48,11 @@ pub struct Scanner {
 impl Scanner {
     // Answer: equation.
     /// A scanner that has read nothing.
-    pub fn new(dialect: Dialect) -> Scanner
-        ensures { HasRead dialect [] result }
+    pub fn new(grammar: Grammar) -> Scanner
+        ensures { HasRead grammar [] result }
     {
         Scanner {
-            dialect,
+            grammar,
             state: State::Before(Space::Complete),
             characters: 0,
         }
@@ -61,21 +61,21 @@ impl Scanner {
     // Answer: equation.
     /// Reads one more byte.
     pub fn push(&mut self, byte: u8)
-        ensures { (dialect : Dialect) (text : Text) → HasRead dialect text self.old
-            → HasRead dialect (text ++ byte ∷ []) self.new }
+        ensures { (grammar : Grammar) (text : Text) → HasRead grammar text self.old
+            → HasRead grammar (text ++ byte ∷ []) self.new }
     {
-        self.state = step(self.state, byte, self.dialect);
+        self.state = step(self.state, byte, self.grammar);
         self.characters = counted(self.characters, byte);
     }
 
     /// Whether so many more characters would be more than the dialect takes.
     #[inline(always)]
     fn exceeds(&self, more: u16) -> bool
-        ensures { result ≡ exceeds self.now.dialect self.now.characters more }
+        ensures { result ≡ exceeds self.now.grammar self.now.characters more }
     {
-        match self.dialect {
-            Dialect::Crate | Dialect::Cargo => false,
-            Dialect::Npm => { self.characters > CHARACTERS || more > CHARACTERS - self.characters }
+        match self.grammar {
+            Grammar::Crate | Grammar::Cargo => false,
+            Grammar::Npm => { self.characters > CHARACTERS || more > CHARACTERS - self.characters }
         }
     }
 
@@ -107,7 +107,7 @@ impl Scanner {
     #[inline(always)]
     fn is_accepted(&self) -> bool
         ensures { result ≡ (accepts self.now.state
-            && not (exceeds self.now.dialect self.now.characters 0)) }
+            && not (exceeds self.now.grammar self.now.characters 0)) }
     {
         accepts(self.state) && !self.exceeds(0)
     }
@@ -115,8 +115,8 @@ impl Scanner {
     // Answer: equation.
     /// Whether some version begins with what was read.
     pub fn is_front(&self) -> bool
-        ensures { (dialect : Dialect) (text : Text) → HasRead dialect text self.now
-            → (IsTrue result ↔ IsFrontIn dialect text) }
+        ensures { (grammar : Grammar) (text : Text) → HasRead grammar text self.now
+            → (IsTrue result ↔ IsFrontIn grammar text) }
     {
         self.is_alive()
     }
@@ -125,8 +125,8 @@ impl Scanner {
     /// Whether some version begins with what was read, and goes on there with a character: within
     /// the bytes of npm's white space past ASCII it does not.
     pub fn is_whole_front(&self) -> bool
-        ensures { (dialect : Dialect) (text : Text) → HasRead dialect text self.now
-            → (IsTrue result ↔ IsWholeFrontIn dialect text) }
+        ensures { (grammar : Grammar) (text : Text) → HasRead grammar text self.now
+            → (IsTrue result ↔ IsWholeFrontIn grammar text) }
     {
         self.is_alive_and_whole()
     }
@@ -134,16 +134,16 @@ impl Scanner {
     // Answer: equation.
     /// Whether what was read is a version.
     pub fn is_version(&self) -> bool
-        ensures { (dialect : Dialect) (text : Text) → HasRead dialect text self.now
-            → (IsTrue result ↔ IsVersionTextIn dialect text) }
+        ensures { (grammar : Grammar) (text : Text) → HasRead grammar text self.now
+            → (IsTrue result ↔ IsVersionTextIn grammar text) }
     {
         self.is_accepted()
     }
 
     /// Why no version has this byte after the front that was read.
     pub(crate) fn reason_at(&self, byte: u8) -> Reason
-        ensures { (dialect : Dialect) (text : Text) → HasRead dialect text self.now
-            → IsWholeFrontIn dialect text → IsReason dialect text (Some byte) result }
+        ensures { (grammar : Grammar) (text : Text) → HasRead grammar text self.now
+            → IsWholeFrontIn grammar text → IsReason grammar text (Some byte) result }
     {
         let mut next = *self;
         next.push(byte);
@@ -156,9 +156,9 @@ impl Scanner {
 
     /// Why the front that was read is no version.
     pub(crate) fn reason_at_end(&self) -> Reason
-        ensures { (dialect : Dialect) (text : Text) → HasRead dialect text self.now
-            → IsWholeFrontIn dialect text → ¬ (IsVersionTextIn dialect text)
-            → IsReason dialect text None result }
+        ensures { (grammar : Grammar) (text : Text) → HasRead grammar text self.now
+            → IsWholeFrontIn grammar text → ¬ (IsVersionTextIn grammar text)
+            → IsReason grammar text None result }
     {
         at_end(self.state)
     }

@@ -9,7 +9,7 @@ ghost use Rattle.version_fronts.specs.Steps.Scanning.{opened, step, with_alphanu
 ghost use Rattle.version_fronts.specs.Steps.Scanning.{zeros_count};
 
 use semver_texts::bytes::is_space;
-use semver_texts::dialect::Dialect;
+use semver_texts::grammar::Grammar;
 
 /// How far a character of white space has been read: the bytes of one that is not complete.
 #[derive(Clone, Copy)]
@@ -90,12 +90,12 @@ pub enum State {
 
 /// The greatest number of a dialect. JavaScript has integers up to 2^53 - 1 exactly.
 #[inline(always)]
-fn greatest(dialect: Dialect) -> u64
-    ensures { result ≡ greatest dialect }
+fn greatest(grammar: Grammar) -> u64
+    ensures { result ≡ greatest grammar }
 {
-    match dialect {
-        Dialect::Crate | Dialect::Cargo => 18_446_744_073_709_551_615,
-        Dialect::Npm => 9_007_199_254_740_991,
+    match grammar {
+        Grammar::Crate | Grammar::Cargo => 18_446_744_073_709_551_615,
+        Grammar::Npm => 9_007_199_254_740_991,
     }
 }
 
@@ -117,22 +117,22 @@ fn opened(byte: u8) -> Option<Space>
 
 /// The white space that a byte begins.
 #[inline(always)]
-fn new_space(byte: u8, dialect: Dialect) -> Option<Space>
-    ensures { result ≡ new_space dialect byte }
+fn new_space(byte: u8, grammar: Grammar) -> Option<Space>
+    ensures { result ≡ new_space grammar byte }
 {
-    match dialect {
-        Dialect::Crate => is_space(byte).then_some(Space::Complete),
-        Dialect::Cargo => None,
-        Dialect::Npm => opened(byte),
+    match grammar {
+        Grammar::Crate => is_space(byte).then_some(Space::Complete),
+        Grammar::Cargo => None,
+        Grammar::Npm => opened(byte),
     }
 }
 
 /// How far the white space goes with one more byte; none if the byte does not go on with it.
-fn more_space(space: Space, byte: u8, dialect: Dialect) -> Option<Space>
-    ensures { result ≡ more_space dialect space byte }
+fn more_space(space: Space, byte: u8, grammar: Grammar) -> Option<Space>
+    ensures { result ≡ more_space grammar space byte }
 {
     match space {
-        Space::Complete => new_space(byte, dialect),
+        Space::Complete => new_space(byte, grammar),
         Space::C2 => (byte == 0xA0).then_some(Space::Complete),
         Space::E1 => (byte == 0x9A).then_some(Space::E19A),
         Space::E19A | Space::E380 => (byte == 0x80).then_some(Space::Complete),
@@ -165,11 +165,11 @@ fn first_digit(which: Which, byte: u8) -> State
 
 /// The state after a byte that has to begin the version, or npm's `v`.
 #[inline(always)]
-fn begins(space: Space, byte: u8, dialect: Dialect) -> State
-    ensures { result ≡ begins dialect space byte }
+fn begins(space: Space, byte: u8, grammar: Grammar) -> State
+    ensures { result ≡ begins grammar space byte }
 {
-    match (space, dialect) {
-        (Space::Complete, Dialect::Npm) if byte == b'v' => State::NoDigit(Which::Major),
+    match (space, grammar) {
+        (Space::Complete, Grammar::Npm) if byte == b'v' => State::NoDigit(Which::Major),
         (Space::Complete, _) => first_digit(Which::Major, byte),
         _ => State::Refused,
     }
@@ -177,21 +177,21 @@ fn begins(space: Space, byte: u8, dialect: Dialect) -> State
 
 /// The state before the version after one more byte.
 #[inline(always)]
-fn before(space: Space, byte: u8, dialect: Dialect) -> State
-    ensures { result ≡ before dialect space byte }
+fn before(space: Space, byte: u8, grammar: Grammar) -> State
+    ensures { result ≡ before grammar space byte }
 {
-    match more_space(space, byte, dialect) {
+    match more_space(space, byte, grammar) {
         Some(more) => State::Before(more),
-        None => begins(space, byte, dialect),
+        None => begins(space, byte, grammar),
     }
 }
 
 /// The state after the version after one more byte.
 #[inline(always)]
-fn after(space: Space, byte: u8, dialect: Dialect) -> State
-    ensures { result ≡ after dialect space byte }
+fn after(space: Space, byte: u8, grammar: Grammar) -> State
+    ensures { result ≡ after grammar space byte }
 {
-    match more_space(space, byte, dialect) {
+    match more_space(space, byte, grammar) {
         Some(more) => State::After(more),
         None => State::Refused,
     }
@@ -199,29 +199,29 @@ fn after(space: Space, byte: u8, dialect: Dialect) -> State
 
 /// The state after a byte that ends a number.
 #[inline(always)]
-fn after_number(which: Which, byte: u8, dialect: Dialect) -> State
-    ensures { result ≡ after_number dialect which byte }
+fn after_number(which: Which, byte: u8, grammar: Grammar) -> State
+    ensures { result ≡ after_number grammar which byte }
 {
     match (which, byte) {
         (Which::Major, b'.') => State::NoDigit(Which::Minor),
         (Which::Minor, b'.') => State::NoDigit(Which::Patch),
         (Which::Patch, b'-') => State::Identifier(Section::Pre, Part::NotBegun),
         (Which::Patch, b'+') => State::Identifier(Section::Build, Part::NotBegun),
-        (Which::Patch, _) => after(Space::Complete, byte, dialect),
+        (Which::Patch, _) => after(Space::Complete, byte, grammar),
         _ => State::Refused,
     }
 }
 
 /// The state in a number after one more byte.
 #[inline(always)]
-fn number(which: Which, value: u64, byte: u8, dialect: Dialect) -> State
-    ensures { result ≡ number dialect which value byte }
+fn number(which: Which, value: u64, byte: u8, grammar: Grammar) -> State
+    ensures { result ≡ number grammar which value byte }
 {
     if !byte.is_ascii_digit() {
-        return after_number(which, byte, dialect);
+        return after_number(which, byte, grammar);
     }
     let digit = u64::from(byte - b'0');
-    if value == 0 || value > (greatest(dialect) - digit) / 10 {
+    if value == 0 || value > (greatest(grammar) - digit) / 10 {
         State::Refused
     } else {
         State::Number(which, value * 10 + digit)
@@ -230,11 +230,11 @@ fn number(which: Which, value: u64, byte: u8, dialect: Dialect) -> State
 
 /// Whether leading zeros of identifiers of digits alone are refused.
 #[inline(always)]
-fn zeros_count(section: Section, dialect: Dialect) -> bool
-    ensures { result ≡ zeros_count dialect section }
+fn zeros_count(section: Section, grammar: Grammar) -> bool
+    ensures { result ≡ zeros_count grammar section }
 {
-    match (section, dialect) {
-        (Section::Pre, Dialect::Cargo | Dialect::Npm) => true,
+    match (section, grammar) {
+        (Section::Pre, Grammar::Cargo | Grammar::Npm) => true,
         _ => false,
     }
 }
@@ -261,24 +261,24 @@ fn with_alphanumeric(zeros: bool, part: Part, byte: u8) -> Part
 
 /// An identifier with one more hyphen.
 #[inline(always)]
-fn with_hyphen(part: Part, dialect: Dialect) -> Option<Part>
-    ensures { result ≡ with_hyphen dialect part }
+fn with_hyphen(part: Part, grammar: Grammar) -> Option<Part>
+    ensures { result ≡ with_hyphen grammar part }
 {
-    match dialect {
-        Dialect::Crate => may_end(part).then_some(Part::NotBegun),
-        Dialect::Cargo | Dialect::Npm => Some(Part::Begun),
+    match grammar {
+        Grammar::Crate => may_end(part).then_some(Part::NotBegun),
+        Grammar::Cargo | Grammar::Npm => Some(Part::Begun),
     }
 }
 
 /// An identifier with one more byte; none if the byte can't be in it there.
 #[inline(always)]
-fn in_part(section: Section, part: Part, byte: u8, dialect: Dialect) -> Option<Part>
-    ensures { result ≡ in_part dialect section part byte }
+fn in_part(section: Section, part: Part, byte: u8, grammar: Grammar) -> Option<Part>
+    ensures { result ≡ in_part grammar section part byte }
 {
     if byte.is_ascii_alphanumeric() {
-        Some(with_alphanumeric(zeros_count(section, dialect), part, byte))
+        Some(with_alphanumeric(zeros_count(section, grammar), part, byte))
     } else if byte == b'-' {
-        with_hyphen(part, dialect)
+        with_hyphen(part, grammar)
     } else {
         None
     }
@@ -286,38 +286,38 @@ fn in_part(section: Section, part: Part, byte: u8, dialect: Dialect) -> Option<P
 
 /// The state after a byte that ends an identifier.
 #[inline(always)]
-fn after_identifier(section: Section, byte: u8, dialect: Dialect) -> State
-    ensures { result ≡ after_identifier dialect section byte }
+fn after_identifier(section: Section, byte: u8, grammar: Grammar) -> State
+    ensures { result ≡ after_identifier grammar section byte }
 {
     match (section, byte) {
         (_, b'.') => State::Identifier(section, Part::NotBegun),
         (Section::Pre, b'+') => State::Identifier(Section::Build, Part::NotBegun),
-        _ => after(Space::Complete, byte, dialect),
+        _ => after(Space::Complete, byte, grammar),
     }
 }
 
 /// The state in an identifier after one more byte.
 #[inline(always)]
-fn identifier(section: Section, part: Part, byte: u8, dialect: Dialect) -> State
-    ensures { result ≡ identifier dialect section part byte }
+fn identifier(section: Section, part: Part, byte: u8, grammar: Grammar) -> State
+    ensures { result ≡ identifier grammar section part byte }
 {
-    match in_part(section, part, byte, dialect) {
+    match in_part(section, part, byte, grammar) {
         Some(more) => State::Identifier(section, more),
-        None if may_end(part) => after_identifier(section, byte, dialect),
+        None if may_end(part) => after_identifier(section, byte, grammar),
         None => State::Refused,
     }
 }
 
 /// The state after one more byte.
-pub(crate) fn step(state: State, byte: u8, dialect: Dialect) -> State
-    ensures { result ≡ step dialect state byte }
+pub(crate) fn step(state: State, byte: u8, grammar: Grammar) -> State
+    ensures { result ≡ step grammar state byte }
 {
     match state {
-        State::Before(space) => before(space, byte, dialect),
+        State::Before(space) => before(space, byte, grammar),
         State::NoDigit(which) => first_digit(which, byte),
-        State::Number(which, value) => number(which, value, byte, dialect),
-        State::Identifier(section, part) => identifier(section, part, byte, dialect),
-        State::After(space) => after(space, byte, dialect),
+        State::Number(which, value) => number(which, value, byte, grammar),
+        State::Identifier(section, part) => identifier(section, part, byte, grammar),
+        State::After(space) => after(space, byte, grammar),
         State::Refused => State::Refused,
     }
 }

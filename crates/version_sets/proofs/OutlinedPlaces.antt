@@ -12,7 +12,7 @@ use Rattle.semver_parser.specs.Texts.{Text, is_empty}
 use Rattle.semver_parser.specs.ToolVersions.{SpellsIn}
 use Rattle.semver_parser.specs.VersionGrammar.{SpellsVersion}
 use Rattle.semver_parser.specs.Versions.{IdentifierValue, PlainVersion, VersionValue}
-use Rattle.semver_parser.specs.declared.version.Dialect.TheVariants.{Crate}
+use Rattle.semver_parser.specs.declared.version.Grammar.TheVariants.{Crate}
 use Rattle.semver_parser.specs.declared.version.Version.{Version}
 use Rattle.version_sets.specs.Steps.Places.{version_place}
 use Rattle.version_sets.specs.Switches.{switched, IsIncreasing}

@@ -5,7 +5,7 @@ use super::fixed::Fixed;
 use semver_parser::{Compat, RangeError, RangeSet};
 use std::alloc::Global;
 use std::fmt::Write as _;
-use tool_ranges::reading::Reading;
+use tool_ranges::dialect::Dialect;
 use tool_ranges::refusals::refused;
 use tool_ranges::{cargo, npm};
 
@@ -123,10 +123,10 @@ pub fn refused_texts(alloc: Global) -> Ending {
 
 /// Where a text stops being a range. What gives one is refused nothing, without a request.
 pub fn range_error(alloc: Global) -> Ending {
-    if !matches!(refused(alloc, Reading::Npm, "1.2 || 3"), Ok(None)) {
+    if !matches!(refused(alloc, Dialect::Npm, "1.2 || 3"), Ok(None)) {
         return Ending::Wrong;
     }
-    match refused(alloc, Reading::Cargo, "1.2 || 3") {
+    match refused(alloc, Dialect::Cargo, "1.2 || 3") {
         Ok(Some(refusal)) => Ending::full_if(refusal.place == 4),
         Ok(None) => Ending::Wrong,
         Err(_) => Ending::Refused,

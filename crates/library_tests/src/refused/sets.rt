@@ -40,7 +40,7 @@ pub fn of_refused_texts(alloc: Global) -> Ending {
     )
 }
 
-/// The releases that meet the comparator `>=2.0.0`. Reading it is part of the call. The least of
+/// The releases that meet the comparator `>=2.0.0`. Dialect it is part of the call. The least of
 /// them is told without a request.
 pub fn of_set(alloc: Global) -> Ending {
     let set = match RangeSet::parse(alloc, ">=2.0.0", Compat::Npm) {

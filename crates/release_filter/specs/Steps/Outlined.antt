@@ -4,16 +4,16 @@ use Rattle.semver_parser.specs.Outlines.{OutlineValue, IsOutlineIn, version_of}
 use Rattle.semver_parser.specs.Texts.{Text}
 use Rattle.semver_parser.specs.ToolVersions.{IsVersionTextIn}
 use Rattle.semver_parser.specs.Versions.{VersionValue}
-use Rattle.semver_parser.specs.declared.version.Dialect.{Dialect}
+use Rattle.semver_parser.specs.declared.version.Grammar.{Grammar}
 use Rattle.release_filter.specs.Filters.{FilterValue, passes}
 use Rattle.release_filter.specs.declared.judging.Judged.{Judged}
 use Rattle.release_filter.specs.declared.judging.Judged.TheVariants.{NoVersion, DoesNotPass, Passes}
 
 -- this is the outline of a version that the text spells in a dialect; or there is none, as it
 -- spells none
-abbrev pub IsOutlined : Dialect → Text → Option OutlineValue → Type 0
-IsOutlined dialect text None = ¬ (IsVersionTextIn dialect text)
-IsOutlined dialect text (Some outline) = IsOutlineIn dialect text outline
+abbrev pub IsOutlined : Grammar → Text → Option OutlineValue → Type 0
+IsOutlined grammar text None = ¬ (IsVersionTextIn grammar text)
+IsOutlined grammar text (Some outline) = IsOutlineIn grammar text outline
 
 -- what a filter says of a line that has such versions
 abbrev pub JudgesBy : (VersionValue → Type 0) → FilterValue → Judged → Type 0

@@ -75,7 +75,7 @@ TakesJudged filter prefixes h c line g d old new is_valid = (verdict : Verdict)
 -- bytes that end no line were taken
 abbrev pub TakesRest : LinesValue → Text → LinesValue → Type 0
 TakesRest s rest t = (t ≡ record s { unended = t.unended })
-    × IsLeft s.filter.dialect s.prefixes s.at_front (s.unended ++ rest) t.unended
+    × IsLeft s.filter.grammar s.prefixes s.at_front (s.unended ++ rest) t.unended
 
 -- the end of a line was taken, and this says whether the line is no invalid one
 abbrev pub TakesWhole : LinesValue → Text → LinesValue → Text → Text → Bool → Type 0

@@ -5,7 +5,7 @@ use Rattle.semver_parser_c.proofs.ComparedVersions.{meant, tells_which}
 use Rattle.semver_parser_c.proofs.semver_parser_proved_compare.Goals as goal
 
 refused : (c : goal.In-Err)
-    → IsEitherRefused c.args.reading c.args.pre_releases c.args.old_range.now c.args.new_range.now (to_z w32 (of_z w32 c.in-Err.number))
+    → IsEitherRefused c.args.dialect c.args.pre_releases c.args.old_range.now c.args.new_range.now (to_z w32 (of_z w32 c.in-Err.number))
 refused c = search rules
 
 pub returns-in-Err-clause-read : goal.returns-in-Err-clause-read
@@ -28,7 +28,7 @@ returns-in-Ok-compare-clause-which c = λ put m named old new old_spells new_spe
 
 -- where both are read
 both : (c : goal.After-drop-old_set-inside-in-Ok-compare)
-    → TellsBoth c.args.reading c.args.pre_releases c.args.old_range.now c.args.new_range.now (to_z w32 (of_z w32 c.put.result))
+    → TellsBoth c.args.dialect c.args.pre_releases c.args.old_range.now c.args.new_range.now (to_z w32 (of_z w32 c.put.result))
 both c = search (rules, c.in-Ok.ensures.stands c.put.result (search rules))
 
 pub returns-in-Ok-compare-clause-read : goal.returns-in-Ok-compare-clause-read
@@ -42,7 +42,7 @@ returns-in-Ok-compare-clause-new_refusals c = (both c).new_range
 
 -- and memory isn't found
 unfound : (c : goal.After-drop-old_set-inside-3)
-    → TellsBoth c.args.reading c.args.pre_releases c.args.old_range.now c.args.new_range.now new_range_out_of_memory
+    → TellsBoth c.args.dialect c.args.pre_releases c.args.old_range.now c.args.new_range.now new_range_out_of_memory
 unfound c = search (rules, c.in-Ok.ensures.stands new_range_out_of_memory (search rules))
 
 pub returns-clause-refusals : goal.returns-clause-refusals

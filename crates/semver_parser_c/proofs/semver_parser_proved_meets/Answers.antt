@@ -1,14 +1,14 @@
 use Rattle.std.proofs.Common.{◌≡◌, rules, to_z, of_z, w32}
 use Rattle.semver_parser.specs.ToolVersions.{IsVersionTextIn}
-use Rattle.semver_parser.specs.declared.version.Dialect.{Dialect}
-use Rattle.semver_parser_c.specs.Readings.{IsDialect}
+use Rattle.semver_parser.specs.declared.version.Grammar.{Grammar}
+use Rattle.semver_parser_c.specs.Dialects.{IsGrammar}
 use Rattle.semver_parser_c.specs.Steps.TextErrors.{IsUnjudged}
 use Rattle.semver_parser_c.proofs.semver_parser_proved_meets.Goals as goal
 
 -- the version is read
-read : (c : goal.In-Ok) (d : Dialect) → IsDialect d c.args.reading → IsVersionTextIn d c.args.version.now
+read : (c : goal.In-Ok) (d : Grammar) → IsGrammar d c.args.dialect → IsVersionTextIn d c.args.version.now
 read c =
-    let same : to_z w32 (of_z w32 c.args.reading) ≡ c.args.reading = search rules in
+    let same : to_z w32 (of_z w32 c.args.dialect) ≡ c.args.dialect = search rules in
     rw same at c.in-Ok.ensures.read
 
 pub returns-in-Ok-clause-both_read : goal.returns-in-Ok-clause-both_read
@@ -19,7 +19,7 @@ returns-in-Ok-clause-version_refused c = λ _ d is utf8 none. absurd (none (read
 
 -- the number is of the range or of the version
 refused : (c : goal.In-Err)
-    → IsUnjudged c.args.reading c.args.pre_releases c.args.range.now c.args.version.now (to_z w32 (of_z w32 c.in-Err.number))
+    → IsUnjudged c.args.dialect c.args.pre_releases c.args.range.now c.args.version.now (to_z w32 (of_z w32 c.in-Err.number))
 refused c = search rules
 
 pub returns-in-Err-clause-accepted : goal.returns-in-Err-clause-accepted

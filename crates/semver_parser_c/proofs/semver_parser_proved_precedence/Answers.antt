@@ -1,15 +1,15 @@
 use Rattle.std.proofs.Common.{◌≡◌, ◌∙◌, ap, rules, sym}
 use Rattle.semver_parser.specs.Precedence.{precedence}
 use Rattle.semver_parser_c.specs.Orders.{order_number}
-use Rattle.semver_parser_c.specs.Steps.TextErrors.{IsReadingOf}
-use Rattle.semver_parser_c.proofs.Dialects.{of_named}
+use Rattle.semver_parser_c.specs.Steps.TextErrors.{IsDialectOf}
+use Rattle.semver_parser_c.proofs.Grammars.{of_named}
 use Rattle.semver_parser_c.proofs.semver_parser_proved_precedence.Goals as goal
 
 pub returns-in-Ok-plain_version-clause-precedence : goal.returns-in-Ok-plain_version-clause-precedence
 returns-in-Ok-plain_version-clause-precedence c = λ d is _ v w spells other_spells.
-    let named : IsReadingOf c.in-Some.reading c.args.reading = search rules in
-    let e = of_named c.in-Some.reading c.args.reading d named c.dialect.ensures.dialect is in
-    let e' = of_named c.in-Some.reading c.args.reading d named c.dialect-2.ensures.dialect is in
+    let named : IsDialectOf c.in-Some.dialect c.args.dialect = search rules in
+    let e = of_named c.in-Some.dialect c.args.dialect d named c.grammar.ensures.grammar is in
+    let e' = of_named c.in-Some.dialect c.args.dialect d named c.grammar-2.ensures.grammar is in
     let first = c.one_outlined_version.ensures.same_version d c.in-Ok.outline v c.args.version.now
     (rw e at c.in-Ok.ensures.outlined) spells in
     let second = c.in-Ok-plain_version.ensures.version w (rw e' other_spells) in
@@ -20,7 +20,7 @@ returns-in-Ok-plain_version-clause-precedence c = λ d is _ v w spells other_spe
 
 pub returns-in-Err-plain_version-clause-accepted : goal.returns-in-Err-plain_version-clause-accepted
 returns-in-Err-plain_version-clause-accepted c = λ d is v w utf8 spells other_utf8 other_spells.
-    let named : IsReadingOf c.in-Some.reading c.args.reading = search rules in
-    let e' = of_named c.in-Some.reading c.args.reading d named c.dialect-2.ensures.dialect is in
+    let named : IsDialectOf c.in-Some.dialect c.args.dialect = search rules in
+    let e' = of_named c.in-Some.dialect c.args.dialect d named c.grammar-2.ensures.grammar is in
     let full = c.in-Err-plain_version.ensures.refused.accepted w other_utf8 (rw e' other_spells) in
     search rules

@@ -4,16 +4,16 @@ use Rattle.std.specs.Prelude.{ℤ, ◌≡◌, ◌≢◌, ◌⊎◌, ◌↔◌, �
 use Rattle.semver_parser.specs.Texts.{Text}
 use Rattle.semver_parser.specs.Versions.{VersionValue}
 use Rattle.semver_parser.specs.ToolVersions.{IsVersionTextIn, SpellsIn}
-use Rattle.semver_parser.specs.declared.version.Dialect.{Dialect}
+use Rattle.semver_parser.specs.declared.version.Grammar.{Grammar}
 use Rattle.semver_parser.specs.declared.RangeError.{RangeError}
 use Rattle.semver_parser.specs.declared.RangeError.TheVariants as range_error
-use Rattle.tool_ranges.specs.declared.reading.Reading.{Reading}
+use Rattle.tool_ranges.specs.declared.dialect.Dialect.{Dialect}
 use Rattle.tool_ranges.specs.declared.meaning.Meaning.{Meaning}
-use Rattle.tool_ranges.specs.Readings.{IsTextAs, HasSetAs, IsTooLargeAs}
+use Rattle.tool_ranges.specs.Dialects.{IsTextAs, HasSetAs, IsTooLargeAs}
 use Rattle.semver_parser_c.specs.declared.range_text.TextError.{TextError}
 use Rattle.semver_parser_c.specs.declared.range_text.TextError.TheVariants as text_error
 use Rattle.semver_parser_c.specs.Numbers as number
-use Rattle.semver_parser_c.specs.Readings.{IsDialect, IsNamed, reading_number}
+use Rattle.semver_parser_c.specs.Dialects.{IsGrammar, IsNamed, dialect_number}
 use Rattle.semver_parser_c.specs.Errors.{IsAccepted, IsOneOf, IsReadBy, MayRunOutIn}
 use Rattle.semver_parser_c.specs.Errors.{NewRangeIsRead, RangeIsRead, RefusedIn}
 use Rattle.semver_parser_c.specs.Errors.{RefusesBy, RefusesNewRange, RefusesRange, RefusesText}
@@ -21,9 +21,9 @@ use Rattle.semver_parser_c.specs.Errors.{named_errors, new_range_errors, range_e
 use Rattle.semver_parser_c.specs.Errors.{range_numbers, version_errors}
 
 -- the reading, and no other, has the number
-pub record IsReadingOf (reading : Reading) (n : ℤ) : Type 0 where
-  pub named : n ≡ reading_number reading
-  pub only : (other : Reading) → n ≡ reading_number other → reading ≡ other
+pub record IsDialectOf (dialect : Dialect) (n : ℤ) : Type 0 where
+  pub named : n ≡ dialect_number dialect
+  pub only : (other : Dialect) → n ≡ dialect_number other → dialect ≡ other
 
 -- the meaning, and no other, is named by the numbers
 pub record IsMeaningOf (meaning : Meaning) (n rule : ℤ) : Type 0 where
@@ -31,15 +31,15 @@ pub record IsMeaningOf (meaning : Meaning) (n rule : ℤ) : Type 0 where
   pub only : (other : Meaning) → IsNamed other n rule → meaning ≡ other
 
 -- the text is read
-abbrev pub IsReadable : Reading → Text → Type 0
-IsReadable reading text = IsUtf8 text × HasSetAs reading text × (¬ (IsTooLargeAs reading text))
+abbrev pub IsReadable : Dialect → Text → Type 0
+IsReadable dialect text = IsUtf8 text × HasSetAs dialect text × (¬ (IsTooLargeAs dialect text))
 
 -- the text has the error, or it is read, and memory may run out
-abbrev pub HasError : Reading → Text → TextError → Type 0
-HasError reading text text_error.NotUtf8 = ¬ (IsUtf8 text)
-HasError reading text text_error.NotARange = IsUtf8 text × (¬ (IsTextAs reading text))
-HasError reading text text_error.TooLarge = IsUtf8 text × IsTooLargeAs reading text
-HasError reading text text_error.OutOfMemory = IsReadable reading text
+abbrev pub HasError : Dialect → Text → TextError → Type 0
+HasError dialect text text_error.NotUtf8 = ¬ (IsUtf8 text)
+HasError dialect text text_error.NotARange = IsUtf8 text × (¬ (IsTextAs dialect text))
+HasError dialect text text_error.TooLarge = IsUtf8 text × IsTooLargeAs dialect text
+HasError dialect text text_error.OutOfMemory = IsReadable dialect text
 
 -- the error of a text whose bytes are UTF-8, by that of its range
 abbrev pub text_error_of : RangeError → TextError
@@ -48,35 +48,35 @@ text_error_of range_error.NumberTooLarge = text_error.TooLarge
 text_error_of range_error.OutOfMemory = text_error.OutOfMemory
 
 -- the number is that of an error that the text has, and nothing is read
-pub record IsTold (reading : Reading) (text : Text) (n : ℤ) : Type 0 where
+pub record IsTold (dialect : Dialect) (text : Text) (n : ℤ) : Type 0 where
   pub number : IsOneOf range_errors n
-  pub refusals : RefusesBy range_numbers ⊤ reading text n
-  pub unread : ¬ (IsReadBy range_numbers reading text n)
+  pub refusals : RefusesBy range_numbers ⊤ dialect text n
+  pub unread : ¬ (IsReadBy range_numbers dialect text n)
 
 -- the numbers or the range are refused by the number, and nothing is read
-pub record IsRefused (reading rule : ℤ) (text : Text) (n : ℤ) : Type 0 where
+pub record IsRefused (dialect rule : ℤ) (text : Text) (n : ℤ) : Type 0 where
   pub number : IsOneOf named_errors n
-  pub refusals : RefusesRange reading rule text n
-  pub unread : ¬ (RangeIsRead reading rule text n)
+  pub refusals : RefusesRange dialect rule text n
+  pub unread : ¬ (RangeIsRead dialect rule text n)
 
 -- so of a call that rewrites
-pub record IsTextRefused (reading : ℤ) (text : Text) (n : ℤ) : Type 0 where
+pub record IsTextRefused (dialect : ℤ) (text : Text) (n : ℤ) : Type 0 where
   pub number : IsOneOf (number.no_such_reading ∷ range_errors) n
-  pub refusals : RefusesText reading text n
+  pub refusals : RefusesText dialect text n
 
 -- the numbers or the range are refused by the number, or where they aren't, the version is
-pub record IsUnjudged (reading rule : ℤ) (range version : Text) (n : ℤ) : Type 0 where
+pub record IsUnjudged (dialect rule : ℤ) (range version : Text) (n : ℤ) : Type 0 where
   pub one : IsOneOf (named_errors ++ version_errors) n
   pub found : n ≢ number.range_out_of_memory
-  pub refusals : RefusesRange reading rule range n
-  pub accepted : RangeIsRead reading rule range n → (d : Dialect) → IsDialect d reading
+  pub refusals : RefusesRange dialect rule range n
+  pub accepted : RangeIsRead dialect rule range n → (d : Grammar) → IsGrammar d dialect
       → (v : VersionValue) → IsUtf8 version → SpellsIn d v version → n ≡ number.ok
-  pub not_utf8 : RangeIsRead reading rule range n
+  pub not_utf8 : RangeIsRead dialect rule range n
       → (n ≡ number.version_not_utf8) ↔ ¬ (IsUtf8 version)
-  pub refused : RangeIsRead reading rule range n → (d : Dialect) → IsDialect d reading
+  pub refused : RangeIsRead dialect rule range n → (d : Grammar) → IsGrammar d dialect
       → IsUtf8 version → ¬ (IsVersionTextIn d version) → n ≢ number.version_out_of_memory
       → RefusedIn d version n
-  pub out_of_memory : (d : Dialect) → IsDialect d reading → n ≡ number.version_out_of_memory
+  pub out_of_memory : (d : Grammar) → IsGrammar d dialect → n ≡ number.version_out_of_memory
       → MayRunOutIn d version
 
 -- the result where a range is read
@@ -92,14 +92,14 @@ pub record Stands (IsSo : ℤ → Type 0) : Type 0 where
   pub each : (n : ℤ) → IsOneOf other_numbers n → IsSo n
 
 -- what is read and refused of an old range and of a new one by the number
-pub record TellsBoth (reading rule : ℤ) (old new : Text) (n : ℤ) : Type 0 where
-  pub read : (n ≡ number.ok) ⊎ (n ≡ number.no_room) → RangeIsRead reading rule old n
-      × NewRangeIsRead reading rule new n
-  pub old_range : RefusesRange reading rule old n
-  pub new_range : RefusesNewRange (IsAccepted reading rule old) reading rule new n
+pub record TellsBoth (dialect rule : ℤ) (old new : Text) (n : ℤ) : Type 0 where
+  pub read : (n ≡ number.ok) ⊎ (n ≡ number.no_room) → RangeIsRead dialect rule old n
+      × NewRangeIsRead dialect rule new n
+  pub old_range : RefusesRange dialect rule old n
+  pub new_range : RefusesNewRange (IsAccepted dialect rule old) dialect rule new n
   pub one_memory : n ≢ number.range_out_of_memory
 
 -- the numbers or one of the ranges are refused by the number
-pub record IsEitherRefused (reading rule : ℤ) (old new : Text) (n : ℤ) : Type 0 where
+pub record IsEitherRefused (dialect rule : ℤ) (old new : Text) (n : ℤ) : Type 0 where
   pub number : IsOneOf (named_errors ++ new_range_errors) n
-  pub both : TellsBoth reading rule old new n
+  pub both : TellsBoth dialect rule old new n

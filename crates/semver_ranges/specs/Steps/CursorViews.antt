@@ -15,7 +15,7 @@ use Rattle.semver_ranges.specs.declared.events.Event.TheVariants as event
 use Rattle.semver_ranges.specs.declared.events.Events.{Events}
 use Rattle.semver_ranges.specs.declared.range_set.RangeError.{RangeError}
 use Rattle.semver_ranges.specs.declared.range_set.RangeError.TheVariants.{NotARange}
-use Rattle.semver_texts.specs.declared.dialect.Dialect.{Dialect}
+use Rattle.semver_texts.specs.declared.grammar.Grammar.{Grammar}
 use Rattle.semver_ranges.specs.declared.partial.LowerBounds.{LowerBounds}
 use Rattle.semver_ranges.specs.RangeTree as tree
 use Rattle.semver_ranges.specs.RangeTree.{three}
@@ -93,12 +93,12 @@ HasAfter None after o = o ≡ after
 HasAfter (Some upper) after o =
     (s : tree.Simple) × IsSimpleOf s upper × (o ≡ put (one_simple s) after)
 
-abbrev pub HasLeft : Dialect → Events → Option (List list.Event) → Type 0
+abbrev pub HasLeft : Grammar → Events → Option (List list.Event) → Type 0
 HasLeft d cursor o =
     HasAfter cursor.upper (events_left d cursor.lower cursor.begins_range cursor.rest.now) o
 
 -- the first of the events that are left, and a cursor after it
-abbrev pub IsFirst : Dialect → Option (List list.Event) → Event → Events → Type 0
+abbrev pub IsFirst : Grammar → Option (List list.Event) → Event → Events → Type 0
 IsFirst d o e after =
     (x : list.Event) × (left : Option (List list.Event)) × IsEventOf x e × HasLeft d after left
     × (o ≡ put x left)
@@ -120,7 +120,7 @@ abbrev pub size_left : Events → ℕ
 size_left cursor = size_at cursor.begins_range cursor.rest.now + flag (is_some cursor.upper)
 
 -- the event at the front of a text that is left, and the cursor after it
-abbrev pub TakesEvent : Dialect → LowerBounds → Bool → Text → Option Event → Events → Type 0
+abbrev pub TakesEvent : Grammar → LowerBounds → Bool → Text → Option Event → Events → Type 0
 TakesEvent d lower begins_range t None after = (events_left d lower begins_range t ≡ None)
     × (after.begins_range ≡ false) × (after.upper ≡ None) × (after.rest.now ≡ t)
 TakesEvent d lower begins_range t (Some e) after =
@@ -129,7 +129,7 @@ TakesEvent d lower begins_range t (Some e) after =
 
 -- what `next` gives: the first of the events that are left; an error where the text isn't in the
 -- grammar; None where no event is left
-abbrev pub Gives : Dialect → Option (List list.Event) → Option (Result Event RangeError) → Events
+abbrev pub Gives : Grammar → Option (List list.Event) → Option (Result Event RangeError) → Events
     → Type 0
 Gives d o None after = (o ≡ Some []) × HasLeft d after o
 Gives d o (Some (Ok e)) after = IsFirst d o e after
@@ -139,7 +139,7 @@ abbrev pub given_bytes : Option (Result Event RangeError) → ℕ
 given_bytes (Some (Ok e)) = bytes_of e
 given_bytes _ = 0
 
-abbrev pub NextGives : Dialect → Events → Option (Result Event RangeError) → Events → Type 0
+abbrev pub NextGives : Grammar → Events → Option (Result Event RangeError) → Events → Type 0
 NextGives d before given after =
     ((o : Option (List list.Event)) → HasLeft d before o → Gives d o given after)
     × (length after.rest.now + given_bytes given ≤ length before.rest.now)

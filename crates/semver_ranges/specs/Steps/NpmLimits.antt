@@ -3,7 +3,7 @@ use Rattle.std.specs.Prelude.{◌≡◌, ℕ, ◌+◌, ◌++◌, Bool, ◌&&◌,
 use Rattle.std.specs.List.{list_all}
 use Rattle.semver_ranges.specs.declared.limits.Kind.{Kind}
 use Rattle.semver_ranges.specs.declared.limits.Kind.TheVariants.{Number, PreRelease, Build}
-use Rattle.semver_texts.specs.declared.dialect.Dialect.{Dialect}
+use Rattle.semver_texts.specs.declared.grammar.Grammar.{Grammar}
 use Rattle.semver_texts.specs.Texts.{Text, cut_at_dots, is_empty}
 use Rattle.semver_ranges.specs.RangeTree.{PartialTree, SpellsPartial}
 use Rattle.semver_ranges.specs.Steps.Reading.{after_v}
@@ -26,7 +26,7 @@ abbrev pub marked_length : Text → ℕ
 marked_length t = if is_empty t then 0 else length t + 1
 
 -- a word that ends before a rest, by its partial
-pub record IsBefore (d : Dialect) (p : PartialTree) (text rest : Text) : Type 0 where
+pub record IsBefore (d : Grammar) (p : PartialTree) (text rest : Text) : Type 0 where
   pub back : Text
   pub spelled : SpellsPartial p back
   pub after_is : after_v d text ≡ back ++ rest

@@ -2,7 +2,7 @@
 -- text, from the left to the right.
 use Rattle.std.specs.Prelude.{Bool, true, false, if◌then◌else◌, Option, Some, None, List, []}
 use Rattle.std.specs.Prelude.{◌∷◌, codes}
-use Rattle.semver_texts.specs.declared.dialect.Dialect.{Dialect}
+use Rattle.semver_texts.specs.declared.grammar.Grammar.{Grammar}
 use Rattle.semver_ranges.specs.declared.partial.LowerBounds.{LowerBounds}
 use Rattle.semver_ranges.specs.RangeTree.{bare, one, Simple, RangeTree, empty, hyphen, simples}
 use Rattle.semver_ranges.specs.RangeTree.{SetTree}
@@ -64,24 +64,24 @@ abbrev pub set_events : LowerBounds → Option SetTree → Option (List Event)
 set_events lower None = None
 set_events lower (Some tree) = Some (events_of lower tree)
 
-abbrev pub events : Dialect → LowerBounds → Text → Option (List Event)
+abbrev pub events : Grammar → LowerBounds → Text → Option (List Event)
 events d lower t = set_events lower (read d t)
 
 -- what is left after a range, from its end on
-abbrev pub at_bars : Dialect → LowerBounds → Option Text → Option (List Event)
+abbrev pub at_bars : Grammar → LowerBounds → Option Text → Option (List Event)
 at_bars d lower None = None
 at_bars d lower (Some t) = put next_range (events d lower t)
 
-abbrev pub others_left : Dialect → LowerBounds → Text → Option (List Event)
+abbrev pub others_left : Grammar → LowerBounds → Text → Option (List Event)
 others_left d lower [] = Some []
 others_left d lower (b ∷ t) = at_bars d lower (after_bars (b ∷ t))
 
 -- what is left after simples
-abbrev pub simples_left : Dialect → LowerBounds → Option (List Simple × Text) → Option (List Event)
+abbrev pub simples_left : Grammar → LowerBounds → Option (List Simple × Text) → Option (List Event)
 simples_left d lower None = None
 simples_left d lower (Some (ss, end)) = put_simples ss (others_left d lower end)
 
 -- what is left at the begin of a range, after its blanks, and in a range
-abbrev pub events_left : Dialect → LowerBounds → Bool → Text → Option (List Event)
+abbrev pub events_left : Grammar → LowerBounds → Bool → Text → Option (List Event)
 events_left d lower true t = set_events lower (after_range (read d) (range_here d t))
 events_left d lower false t = simples_left d lower (all_simples d t)

@@ -12,8 +12,8 @@ use Rattle.semver_ranges.specs.RangeTree.{RangeTree, empty, hyphen, simples, Set
 use Rattle.semver_ranges.specs.RangeTree.{Role, after_form, after_hyphen, is_bare, is_wildcard}
 use Rattle.semver_ranges.specs.RangeTree.{is_word_of_npm}
 use Rattle.semver_texts.specs.Texts.{is_part}
-use Rattle.semver_texts.specs.declared.dialect.Dialect.{Dialect}
-use Rattle.semver_texts.specs.declared.dialect.Dialect.TheVariants.{Crate, Cargo, Npm}
+use Rattle.semver_texts.specs.declared.grammar.Grammar.{Grammar}
+use Rattle.semver_texts.specs.declared.grammar.Grammar.TheVariants.{Crate, Cargo, Npm}
 use Rattle.semver_texts.specs.Texts.{Text, begins_with, is_dot, is_dotted_byte}
 
 -- the longest front whose bytes pass, and what is left
@@ -26,7 +26,7 @@ back p [] = []
 back p (b ∷ t) = if p b then back p t else b ∷ t
 
 -- what follows the blanks at the front
-abbrev pub after_blanks : Dialect → Text → Text
+abbrev pub after_blanks : Grammar → Text → Text
 after_blanks d t = back (is_blank d) t
 
 -- whether a word or a range ends here: at the end of the text, at a bar, and a word at a blank
@@ -37,7 +37,7 @@ abbrev pub ends_range : Text → Bool
 ends_range [] = true
 ends_range (b ∷ t) = is_bar b
 
-abbrev pub ends_word : Dialect → Text → Bool
+abbrev pub ends_word : Grammar → Text → Bool
 ends_word d [] = true
 ends_word d (b ∷ t) = is_blank d b || is_bar b
 
@@ -105,44 +105,44 @@ with_first None = None
 with_first (Some found) = after_one found.0 found.1
 
 -- what follows one `v`, to npm; and whether a partial is read of a word of so many bytes
-abbrev pub after_v : Dialect → Text → Text
+abbrev pub after_v : Grammar → Text → Text
 after_v Crate t = t
 after_v Cargo t = t
 after_v Npm [] = []
 after_v Npm (b ∷ t) = if b == code "v" then t else b ∷ t
 
-abbrev pub takes : Dialect → Role → PartialTree → ℕ → Bool
+abbrev pub takes : Grammar → Role → PartialTree → ℕ → Bool
 takes Crate role p n = true
 takes Cargo role p n = true
 takes Npm role p n = is_word_of_npm role p n
 
 -- a partial, up to the end of its word, at the front of a text of so many bytes
-abbrev pub whole_word : Dialect → Role → ℕ → Option (PartialTree × Text)
+abbrev pub whole_word : Grammar → Role → ℕ → Option (PartialTree × Text)
     → Option (PartialTree × Text)
 whole_word d role n None = None
 whole_word d role n (Some found) =
     if takes d role found.0 (n - length found.1) && ends_word d found.1 then Some found else None
 
-abbrev pub partial : Dialect → Role → Text → Option (PartialTree × Text)
+abbrev pub partial : Grammar → Role → Text → Option (PartialTree × Text)
 partial d role t = whole_word d role (length t) (with_first (component (after_v d t)))
 
 -- the operator at the front of a text, and what follows it and its blanks
-abbrev pub after_less : Dialect → Text → Form × Text
+abbrev pub after_less : Grammar → Text → Form × Text
 after_less d [] = (less, [])
 after_less d (b ∷ t) =
     if b == code "=" then (at_most, after_blanks d t) else (less, after_blanks d (b ∷ t))
 
-abbrev pub after_greater : Dialect → Text → Form × Text
+abbrev pub after_greater : Grammar → Text → Form × Text
 after_greater d [] = (greater, [])
 after_greater d (b ∷ t) =
     if b == code "=" then (at_least, after_blanks d t) else (greater, after_blanks d (b ∷ t))
 
-abbrev pub after_tilde : Dialect → Text → Form × Text
+abbrev pub after_tilde : Grammar → Text → Form × Text
 after_tilde d [] = (tilde, [])
 after_tilde d (b ∷ t) =
     if b == code ">" then (tilde, after_blanks d t) else (tilde, after_blanks d (b ∷ t))
 
-abbrev pub operator : Dialect → Text → Form × Text
+abbrev pub operator : Grammar → Text → Form × Text
 operator d [] = (bare, [])
 operator d (b ∷ t) =
     if b == code "=" then (equal, after_blanks d t)
@@ -153,12 +153,12 @@ operator d (b ∷ t) =
     else (bare, b ∷ t)))))
 
 -- a simple, and what follows it and the blanks after it
-abbrev pub with_form : Dialect → Form → Option (PartialTree × Text) → Option (Simple × Text)
+abbrev pub with_form : Grammar → Form → Option (PartialTree × Text) → Option (Simple × Text)
 with_form d form None = None
 with_form d form (Some found) =
     Some (record { form = form; partial = found.0 }, after_blanks d found.1)
 
-abbrev pub simple : Dialect → Text → Option (Simple × Text)
+abbrev pub simple : Grammar → Text → Option (Simple × Text)
 simple d t =
     with_form d (operator d t).0 (partial d (after_form (operator d t).0) (operator d t).1)
 
@@ -172,22 +172,22 @@ abbrev pub after_simple : (Text → Option (List Simple × Text)) → Option (Si
 after_simple others None = None
 after_simple others (Some found) = put_before found.0 (others found.1)
 
-abbrev pub some_simples : Dialect → ℕ → Text → Option (List Simple × Text)
+abbrev pub some_simples : Grammar → ℕ → Text → Option (List Simple × Text)
 some_simples d zero t = None
 some_simples d (suc n) t =
     if ends_range t then Some ([], t) else after_simple (some_simples d n) (simple d t)
 
-abbrev pub all_simples : Dialect → Text → Option (List Simple × Text)
+abbrev pub all_simples : Grammar → Text → Option (List Simple × Text)
 all_simples d t = some_simples d (suc (length t)) t
 
 -- the right side of a hyphen range, from the hyphen on, and what follows it and the blanks after
 -- it
-abbrev pub range_end : Dialect → Option (PartialTree × Text) → Option (PartialTree × Text)
+abbrev pub range_end : Grammar → Option (PartialTree × Text) → Option (PartialTree × Text)
 range_end d None = None
 range_end d (Some found) =
     if ends_range (after_blanks d found.1) then Some (found.0, after_blanks d found.1) else None
 
-abbrev pub right_side : Dialect → Text → Option (PartialTree × Text)
+abbrev pub right_side : Grammar → Text → Option (PartialTree × Text)
 right_side d [] = None
 right_side d (dash ∷ []) = None
 right_side d (dash ∷ blank ∷ t) =
@@ -206,17 +206,17 @@ abbrev pub with_others : Simple → Option (List Simple × Text) → Option (Ran
 with_others s None = None
 with_others s (Some found) = Some (simples s found.0, found.1)
 
-abbrev pub after_first : Dialect → Option (Simple × Text) → Option (RangeTree × Text)
+abbrev pub after_first : Grammar → Option (Simple × Text) → Option (RangeTree × Text)
 after_first d None = None
 after_first d (Some found) =
     if begins_with (code "-") found.1 then with_right found.0 (right_side d found.1)
     else with_others found.0 (all_simples d found.1)
 
 -- a range and what follows it
-abbrev pub range_here : Dialect → Text → Option (RangeTree × Text)
+abbrev pub range_here : Grammar → Text → Option (RangeTree × Text)
 range_here d t = if ends_range t then Some (empty, t) else after_first d (simple d t)
 
-abbrev pub range : Dialect → Text → Option (RangeTree × Text)
+abbrev pub range : Grammar → Text → Option (RangeTree × Text)
 range d t = range_here d (after_blanks d t)
 
 -- what follows two bars
@@ -240,10 +240,10 @@ after_range others None = None
 after_range others (Some (r, [])) = Some (r ∷ [])
 after_range others (Some (r, b ∷ t)) = more_ranges others r (after_bars (b ∷ t))
 
-abbrev pub some_ranges : Dialect → ℕ → Text → Option SetTree
+abbrev pub some_ranges : Grammar → ℕ → Text → Option SetTree
 some_ranges d zero t = None
 some_ranges d (suc n) t = after_range (some_ranges d n) (range d t)
 
 -- the tree that a text spells
-abbrev pub read : Dialect → Text → Option SetTree
+abbrev pub read : Grammar → Text → Option SetTree
 read d t = some_ranges d (suc (length t)) t

@@ -11,8 +11,8 @@ use Rattle.semver_texts.specs.Texts.{marked}
 use Rattle.semver_texts.specs.ToolVersions.{IsKeptAs, IsVersionTextIn, is_white_space}
 use Rattle.semver_texts.specs.VersionGrammar.{IsIdentifierText}
 use Rattle.semver_texts.specs.Versions.{VersionValue, numbers}
-use Rattle.semver_texts.specs.declared.dialect.Dialect.{Dialect}
-use Rattle.semver_texts.specs.declared.dialect.Dialect.TheVariants.{Crate, Cargo, Npm}
+use Rattle.semver_texts.specs.declared.grammar.Grammar.{Grammar}
+use Rattle.semver_texts.specs.declared.grammar.Grammar.TheVariants.{Crate, Cargo, Npm}
 use Rattle.semver_texts.specs.declared.dotted.Hyphens.{Hyphens}
 use Rattle.semver_texts.specs.declared.dotted.Hyphens.TheVariants.{Any, BetweenRuns}
 use Rattle.semver_versions.specs.Outlines.{OutlineValue, IsOutlineIn, after_mark, outline_after}
@@ -20,39 +20,39 @@ use Rattle.semver_versions.specs.Outlines.{OutlineValue, IsOutlineIn, after_mark
 -- ---- what differs by dialect
 
 -- whether these are the bytes of one character that may be before and after a version
-abbrev pub is_around : Dialect → Text → Bool
+abbrev pub is_around : Grammar → Text → Bool
 is_around Crate (b ∷ []) = is_space b
 is_around Crate _ = false
 is_around Cargo _ = false
 is_around Npm character = is_white_space character
 
 -- the sign between them and the rest, if there is one: npm takes one `v`
-abbrev pub IsSign : Dialect → Text → Text → Type 0
+abbrev pub IsSign : Grammar → Text → Text → Type 0
 IsSign Crate sign rest = sign ≡ []
 IsSign Cargo sign rest = sign ≡ []
 IsSign Npm sign rest =
     (sign ≡ codes "v") ⊎ ((sign ≡ []) × (slice_index rest 0 ≢ code "v"))
 
 -- the numbers are within the limit
-abbrev pub NumbersFit : Dialect → ℕ → ℕ → ℕ → Type 0
+abbrev pub NumbersFit : Grammar → ℕ → ℕ → ℕ → Type 0
 NumbersFit Crate major minor patch = Unit {0}
 NumbersFit Cargo major minor patch = Unit {0}
 NumbersFit Npm major minor patch = (major < 2 ^ 53) × (minor < 2 ^ 53) × (patch < 2 ^ 53)
 
 -- so many characters are within the limit
-abbrev pub IsShort : Dialect → ℕ → Type 0
+abbrev pub IsShort : Grammar → ℕ → Type 0
 IsShort Crate count = Unit {0}
 IsShort Cargo count = Unit {0}
 IsShort Npm count = count ≤ 256
 
 -- which hyphens an identifier may have
-abbrev pub hyphens_of : Dialect → Hyphens
+abbrev pub hyphens_of : Grammar → Hyphens
 hyphens_of Crate = BetweenRuns
 hyphens_of Cargo = Any
 hyphens_of Npm = Any
 
 -- the identifiers of a pre-release may begin with zeros so
-abbrev pub ZerosFit : Dialect → List Text → Type 0
+abbrev pub ZerosFit : Grammar → List Text → Type 0
 ZerosFit Crate texts = Unit {0}
 ZerosFit Cargo texts = IsTrue (list_all has_no_leading_zero texts)
 ZerosFit Npm texts = IsTrue (list_all has_no_leading_zero texts)
@@ -60,22 +60,22 @@ ZerosFit Npm texts = IsTrue (list_all has_no_leading_zero texts)
 -- ---- what is around a version
 
 -- any number of characters that may be there
-pub record AreAround (dialect : Dialect) (text : Text) : Type 0 where
+pub record AreAround (grammar : Grammar) (text : Text) : Type 0 where
   pub each : List Text
-  pub are : IsTrue (list_all (is_around dialect) each)
+  pub are : IsTrue (list_all (is_around grammar) each)
   pub whole : text ≡ concat each
 
 -- how many bytes the character at the front has, if it may be there; else 0
-abbrev pub around_size : Dialect → Text → ℕ
-around_size dialect text = if is_around dialect (take 1 text) then 1
-    else (if is_around dialect (take 2 text) then 2
-    else if is_around dialect (take 3 text) then 3 else 0)
+abbrev pub around_size : Grammar → Text → ℕ
+around_size grammar text = if is_around grammar (take 1 text) then 1
+    else (if is_around grammar (take 2 text) then 2
+    else if is_around grammar (take 3 text) then 3 else 0)
 
 -- the rest follows all that is taken before the numbers
-abbrev pub IsBefore : Dialect → Text → Text → Type 0
-IsBefore dialect text rest = (spaces : Text) × (sign : Text) × AreAround dialect spaces
-    × IsSign dialect sign rest × (text ≡ spaces ++ (sign ++ rest))
-    × (around_size dialect (sign ++ rest) ≡ 0)
+abbrev pub IsBefore : Grammar → Text → Text → Type 0
+IsBefore grammar text rest = (spaces : Text) × (sign : Text) × AreAround grammar spaces
+    × IsSign grammar sign rest × (text ≡ spaces ++ (sign ++ rest))
+    × (around_size grammar (sign ++ rest) ≡ 0)
 
 -- ---- what follows the numbers
 
@@ -90,12 +90,12 @@ AreIdentifiers BetweenRuns texts = AllByRecursion IsIdentifierText texts
 
 -- the identifiers of a pre-release and those of a build, each with its mark, and what may be after
 -- a version
-pub record AreParts (dialect : Dialect) (text pre build : Text) : Type 0 where
+pub record AreParts (grammar : Grammar) (text pre build : Text) : Type 0 where
   pub after : Text
-  pub pre_each : AreIdentifiers (hyphens_of dialect) (cut_at_dots pre)
-  pub build_each : AreIdentifiers (hyphens_of dialect) (cut_at_dots build)
-  pub zeros : ZerosFit dialect (cut_at_dots pre)
-  pub around : AreAround dialect after
+  pub pre_each : AreIdentifiers (hyphens_of grammar) (cut_at_dots pre)
+  pub build_each : AreIdentifiers (hyphens_of grammar) (cut_at_dots build)
+  pub zeros : ZerosFit grammar (cut_at_dots pre)
+  pub around : AreAround grammar after
   pub split : text
       ≡ marked (codes "-") (cut_at_dots pre) ++ (marked (codes "+") (cut_at_dots build) ++ after)
 
@@ -115,30 +115,30 @@ outline_with major minor patch numbers_end pre build = record {
 
 -- the text begins with the numbers of the version, and goes on with its identifiers and with what
 -- may be after it
-pub record IsRead (dialect : Dialect) (v : VersionValue) (text : Text) : Type 0 where
+pub record IsRead (grammar : Grammar) (v : VersionValue) (text : Text) : Type 0 where
   pub pre_texts : List Text
   pub build_texts : List Text
   pub after : Text
   pub major : v.plain.major < 2 ^ 64
   pub minor : v.plain.minor < 2 ^ 64
   pub patch : v.plain.patch < 2 ^ 64
-  pub fits : NumbersFit dialect v.plain.major v.plain.minor v.plain.patch
+  pub fits : NumbersFit grammar v.plain.major v.plain.minor v.plain.patch
   pub pre : AllZip IsKeptAs v.plain.pre pre_texts
-  pub pre_each : AreIdentifiers (hyphens_of dialect) pre_texts
-  pub zeros : ZerosFit dialect pre_texts
+  pub pre_each : AreIdentifiers (hyphens_of grammar) pre_texts
+  pub zeros : ZerosFit grammar pre_texts
   pub build : AllZip IsKeptAs v.build build_texts
-  pub build_each : AreIdentifiers (hyphens_of dialect) build_texts
-  pub around : AreAround dialect after
+  pub build_each : AreIdentifiers (hyphens_of grammar) build_texts
+  pub around : AreAround grammar after
   pub whole : text ≡ join_with_byte (code ".") (map decimal (numbers v.plain))
       ++ (marked (codes "-") pre_texts ++ (marked (codes "+") build_texts ++ after))
 
 -- the outline of a version that is read so after so many bytes, or none where there is none
-abbrev pub IsOutlinedAt : Dialect → ℕ → Text → Option OutlineValue → Type 0
-IsOutlinedAt dialect before text None = (v : VersionValue) → ¬ (IsRead dialect v text)
-IsOutlinedAt dialect before text (Some o) =
-    (v : VersionValue) × IsRead dialect v text × (o ≡ outline_after before v)
+abbrev pub IsOutlinedAt : Grammar → ℕ → Text → Option OutlineValue → Type 0
+IsOutlinedAt grammar before text None = (v : VersionValue) → ¬ (IsRead grammar v text)
+IsOutlinedAt grammar before text (Some o) =
+    (v : VersionValue) × IsRead grammar v text × (o ≡ outline_after before v)
 
 -- the outline of a version that the text spells, or none where it spells none
-abbrev pub IsOutlinedBy : Dialect → Text → Option OutlineValue → Type 0
-IsOutlinedBy dialect text None = ¬ (IsVersionTextIn dialect text)
-IsOutlinedBy dialect text (Some o) = IsOutlineIn dialect text o
+abbrev pub IsOutlinedBy : Grammar → Text → Option OutlineValue → Type 0
+IsOutlinedBy grammar text None = ¬ (IsVersionTextIn grammar text)
+IsOutlinedBy grammar text (Some o) = IsOutlineIn grammar text o

@@ -6,8 +6,8 @@ use Rattle.std.specs.Cmp.Lexicographic.{pointwise}
 use Rattle.std.specs.List.{list_all, list_any}
 use Rattle.semver_texts.specs.Texts.{Text, cut_at_dots, is_empty}
 use Rattle.semver_texts.specs.Versions.{PlainVersion, numbers}
-use Rattle.semver_texts.specs.declared.dialect.Dialect.{Dialect}
-use Rattle.semver_texts.specs.declared.dialect.Dialect.TheVariants as dialect
+use Rattle.semver_texts.specs.declared.grammar.Grammar.{Grammar}
+use Rattle.semver_texts.specs.declared.grammar.Grammar.TheVariants as grammar
 use Rattle.semver_ranges.specs.declared.partial.LowerBounds.{LowerBounds}
 use Rattle.semver_ranges.specs.declared.partial.LowerBounds.TheVariants as lower
 use Rattle.semver_ranges.specs.declared.partial.Partial.{Partial}
@@ -53,10 +53,10 @@ states_at p v = not (is_empty (version_of p).pre) && pointwise nat_eq (numbers v
 -- ---- ranges
 
 -- the dialect of a text, and how the left side of a hyphen range begins
-abbrev pub dialect_of : Terms → Dialect
-dialect_of Npm = dialect.Npm
-dialect_of NpmAll = dialect.Npm
-dialect_of (Crate mode) = dialect.Crate
+abbrev pub grammar_of : Terms → Grammar
+grammar_of Npm = grammar.Npm
+grammar_of NpmAll = grammar.Npm
+grammar_of (Crate mode) = grammar.Crate
 
 abbrev pub lower_of : Terms → LowerBounds
 lower_of Npm = lower.Stated
@@ -117,15 +117,15 @@ range_every terms r = list_all (λ s. npm.asks_nothing (of_simple s)) (yielded (
 
 -- what the text says: a range of it is met, and some range asks nothing
 abbrev pub Says : Terms → PlainVersion → Bool → Text → Tally → Type 0
-Says terms v counts t tally = (tree : SetTree) × (read (dialect_of terms) t ≡ Some tree)
+Says terms v counts t tally = (tree : SetTree) × (read (grammar_of terms) t ≡ Some tree)
     × IsTrue (fits_by (term_fits terms) tree)
     × (tally.met ≡ list_any (range_met terms v counts) tree)
     × (tally.every ≡ list_any (range_every terms) tree)
 
 -- why it says nothing
 abbrev pub Refuses : Terms → Text → RangeError → Type 0
-Refuses terms t NotARange = read (dialect_of terms) t ≡ None
-Refuses terms t NumberTooLarge = (tree : SetTree) × (read (dialect_of terms) t ≡ Some tree)
+Refuses terms t NotARange = read (grammar_of terms) t ≡ None
+Refuses terms t NumberTooLarge = (tree : SetTree) × (read (grammar_of terms) t ≡ Some tree)
     × (fits_by (term_fits terms) tree ≡ false)
 Refuses terms t OutOfMemory = ⊥
 

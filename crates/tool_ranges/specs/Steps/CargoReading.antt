@@ -4,7 +4,7 @@ use Prim.Native.Char.{code}
 use Rattle.std.specs.Prelude.{◌≡◌, Bool, true, false, ◌&&◌, ◌==◌, if◌then◌else◌, Option, Some}
 use Rattle.std.specs.Prelude.{None, List, [], ◌∷◌, map, IsTrue, Result, Ok, Err}
 use Rattle.std.specs.Borrow.{Bor}
-use Rattle.semver_texts.specs.declared.dialect.Dialect.TheVariants as dialect
+use Rattle.semver_texts.specs.declared.grammar.Grammar.TheVariants as grammar
 use Rattle.semver_ranges.specs.declared.range_set.RangeSet.{RangeSet}
 use Rattle.semver_ranges.specs.declared.range_set.RangeError.{RangeError}
 use Rattle.semver_ranges.specs.declared.range_set.RangeError.TheVariants.{NotARange, NumberTooLarge}
@@ -35,7 +35,7 @@ at_end s [] = Some (s, None)
 at_end s (b ∷ t) = if b == code "," then Some (s, Some t) else None
 
 abbrev pub if_read : Simple → Text → Option (Simple × Option Text)
-if_read s t = if is_of_cargo s then at_end s (after_blanks dialect.Cargo t) else None
+if_read s t = if is_of_cargo s then at_end s (after_blanks grammar.Cargo t) else None
 
 abbrev pub with_operator : Form → Option (PartialTree × Text) → Option (Simple × Option Text)
 with_operator form None = None
@@ -44,11 +44,11 @@ with_operator form (Some found) = if_read (record { form = form; partial = found
 abbrev pub comparator_here : Text → Option (Simple × Option Text)
 comparator_here t =
     if begins_with_tilde_greater t then None
-    else with_operator (operator dialect.Cargo t).0
-    (with_first (component (operator dialect.Cargo t).1))
+    else with_operator (operator grammar.Cargo t).0
+    (with_first (component (operator grammar.Cargo t).1))
 
 abbrev pub comparator_at : Text → Option (Simple × Option Text)
-comparator_at t = comparator_here (after_blanks dialect.Cargo t)
+comparator_at t = comparator_here (after_blanks grammar.Cargo t)
 
 -- what is after a comma, where one is there
 abbrev pub after_comma : Option (Bor Text) → Option Text

@@ -5,11 +5,11 @@ use Rattle.std.specs.Prelude.{◌++◌, codes, List, [], ◌∷◌}
 use Rattle.semver_texts.specs.Texts.{Text}
 use Rattle.tool_ranges.specs.declared.place.Wanted.{Wanted}
 use Rattle.tool_ranges.specs.declared.place.Wanted.TheVariants as wanted
-use Rattle.tool_ranges.specs.declared.reading.Reading.{Reading}
-use Rattle.tool_ranges.specs.Readings.{HasSetAs, IsTextAs}
+use Rattle.tool_ranges.specs.declared.dialect.Dialect.{Dialect}
+use Rattle.tool_ranges.specs.Dialects.{HasSetAs, IsTextAs}
 
 -- what is wanted of a text: to be a range text, or one that has a set
-abbrev pub IsWanted : Wanted → Reading → Text → Type 0
+abbrev pub IsWanted : Wanted → Dialect → Text → Type 0
 IsWanted wanted.Any = IsTextAs
 IsWanted wanted.Fitting = HasSetAs
 
@@ -21,8 +21,8 @@ rests wanted.Fitting = codes "" ∷ codes "*" ∷ codes "a" ∷ codes ".0" ∷ c
     ∷ codes "0.*" ∷ codes ".0.*" ∷ codes "|" ∷ codes " 1" ∷ codes " - 1" ∷ codes "* - 1"
     ∷ codes "a - 1" ∷ []
 
-abbrev pub BeginsBy : Wanted → Reading → Text → Type 0
-BeginsBy wanted reading t = (rest : Text) × IsWanted wanted reading (t ++ rest)
+abbrev pub BeginsBy : Wanted → Dialect → Text → Type 0
+BeginsBy wanted dialect t = (rest : Text) × IsWanted wanted dialect (t ++ rest)
 
-abbrev pub GoesOnBy : Wanted → Reading → Text → Type 0
-GoesOnBy wanted reading t = Any (λ rest. IsWanted wanted reading (t ++ rest)) (rests wanted)
+abbrev pub GoesOnBy : Wanted → Dialect → Text → Type 0
+GoesOnBy wanted dialect t = Any (λ rest. IsWanted wanted dialect (t ++ rest)) (rests wanted)

@@ -7,8 +7,8 @@ ghost use Rattle.semver_ranges.specs.Steps.CursorViews.{IsSimpleOf};
 ghost use Rattle.tool_ranges.specs.AllPreReleases.{meets_requirement_with_all};
 ghost use Rattle.tool_ranges.specs.CargoGrammar.{SpellsRequirement};
 ghost use Rattle.tool_ranges.specs.CargoMeaning.{meets_requirement};
-ghost use Rattle.tool_ranges.specs.Readings.{RefusesAs};
-ghost use Rattle.tool_ranges.specs.declared.reading.Reading.TheVariants as reading;
+ghost use Rattle.tool_ranges.specs.Dialects.{RefusesAs};
+ghost use Rattle.tool_ranges.specs.declared.dialect.Dialect.TheVariants as dialect;
 ghost use Rattle.tool_ranges.specs.Steps.Asking.{RefusesRequired, SaysRequired};
 ghost use Rattle.tool_ranges.specs.Steps.Asking.{asked_of, comparator_met};
 ghost use Rattle.tool_ranges.specs.ToolTable.{fits_in};
@@ -24,7 +24,7 @@ use semver_ranges::{Compat, RangeError};
 /// Whether the requirement means a version, by Cargo's rule for pre-releases.
 #[inline(always)]
 pub(crate) fn ask(requirement: &str, version: &Asked<'_>) -> Result<bool, RangeError>
-    ensures refusals { RefusesAs reading.Cargo requirement.now result }
+    ensures refusals { RefusesAs dialect.Cargo requirement.now result }
     ensures no_memory { result ≢ Err RangeError.OutOfMemory }
     ensures meaning { IfOk result (λ met. (tree : List SimpleTree)
         → SpellsRequirement tree requirement.now
@@ -36,7 +36,7 @@ pub(crate) fn ask(requirement: &str, version: &Asked<'_>) -> Result<bool, RangeE
 /// The same, where each pre-release within the bounds of the requirement counts.
 #[inline(always)]
 pub(crate) fn ask_with_all(requirement: &str, version: &Asked<'_>) -> Result<bool, RangeError>
-    ensures refusals { RefusesAs reading.Cargo requirement.now result }
+    ensures refusals { RefusesAs dialect.Cargo requirement.now result }
     ensures no_memory { result ≢ Err RangeError.OutOfMemory }
     ensures meaning { IfOk result (λ met. (tree : List SimpleTree)
         → SpellsRequirement tree requirement.now

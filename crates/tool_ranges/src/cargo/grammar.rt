@@ -14,7 +14,7 @@ ghost use Rattle.tool_ranges.specs.Steps.CargoReading.{begins_with_tilde_greater
 
 use semver_ranges::grammar::{Form, Simple, after_blanks, read_components, read_operator};
 use semver_ranges::partial::{Component, Components, Partial};
-use semver_texts::dialect::Dialect;
+use semver_texts::grammar::Grammar;
 use semver_texts::dotted::have_no_leading_zeros;
 
 /// The comparator at the front of a text, up to a comma or the end, and what follows the comma. One
@@ -23,11 +23,11 @@ use semver_texts::dotted::have_no_leading_zeros;
 pub(crate) fn read_comparator(text: &[u8]) -> Option<(Simple<'_>, Option<&[u8]>)>
     ensures { FindsComparator (comparator_at text.now) result }
 {
-    let text = after_blanks(text, Dialect::Cargo);
+    let text = after_blanks(text, Grammar::Cargo);
     if begins_with_tilde_greater(text) {
         return None;
     }
-    let (form, text) = read_operator(text, Dialect::Cargo);
+    let (form, text) = read_operator(text, Grammar::Cargo);
     let (written, rest) = read_components(text)?;
     if !is_read(form, &written) {
         return None;
@@ -36,7 +36,7 @@ pub(crate) fn read_comparator(text: &[u8]) -> Option<(Simple<'_>, Option<&[u8]>)
         form: named(form, has_wildcard(&written)),
         partial: Partial::new(written.major, written.minor, written.patch, written.pre),
     };
-    match after_blanks(rest, Dialect::Cargo) {
+    match after_blanks(rest, Grammar::Cargo) {
         [] => Some((simple, None)),
         [b',', after @ ..] => Some((simple, Some(after))),
         _ => None,

@@ -12,8 +12,8 @@ ghost use Rattle.version_sets.specs.VersionSets.{has, Fits};
 ghost use Rattle.tool_ranges.specs.CargoGrammar.{SpellsRequirement};
 ghost use Rattle.tool_ranges.specs.AllPreReleases.{meets_requirement_with_all};
 ghost use Rattle.tool_ranges.specs.CargoMeaning.{meets_requirement};
-ghost use Rattle.tool_ranges.specs.Readings.{RefusesAs};
-ghost use Rattle.tool_ranges.specs.declared.reading.Reading.TheVariants as reading;
+ghost use Rattle.tool_ranges.specs.Dialects.{RefusesAs};
+ghost use Rattle.tool_ranges.specs.declared.dialect.Dialect.TheVariants as dialect;
 ghost use Rattle.tool_ranges.specs.declared.cargo.judging.JudgedVersions.TheVariants as judged;
 ghost use Rattle.tool_ranges.specs.Steps.CargoPreReleases.{counting, counting_one, judging};
 ghost use Rattle.tool_ranges.specs.Steps.CargoReading.{IsSurveyedAs};
@@ -40,7 +40,7 @@ use version_sets::{PreReleases, VersionSet};
 /// place of a set alone.
 pub fn read(alloc: Global, requirement: &str) -> Result<VersionSet, RangeError>
     // What isn't a requirement and what is too large is refused, exactly; all else is read.
-    ensures refusals { RefusesAs reading.Cargo requirement.now result }
+    ensures refusals { RefusesAs dialect.Cargo requirement.now result }
     // A version is in the set exactly if the requirement means it.
     ensures meaning { IfOk result (λ set. (tree : List SimpleTree) (v : PlainVersion)
         → SpellsRequirement tree requirement.now → Fits v
@@ -60,7 +60,7 @@ pub fn read(alloc: Global, requirement: &str) -> Result<VersionSet, RangeError>
 
 /// The same, where each pre-release counts that lies within the bounds of the requirement.
 pub(crate) fn read_with_all(alloc: Global, requirement: &str) -> Result<VersionSet, RangeError>
-    ensures refusals { RefusesAs reading.Cargo requirement.now result }
+    ensures refusals { RefusesAs dialect.Cargo requirement.now result }
     ensures meaning { IfOk result (λ set. (tree : List SimpleTree) (v : PlainVersion)
         → SpellsRequirement tree requirement.now → Fits v
         → has set v ≡ meets_requirement_with_all tree v) }

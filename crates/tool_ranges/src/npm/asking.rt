@@ -5,8 +5,8 @@ ghost use Rattle.semver_ranges.specs.RangeTree.{SetTree};
 ghost use Rattle.tool_ranges.specs.AllPreReleases.{meets_npm_with_all};
 ghost use Rattle.tool_ranges.specs.NpmGrammar.{SpellsNpm};
 ghost use Rattle.tool_ranges.specs.NpmMeaning.{meets_npm};
-ghost use Rattle.tool_ranges.specs.Readings.{RefusesAs};
-ghost use Rattle.tool_ranges.specs.declared.reading.Reading.TheVariants as reading;
+ghost use Rattle.tool_ranges.specs.Dialects.{RefusesAs};
+ghost use Rattle.tool_ranges.specs.declared.dialect.Dialect.TheVariants as dialect;
 ghost use Rattle.tool_ranges.specs.Steps.Asking.{asked_of};
 
 use super::may_stand;
@@ -17,7 +17,7 @@ use semver_ranges::RangeError;
 /// Whether the text means a version, by npm's rule for pre-releases.
 #[inline(always)]
 pub(crate) fn ask(range: &str, version: &Asked<'_>) -> Result<bool, RangeError>
-    ensures refusals { RefusesAs reading.Npm range.now result }
+    ensures refusals { RefusesAs dialect.Npm range.now result }
     ensures no_memory { result ≢ Err RangeError.OutOfMemory }
     ensures meaning { IfOk result (λ met. (tree : SetTree) → SpellsNpm tree range.now
         → met ≡ meets_npm tree (asked_of version.now)) }
@@ -35,7 +35,7 @@ pub(crate) fn ask(range: &str, version: &Asked<'_>) -> Result<bool, RangeError>
 /// The same, where each pre-release within the bounds of a range counts.
 #[inline(always)]
 pub(crate) fn ask_with_all(range: &str, version: &Asked<'_>) -> Result<bool, RangeError>
-    ensures refusals { RefusesAs reading.Npm range.now result }
+    ensures refusals { RefusesAs dialect.Npm range.now result }
     ensures no_memory { result ≢ Err RangeError.OutOfMemory }
     ensures meaning { IfOk result (λ met. (tree : SetTree) → SpellsNpm tree range.now
         → met ≡ meets_npm_with_all tree (asked_of version.now)) }

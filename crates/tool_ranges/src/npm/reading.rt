@@ -10,8 +10,8 @@ ghost use Rattle.version_sets.specs.VersionSets.{has, Fits};
 ghost use Rattle.tool_ranges.specs.NpmGrammar.{SpellsNpm};
 ghost use Rattle.tool_ranges.specs.AllPreReleases.{meets_npm_with_all};
 ghost use Rattle.tool_ranges.specs.NpmMeaning.{meets_npm};
-ghost use Rattle.tool_ranges.specs.Readings.{RefusesAs};
-ghost use Rattle.tool_ranges.specs.declared.reading.Reading.TheVariants as reading;
+ghost use Rattle.tool_ranges.specs.Dialects.{RefusesAs};
+ghost use Rattle.tool_ranges.specs.declared.dialect.Dialect.TheVariants as dialect;
 ghost use Rattle.tool_ranges.specs.Steps.NpmReading.{has_no_other, is_from_zero};
 ghost use Rattle.tool_ranges.specs.Steps.NpmReading.{is_meant, others_in};
 
@@ -38,7 +38,7 @@ use version_sets::{PreReleases, VersionSet};
 /// `OutOfMemory` comes only in place of a set.
 pub fn read(alloc: Global, range: &str) -> Result<VersionSet, RangeError>
     // What isn't in npm's grammar and what is too large is refused, exactly; all else is read.
-    ensures refusals { RefusesAs reading.Npm range.now result }
+    ensures refusals { RefusesAs dialect.Npm range.now result }
     // A version is in the set exactly if the text means it.
     ensures meaning { IfOk result (λ set. (tree : SetTree) (v : PlainVersion)
         → SpellsNpm tree range.now → Fits v → has set v ≡ meets_npm tree v) }
@@ -58,7 +58,7 @@ pub fn read(alloc: Global, range: &str) -> Result<VersionSet, RangeError>
 /// The same, where each pre-release counts that lies within the bounds of a range: to npm this is
 /// `includePrerelease`.
 pub(crate) fn read_with_all(alloc: Global, range: &str) -> Result<VersionSet, RangeError>
-    ensures refusals { RefusesAs reading.Npm range.now result }
+    ensures refusals { RefusesAs dialect.Npm range.now result }
     ensures meaning { IfOk result (λ set. (tree : SetTree) (v : PlainVersion)
         → SpellsNpm tree range.now → Fits v → has set v ≡ meets_npm_with_all tree v) }
     ensures printable { IfOk result IsPrintable }

@@ -7,8 +7,8 @@ use Rattle.std.specs.Char.{is_ascii_alphanumeric, is_ascii_digit}
 use Rattle.std.specs.Int.{is_in_range}
 use Rattle.semver_texts.specs.Texts.{Text, is_space}
 use Rattle.semver_texts.specs.ToolVersions.{characters, goes_on}
-use Rattle.semver_texts.specs.declared.dialect.Dialect.{Dialect}
-use Rattle.semver_texts.specs.declared.dialect.Dialect.TheVariants.{Crate, Cargo, Npm}
+use Rattle.semver_texts.specs.declared.grammar.Grammar.{Grammar}
+use Rattle.semver_texts.specs.declared.grammar.Grammar.TheVariants.{Crate, Cargo, Npm}
 use Rattle.version_fronts.specs.declared.scanner.Scanner.{Scanner}
 use Rattle.version_fronts.specs.declared.states.Part.{Part}
 use Rattle.version_fronts.specs.declared.states.Part.TheVariants.{NotBegun, Zero, LeadingZero}
@@ -25,7 +25,7 @@ use Rattle.version_fronts.specs.declared.states.Which.{Which}
 use Rattle.version_fronts.specs.declared.states.Which.TheVariants.{Major, Minor, Patch}
 
 -- the greatest number of a dialect
-abbrev pub greatest : Dialect → ℕ
+abbrev pub greatest : Grammar → ℕ
 greatest Crate = 2 ^ 64 - 1
 greatest Cargo = 2 ^ 64 - 1
 greatest Npm = 2 ^ 53 - 1
@@ -41,12 +41,12 @@ opened b = if is_in_range 9 13 b || (b == 32) then Some Complete
     else (if b == 0xC2 then Some C2 else (if b == 0xE1 then Some E1 else (if b == 0xE2 then Some E2
     else (if b == 0xE3 then Some E3 else some_if (b == 0xEF) EF))))
 
-abbrev pub new_space : Dialect → ℕ → Option Space
+abbrev pub new_space : Grammar → ℕ → Option Space
 new_space Crate b = some_if (is_space b) Complete
 new_space Cargo b = None
 new_space Npm b = opened b
 
-abbrev pub more_space : Dialect → Space → ℕ → Option Space
+abbrev pub more_space : Grammar → Space → ℕ → Option Space
 more_space d Complete b = new_space d b
 more_space d C2 b = some_if (b == 0xA0) Complete
 more_space d E1 b = some_if (b == 0x9A) E19A
@@ -65,12 +65,12 @@ more_space d EFBB b = some_if (b == 0xBF) Complete
 abbrev pub first_digit : Which → ℕ → State
 first_digit which b = if is_ascii_digit b then Number which (b - 48) else Refused
 
-abbrev pub is_sign : Dialect → ℕ → Bool
+abbrev pub is_sign : Grammar → ℕ → Bool
 is_sign Crate b = false
 is_sign Cargo b = false
 is_sign Npm b = b == code "v"
 
-abbrev pub begins : Dialect → Space → ℕ → State
+abbrev pub begins : Grammar → Space → ℕ → State
 begins d Complete b = if is_sign d b then NoDigit Major else first_digit Major b
 begins d C2 b = Refused
 begins d E1 b = Refused
@@ -87,28 +87,28 @@ abbrev pub before_or : Option Space → State → State
 before_or (Some space) other = Before space
 before_or None other = other
 
-abbrev pub before : Dialect → Space → ℕ → State
+abbrev pub before : Grammar → Space → ℕ → State
 before d space b = before_or (more_space d space b) (begins d space b)
 
 abbrev pub after_if : Option Space → State
 after_if (Some space) = After space
 after_if None = Refused
 
-abbrev pub after : Dialect → Space → ℕ → State
+abbrev pub after : Grammar → Space → ℕ → State
 after d space b = after_if (more_space d space b)
 
-abbrev pub after_number : Dialect → Which → ℕ → State
+abbrev pub after_number : Grammar → Which → ℕ → State
 after_number d Major b = if b == code "." then NoDigit Minor else Refused
 after_number d Minor b = if b == code "." then NoDigit Patch else Refused
 after_number d Patch b = if b == code "-" then Identifier Pre NotBegun
     else (if b == code "+" then Identifier Build NotBegun else after d Complete b)
 
-abbrev pub number : Dialect → Which → ℕ → ℕ → State
+abbrev pub number : Grammar → Which → ℕ → ℕ → State
 number d which n b = if is_ascii_digit b then (if n == 0 then Refused
     else (if nat_le (n * 10 + (b - 48)) (greatest d) then Number which (n * 10 + (b - 48))
     else Refused)) else after_number d which b
 
-abbrev pub zeros_count : Dialect → Section → Bool
+abbrev pub zeros_count : Grammar → Section → Bool
 zeros_count Crate section = false
 zeros_count Cargo Pre = true
 zeros_count Cargo Build = false
@@ -127,12 +127,12 @@ with_alphanumeric zeros Zero b = if is_ascii_digit b then LeadingZero else Begun
 with_alphanumeric zeros LeadingZero b = if is_ascii_digit b then LeadingZero else Begun
 with_alphanumeric zeros Begun b = Begun
 
-abbrev pub with_hyphen : Dialect → Part → Option Part
+abbrev pub with_hyphen : Grammar → Part → Option Part
 with_hyphen Crate part = some_if (may_end part) NotBegun
 with_hyphen Cargo part = Some Begun
 with_hyphen Npm part = Some Begun
 
-abbrev pub in_part : Dialect → Section → Part → ℕ → Option Part
+abbrev pub in_part : Grammar → Section → Part → ℕ → Option Part
 in_part d section part b =
     if is_ascii_alphanumeric b then Some (with_alphanumeric (zeros_count d section) part b)
     else (if b == code "-" then with_hyphen d part else None)
@@ -141,7 +141,7 @@ abbrev pub is_pre : Section → Bool
 is_pre Pre = true
 is_pre Build = false
 
-abbrev pub after_identifier : Dialect → Section → ℕ → State
+abbrev pub after_identifier : Grammar → Section → ℕ → State
 after_identifier d section b = if b == code "." then Identifier section NotBegun
     else (if is_pre section && (b == code "+") then Identifier Build NotBegun
     else after d Complete b)
@@ -150,11 +150,11 @@ abbrev pub identifier_or : Section → Option Part → State → State
 identifier_or section (Some part) other = Identifier section part
 identifier_or section None other = other
 
-abbrev pub identifier : Dialect → Section → Part → ℕ → State
+abbrev pub identifier : Grammar → Section → Part → ℕ → State
 identifier d section part b = identifier_or section (in_part d section part b)
     (if may_end part then after_identifier d section b else Refused)
 
-abbrev pub step : Dialect → State → ℕ → State
+abbrev pub step : Grammar → State → ℕ → State
 step d (Before space) b = before d space b
 step d (NoDigit which) b = first_digit which b
 step d (Number which n) b = number d which n b
@@ -221,11 +221,11 @@ need Refused = 0
 
 -- ---- a whole text
 
-abbrev pub state_from : Dialect → State → Text → State
+abbrev pub state_from : Grammar → State → Text → State
 state_from d s [] = s
 state_from d s (b ∷ t) = state_from d (step d s b) t
 
-abbrev pub state_after : Dialect → Text → State
+abbrev pub state_after : Grammar → Text → State
 state_after d t = state_from d (Before Complete) t
 
 -- how many characters were read after one more byte, up to one more than npm takes
@@ -233,20 +233,20 @@ abbrev pub counted : ℕ → ℕ → ℕ
 counted count b = if not (nat_le count 256) || goes_on b then count else count + 1
 
 -- whether so many more characters would be more than a dialect takes
-abbrev pub exceeds : Dialect → ℕ → ℕ → Bool
+abbrev pub exceeds : Grammar → ℕ → ℕ → Bool
 exceeds Crate count more = false
 exceeds Cargo count more = false
 exceeds Npm count more = not (nat_le (count + more) 256)
 
 -- whether some version begins with what a scanner has read
 abbrev pub is_alive : Scanner → Bool
-is_alive s = not (is_refused s.state) && not (exceeds s.dialect s.characters (need s.state))
+is_alive s = not (is_refused s.state) && not (exceeds s.grammar s.characters (need s.state))
 
 -- whether some version begins so, but none within the dialect's length
 abbrev pub is_too_long : Scanner → Bool
-is_too_long s = not (is_refused s.state) && exceeds s.dialect s.characters (need s.state)
+is_too_long s = not (is_refused s.state) && exceeds s.grammar s.characters (need s.state)
 
 -- what a scanner has read
-abbrev pub HasRead : Dialect → Text → Scanner → Type 0
-HasRead dialect text scanner = (scanner.dialect ≡ dialect)
-    × (scanner.state ≡ state_after dialect text) × (scanner.characters ≡ min 257 (characters text))
+abbrev pub HasRead : Grammar → Text → Scanner → Type 0
+HasRead grammar text scanner = (scanner.grammar ≡ grammar)
+    × (scanner.state ≡ state_after grammar text) × (scanner.characters ≡ min 257 (characters text))

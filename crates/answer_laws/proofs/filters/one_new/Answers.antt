@@ -12,5 +12,5 @@ returns c =
       one = one itself _ _ r.refusals s.refusals (λ a b is is' text.
           one_filter a b (said _ is' (said _ is c.answers_are_alike.ensures.alike))
           (λ v. said _ is r.meaning text.0 v text.1 ∙ sym (said _ is' s.meaning text.0 v text.1))
-          (said _ is r.rule ∙ sym (said _ is' s.rule)) (said _ is r.dialect ∙ sym (said _ is' s.dialect)));
+          (said _ is r.rule ∙ sym (said _ is' s.rule)) (said _ is r.grammar ∙ sym (said _ is' s.grammar)));
     }

@@ -7,7 +7,7 @@ use Rattle.answer_laws.proofs.ranges.one_refusal.Goals as goal
 pub returns : goal.returns
 returns c = record {
   one = one_made (option_map seen_refusal) _ _ (λ a b is is'.
-      let x : Says c.args.reading c.args.text.now a =
+      let x : Says c.args.dialect c.args.text.now a =
       let all = c.refused.ensures in
       record {
         range = said _ is all.range;
@@ -17,7 +17,7 @@ returns c = record {
         place = said _ is all.place;
         limit = said _ is all.limit;
       } in
-      let y : Says c.args.reading c.args.text.now b =
+      let y : Says c.args.dialect c.args.text.now b =
       let all = c.refused-2.ensures in
       record {
         range = said _ is' all.range;
@@ -27,6 +27,6 @@ returns c = record {
         place = said _ is' all.place;
         limit = said _ is' all.limit;
       } in
-      one_refused c.args.reading c.args.text.now (c.one_place.ensures.same_place c.args.reading c.args.text.now)
-      (c.one_limit_place.ensures.same_place c.args.reading c.args.text.now) a b x y);
+      one_refused c.args.dialect c.args.text.now (c.one_place.ensures.same_place c.args.dialect c.args.text.now)
+      (c.one_limit_place.ensures.same_place c.args.dialect c.args.text.now) a b x y);
 }

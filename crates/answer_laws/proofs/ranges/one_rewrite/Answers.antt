@@ -1,5 +1,5 @@
 use Rattle.semver_parser.specs.RangeViews.{set_of}
-use Rattle.tool_ranges.specs.Readings.{rewritten_as}
+use Rattle.tool_ranges.specs.Dialects.{rewritten_as}
 use Rattle.answer_laws.proofs.OneAnswer.{one_rewritten}
 use Rattle.answer_laws.proofs.ranges.one_rewrite.Goals as goal
 
@@ -7,4 +7,4 @@ pub returns : goal.returns
 returns c =
     let r = c.rewrite.ensures in
     let s = c.rewrite-2.ensures in
-    record { one = one_rewritten set_of (rewritten_as c.args.reading) _ _ r.refusals s.refusals r.as_rewritten s.as_rewritten }
+    record { one = one_rewritten set_of (rewritten_as c.args.dialect) _ _ r.refusals s.refusals r.as_rewritten s.as_rewritten }

@@ -1,7 +1,7 @@
 use Rattle.std.proofs.Common.{◌≡◌, Bool, Result, Ok, sym, ◌∙◌}
 use Rattle.semver_parser.specs.Outlines.{version_of}
-use Rattle.tool_ranges.specs.Meanings.{reading_of}
-use Rattle.tool_ranges.specs.Readings.{HasSetAs, IsTextAs, IsTooLargeAs}
+use Rattle.tool_ranges.specs.Meanings.{dialect_of}
+use Rattle.tool_ranges.specs.Dialects.{HasSetAs, IsTextAs, IsTooLargeAs}
 use Rattle.tool_ranges.proofs.ReadSets.{same_refusal}
 use Rattle.tool_ranges.proofs.ReadingLaws.{answered_too}
 use Rattle.version_sets.specs.declared.VersionSet.{VersionSet}
@@ -15,14 +15,14 @@ inner e = cc
 
 pub returns : goal.returns
 returns c =
-    let reading = reading_of c.args.meaning in
+    let dialect = dialect_of c.args.meaning in
     let range = c.args.range.now in
     let w = version_of c.args.version.now in
     let r = c.meets.ensures in
     elim c.match-read.branch [
       | in-Ok o ↦ record {
         same = rw o.has-is (one itself _ c.meets.result
-            (answered_too (IsTextAs reading range) (IsTooLargeAs reading range) (HasSetAs reading range) o.in-Ok.set _
+            (answered_too (IsTextAs dialect range) (IsTooLargeAs dialect range) (HasSetAs dialect range) o.in-Ok.set _
             o.in-Ok.ensures.refusals)
             r.refusals
             (λ a b is is' text. sym (inner is) ∙ o.has_outline.ensures.of_version
@@ -30,7 +30,7 @@ returns c =
       }
       | in-Err o ↦ record {
         same = rw o.has-is (one itself _ c.meets.result
-            (same_refusal VersionSet Bool (IsTextAs reading range) (IsTooLargeAs reading range) (HasSetAs reading range) o.in-Err.error
+            (same_refusal VersionSet Bool (IsTextAs dialect range) (IsTooLargeAs dialect range) (HasSetAs dialect range) o.in-Err.error
             o.in-Err.ensures.refusals)
             r.refusals (λ a b is is' text. cc));
       }

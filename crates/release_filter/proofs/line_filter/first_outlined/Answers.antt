@@ -13,10 +13,10 @@ returns-in-Some-clause-whole c = grind (arith, common_steps, is_whole)
 pub returns-in-Some-clause-outlined : goal.returns-in-Some-clause-outlined
 returns-in-Some-clause-outlined c =
     outlined c.args.bytes.now c.in-Some.rest.now c.in_ok-after.after.now c.in-Some.ensures c.in_ok-after.ensures.front
-    c.in_ok-after.ensures.whole c.text_of-text.result.now c.text_of-text.ensures c.args.dialect c.outline_of_numbers-outline.result
+    c.in_ok-after.ensures.whole c.text_of-text.result.now c.text_of-text.ensures c.args.grammar c.outline_of_numbers-outline.result
     c.outline_of_numbers-outline.ensures.outlined c.outline_of_numbers-outline.ensures.none
 
 pub returns-clause-outlined : goal.returns-clause-outlined
 returns-clause-outlined c =
     let found = c.outline_in.result in
-    rw (← c.text_of.ensures) (outlined_as c.args.dialect c.text_of.result.now found c.outline_in.ensures.outlined c.outline_in.ensures.none)
+    rw (← c.text_of.ensures) (outlined_as c.args.grammar c.text_of.result.now found c.outline_in.ensures.outlined c.outline_in.ensures.none)

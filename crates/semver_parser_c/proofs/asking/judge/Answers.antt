@@ -1,10 +1,10 @@
 use Rattle.std.proofs.Common.{◌≡◌, ◌≢◌, ◌∙◌, ap, refl, rules}
-use Rattle.tool_ranges.specs.Meanings.{meant_as, reading_of}
-use Rattle.tool_ranges.specs.Readings.{dialect_of}
+use Rattle.tool_ranges.specs.Meanings.{meant_as, dialect_of}
+use Rattle.tool_ranges.specs.Dialects.{grammar_of}
 use Rattle.semver_parser.specs.Outlines.{version_of}
 use Rattle.semver_parser_c.specs.Numbers.{range_out_of_memory}
 use Rattle.semver_parser_c.specs.Steps.TextErrors.{IsMeaningOf}
-use Rattle.semver_parser_c.proofs.Dialects.{of_reading}
+use Rattle.semver_parser_c.proofs.Grammars.{of_dialect}
 use Rattle.semver_parser_c.proofs.VersionUtf8.{version_utf8}
 use Rattle.semver_parser_c.proofs.OneMeeting.{range_refused, version_refused}
 use Rattle.semver_parser_c.proofs.TextErrors.{named_found, refused, stands}
@@ -20,7 +20,7 @@ returns-in-Err-clause-refused c =
 
 pub returns-in-Ok-check-clause-refused : goal.returns-in-Ok-check-clause-refused
 returns-in-Ok-check-clause-refused c =
-    let same = c.dialect-dialect.ensures.dialect ∙ ap dialect_of c.reading.ensures in
+    let same = c.grammar-grammar.ensures.grammar ∙ ap grammar_of c.dialect.ensures in
     search (
       rules,
       version_refused c.in-Ok.meaning _ _ c.args.range.now c.args.version.now _ c.in-Ok.ensures.named c.in-Ok-check.ensures.accepted
@@ -41,16 +41,16 @@ returns-in-Ok-meets-clause-stands c = stands c.in-Ok.meaning _ _ _ (search rules
 
 pub returns-in-Ok-meets-clause-read : goal.returns-in-Ok-meets-clause-read
 returns-in-Ok-meets-clause-read c = λ d is.
-    let only : IsMeaningOf c.in-Ok.meaning c.args.reading c.args.pre_releases = search rules in
-    let same = c.dialect-dialect.ensures.dialect ∙ ap dialect_of c.reading.ensures
-    ∙ of_reading (reading_of c.in-Ok.meaning) _ d only.named.0 is in
+    let only : IsMeaningOf c.in-Ok.meaning c.args.dialect c.args.pre_releases = search rules in
+    let same = c.grammar-grammar.ensures.grammar ∙ ap grammar_of c.dialect.ensures
+    ∙ of_dialect (dialect_of c.in-Ok.meaning) _ d only.named.0 is in
     (version_of c.in-Some.outline, rw same at c.in-Some.ensures.version)
 
 pub returns-in-Ok-meets-clause-meaning : goal.returns-in-Ok-meets-clause-meaning
 returns-in-Ok-meets-clause-meaning c = λ m named tree v spells version_spells.
-    let only : IsMeaningOf c.in-Ok.meaning c.args.reading c.args.pre_releases = search rules in
+    let only : IsMeaningOf c.in-Ok.meaning c.args.dialect c.args.pre_releases = search rules in
     let own : c.in-Ok.meaning ≡ m = only.only m named in
-    let same = c.dialect-dialect.ensures.dialect ∙ ap dialect_of c.reading.ensures ∙ ap (λ k. dialect_of (reading_of k)) own in
+    let same = c.grammar-grammar.ensures.grammar ∙ ap grammar_of c.dialect.ensures ∙ ap (λ k. grammar_of (dialect_of k)) own in
     let one = c.one_version_in.ensures.same_version _ _ _ _ (rw same at c.in-Some.ensures.version) version_spells in
     (rw own at c.in-Ok-meets.ensures.meaning) tree spells ∙ ap (meant_as m tree) one
 

@@ -1,6 +1,6 @@
 use Rattle.std.proofs.Common.{◌≡◌, ◌≢◌, ◌∙◌, ◌++◌, ℤ, List, ◌∷◌, arith, ⊎_elim, inl, inr, rules, refl, sym, subst}
 use Rattle.semver_parser.specs.Texts.{Text}
-use Rattle.tool_ranges.specs.Readings.{SpellsAs, TreeOf}
+use Rattle.tool_ranges.specs.Dialects.{SpellsAs, TreeOf}
 use Rattle.semver_parser_c.specs.Numbers as number
 use Rattle.semver_parser_c.specs.Errors.{IsAccepted, IsOneOf, RefusesNewRange, RefusesRange, named_errors, new_range_errors}
 use Rattle.semver_parser_c.specs.Errors.{new_range_numbers}
@@ -20,8 +20,8 @@ sorted : (n : ℤ) → IsOneOf (number.ok ∷ number.no_room ∷ errors) n → n
     → IsOneOf (number.ok ∷ number.no_room ∷ number.new_range_out_of_memory ∷ exact) n
 sorted n one found = grind arith
 
-once : {reading rule : ℤ} {old new : Text} {n m : ℤ} → RefusesRange reading rule old n → RefusesRange reading rule old m
-    → RefusesNewRange (IsAccepted reading rule old) reading rule new n → RefusesNewRange (IsAccepted reading rule old) reading rule new m
+once : {dialect rule : ℤ} {old new : Text} {n m : ℤ} → RefusesRange dialect rule old n → RefusesRange dialect rule old m
+    → RefusesNewRange (IsAccepted dialect rule old) dialect rule new n → RefusesNewRange (IsAccepted dialect rule old) dialect rule new m
     → IsOneOf exact n → n ≡ m
 once p q a b one = ⊎_elim (range_once p q)
     (λ one.

@@ -5,26 +5,26 @@ use Rattle.std.proofs.lemmas.Bool.Decides.{Decides-int_eq, not_from_Decides}
 use Rattle.semver_texts.proofs.Lists.{by_test}
 use Rattle.semver_parser.specs.Texts.{Text}
 use Rattle.semver_parser.specs.ToolVersions.{IsVersionTextIn}
-use Rattle.semver_parser.specs.declared.version.Dialect.{Dialect}
-use Rattle.tool_ranges.specs.Readings.{dialect_of}
+use Rattle.semver_parser.specs.declared.version.Grammar.{Grammar}
+use Rattle.tool_ranges.specs.Dialects.{grammar_of}
 use Rattle.version_fronts.specs.Fronts.{IsLongestFront}
 use Rattle.version_fronts.specs.Reasons.{IsReason, byte_at}
 use Rattle.version_fronts.specs.declared.reasons.Reason.{Reason}
 use Rattle.semver_parser_c.specs.Numbers as number
-use Rattle.semver_parser_c.specs.Readings.{IsDialect}
+use Rattle.semver_parser_c.specs.Dialects.{IsGrammar}
 use Rattle.semver_parser_c.specs.Refusals.{reason_number}
 use Rattle.semver_parser_c.proofs.OneAnswer.{IsItself}
 use Rattle.semver_parser_c.proofs.laws.one_explanation.Goals as goal
 
 -- what the clauses say of an answer, and of what is at its place
-record Explains (d : Dialect) (t : Text) (n : ℤ) (place : ℕ) : Type 0 where
+record Explains (d : Grammar) (t : Text) (n : ℤ) (place : ℕ) : Type 0 where
   version : (n ≡ number.ok) ↔ IsVersionTextIn d t
   longest : n ≢ number.ok → IsLongestFront d t place
   reason : n ≢ number.ok → (r : Reason) × IsReason d (take place t) (byte_at t place) r × (n ≡ reason_number r)
 
-module _ (one_longest : (d : Dialect) (t : Text) (m n : ℕ) → IsLongestFront d t m → IsLongestFront d t n → m ≡ n)
-    (one_reason : (d : Dialect) (t : Text) (next : Option ℕ) (x y : Reason) → IsReason d t next x → IsReason d t next y → x ≡ y)
-    {d : Dialect} {t : Text} {n m : ℤ} {p q : ℕ} (a : Explains d t n p) (b : Explains d t m q) where
+module _ (one_longest : (d : Grammar) (t : Text) (m n : ℕ) → IsLongestFront d t m → IsLongestFront d t n → m ≡ n)
+    (one_reason : (d : Grammar) (t : Text) (next : Option ℕ) (x y : Reason) → IsReason d t next x → IsReason d t next y → x ≡ y)
+    {d : Grammar} {t : Text} {n m : ℤ} {p q : ℕ} (a : Explains d t n p) (b : Explains d t m q) where
   explained_once : n ≢ number.ok → (n ≡ m) × (p ≡ q)
   explained_once wrong =
       let wrong' : m ≢ number.ok = λ ok. wrong (a.version.1 (b.version.0 ok)) in
@@ -45,9 +45,9 @@ returns c =
     let m = c.semver_parser_proved_explain_version-second in
     let p = n.ensures in
     let q = m.ensures in
-    let a : (d : Dialect) → IsDialect d (to_z w32 (of_z w32 c.args.reading)) → Explains d c.args.text.now n.result n.new.place =
+    let a : (d : Grammar) → IsGrammar d (to_z w32 (of_z w32 c.args.dialect)) → Explains d c.args.text.now n.result n.new.place =
     λ d is. record { version = p.version d is; longest = p.place d is; reason = p.reason d is } in
-    let b : (d : Dialect) → IsDialect d (to_z w32 (of_z w32 c.args.reading)) → Explains d c.args.text.now m.result m.new.place =
+    let b : (d : Grammar) → IsGrammar d (to_z w32 (of_z w32 c.args.dialect)) → Explains d c.args.text.now m.result m.new.place =
     λ d is. record { version = q.version d is; longest = q.place d is; reason = q.reason d is } in
     let as_it_is : IsItself n.result = search rules in
     let as_it_is' : IsItself m.result = search rules in
@@ -56,8 +56,8 @@ returns c =
     (λ e. let e' = q.no_such_reading.1 (p.no_such_reading.0 e) in
     (e ∙ sym e', p.unchanged (inr (inl e)) ∙ c.requires ∙ sym (q.unchanged (inr (inl e')))))
     (λ r.
-    let d = dialect_of r.0 in
-    let is : IsDialect d (to_z w32 (of_z w32 c.args.reading)) = (r.0, r.1, refl) in
+    let d = grammar_of r.0 in
+    let is : IsGrammar d (to_z w32 (of_z w32 c.args.dialect)) = (r.0, r.1, refl) in
     by_ok n.result
     (λ ok. let ok' = (b d is).version.1 ((a d is).version.0 ok) in
     (ok ∙ sym ok', p.unchanged (inl ok) ∙ c.requires ∙ sym (q.unchanged (inl ok'))))

@@ -2,7 +2,7 @@ use Rattle.std.proofs.Common.{◌≡◌, ◌≢◌, ◌↔◌, ◌∙◌, ◌∷
 use Rattle.std.specs.Prelude.{IsUtf8}
 use Rattle.semver_parser.specs.Texts.{Text}
 use Rattle.semver_parser.specs.ToolVersions.{IsVersionTextIn}
-use Rattle.semver_parser.specs.declared.version.Dialect.{Dialect}
+use Rattle.semver_parser.specs.declared.version.Grammar.{Grammar}
 use Rattle.version_sets.specs.Flat.{IsFlat}
 use Rattle.version_sets.specs.VersionSets.{SetValue}
 use Rattle.version_sets.specs.declared.FlatSwitch.{FlatSwitch}
@@ -24,14 +24,14 @@ beside_set : (n : ℤ) → IsOneOf text_errors n → n ≢ number.not_a_set
 beside_set n one = grind arith
 
 -- what the clauses say of an answer
-record Answers (d : Dialect) (switches : List FlatSwitch) (bytes version : Text) (n : ℤ) : Type 0 where
+record Answers (d : Grammar) (switches : List FlatSwitch) (bytes version : Text) (n : ℤ) : Type 0 where
   named : n ≢ number.no_such_reading
   no_set : (n ≡ number.not_a_set) ↔ IsNoSet switches bytes
   read : n ≡ number.ok → IsUtf8 version × IsVersionTextIn d version × ((set : SetValue) × IsFlat switches bytes set)
   accepted : n ≢ number.not_a_set → IsUtf8 version → IsVersionTextIn d version → n ≡ number.ok
   refused : n ≢ number.ok → n ≢ number.not_a_set → RefusesVersion d version n
 
-module _ {d : Dialect} {switches : List FlatSwitch} {bytes version : Text} {n m : ℤ} (p : Answers d switches bytes version n)
+module _ {d : Grammar} {switches : List FlatSwitch} {bytes version : Text} {n m : ℤ} (p : Answers d switches bytes version n)
     (q : Answers d switches bytes version m) where
   same_data : n ≢ number.not_a_set → m ≢ number.not_a_set
   same_data some e = some (p.no_set.1 (q.no_set.0 e))

@@ -3,7 +3,7 @@ use Rattle.std.specs.Prelude.{IsUtf8}
 use Rattle.semver_parser.specs.Texts.{Text}
 use Rattle.semver_parser.specs.Versions.{VersionValue}
 use Rattle.semver_parser.specs.ToolVersions.{SpellsIn, before_numbers}
-use Rattle.semver_parser.specs.declared.version.Dialect.{Dialect}
+use Rattle.semver_parser.specs.declared.version.Grammar.{Grammar}
 use Rattle.semver_parser.specs.Outlines.{OutlineValue, IsOutlineIn, outline_after}
 use Rattle.semver_parser_c.specs.declared.ReadVersion.{ReadVersion}
 use Rattle.semver_parser_c.specs.Numbers as number
@@ -16,10 +16,10 @@ abbrev exact : List ℤ
 exact = number.ok ∷ number.no_such_reading ∷ number.version_not_utf8 ∷ []
 
 -- what is read of a text
-abbrev IsRead : Dialect → Text → ReadVersion → Type 0
+abbrev IsRead : Grammar → Text → ReadVersion → Type 0
 IsRead d text out = (o : OutlineValue) × IsOutlineIn d text o × (out ≡ told o)
 
-once : (d : Dialect) {text : Text} {n m : ℤ} {out : ReadVersion} → (n ≡ number.ok → IsRead d text out)
+once : (d : Grammar) {text : Text} {n m : ℤ} {out : ReadVersion} → (n ≡ number.ok → IsRead d text out)
     → (n ≡ number.version_not_utf8) ↔ ¬ (IsUtf8 text) → (m ≡ number.version_not_utf8) ↔ ¬ (IsUtf8 text)
     → ((v : VersionValue) → IsUtf8 text → SpellsIn d v text → m ≡ number.ok) → (n ≡ number.no_such_reading → n ≡ m)
     → IsOneOf exact n → n ≡ m
@@ -30,8 +30,8 @@ once d read u u' accepted named (inr (inl e)) = named e
 once d read u u' accepted named (inr (inr (inl e))) = carried u u' e
 once d read u u' accepted named (inr (inr (inr none))) = absurd none
 
-same_read : ((d : Dialect) (v w : VersionValue) (text : Text) → SpellsIn d v text → SpellsIn d w text → v ≡ w)
-    → (d : Dialect) (text : Text) (out other : ReadVersion) → IsRead d text out → IsRead d text other → out ≡ other
+same_read : ((d : Grammar) (v w : VersionValue) (text : Text) → SpellsIn d v text → SpellsIn d w text → v ≡ w)
+    → (d : Grammar) (text : Text) (out other : ReadVersion) → IsRead d text out → IsRead d text other → out ≡ other
 same_read one d text out other (o, (v, spelled, is), e) (o', (v', spelled', is'), e') =
     e ∙ ap told (is ∙ ap (outline_after (before_numbers text)) (one d v v' text spelled spelled') ∙ sym is') ∙ sym e'
 

@@ -4,12 +4,12 @@ use Rattle.std.specs.Ordering.{int_eq}
 use Rattle.std.proofs.lemmas.Bool.Decides.{Decides-int_eq, not_from_Decides}
 use Rattle.semver_texts.proofs.Lists.{by_test}
 use Rattle.semver_parser.specs.Texts.{Text}
-use Rattle.tool_ranges.specs.declared.reading.Reading.{Reading}
+use Rattle.tool_ranges.specs.declared.dialect.Dialect.{Dialect}
 use Rattle.semver_parser_c.specs.Numbers as number
 use Rattle.semver_parser_c.specs.Errors.{IsOneOf, range_errors}
 use Rattle.semver_parser_c.specs.OneAnswer.{AreOne, IsMemory}
 use Rattle.semver_parser_c.specs.RangeRefusals.{ExplainsBy, ExplainsRange, IsExplained}
-use Rattle.semver_parser_c.specs.Readings.{reading_number}
+use Rattle.semver_parser_c.specs.Dialects.{dialect_number}
 use Rattle.semver_parser_c.proofs.OneAnswer.{IsItself, are_one, by_dialect, carried}
 use Rattle.semver_parser_c.proofs.laws.one_range_explanation.Goals as goal
 
@@ -19,7 +19,7 @@ exact = number.no_such_reading ∷ number.range_not_utf8 ∷ number.ok ∷ []
 abbrev beside : List ℤ
 beside = number.not_a_range ∷ number.number_too_large ∷ number.range_out_of_memory ∷ []
 
-module _ {r : Reading} {text : Text} {n m : ℤ} (p : ExplainsBy r text n) (q : ExplainsBy r text m) where
+module _ {r : Dialect} {text : Text} {n m : ℤ} (p : ExplainsBy r text n) (q : ExplainsBy r text m) where
   once : n ≢ number.no_such_reading → IsOneOf exact n → n ≡ m
   once named (inl e) = absurd (named e)
   once named (inr (inl e)) = carried p.not_utf8 q.not_utf8 e
@@ -29,7 +29,7 @@ module _ {r : Reading} {text : Text} {n m : ℤ} (p : ExplainsBy r text n) (q : 
   never_both : n ≡ number.not_a_range → m ≡ number.number_too_large → ⊥
   never_both e e' = let (tree, spells, _) = q.too_large e' in p.not_a_range e (tree, spells)
 
-module _ {r : Reading} {text : Text} {n m : ℤ} (p : ExplainsBy r text n) (q : ExplainsBy r text m) where
+module _ {r : Dialect} {text : Text} {n m : ℤ} (p : ExplainsBy r text n) (q : ExplainsBy r text m) where
   refused : IsOneOf beside n → IsOneOf beside m → ¬ (IsMemory n) → ¬ (IsMemory m) → n ≡ m
   refused (inl e) (inl e') some some' = e ∙ sym e'
   refused (inl e) (inr (inl e')) some some' = absurd (never_both p q e e')
@@ -55,9 +55,9 @@ by_explained n none large other =
     (not_from_Decides _ (Decides-int_eq n number.number_too_large) e'))))
 
 -- what has a place has a reading
-reading_of : {A : Type 0} {reading : ℤ} {text : Text} {n : ℤ} → ExplainsRange reading text n → n ≢ number.no_such_reading
-    → ((r : Reading) → reading ≡ reading_number r → A) → A
-reading_of p named by = elim p.named [ inl e ↦ absurd (named e) | inr is ↦ by is.0 is.1 ]
+dialect_of : {A : Type 0} {dialect : ℤ} {text : Text} {n : ℤ} → ExplainsRange dialect text n → n ≢ number.no_such_reading
+    → ((r : Dialect) → dialect ≡ dialect_number r → A) → A
+dialect_of p named by = elim p.named [ inl e ↦ absurd (named e) | inr is ↦ by is.0 is.1 ]
 
 pub returns : goal.returns
 returns c =
@@ -79,13 +79,13 @@ returns c =
       one = one;
       place = λ same.
           by_explained n.result
-          (λ e. reading_of p.refusals (λ e'. cc) (λ r is.
+          (λ e. dialect_of p.refusals (λ e'. cc) (λ r is.
           c.one_place.ensures.same_place r c.args.text.now n.new.place m.new.place (p.place r is e) (q.place r is (sym same ∙ e))))
-          (λ e. reading_of p.refusals (λ e'. cc) (λ r is.
+          (λ e. dialect_of p.refusals (λ e'. cc) (λ r is.
           c.one_limit_place.ensures.same_place r c.args.text.now n.new.place m.new.place (p.limit r is e) (q.limit r is (sym same ∙ e))))
           (λ none. (p.unchanged none).0 ∙ c.requires.place ∙ sym ((q.unchanged (λ is. none (rw same is))).0));
       hint = λ same ranges.
           by_explained n.result (λ e. absurd (ranges e))
-          (λ e. reading_of p.refusals (λ e'. cc) (λ r is. p.limit_hint r is e ∙ sym (q.limit_hint r is (sym same ∙ e))))
+          (λ e. dialect_of p.refusals (λ e'. cc) (λ r is. p.limit_hint r is e ∙ sym (q.limit_hint r is (sym same ∙ e))))
           (λ none. (p.unchanged none).1 ∙ c.requires.hint ∙ sym ((q.unchanged (λ is. none (rw same is))).1));
     })

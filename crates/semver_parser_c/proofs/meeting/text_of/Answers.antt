@@ -8,7 +8,7 @@ returns-in-Err-clause-refused c = search (rules, c.in-Err.ensures.refused c.args
 
 pub returns-in-Ok-check-clause-meaning : goal.returns-in-Ok-check-clause-meaning
 returns-in-Ok-check-clause-meaning c = λ m named.
-    let only : IsMeaningOf c.in-Ok.meaning c.args.reading c.args.pre_releases = search rules in
+    let only : IsMeaningOf c.in-Ok.meaning c.args.dialect c.args.pre_releases = search rules in
     let own : c.in-Ok.meaning ≡ m = only.only m named in
     (own, refl, rw own at c.in-Ok-check.ensures.accepted)
 

@@ -2,15 +2,15 @@ use Rattle.std.proofs.Common.{◌≡◌, ◌∙◌, refl, rules, Bool, false, tr
 use Rattle.std.proofs.lemmas.Bool.{false≢true}
 use Rattle.std.proofs.lemmas.Result.{IfOk-weaker}
 use Rattle.semver_parser.specs.declared.Compat.{Compat}
-use Rattle.tool_ranges.specs.declared.reading.Reading.{Reading}
-use Rattle.tool_ranges.specs.declared.reading.Reading.TheVariants.{Cargo, Npm, Crate}
-use Rattle.tool_ranges.specs.Readings.{TreeOf, rewritten_as}
+use Rattle.tool_ranges.specs.declared.dialect.Dialect.{Dialect}
+use Rattle.tool_ranges.specs.declared.dialect.Dialect.TheVariants.{Cargo, Npm, Crate}
+use Rattle.tool_ranges.specs.Dialects.{TreeOf, rewritten_as}
 use Rattle.semver_parser_c.specs.Errors.{set_for}
 use Rattle.semver_parser_c.proofs.range_text.rewritten_text.Goals.{in_default-via-in-Crate+else-not-exact, in_default-via-in_default}
 use Rattle.semver_parser_c.proofs.range_text.rewritten_text.Goals as goal
 
 -- the bounds are exact where they are asked for, and by a tool's reading
-are_exact : (exact : Bool) (r : Reading) → ((mode : Compat) → r ≡ Crate mode → exact ≡ true) → (tree : TreeOf r)
+are_exact : (exact : Bool) (r : Dialect) → ((mode : Compat) → r ≡ Crate mode → exact ≡ true) → (tree : TreeOf r)
     → rewritten_as r tree ≡ set_for exact r tree
 are_exact true r asked tree = refl
 are_exact false Cargo asked tree = refl
@@ -25,11 +25,11 @@ returns-in-Crate c =
 
 pub returns-in_default : goal.returns-in_default
 returns-in_default c =
-    let same : c.in_default.reading ≡ c.args.reading = elim c.in_default.branch [
+    let same : c.in_default.dialect ≡ c.args.dialect = elim c.in_default.branch [
       | in_default-via-in-Crate+else-not-exact w ↦ search rules
       | in_default-via-in_default w ↦ search rules
     ] in
-    let asked : (mode : Compat) → c.args.reading ≡ Crate mode → c.args.exact ≡ true = elim c.in_default.branch [
+    let asked : (mode : Compat) → c.args.dialect ≡ Crate mode → c.args.exact ≡ true = elim c.in_default.branch [
       | in_default-via-in-Crate+else-not-exact w ↦ λ mode is. search rules
       | in_default-via-in_default w ↦ λ mode is. absurd (search rules)
     ] in
@@ -37,5 +37,5 @@ returns-in_default c =
     record {
       refusals = rw same at e.refusals;
       as_rewritten = IfOk-weaker c.rewrite.result _ _
-          (λ set is tree spells. is tree spells ∙ are_exact c.args.exact c.args.reading asked tree) (rw same at e.as_rewritten);
+          (λ set is tree spells. is tree spells ∙ are_exact c.args.exact c.args.dialect asked tree) (rw same at e.as_rewritten);
     }

@@ -8,7 +8,7 @@ returns-in-Err-clause-refused c = search (rules, c.in-Err.ensures.refused c.args
 
 pub returns-in-Ok-read_as-clause-meaning : goal.returns-in-Ok-read_as-clause-meaning
 returns-in-Ok-read_as-clause-meaning c = λ m named.
-    let own : IsMeaningOf c.in-Ok.meaning c.args.reading c.args.pre_releases = search rules in
+    let own : IsMeaningOf c.in-Ok.meaning c.args.dialect c.args.pre_releases = search rules in
     rw (← (own.only m named)) c.in-Ok-read_as.ensures.meaning
 
 pub returns-in-Ok-read_as-clause-stands : goal.returns-in-Ok-read_as-clause-stands

@@ -28,7 +28,7 @@ returns-in-Err-read_as-clause-refused c =
 
 pub returns-in-Some-clause-meaning : goal.returns-in-Some-clause-meaning
 returns-in-Some-clause-meaning c = λ m named.
-    let own : IsMeaningOf c.in-Ok.meaning c.args.reading c.args.pre_releases = search rules in
+    let own : IsMeaningOf c.in-Ok.meaning c.args.dialect c.args.pre_releases = search rules in
     let means = rw c.in-Some.is at c.in-Ok-unless_refused.ensures.meaning in
     (rw (← (own.only m named)) means, rw (← (own.only m named)) c.in-Ok-read_as.ensures.meaning)
 

@@ -1,13 +1,13 @@
 use Rattle.std.proofs.Common.{◌≡◌, ◌∙◌, rules, ap, sym}
 use Rattle.semver_parser.specs.Versions.{PlainVersion, VersionValue}
 use Rattle.semver_parser.specs.Outlines.{version_of}
-use Rattle.semver_parser_c.proofs.Dialects.{runs_out}
+use Rattle.semver_parser_c.proofs.Grammars.{runs_out}
 use Rattle.semver_parser_c.proofs.Steps.{has_pre_release}
 use Rattle.semver_parser_c.proofs.version_text.plain_version.Goals as goal
 
 pub returns-in-Ok-pre_identifiers-clause-version : goal.returns-in-Ok-pre_identifiers-clause-version
 returns-in-Ok-pre_identifiers-clause-version c = λ v spells.
-    let same = c.one_outlined_version.ensures.same_version c.args.dialect c.in-Ok.outline v c.args.text.now c.in-Ok.ensures.outlined spells
+    let same = c.one_outlined_version.ensures.same_version c.args.grammar c.in-Ok.outline v c.args.text.now c.in-Ok.ensures.outlined spells
     in
     let pre = c.in-Ok-pre_identifiers.ensures.of_version in
     let plain : ◌≡◌ {A = PlainVersion} _ (version_of c.in-Ok.outline).plain =
@@ -17,11 +17,11 @@ returns-in-Ok-pre_identifiers-clause-version c = λ v spells.
 pub returns-in-Err-pre_identifiers-clause-refused : goal.returns-in-Err-pre_identifiers-clause-refused
 returns-in-Err-pre_identifiers-clause-refused c =
     let (u, read, is) = c.in-Ok.ensures.outlined in
-    search (rules, runs_out c.args.dialect u c.args.text.now read (has_pre_release _ u _ is c.in-Err-pre_identifiers.ensures.out_of_memory))
+    search (rules, runs_out c.args.grammar u c.args.text.now read (has_pre_release _ u _ is c.in-Err-pre_identifiers.ensures.out_of_memory))
 
 pub returns-in-Err-pre_identifiers-clause-plain : goal.returns-in-Err-pre_identifiers-clause-plain
 returns-in-Err-pre_identifiers-clause-plain c = λ utf8 v spells.
     let (u, read, is) = c.in-Ok.ensures.outlined in
-    let same = c.one_outlined_version.ensures.same_version c.args.dialect c.in-Ok.outline in
+    let same = c.one_outlined_version.ensures.same_version c.args.grammar c.in-Ok.outline in
     let one = same u c.args.text.now c.in-Ok.ensures.outlined read ∙ sym (same v c.args.text.now c.in-Ok.ensures.outlined spells) in
     has_pre_release _ v _ (rw one at is) c.in-Err-pre_identifiers.ensures.out_of_memory

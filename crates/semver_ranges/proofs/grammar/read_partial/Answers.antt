@@ -8,11 +8,11 @@ use Rattle.semver_ranges.proofs.grammar.read_partial.Goals.{else-ends_word-via-t
 pub takes-requires : goal.takes-requires
 takes-requires c =
     let found = c.in_ok-written.ensures in
-    (found.0, before_rest c.args.dialect c.args.text.now c.after_v.result.now c.in_ok-written.rest.now found.0 c.after_v.ensures found.1)
+    (found.0, before_rest c.args.grammar c.args.text.now c.after_v.result.now c.in_ok-written.rest.now found.0 c.after_v.ensures found.1)
 
 pub returns-then-takes : goal.returns-then-takes
 returns-then-takes c =
-    let d = c.args.dialect in
+    let d = c.args.grammar in
     let found = c.in_ok-written.ensures in
     let before = before_rest d c.args.text.now c.after_v.result.now c.in_ok-written.rest.now found.0 c.after_v.ensures found.1 in (
       found.0,
@@ -24,7 +24,7 @@ returns-then-takes c =
 
 pub returns-else-ends_word : goal.returns-else-ends_word
 returns-else-ends_word c =
-    let d = c.args.dialect in
+    let d = c.args.grammar in
     let found = c.in_ok-written.ensures in
     let before = before_rest d c.args.text.now c.after_v.result.now c.in_ok-written.rest.now found.0 c.after_v.ensures found.1 in
     let none = word_is_no_word d (role_of c.args.role) c.args.text.now c.after_v.result.now c.in_ok-written.rest.now found.0

@@ -1,4 +1,4 @@
-use Rattle.semver_texts.specs.declared.dialect.Dialect.TheVariants.{Crate}
+use Rattle.semver_texts.specs.declared.grammar.Grammar.TheVariants.{Crate}
 use Rattle.semver_ranges.proofs.ReadingComplete.{same_tree}
 use Rattle.semver_ranges.proofs.laws.one_tree.Goals as goal
 

@@ -1,5 +1,5 @@
 use Rattle.std.proofs.Common.{◌∷◌, [], ◌∙◌, map, refl, subst}
-use Rattle.semver_texts.specs.declared.dialect.Dialect.TheVariants.{Crate}
+use Rattle.semver_texts.specs.declared.grammar.Grammar.TheVariants.{Crate}
 use Rattle.semver_ranges.specs.declared.partial.LowerBounds.TheVariants.{Stated}
 use Rattle.semver_ranges.specs.RangeTree.{simples}
 use Rattle.semver_ranges.specs.RewritingTable.{written_set, written_simple}

@@ -9,7 +9,7 @@ use Rattle.semver_ranges.proofs.table.build.Given as goal
 
 abbrev pub invariant-loop-event : goal.invariant-loop-event
 invariant-loop-event g l = (es : List Event) × (left : List Event) × (events g.T.Table.DIALECT l.fn.lower l.text ≡ Some es)
-    × HasLeft l.dialect l.events (Some left) × IsTrue (list_all (event_fits (g.T.Table.fit l.table)) left)
+    × HasLeft l.grammar l.events (Some left) × IsTrue (list_all (event_fits (g.T.Table.fit l.table)) left)
     × (map range_of l.ranges.items ++ ranges_by (g.T.Table.written l.table) l.compat (map comparator_of l.comparator_set.items) left
     ≡ ranges_by (g.T.Table.written l.table) l.compat [] es)
 

@@ -5,7 +5,7 @@ use Rattle.semver_ranges.proofs.EventSums.{fitted}
 use Rattle.semver_ranges.proofs.table.survey.Given as goal
 
 abbrev pub invariant-loop-event : goal.invariant-loop-event
-invariant-loop-event g l = (left : Option (List Event)) × HasLeft l.dialect l.events left
+invariant-loop-event g l = (left : Option (List Event)) × HasLeft l.grammar l.events left
     × (fitted (g.T.Table.fit l.table) true (events g.T.Table.DIALECT l.fn.lower l.text) ≡ fitted (g.T.Table.fit l.table) l.fit left)
 
 abbrev pub decreases-loop-event : goal.decreases-loop-event

@@ -1,5 +1,5 @@
 use Rattle.std.proofs.Common.{◌++◌, ap, codes, inl, refl, sym, ◌∙◌}
-use Rattle.semver_texts.specs.declared.dialect.Dialect.TheVariants.{Npm}
+use Rattle.semver_texts.specs.declared.grammar.Grammar.TheVariants.{Npm}
 use Rattle.semver_versions.specs.Steps.Reading.{around_size}
 use Rattle.semver_versions.proofs.reader.after_front.Goals as goal
 

@@ -11,19 +11,19 @@ returns-in_err-pre c = λ text before n at. rw c.from_residual.ensures
 
 pub with_parts-requires : goal.with_parts-requires
 with_parts-requires c =
-    let h = hyphens_of c.args.dialect in
+    let h = hyphens_of c.args.grammar in
     record {
       pre = are_parts h (cut_at_dots c.in_ok-pre.pre.now) c.in_ok-pre.ensures.pre_each;
       build = are_parts h (cut_at_dots c.in_ok-pre.build.now) c.in_ok-pre.ensures.build_each;
       fits = omega (
         arith,
         c.requires.within,
-        parts_fit c.args.dialect c.args.rest.now c.in_ok-pre.pre.now c.in_ok-pre.build.now c.in_ok-pre.ensures,
+        parts_fit c.args.grammar c.args.rest.now c.in_ok-pre.pre.now c.in_ok-pre.build.now c.in_ok-pre.ensures,
       );
     }
 
 pub returns : goal.returns
 returns c = λ text before n at.
     rw c.with_parts.ensures
-    (has_outline c.args.dialect text c.args.rest.now c.in_ok-pre.pre.now c.in_ok-pre.build.now c.args.major c.args.minor c.args.patch n
+    (has_outline c.args.grammar text c.args.rest.now c.in_ok-pre.pre.now c.in_ok-pre.build.now c.args.major c.args.minor c.args.patch n
     c.in_ok-pre.ensures c.requires.fit before c.args.numbers_end at)

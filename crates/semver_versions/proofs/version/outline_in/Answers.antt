@@ -7,8 +7,8 @@ returns c =
     let found = c.outline.result in
     let is = c.outline.ensures in
     record {
-      outlined = exactly_in c.args.dialect text found is;
-      none = none_in c.args.dialect text found is;
-      version = spelled_in c.args.dialect text found is;
-      places = stand_in c.args.dialect text found is;
+      outlined = exactly_in c.args.grammar text found is;
+      none = none_in c.args.grammar text found is;
+      version = spelled_in c.args.grammar text found is;
+      places = stand_in c.args.grammar text found is;
     }

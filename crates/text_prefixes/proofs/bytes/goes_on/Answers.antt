@@ -15,12 +15,12 @@ loop-completion-preserved c =
     ∙ rw (c.in_ok-extend_from_slice.ensures.items, c.clear.ensures.items, rest) refl in
     below_more _ i
     c.loop-completion.invariant
-    (λ w. let h = c.is_version.ensures.1 (subst (IsVersionTextIn c.args.dialect) (sym text) w) in cc)
+    (λ w. let h = c.is_version.ensures.1 (subst (IsVersionTextIn c.args.grammar) (sym text) w) in cc)
 
 pub returns : goal.returns
 returns c = (
   λ h. cc,
-  λ prefix. let any = (known c.args.dialect).bytes c.args.prefix.now prefix.0 prefix.1 in
+  λ prefix. let any = (known c.args.grammar).bytes c.args.prefix.now prefix.0 prefix.1 in
       absurd (
       c.loop-completion.invariant any.0 (omega (
         arith,
@@ -28,6 +28,6 @@ returns c = (
         ap length c.requires,
         any.2,
       ))
-      (subst (λ t. IsVersionTextIn c.args.dialect (c.args.prefix.now ++ t)) (sym any.3
+      (subst (λ t. IsVersionTextIn c.args.grammar (c.args.prefix.now ++ t)) (sym any.3
       ∙ (get_or_default byte_completions any.0 any.1 [] any.2)) any.4)),
 )

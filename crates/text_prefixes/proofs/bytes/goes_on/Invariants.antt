@@ -6,4 +6,4 @@ use Rattle.text_prefixes.proofs.bytes.goes_on.Given as goal
 -- no completion so far makes a version
 abbrev pub invariant-loop-completion : goal.invariant-loop-completion
 invariant-loop-completion l =
-    (k : ℕ) → k < l.completion-index → ¬ (IsVersionTextIn l.fn.dialect (l.fn.prefix ++ get_or byte_completions k []))
+    (k : ℕ) → k < l.completion-index → ¬ (IsVersionTextIn l.fn.grammar (l.fn.prefix ++ get_or byte_completions k []))

@@ -8,7 +8,7 @@ use Rattle.text_prefixes.proofs.reasons.refused.Goals as goal
 
 pub returns-clause-reason : goal.returns-clause-reason
 returns-clause-reason c =
-    let d = c.args.dialect in
+    let d = c.args.grammar in
     let offset = c.in_ok-offset.offset in
     let prefix : Text = take offset c.args.input.now in
     let version = c.is_version-version.result in

@@ -13,8 +13,8 @@ use Rattle.semver_ranges.specs.RewritingTable.{fits, rewritten}
 use Rattle.tool_ranges.specs.CargoGrammar.{SpellsRequirement}
 use Rattle.tool_ranges.specs.CargoMeaning.{meets_requirement}
 use Rattle.tool_ranges.specs.CargoTable.{rewritten_requirement}
-use Rattle.tool_ranges.specs.Readings.{RefusesAs}
-use Rattle.tool_ranges.specs.declared.reading.Reading.TheVariants as reading
+use Rattle.tool_ranges.specs.Dialects.{RefusesAs}
+use Rattle.tool_ranges.specs.declared.dialect.Dialect.TheVariants as dialect
 use Rattle.tool_ranges.specs.Steps.CargoReading.{IsRewritten}
 use Rattle.tool_ranges.proofs.ReadMeanings.{requirement_meets}
 use Rattle.tool_ranges.proofs.RequirementLaws.{refused, answered, same_comparators}
@@ -22,7 +22,7 @@ use Rattle.tool_ranges.proofs.RequirementPrinted.{requirement_printable, reads_b
 use Rattle.tool_ranges.proofs.cargo.rewrite.Goals as goal
 use Rattle.std.proofs.lemmas.Grind.{common_steps}
 
-refuses : (t : Text) (r : Result RangeSet RangeError) → IsRewritten t r → RefusesAs reading.Cargo t r
+refuses : (t : Text) (r : Result RangeSet RangeError) → IsRewritten t r → RefusesAs dialect.Cargo t r
 refuses t (Ok set) (tree, h, fit, same) = answered t set tree h fit
 refuses t (Err e) none = refused t e none
 

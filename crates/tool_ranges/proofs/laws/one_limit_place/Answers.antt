@@ -3,4 +3,4 @@ use Rattle.tool_ranges.proofs.Places.{one_place}
 use Rattle.tool_ranges.proofs.laws.one_limit_place.Goals as goal
 
 pub returns : goal.returns
-returns c = record { same_place = λ reading. one_place (BeginsFitting reading) }
+returns c = record { same_place = λ dialect. one_place (BeginsFitting dialect) }

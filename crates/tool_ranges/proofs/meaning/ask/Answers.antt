@@ -10,7 +10,7 @@ use Rattle.tool_ranges.specs.CargoMeaning.{meets_requirement}
 use Rattle.tool_ranges.specs.NpmMeaning.{meets_npm}
 use Rattle.tool_ranges.specs.Meanings.{meant_as}
 use Rattle.tool_ranges.specs.declared.meaning.Meaning.TheVariants as meaning
-use Rattle.tool_ranges.specs.declared.reading.Reading.TheVariants as reading
+use Rattle.tool_ranges.specs.declared.dialect.Dialect.TheVariants as dialect
 use Rattle.tool_ranges.specs.declared.tally.Terms.TheVariants as terms
 use Rattle.tool_ranges.specs.Steps.Asking.{asked_of, range_met}
 use Rattle.tool_ranges.proofs.AskedMeanings.{IsSaid, fitting, released, said_by, said_so}
@@ -38,7 +38,7 @@ returns-in-CargoReleases c =
     let e = c.ask-in-CargoReleases.ensures in
     let v = asked_of c.args.version.now in
     let told = said_by meaning.CargoReleases _ _ (without_build v) (λ tree. is_empty v.pre && meets_requirement tree v) _
-    c.in-CargoReleases.is (λ tree. refl) (released reading.Cargo _ _ v _ _ c.of_releases.ensures
+    c.in-CargoReleases.is (λ tree. refl) (released dialect.Cargo _ _ v _ _ c.of_releases.ensures
     (record { refusals = e.refusals; no_memory = e.no_memory; meaning = e.meaning })) in
     record { refusals = told.refusals; no_memory = told.no_memory; meaning = told.meaning }
 
@@ -63,7 +63,7 @@ returns-in-NpmReleases c =
     let e = c.ask-in-NpmReleases.ensures in
     let v = asked_of c.args.version.now in
     let told = said_by meaning.NpmReleases _ _ (without_build v) (λ tree. is_empty v.pre && meets_npm tree v) _
-    c.in-NpmReleases.is (λ tree. refl) (released reading.Npm _ _ v _ _ c.of_releases-in-NpmReleases.ensures
+    c.in-NpmReleases.is (λ tree. refl) (released dialect.Npm _ _ v _ _ c.of_releases-in-NpmReleases.ensures
     (record { refusals = e.refusals; no_memory = e.no_memory; meaning = e.meaning })) in
     record { refusals = told.refusals; no_memory = told.no_memory; meaning = told.meaning }
 
@@ -74,8 +74,8 @@ returns-in-Excluded c =
     let v = asked_of c.args.version.now in
     let told = said_by (meaning.Crate compat Excluded) _ _ (without_build v) _ _
     (c.in-Crate.is ∙ ap (meaning.Crate compat) c.in-Excluded.is) (λ tree. fitting Excluded compat (without_build v) tree c.requires)
-    (released (reading.Crate compat) _ _ v _ _ c.of_releases-in-Excluded.ensures
-    (said_so (reading.Crate compat) _ _ (λ tree. meets_tree compat tree v) _ (λ tree. own_said v compat tree)
+    (released (dialect.Crate compat) _ _ v _ _ c.of_releases-in-Excluded.ensures
+    (said_so (dialect.Crate compat) _ _ (λ tree. meets_tree compat tree v) _ (λ tree. own_said v compat tree)
     (record { refusals = e.refusals; no_memory = e.no_memory; meaning = e.meaning }))) in
     record { refusals = told.refusals; no_memory = told.no_memory; meaning = told.meaning }
 
@@ -86,7 +86,7 @@ returns-in-Stated c =
     let v = asked_of c.args.version.now in
     let told = said_by (meaning.Crate compat Stated) _ _ (without_build v) _ _
     (c.in-Crate.is ∙ ap (meaning.Crate compat) c.in-Stated.is) (λ tree. fitting Stated compat (without_build v) tree c.requires)
-    (said_so (reading.Crate compat) _ _ (λ tree. meets_tree_as_stated compat tree v) _
+    (said_so (dialect.Crate compat) _ _ (λ tree. meets_tree_as_stated compat tree v) _
     (λ tree. ap (λ b. list_any (range_met (terms.Crate compat) v b) tree) c.is_release.ensures ∙ stated_said v compat tree)
     (record { refusals = e.refusals; no_memory = e.no_memory; meaning = e.meaning })) in
     record { refusals = told.refusals; no_memory = told.no_memory; meaning = told.meaning }
@@ -98,6 +98,6 @@ returns-in-Included c =
     let v = asked_of c.args.version.now in
     let told = said_by (meaning.Crate compat Included) _ _ (without_build v) _ _
     (c.in-Crate.is ∙ ap (meaning.Crate compat) c.in-Included.is) (λ tree. fitting Included compat (without_build v) tree c.requires)
-    (said_so (reading.Crate compat) _ _ (λ tree. meets_tree compat tree v) _ (λ tree. own_said v compat tree)
+    (said_so (dialect.Crate compat) _ _ (λ tree. meets_tree compat tree v) _ (λ tree. own_said v compat tree)
     (record { refusals = e.refusals; no_memory = e.no_memory; meaning = e.meaning })) in
     record { refusals = told.refusals; no_memory = told.no_memory; meaning = told.meaning }

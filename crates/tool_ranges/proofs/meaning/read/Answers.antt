@@ -3,17 +3,17 @@ use Rattle.semver_ranges.specs.declared.range_set.RangeError.{RangeError}
 use Rattle.semver_texts.specs.Texts.{Text}
 use Rattle.version_sets.specs.declared.version_set.VersionSet.{VersionSet}
 use Rattle.tool_ranges.specs.declared.meaning.Meaning.{Meaning}
-use Rattle.tool_ranges.specs.declared.reading.Reading.TheVariants.{Cargo, Npm}
-use Rattle.tool_ranges.specs.Readings.{RefusesAs}
+use Rattle.tool_ranges.specs.declared.dialect.Dialect.TheVariants.{Cargo, Npm}
+use Rattle.tool_ranges.specs.Dialects.{RefusesAs}
 use Rattle.tool_ranges.specs.CargoMeaning.{meets_requirement}
 use Rattle.tool_ranges.specs.NpmMeaning.{meets_npm}
-use Rattle.tool_ranges.specs.Meanings.{MeansAs, reading_of}
+use Rattle.tool_ranges.specs.Meanings.{MeansAs, dialect_of}
 use Rattle.tool_ranges.proofs.ReadRows.{if_ok}
 use Rattle.tool_ranges.proofs.meaning.read.Goals as goal
 
 -- the result by a meaning
 abbrev Answers : Text → Result VersionSet RangeError → Meaning → Type 0
-Answers t r meaning = RefusesAs (reading_of meaning) t r × IfOk r (λ set. MeansAs meaning t set)
+Answers t r meaning = RefusesAs (dialect_of meaning) t r × IfOk r (λ set. MeansAs meaning t set)
 
 pub returns-in-Cargo : goal.returns-in-Cargo
 returns-in-Cargo c =

@@ -14,8 +14,8 @@ use Rattle.semver_ranges.specs.RewritingTable.{fits, rewritten}
 use Rattle.tool_ranges.specs.NpmGrammar.{SpellsNpm}
 use Rattle.tool_ranges.specs.NpmMeaning.{meets_npm}
 use Rattle.tool_ranges.specs.NpmTable.{rewritten_npm}
-use Rattle.tool_ranges.specs.Readings.{HasSetAs}
-use Rattle.tool_ranges.specs.declared.reading.Reading.TheVariants as reading
+use Rattle.tool_ranges.specs.Dialects.{HasSetAs}
+use Rattle.tool_ranges.specs.declared.dialect.Dialect.TheVariants as dialect
 use Rattle.tool_ranges.specs.Steps.LowerBounds.{set_begun}
 use Rattle.tool_ranges.proofs.NpmLaws.{npm_read, npm_printable}
 use Rattle.tool_ranges.proofs.NpmMeanings.{npm_meets}
@@ -43,13 +43,13 @@ module _ (t : Text) where
   releases (Ok set) is = λ tree v h release. ap (meets_set v) (spelled set is tree h) ∙ npm_meets v release tree
   releases (Err e) is = tt
 
-  printable : (r : Result RangeSet RangeError) → IfOk r (λ _. HasSetAs reading.Npm t) → IfOk r IsBegun
+  printable : (r : Result RangeSet RangeError) → IfOk r (λ _. HasSetAs dialect.Npm t) → IfOk r IsBegun
       → IfOk r (λ set. IsPrintableSet (set_of set))
   printable (Ok set) (tree, h, fit) is =
       subst IsPrintableSet (sym (spelled set is tree h)) (npm_printable t tree (npm_read t tree h) fit)
   printable (Err e) has is = tt
 
-  reads_it_back : (r : Result RangeSet RangeError) → IfOk r (λ _. HasSetAs reading.Npm t) → IfOk r IsBegun → IfOk r (λ set. (tree : SetTree)
+  reads_it_back : (r : Result RangeSet RangeError) → IfOk r (λ _. HasSetAs dialect.Npm t) → IfOk r IsBegun → IfOk r (λ set. (tree : SetTree)
       × Spells tree (set_text (set_of set)) × IsTrue (fits Npm tree) × (rewritten Npm tree ≡ set_of set))
   reads_it_back (Ok set) (tree, h, fit) is =
       reads_back Npm (set_of set) (printable (Ok set) (tree, h, fit) is) (ap (λ s. s.compat) (spelled set is tree h))

@@ -1,5 +1,5 @@
 use Rattle.std.proofs.Common.{refl, sym, subst, Result, Ok, Err, IfOk}
-use Rattle.semver_texts.specs.declared.dialect.Dialect.TheVariants as dialect
+use Rattle.semver_texts.specs.declared.grammar.Grammar.TheVariants as grammar
 use Rattle.semver_ranges.specs.declared.range.Compat.TheVariants.{Npm}
 use Rattle.semver_texts.specs.Texts.{Text}
 use Rattle.semver_ranges.specs.declared.partial.LowerBounds.{LowerBounds}
@@ -19,7 +19,7 @@ use Rattle.tool_ranges.proofs.npm.rewritten.Goals.{After-read_by}
 answer : (c : After-read_by) → IsAnswer c.args.lower c.args.range.now c.read_by.result
 answer c = rw (← c.as_bytes.ensures.value) (answered_by (written_for c.args.lower Npm) Npm c.args.lower npm_table (set_begun c.args.lower)
     (λ tree. refl)
-    dialect.Npm c.as_bytes.result.now _ c.read_by.result refl c.read_by.ensures)
+    grammar.Npm c.as_bytes.result.now _ c.read_by.result refl c.read_by.ensures)
 
 pub returns-clause-refusals : goal.returns-clause-refusals
 returns-clause-refusals c =
@@ -31,7 +31,7 @@ returns-clause-begun c = begun c.args.lower c.args.range.now c.read_by.result (a
 prints : (lower : LowerBounds) (t : Text) (r : Result RangeSet RangeError) → IsAnswer lower t r
     → IfOk r (λ set. HasPrintableRanges (set_of set))
 prints lower t (Ok set) (tree, e, fit, same) =
-    subst HasPrintableRanges (sym same) (begun_set_prints lower tree t (read_sound dialect.Npm t tree e) fit)
+    subst HasPrintableRanges (sym same) (begun_set_prints lower tree t (read_sound grammar.Npm t tree e) fit)
 prints lower t (Err e) is = tt
 
 pub returns-clause-printable : goal.returns-clause-printable

@@ -1,5 +1,5 @@
 use Rattle.std.proofs.Common.{subst}
-use Rattle.tool_ranges.specs.Readings.{RefusesAs}
+use Rattle.tool_ranges.specs.Dialects.{RefusesAs}
 use Rattle.tool_ranges.proofs.place.check.Goals as goal
 
 pub returns-clause-refusals : goal.returns-clause-refusals

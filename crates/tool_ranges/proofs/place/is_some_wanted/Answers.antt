@@ -15,13 +15,13 @@ loop-rest-preserved c =
     ∙ rw (c.in_ok-push_str.ensures.bytes, c.clear.ensures.bytes, rest) refl in
     below_more _ i
     c.loop-rest.invariant
-    (λ w. let h = c.is_wanted.ensures.1 (subst (IsWanted c.args.wanted c.args.reading) (sym text) w) in cc)
+    (λ w. let h = c.is_wanted.ensures.1 (subst (IsWanted c.args.wanted c.args.dialect) (sym text) w) in cc)
 
 pub returns : goal.returns
 returns c = (
   λ h. cc,
   λ any. absurd (
       c.loop-rest.invariant any.0 (omega (arith, length-map c.args.rests.now (λ r. r.now)))
-      (subst (λ t. IsWanted c.args.wanted c.args.reading (c.args.front.now ++ t)) (sym any.3
+      (subst (λ t. IsWanted c.args.wanted c.args.dialect (c.args.front.now ++ t)) (sym any.3
       ∙ (get_or_default (texts c.args.rests.now) any.0 any.1 [] any.2)) any.4)),
 )

@@ -13,8 +13,8 @@ pub returns-in_default : goal.returns-in_default
 returns-in_default c =
     let k = c.in-Err-NumberTooLarge in (
       λ h. cc,
-      λ h. absurd (c.in_default.not-Any (wanted_refused c.args.wanted c.args.reading c.args.text.now k.field-0 (has_error
-          c.args.reading c.args.text.now c.check.result c.check.ensures.refusals c.check.ensures.no_memory k.field-0 k.is) h).1),
+      λ h. absurd (c.in_default.not-Any (wanted_refused c.args.wanted c.args.dialect c.args.text.now k.field-0 (has_error
+          c.args.dialect c.args.text.now c.check.result c.check.ensures.refusals c.check.ensures.no_memory k.field-0 k.is) h).1),
     )
 
 pub returns-in-Err-NotARange : goal.returns-in-Err-NotARange

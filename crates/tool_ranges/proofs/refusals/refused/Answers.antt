@@ -8,16 +8,16 @@ returns-in_default-clause-range c = search rules
 
 pub returns-in_err-place-clause-out_of_memory : goal.returns-in_err-place-clause-out_of_memory
 returns-in_err-place-clause-out_of_memory c = any_err c.from_residual.result
-    (has_error c.args.reading c.args.text.now c.check.result c.check.ensures.refusals c.check.ensures.no_memory c.in-Err.error
+    (has_error c.args.dialect c.args.text.now c.check.result c.check.ensures.refusals c.check.ensures.no_memory c.in-Err.error
     c.in-Err.is).no_set
   where
     any_err : {A B P : Type 0} (r : Result A B) → P → IfErr r (λ x. P)
     any_err (Ok x) p = tt
     any_err (Err x) p = p
 
-known : (c : goal.In_ok-place) → HasError c.args.reading c.args.text.now c.in-Err.error
+known : (c : goal.In_ok-place) → HasError c.args.dialect c.args.text.now c.in-Err.error
 known c =
-    has_error c.args.reading c.args.text.now c.check.result c.check.ensures.refusals c.check.ensures.no_memory c.in-Err.error c.in-Err.is
+    has_error c.args.dialect c.args.text.now c.check.result c.check.ensures.refusals c.check.ensures.no_memory c.in-Err.error c.in-Err.is
 
 pub returns-clause-range : goal.returns-clause-range
 returns-clause-range c = (λ h. cc, λ set. absurd ((known c).no_set set))

@@ -1,18 +1,18 @@
 use Rattle.std.proofs.Common.{Some, None, refl, subst, sym, ap, ◌∙◌, rules}
 use Rattle.semver_ranges.specs.Steps.CursorViews.{NextGives}
 use Rattle.semver_ranges.proofs.FoundEvents.{FirstSimple, first_simple}
-use Rattle.tool_ranges.specs.Steps.Asking.{asked_of, dialect_of}
+use Rattle.tool_ranges.specs.Steps.Asking.{asked_of, grammar_of}
 use Rattle.tool_ranges.proofs.AskedEvents.{large, says, term_more, told}
 use Rattle.tool_ranges.proofs.tally.ask.Goals as goal
 use Rattle.tool_ranges.proofs.tally.ask.Goals.{In-Simple}
 
 -- the simple that comes first
-first : (c : In-Simple) → FirstSimple (dialect_of c.args.terms) c.loop-event.invariant.0 c.in-Simple.simple c.next_in.new.self
+first : (c : In-Simple) → FirstSimple (grammar_of c.args.terms) c.loop-event.invariant.0 c.in-Simple.simple c.next_in.new.self
 first c =
     let so_far = c.loop-event.invariant in
-    let gives : NextGives (dialect_of c.args.terms) c.loop-event.events (Some c.in-Some.event) c.next_in.new.self =
+    let gives : NextGives (grammar_of c.args.terms) c.loop-event.events (Some c.in-Some.event) c.next_in.new.self =
     search rules in
-    first_simple (dialect_of c.args.terms) so_far.0 c.in-Simple.simple c.next_in.new.self
+    first_simple (grammar_of c.args.terms) so_far.0 c.in-Simple.simple c.next_in.new.self
     (rw (c.in_ok-simple.was, c.in-Simple.is) at (gives.0 so_far.0 so_far.1))
 
 pub fits-fit-requires : goal.fits-fit-requires
@@ -35,7 +35,7 @@ loop-event-preserved-in-Simple c =
 pub returns-then-not-fit : goal.returns-then-not-fit
 returns-then-not-fit c =
     let so_far = c.loop-event.invariant in
-    let end = (subst (λ d. NextGives d c.loop-event.events None c.next_in.new.self) c.dialect-dialect.ensures c.in_default.ensures.gives).0
+    let end = (subst (λ d. NextGives d c.loop-event.events None c.next_in.new.self) c.grammar-grammar.ensures c.in_default.ensures.gives).0
     so_far.0 so_far.1 in
     large c.args.terms (asked_of c.args.version.now) c.args.counts c.args.text.now
     (so_far.2 ∙ ap (told c.args.terms (asked_of c.args.version.now) c.args.counts c.loop-event.fit c.loop-event.tally) end.0
@@ -44,7 +44,7 @@ returns-then-not-fit c =
 pub returns : goal.returns
 returns c =
     let so_far = c.loop-event.invariant in
-    let end = (subst (λ d. NextGives d c.loop-event.events None c.next_in.new.self) c.dialect-dialect.ensures c.in_default.ensures.gives).0
+    let end = (subst (λ d. NextGives d c.loop-event.events None c.next_in.new.self) c.grammar-grammar.ensures c.in_default.ensures.gives).0
     so_far.0 so_far.1 in
     says c.args.terms (asked_of c.args.version.now) c.args.counts c.args.text.now c.ended.result
     (so_far.2 ∙ ap (told c.args.terms (asked_of c.args.version.now) c.args.counts c.loop-event.fit c.loop-event.tally) end.0

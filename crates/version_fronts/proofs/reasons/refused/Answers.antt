@@ -7,5 +7,5 @@ returns-then-place-input-clause-version c = λ version.
     absurd (omega (
       arith,
       c.if-place-input.true,
-      whole_is_longest c.args.dialect c.args.input.now c.longest_front-place.result.0 c.longest_front-place.ensures.longest version,
+      whole_is_longest c.args.grammar c.args.input.now c.longest_front-place.result.0 c.longest_front-place.ensures.longest version,
     ))

@@ -1,4 +1,4 @@
-use Rattle.tool_ranges.specs.declared.reading.Reading.TheVariants.{Crate}
+use Rattle.tool_ranges.specs.declared.dialect.Dialect.TheVariants.{Crate}
 use Rattle.semver_parser.specs.declared.Compat.TheVariants.{Cargo, Npm}
 use Rattle.command_line.proofs.options.MeaningOptions.ask_by_name.Goals as goal
 

@@ -4,10 +4,10 @@ use Rattle.release_filter.proofs.Passing.{outlined_as}
 use Rattle.release_filter.proofs.filter.Filter.judge.Goals as goal
 use Rattle.release_filter.proofs.filter.Filter.judge.Goals.{After-judge_outline}
 
-outlined : (c : After-judge_outline) → IsOutlined c.args.self.now.dialect c.args.text.now c.outline_in.result
+outlined : (c : After-judge_outline) → IsOutlined c.args.self.now.grammar c.args.text.now c.outline_in.result
 outlined c =
-    subst (λ d. IsOutlined d c.args.text.now c.outline_in.result) c.dialect.ensures
-    (outlined_as c.dialect.result c.args.text.now c.outline_in.result c.outline_in.ensures.outlined c.outline_in.ensures.none)
+    subst (λ d. IsOutlined d c.args.text.now c.outline_in.result) c.grammar.ensures
+    (outlined_as c.grammar.result c.args.text.now c.outline_in.result c.outline_in.ensures.outlined c.outline_in.ensures.none)
 
 pub returns-clause-judged : goal.returns-clause-judged
 returns-clause-judged c =

@@ -8,7 +8,7 @@ use Rattle.release_filter.proofs.filter.Filter.read.Goals as goal
 use Rattle.release_filter.proofs.filter.Filter.read.Goals.{In-Passes}
 
 -- what is said of the text
-told : (c : In-Passes) → IsJudged c.args.self.now.dialect (passes c.args.self.now) c.args.text.now (Passes c.in-Passes.outline)
+told : (c : In-Passes) → IsJudged c.args.self.now.grammar (passes c.args.self.now) c.args.text.now (Passes c.in-Passes.outline)
 told c = search rules
 
 pub returns-in_err-version-in-Passes-clause-out_of_memory : goal.returns-in_err-version-in-Passes-clause-out_of_memory

@@ -9,6 +9,6 @@ returns-then-is_empty-clause-judged c =
     let filter = c.args.self.now.filter in
     let line = c.in_ok-line.line.now in
     let said = c.judge_outline.result in
-    let outlined = rw c.dialect.ensures at c.in_ok-line.ensures.outlined in
+    let outlined = rw c.grammar.ensures at c.in_ok-line.ensures.outlined in
     rw none (outlined_line c.one_outlined_version.ensures.same_version filter line c.in_ok-line.outline said c.judge_outline.ensures.judged
     outlined)

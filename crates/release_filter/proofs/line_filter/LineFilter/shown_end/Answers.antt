@@ -14,10 +14,10 @@ loop-size-preserved c =
     let self = c.args.self.now in
     let before = c.loop-size.invariant in
     let size = c.loop-size.size in
-    let here : MayHaveVersion self.filter.dialect (texts self.prefixes.items) c.args.at_front (take size c.args.unended.now) =
+    let here : MayHaveVersion self.filter.grammar (texts self.prefixes.items) c.args.at_front (take size c.args.unended.now) =
     search rules in
     record {
       looked_at = next_look size before.looked_at;
-      may = looked_again self.filter.dialect (texts self.prefixes.items) c.args.at_front c.args.unended.now size before.looked_at
+      may = looked_again self.filter.grammar (texts self.prefixes.items) c.args.at_front c.args.unended.now size before.looked_at
           before.may here;
     }

@@ -6,7 +6,7 @@ use Rattle.release_filter.proofs.line_filter.LineFilter.shown_end.Given as goal
 abbrev pub invariant-loop-size : goal.invariant-loop-size
 invariant-loop-size l = record {
   looked_at : IsLookedAt l.size;
-  may : MayUpTo l.self.filter.dialect (texts l.self.prefixes.items) l.at_front l.unended l.size;
+  may : MayUpTo l.self.filter.grammar (texts l.self.prefixes.items) l.at_front l.unended l.size;
 }
 
 abbrev pub decreases-loop-size : goal.decreases-loop-size

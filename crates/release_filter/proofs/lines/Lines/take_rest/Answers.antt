@@ -14,7 +14,7 @@ returns-in-Some-clause-takes c =
     let slice = c.as_slice-unended.ensures.value in
     let cut = c.truncate.ensures.items ∙ ap (take c.in-Some.size) (sym slice) in (
       λ i. record (c.self.view_is i) { unended = new },
-      rw (← c.self.view_is) (left_front s.chosen.filter.dialect value.prefixes s.at_front (s.unended.items ++ c.args.rest.now)
+      rw (← c.self.view_is) (left_front s.chosen.filter.grammar value.prefixes s.at_front (s.unended.items ++ c.args.rest.now)
           c.as_slice-unended.result.now new c.in-Some.size (slice ∙ c.in_ok-extend_from_slice.ensures.items) cut c.in-Some.ensures.some),
     )
 
@@ -22,10 +22,10 @@ pub invariant_of-self-in-Some : goal.invariant_of-self-in-Some
 invariant_of-self-in-Some c =
     let s = c.self.inside in
     let prefixes = (view s).prefixes in
-    let dialect = s.chosen.filter.dialect in
+    let grammar = s.chosen.filter.grammar in
     let whole = c.as_slice-unended.ensures.value ∙ c.in_ok-extend_from_slice.ensures.items in
     let cut = c.truncate.ensures.items ∙ ap (take c.in-Some.size) (sym c.as_slice-unended.ensures.value) in
-    let shows = subst (ShowsNone dialect prefixes s.at_front) (sym cut) c.in-Some.ensures.some in
+    let shows = subst (ShowsNone grammar prefixes s.at_front) (sym cut) c.in-Some.ensures.some in
     record {
       no_end = All-same (λ b. b ≢ 10) _ _ (cut ∙ ap (take c.in-Some.size) whole)
           (All-take (λ b. b ≢ 10) c.in-Some.size _ (All-append (λ b. b ≢ 10) _ _ c.self.invariant.no_end c.requires));

@@ -8,7 +8,7 @@ use Rattle.semver_ranges.proofs.events.Events.read_bars.Goals as goal
 
 pub returns : goal.returns
 returns c =
-    let d = c.args.dialect in
+    let d = c.args.grammar in
     let t : Text = c.args.self.now.rest.now in
     let u : Text = c.in_ok-after_bars.field-0.now in
     let short : length c.after_blanks-self.result.now ≤ length u = rw c.after_blanks-self.ensures (back_shorter (is_blank d) u) in

@@ -12,7 +12,7 @@ returns c =
     let ends : ends_range t ≡ true = sym c.ends_range.ensures ∙ c.if-not-ends_range.false in
     let begins : c.args.self.now.begins_range ≡ true = c.if-not-begins_range.false in
     rw (begins, c.requires.alone) (
-      (one_simple wildcard, events_left c.args.dialect lower false t, c.wildcard.ensures, refl, empty_left c.args.dialect lower t ends),
+      (one_simple wildcard, events_left c.args.grammar lower false t, c.wildcard.ensures, refl, empty_left c.args.grammar lower t ends),
       omega arith,
       omega arith,
     )

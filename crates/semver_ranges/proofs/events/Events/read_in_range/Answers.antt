@@ -12,14 +12,14 @@ returns-in_default c =
     let found = c.in_ok-simple.ensures in
     let t : Text = c.args.self.now.rest.now in
     let u : Text = c.in_ok-simple.rest.now in
-    let less : length u < length t = shorter_simple c.args.dialect t u found.0 found.1 in
+    let less : length u < length t = shorter_simple c.args.grammar t u found.0 found.1 in
     rw (c.requires.begun, c.requires.alone) (
       (
         one_simple found.0,
-        events_left c.args.dialect c.args.self.now.lower false u,
+        events_left c.args.grammar c.args.self.now.lower false u,
         found.2,
         refl,
-        simple_left c.args.dialect c.args.self.now.lower c.args.begins_range t u found.0 c.requires.goes_on found.1
+        simple_left c.args.grammar c.args.self.now.lower c.args.begins_range t u found.0 c.requires.goes_on found.1
             (elim c.in_default.branch [
               | in_default-via-in-Some+else-begins_range w ↦ λ begins. absurd (true≢false (sym begins ∙ w.if-begins_range.false))
               | in_default-via-in_default w ↦ λ begins. w.in_default.ensures

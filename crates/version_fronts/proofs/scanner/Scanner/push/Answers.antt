@@ -3,4 +3,4 @@ use Rattle.version_fronts.proofs.FrontTexts.{push_read}
 use Rattle.version_fronts.proofs.scanner.Scanner.push.Goals as goal
 
 pub returns : goal.returns
-returns c = λ dialect text w. push_read dialect text c.args.self.now w c.args.byte _ refl c.step-self.ensures c.counted-self.ensures
+returns c = λ grammar text w. push_read grammar text c.args.self.now w c.args.byte _ refl c.step-self.ensures c.counted-self.ensures

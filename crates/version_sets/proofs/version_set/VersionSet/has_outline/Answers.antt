@@ -1,7 +1,7 @@
 use Rattle.std.proofs.Common.{ap, ◌∙◌, map}
 use Rattle.semver_parser.specs.Outlines.{version_of}
 use Rattle.semver_parser.specs.Precedence.{precedence}
-use Rattle.semver_parser.specs.declared.version.Dialect.TheVariants.{Crate}
+use Rattle.semver_parser.specs.declared.version.Grammar.TheVariants.{Crate}
 use Rattle.version_sets.specs.Steps.Places.{version_place}
 use Rattle.version_sets.specs.Switches.{switched}
 use Rattle.version_sets.specs.VersionSets.{SetValue, has}

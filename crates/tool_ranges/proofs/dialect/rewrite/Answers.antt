@@ -1,4 +1,4 @@
-use Rattle.tool_ranges.proofs.reading.rewrite.Goals as goal
+use Rattle.tool_ranges.proofs.dialect.rewrite.Goals as goal
 use Rattle.std.proofs.Common.{rules}
 
 pub returns-in-Cargo : goal.returns-in-Cargo

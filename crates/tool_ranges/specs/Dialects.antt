@@ -3,8 +3,8 @@ use Rattle.std.specs.Prelude.{◌≡◌, Bool, false, List, IsTrue, Result}
 use Rattle.semver_ranges.specs.declared.range_set.RangeError.{RangeError}
 use Rattle.semver_texts.specs.Texts.{Text}
 use Rattle.semver_texts.specs.Versions.{PlainVersion}
-use Rattle.semver_texts.specs.declared.dialect.Dialect.{Dialect}
-use Rattle.semver_texts.specs.declared.dialect.Dialect.TheVariants as dialect
+use Rattle.semver_texts.specs.declared.grammar.Grammar.{Grammar}
+use Rattle.semver_texts.specs.declared.grammar.Grammar.TheVariants as grammar
 use Rattle.semver_ranges.specs.declared.range.Compat.{Compat}
 use Rattle.semver_ranges.specs.declared.range.Compat.TheVariants as compat
 use Rattle.semver_ranges.specs.OwnMeaning.{meets_tree}
@@ -12,8 +12,8 @@ use Rattle.semver_ranges.specs.RangeTree.{SetTree, Simple, Spells}
 use Rattle.semver_ranges.specs.RangeTexts.{Refuses}
 use Rattle.semver_ranges.specs.RewritingTable.{PlainSet, fits}
 use Rattle.semver_ranges.specs.ExactBounds.{rewritten_exactly}
-use Rattle.tool_ranges.specs.declared.reading.Reading.{Reading}
-use Rattle.tool_ranges.specs.declared.reading.Reading.TheVariants.{Cargo, Npm, Crate}
+use Rattle.tool_ranges.specs.declared.dialect.Dialect.{Dialect}
+use Rattle.tool_ranges.specs.declared.dialect.Dialect.TheVariants.{Cargo, Npm, Crate}
 use Rattle.tool_ranges.specs.CargoGrammar.{SpellsRequirement}
 use Rattle.tool_ranges.specs.CargoMeaning.{meets_requirement}
 use Rattle.tool_ranges.specs.CargoTable.{requirement_fits, rewritten_requirement}
@@ -22,66 +22,66 @@ use Rattle.tool_ranges.specs.NpmMeaning.{meets_npm}
 use Rattle.tool_ranges.specs.NpmTable.{npm_fits, rewritten_npm}
 
 -- the trees of a reading
-abbrev pub TreeOf : Reading → Type 0
+abbrev pub TreeOf : Dialect → Type 0
 TreeOf Cargo = List Simple
 TreeOf Npm = SetTree
 TreeOf (Crate mode) = SetTree
 
 -- a tree spells a text
-abbrev pub SpellsAs : (reading : Reading) → TreeOf reading → Text → Type 0
+abbrev pub SpellsAs : (dialect : Dialect) → TreeOf dialect → Text → Type 0
 SpellsAs Cargo tree t = SpellsRequirement tree t
 SpellsAs Npm tree t = SpellsNpm tree t
 SpellsAs (Crate mode) tree t = Spells tree t
 
 -- whether the numbers that a tree states, and those of its raised bounds, are at most 2^64 - 1, or
 -- to npm 2^53 - 1
-abbrev pub fits_as : (reading : Reading) → TreeOf reading → Bool
+abbrev pub fits_as : (dialect : Dialect) → TreeOf dialect → Bool
 fits_as Cargo tree = requirement_fits tree
 fits_as Npm tree = npm_fits tree
 fits_as (Crate mode) tree = fits mode tree
 
 -- the plain comparators that stand for a tree, with exact bounds
-abbrev pub rewritten_as : (reading : Reading) → TreeOf reading → PlainSet
+abbrev pub rewritten_as : (dialect : Dialect) → TreeOf dialect → PlainSet
 rewritten_as Cargo tree = rewritten_requirement tree
 rewritten_as Npm tree = rewritten_npm tree
 rewritten_as (Crate mode) tree = rewritten_exactly mode tree
 
 -- a set of the comparators to which each tree of a text is rewritten
-abbrev pub IsRewrittenAs : Reading → Text → PlainSet → Type 0
-IsRewrittenAs reading t set =
-    (tree : TreeOf reading) → SpellsAs reading tree t → set ≡ rewritten_as reading tree
+abbrev pub IsRewrittenAs : Dialect → Text → PlainSet → Type 0
+IsRewrittenAs dialect t set =
+    (tree : TreeOf dialect) → SpellsAs dialect tree t → set ≡ rewritten_as dialect tree
 
 -- whether a tree means a release
-abbrev pub means_release : (reading : Reading) → TreeOf reading → PlainVersion → Bool
+abbrev pub means_release : (dialect : Dialect) → TreeOf dialect → PlainVersion → Bool
 means_release Cargo tree v = meets_requirement tree v
 means_release Npm tree v = meets_npm tree v
 means_release (Crate mode) tree v = meets_tree mode tree v
 
 -- the dialect of the versions that are judged by a reading
-abbrev pub dialect_of : Reading → Dialect
-dialect_of Cargo = dialect.Cargo
-dialect_of Npm = dialect.Npm
-dialect_of (Crate mode) = dialect.Crate
+abbrev pub grammar_of : Dialect → Grammar
+grammar_of Cargo = grammar.Cargo
+grammar_of Npm = grammar.Npm
+grammar_of (Crate mode) = grammar.Crate
 
 -- the mode that a set of a reading has
-abbrev pub mode_of : Reading → Compat
+abbrev pub mode_of : Dialect → Compat
 mode_of Cargo = compat.Cargo
 mode_of Npm = compat.Npm
 mode_of (Crate mode) = mode
 
 -- what a text is to a reading: a range text or none, one that has a set, and one with a number that
 -- is too large
-abbrev pub IsTextAs : Reading → Text → Type 0
-IsTextAs reading t = (tree : TreeOf reading) × SpellsAs reading tree t
+abbrev pub IsTextAs : Dialect → Text → Type 0
+IsTextAs dialect t = (tree : TreeOf dialect) × SpellsAs dialect tree t
 
-abbrev pub HasSetAs : Reading → Text → Type 0
-HasSetAs reading t =
-    (tree : TreeOf reading) × SpellsAs reading tree t × IsTrue (fits_as reading tree)
+abbrev pub HasSetAs : Dialect → Text → Type 0
+HasSetAs dialect t =
+    (tree : TreeOf dialect) × SpellsAs dialect tree t × IsTrue (fits_as dialect tree)
 
-abbrev pub IsTooLargeAs : Reading → Text → Type 0
-IsTooLargeAs reading t =
-    (tree : TreeOf reading) × SpellsAs reading tree t × (fits_as reading tree ≡ false)
+abbrev pub IsTooLargeAs : Dialect → Text → Type 0
+IsTooLargeAs dialect t =
+    (tree : TreeOf dialect) × SpellsAs dialect tree t × (fits_as dialect tree ≡ false)
 
 -- what a call that reads a text by a reading refuses
-abbrev pub RefusesAs : {A : Type 0} → Reading → Text → Result A RangeError → Type 0
-RefusesAs reading t r = Refuses (IsTextAs reading t) (IsTooLargeAs reading t) (HasSetAs reading t) r
+abbrev pub RefusesAs : {A : Type 0} → Dialect → Text → Result A RangeError → Type 0
+RefusesAs dialect t r = Refuses (IsTextAs dialect t) (IsTooLargeAs dialect t) (HasSetAs dialect t) r

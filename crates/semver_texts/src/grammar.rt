@@ -2,7 +2,7 @@
 
 /// A dialect: who reads a text so.
 #[derive(Clone, Copy, PartialEq, Eq)]
-pub enum Dialect {
+pub enum Grammar {
     /// The crate `semver-parser`.
     Crate,
     /// Cargo. Its versions are those of SemVer 2.0.0.

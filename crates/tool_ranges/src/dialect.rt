@@ -7,17 +7,17 @@ ghost use Rattle.semver_ranges.specs.PrintedRanges.{IsPrintableSet, set_text};
 ghost use Rattle.semver_ranges.specs.RangeTree.{SetTree, Spells};
 ghost use Rattle.semver_ranges.specs.RangeViews.{set_of};
 ghost use Rattle.semver_ranges.specs.RewritingTable.{fits, rewritten};
-ghost use Rattle.tool_ranges.specs.Readings.{IsRewrittenAs, RefusesAs, SpellsAs, TreeOf};
-ghost use Rattle.tool_ranges.specs.Readings.{dialect_of, means_release, mode_of};
+ghost use Rattle.tool_ranges.specs.Dialects.{IsRewrittenAs, RefusesAs, SpellsAs, TreeOf};
+ghost use Rattle.tool_ranges.specs.Dialects.{grammar_of, means_release, mode_of};
 
 use crate::{cargo, npm};
 use semver_ranges::{Compat, RangeError, RangeSet};
-use semver_texts::dialect::Dialect;
+use semver_texts::grammar::Grammar;
 use std::alloc::Global;
 
 /// A dialect of range texts. `docs/MEANING.md` compares them ("Which dialect?").
 #[derive(Clone, Copy, PartialEq, Eq, Debug)]
-pub enum Reading {
+pub enum Dialect {
     /// Cargo's own: `1.2` is `>=1.2.0 <2.0.0`, and commas separate comparators.
     Cargo,
     /// npm's own: `>1.2` is `>=1.3.0`, and `v1` is a range.
@@ -26,17 +26,17 @@ pub enum Reading {
     Crate(Compat),
 }
 
-impl Reading {
+impl Dialect {
     // Answer: equation.
     /// Returns the dialect of the versions that are judged by a range text of this reading: Cargo's
     /// of Cargo's own, npm's of npm's own, and the crate's of the crate's in either mode.
-    pub fn dialect(self) -> Dialect
-        ensures dialect { result ≡ dialect_of self }
+    pub fn grammar(self) -> Grammar
+        ensures grammar { result ≡ grammar_of self }
     {
         match self {
-            Reading::Cargo => Dialect::Cargo,
-            Reading::Npm => Dialect::Npm,
-            Reading::Crate(_) => Dialect::Crate,
+            Dialect::Cargo => Grammar::Cargo,
+            Dialect::Npm => Grammar::Npm,
+            Dialect::Crate(_) => Grammar::Crate,
         }
     }
 }
@@ -55,25 +55,25 @@ impl Reading {
 /// where it has, and a number that it states or a bound that is raised by one is above 2^64 - 1, or
 /// as npm reads it above 2^53 - 1. These two do not allocate; `OutOfMemory` comes only in place of
 /// a set.
-pub fn rewrite(alloc: Global, reading: Reading, range: &str) -> Result<RangeSet, RangeError>
+pub fn rewrite(alloc: Global, dialect: Dialect, range: &str) -> Result<RangeSet, RangeError>
     // What the reading's grammar hasn't and what is too large is refused, exactly. The result
     // is what each tree of the text is rewritten to.
-    ensures refusals { RefusesAs reading range.now result }
-    ensures as_rewritten { IfOk result (λ set. IsRewrittenAs reading range.now (set_of set)) }
+    ensures refusals { RefusesAs dialect range.now result }
+    ensures as_rewritten { IfOk result (λ set. IsRewrittenAs dialect range.now (set_of set)) }
     // A release meets the answer exactly if the text means it.
-    ensures releases { IfOk result (λ set. (tree : TreeOf reading) (v : PlainVersion)
-        → SpellsAs reading tree range.now → v.pre ≡ [] →
-        meets_set v (set_of set) ≡ means_release reading tree v) }
+    ensures releases { IfOk result (λ set. (tree : TreeOf dialect) (v : PlainVersion)
+        → SpellsAs dialect tree range.now → v.pre ≡ [] →
+        meets_set v (set_of set) ≡ means_release dialect tree v) }
     // The result is printable, and its text is a range text that `RangeSet::parse` rewrites
     // to that set again, in the set's mode.
     ensures printable { IfOk result (λ set. IsPrintableSet (set_of set)) }
     ensures reads_back { IfOk result (λ set. (tree : SetTree)
-        × Spells tree (set_text (set_of set)) × IsTrue (fits (mode_of reading) tree)
-        × (rewritten (mode_of reading) tree ≡ set_of set)) }
+        × Spells tree (set_text (set_of set)) × IsTrue (fits (mode_of dialect) tree)
+        × (rewritten (mode_of dialect) tree ≡ set_of set)) }
 {
-    match reading {
-        Reading::Cargo => cargo::rewrite(alloc, range),
-        Reading::Npm => npm::rewrite(alloc, range),
-        Reading::Crate(compat) => RangeSet::parse_exact(alloc, range, compat),
+    match dialect {
+        Dialect::Cargo => cargo::rewrite(alloc, range),
+        Dialect::Npm => npm::rewrite(alloc, range),
+        Dialect::Crate(compat) => RangeSet::parse_exact(alloc, range, compat),
     }
 }
