@@ -189,7 +189,7 @@ static char shown[80];
 /* Runs a call on the text, by each reading and rule. */
 static void run(size_t call, const char *term, size_t count, size_t often) {
     for (int32_t reading = SEMVER_PARSER_CARGO; reading <= SEMVER_PARSER_CRATE_NPM; reading++) {
-        for (int32_t rule = 0; rule <= SEMVER_PARSER_PRE_RELEASES_OF_TOOL; rule++) {
+        for (int32_t rule = 0; rule <= SEMVER_PARSER_EXCLUDED; rule++) {
             most = held = 0;
             given = length;
             if (calls[call].run(length, reading, rule) != SEMVER_PARSER_OK || most < 1000) continue;

@@ -32,10 +32,10 @@ typedef struct {
 } reading_by_name;
 
 static const reading_by_name readings[] = {
-    {"npm", SEMVER_PARSER_NPM, SEMVER_PARSER_PRE_RELEASES_OF_TOOL},
-    {"cargo", SEMVER_PARSER_CARGO, SEMVER_PARSER_PRE_RELEASES_OF_TOOL},
-    {"crate-npm", SEMVER_PARSER_CRATE_NPM, SEMVER_PARSER_ALL_PRE_RELEASES},
-    {"crate-cargo", SEMVER_PARSER_CRATE_CARGO, SEMVER_PARSER_ALL_PRE_RELEASES},
+    {"npm", SEMVER_PARSER_NPM, SEMVER_PARSER_DEFAULT},
+    {"cargo", SEMVER_PARSER_CARGO, SEMVER_PARSER_DEFAULT},
+    {"crate-npm", SEMVER_PARSER_CRATE_NPM, SEMVER_PARSER_INCLUDED},
+    {"crate-cargo", SEMVER_PARSER_CRATE_CARGO, SEMVER_PARSER_INCLUDED},
 };
 
 static int output_error(unsigned long number) {

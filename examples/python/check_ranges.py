@@ -16,8 +16,8 @@ import sys
 from semver_parser import PreReleases, RangeError, Reading, VersionError, meets
 
 READINGS = {
-    "npm": (Reading.NPM, PreReleases.OF_TOOL),
-    "cargo": (Reading.CARGO, PreReleases.OF_TOOL),
+    "npm": (Reading.NPM, PreReleases.DEFAULT),
+    "cargo": (Reading.CARGO, PreReleases.DEFAULT),
     "crate-npm": (Reading.CRATE_NPM, PreReleases.INCLUDED),
     "crate-cargo": (Reading.CRATE_CARGO, PreReleases.INCLUDED),
 }

@@ -42,7 +42,7 @@ def meets(
     pre_releases: Optional[PreReleases] = None,
 ) -> bool:
     """Whether a version meets a range, both by one reading, and by a rule for pre-releases, which
-    is the reading's own where none is given. A build never counts.
+    is the default where none is given. A build never counts.
 
     Raises `RangeError` where the range is none, and else `VersionError` where the version is none.
     """
@@ -67,8 +67,7 @@ def meets(
 class Filter:
     """A text of a range (`range`), the `reading` by which it and the versions are read, and the
     rule for pre-releases (`pre_releases`), to be asked about many versions. Where no rule is given,
-    it becomes the dialect's: `OF_TOOL` for those of the tools, and `STATED` for the
-    crate's.
+    it becomes `DEFAULT`.
 
     Raises `RangeError` where the range is none. `kept` and `greatest` read it once for all versions
     that they are given, and `meets` doesn't read it anew. `version in chosen` is what `meets`
@@ -82,7 +81,7 @@ class Filter:
 
     def __post_init__(self) -> None:
         # So that two filters of one text and one reading are equal, however the rule was given.
-        object.__setattr__(self, "pre_releases", rule_of(self.reading, self.pre_releases))
+        object.__setattr__(self, "pre_releases", rule_of(self.pre_releases))
         object.__setattr__(self, "_set", VersionSet(self.range, self.reading, self.pre_releases))
 
     def meets(self, version: AnyVersion) -> bool:

@@ -24,12 +24,6 @@ _COMPARATORS = 8
 _BYTES = 64
 
 
-# The rules for pre-releases that a tool's dialect has, and those of the crate's two: first the
-# one that is taken where none is named.
-_OF_TOOLS = (PreReleases.OF_TOOL, PreReleases.EXCLUDED, PreReleases.INCLUDED)
-_OF_CRATE = (PreReleases.STATED, PreReleases.EXCLUDED, PreReleases.INCLUDED)
-
-
 def reading_number(reading: Reading) -> int:
     """The number of a reading."""
     if isinstance(reading, Reading):
@@ -37,24 +31,18 @@ def reading_number(reading: Reading) -> int:
     raise TypeError(f"a reading is a Reading, and not {reading!r}")
 
 
-def rule_of(reading: Reading, pre_releases: Optional[PreReleases]) -> PreReleases:
-    """The rule for pre-releases that is meant by a reading: the one that is named, or what the
-    reading takes where none is. Raises `ValueError` where the reading hasn't that rule."""
-    reading_number(reading)
-    rules = _OF_TOOLS if reading in (Reading.CARGO, Reading.NPM) else _OF_CRATE
+def rule_of(pre_releases: Optional[PreReleases]) -> PreReleases:
+    """The rule for pre-releases: the one that is named, or the default where none is."""
     if pre_releases is None:
-        return rules[0]
+        return PreReleases.DEFAULT
     if not isinstance(pre_releases, PreReleases):
         raise TypeError(f"a rule for pre-releases is a PreReleases, and not {pre_releases!r}")
-    if pre_releases not in rules:
-        *its, last = (it.name for it in rules)
-        raise ValueError(f"{reading} has no rule {pre_releases}, but {', '.join(its)} and {last}")
     return pre_releases
 
 
 def numbers_of(reading: Reading, pre_releases: Optional[PreReleases]) -> Tuple[int, int]:
-    """The numbers of a reading and of the rule that is meant by it."""
-    return reading_number(reading), rule_of(reading, pre_releases).value
+    """The numbers of a reading and of the rule for pre-releases."""
+    return reading_number(reading), rule_of(pre_releases).value
 
 
 def _identifiers(text: bytes, part: Part) -> Tuple[Identifier, ...]:

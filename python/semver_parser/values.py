@@ -93,24 +93,19 @@ class Reading(enum.Enum):
 
 
 class PreReleases(enum.Enum):
-    """The rules by which versions with a pre-release meet a range. Others count by each of them.
+    """The rules by which versions with a pre-release satisfy a range. Others count by each of them.
+    Each dialect has the same three."""
 
-    Each dialect has `EXCLUDED` and `INCLUDED`. A tool's has besides the rule of that
-    tool, `OF_TOOL`, and the crate's dialects have `STATED`: these two are taken where no rule is
-    named. A rule that a dialect hasn't raises `ValueError`.
-    """
-
-    EXCLUDED = 0
-    """None meets."""
-    STATED = 1
-    """One that meets the range by precedence, and of which a term of that range states the three
-    numbers and a pre-release. 1.2.3-rc meets `^1.2.3-beta`, and 1.3.0-rc doesn't."""
-    INCLUDED = 2
-    """Each that meets the range by precedence: 1.3.0-rc meets `^1.2.0`, and 2.0.0-rc doesn't. By a
-    tool's dialect each version meets `*`."""
-    OF_TOOL = 3
-    """Those that Cargo or npm itself takes. Mostly these are those of `STATED`; docs/MEANING.md has
-    the others."""
+    DEFAULT = 0
+    """Those that Cargo or npm matches by default. Mostly these are those that satisfy the range by
+    precedence, and of which a term of that range states the three numbers and a pre-release:
+    1.2.3-rc satisfies `^1.2.3-beta`, and 1.3.0-rc doesn't. By the crate's dialects it is exactly
+    these; docs/MEANING.md has the others."""
+    INCLUDED = 1
+    """Each that satisfies the range by precedence: 1.3.0-rc satisfies `^1.2.0`, and 2.0.0-rc
+    doesn't. By a tool's dialect each version satisfies `*`."""
+    EXCLUDED = 2
+    """None."""
 
 
 class Op(enum.Enum):
@@ -229,8 +224,8 @@ class RangeSet:
     """A range set: ranges of which a version meets one (`ranges`), and the mode of the reading by
     which it was read (`compat`).
 
-    `version in range_set` is whether a version meets the comparators by `PreReleases.STATED`: what
-    `meets` returns for the printed set in the crate's dialect. The text may mean other
+    `version in range_set` is whether a version satisfies the comparators by `PreReleases.DEFAULT`:
+    what `meets` returns for the printed set in the crate's dialect. The text may mean other
     pre-releases: those of a raised bound, unless bounds are exact, and those that a tool takes by
     its own rule (docs/MEANING.md). So use `meets` or `Filter` if you have the text. A version is a
     text or a `Version`; one that the crate's dialects don't have raises `VersionError`.

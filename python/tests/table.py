@@ -42,7 +42,7 @@ _RANGE_SENTENCES = {"not-a-range": "not a range", "number-too-large": "number to
 _RULES = {
     "filter": PreReleases.EXCLUDED,
     "releases": PreReleases.EXCLUDED,
-    "stated": PreReleases.STATED,
+    "stated": PreReleases.DEFAULT,
     "mean": PreReleases.INCLUDED,
     "meet": PreReleases.INCLUDED,
 }
@@ -50,7 +50,7 @@ _RULES = {
 # Those of the calls that tell the greatest version, in the crate's npm mode.
 _RULES_OF_GREATEST = {
     "greatest-release": PreReleases.EXCLUDED,
-    "greatest-stated": PreReleases.STATED,
+    "greatest-stated": PreReleases.DEFAULT,
     "greatest-of-all": PreReleases.INCLUDED,
 }
 

@@ -44,15 +44,9 @@ ORDERED = [
     "2.1.1",
 ]
 
-# The rules of the crate's readings, in the order of their numbers, and those of the tools'.
-OF_CRATE = (PreReleases.EXCLUDED, PreReleases.STATED, PreReleases.INCLUDED)
-OF_TOOLS = (PreReleases.EXCLUDED, PreReleases.INCLUDED, PreReleases.OF_TOOL)
-RULES = [
-    (Reading.CARGO, OF_TOOLS),
-    (Reading.NPM, OF_TOOLS),
-    (Reading.CRATE_CARGO, OF_CRATE),
-    (Reading.CRATE_NPM, OF_CRATE),
-]
+# In the order in which the tables below have what meets.
+READINGS = (Reading.CARGO, Reading.NPM, Reading.CRATE_CARGO, Reading.CRATE_NPM)
+RULES = (PreReleases.EXCLUDED, PreReleases.DEFAULT, PreReleases.INCLUDED)
 
 # Of docs/MEANING.md, "Which dialect?" and what it has of each tool: a range, a version, and whether
 # it meets by each reading, in the order above and by the rule that is taken where none is named;
@@ -93,7 +87,7 @@ THREE_RULES = [
 class Meeting(unittest.TestCase):
     def test_rules(self) -> None:
         for text, version, wanted in THREE_RULES:
-            for rule, met in zip(OF_CRATE, wanted):
+            for rule, met in zip(RULES, wanted):
                 with self.subTest(range=text, version=version, rule=rule):
                     self.assertIs(meets(text, version, Reading.CRATE_NPM, rule), met)
                     self.assertIs(meets(text, version, Reading.CRATE_CARGO, rule), met)
@@ -106,14 +100,13 @@ class Meeting(unittest.TestCase):
     ) -> None:
         """Whether a version meets by the rule of a reading, and among releases alone."""
         if wanted is None:
-            for rule in (None, *dict(RULES)[reading]):
+            for rule in (None, *PreReleases):
                 with self.assertRaises(RangeError):
                     Filter(text, reading, rule)
                 with self.assertRaises(RangeError):
                     meets(text, version, reading, rule)
             return
-        taken = PreReleases.OF_TOOL if dict(RULES)[reading] is OF_TOOLS else PreReleases.STATED
-        for rule in (None, taken):
+        for rule in (None, PreReleases.DEFAULT):
             self.assertIs(meets(text, version, reading, rule), wanted)
             chosen = Filter(text, reading, rule)
             self.assertIs(version in chosen, wanted)
@@ -124,46 +117,32 @@ class Meeting(unittest.TestCase):
 
     def test_readings(self) -> None:
         for text, version, wanted in BY_READING:
-            for (reading, _), met in zip(RULES, wanted):
+            for reading, met in zip(READINGS, wanted):
                 with self.subTest(range=text, version=version, reading=reading):
                     self.check_reading(text, version, reading, met)
 
     def test_rules_of_readings(self) -> None:
-        """Each reading takes its own rules, and refuses the others in every call alike, whatever
-        the texts are, and before any error of these."""
+        """Each reading takes each rule in every call."""
         calls = [
             lambda *by: meets("^1", "1.2.3", *by),
-            lambda *by: meets("^", "x", *by),
             lambda *by: Filter("^1", *by),
-            lambda *by: Filter("^", *by),
             lambda *by: greatest("^1", ["1.2.3"], *by),
-            lambda *by: greatest("^", ["x"], *by),
             lambda *by: least("^1", *by),
-            lambda *by: least("^", *by),
             lambda *by: compare_ranges("^1", "^1.2", *by),
-            lambda *by: compare_ranges("^", "^", *by),
         ]
-        for reading, rules in RULES:
+        for reading in Reading:
             for rule in PreReleases:
-                for call in calls if rule not in rules else calls[::2]:
+                for call in calls:
                     with self.subTest(reading=reading, rule=rule):
-                        if rule in rules:
-                            call(reading, rule)
-                            continue
-                        with self.assertRaises(ValueError) as caught:
-                            call(reading, rule)
-                        self.assertIs(type(caught.exception), ValueError)
-                        said = str(caught.exception)
-                        self.assertTrue(said.startswith(f"{reading} has no rule {rule}, "), said)
-                        for its in PreReleases:
-                            self.assertIs(its.name in said, its in (rule, *rules), said)
+                        call(reading, rule)
 
-    def test_rules_of_the_library(self) -> None:
-        """What the package refuses is what the library answers NO_SUCH_RULE for, and each number is
-        one of a reading, beside which there is none."""
-        for reading, rules in RULES:
+    def test_numbers_of_the_library(self) -> None:
+        """Each number is one of a reading or of a rule, and beside these there is none."""
+        for reading in Reading:
             for rule in PreReleases:
-                self.assertIs(self.asked(reading.value, rule.value) == 15, rule not in rules)
+                self.assertNotEqual(self.asked(reading.value, rule.value), 15)
+            for number in (-1, len(PreReleases)):
+                self.assertEqual(self.asked(reading.value, number), 15)
         for number in (-1, len(Reading)):
             self.assertEqual(self.asked(number, 0), 20)
 
@@ -179,10 +158,9 @@ class Meeting(unittest.TestCase):
         self.assertFalse(meets("1.2.3", "1.9.0", Reading.NPM))
         self.assertTrue(meets("^1.2.3-beta", "1.2.3-rc"))
         self.assertFalse(meets("^1.2.3-beta", "1.3.0-rc"))
-        for reading, rules in RULES:
-            taken = PreReleases.OF_TOOL if rules is OF_TOOLS else PreReleases.STATED
-            self.assertIs(Filter("1", reading).pre_releases, taken)
-            self.assertEqual(Filter("1", reading), Filter("1", reading, taken))
+        for reading in Reading:
+            self.assertIs(Filter("1", reading).pre_releases, PreReleases.DEFAULT)
+            self.assertEqual(Filter("1", reading), Filter("1", reading, PreReleases.DEFAULT))
 
     def test_errors(self) -> None:
         for call in (meets, lambda text, version: Filter(text).meets(version)):
@@ -201,7 +179,7 @@ class Meeting(unittest.TestCase):
 
     def test_in_a_filter(self) -> None:
         for text, version, wanted in THREE_RULES:
-            for rule, met in zip(OF_CRATE, wanted):
+            for rule, met in zip(RULES, wanted):
                 chosen = Filter(text, Reading.CRATE_NPM, rule)
                 for asked in (version, version.encode(), parse_version(version)):
                     self.assertIs(asked in chosen, met, (text, version, rule))
@@ -363,7 +341,7 @@ class Kept(unittest.TestCase):
         self.assertEqual(Filter("1.x").greatest(given), given[-1])
 
     def test_filter_is_a_value(self) -> None:
-        self.assertEqual(Filter("^1"), Filter("^1", Reading.CARGO, PreReleases.OF_TOOL))
+        self.assertEqual(Filter("^1"), Filter("^1", Reading.CARGO, PreReleases.DEFAULT))
         self.assertEqual(len({Filter("^1"), Filter("^1"), Filter("^1", Reading.NPM)}), 2)
         self.assertNotEqual(Filter("^1.2"), Filter("1.2"))
         self.assertEqual(pickle.loads(pickle.dumps(Filter("^1"))), Filter("^1"))

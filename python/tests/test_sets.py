@@ -16,7 +16,7 @@ from semver_parser import (
 )
 from semver_parser.errors import raise_error
 
-OF_CRATE = (PreReleases.EXCLUDED, PreReleases.STATED, PreReleases.INCLUDED)
+OF_CRATE = (PreReleases.EXCLUDED, PreReleases.DEFAULT, PreReleases.INCLUDED)
 CRATE = (Reading.CRATE_CARGO, Reading.CRATE_NPM)
 
 # A range by the crate in npm mode, and the least version by each rule: releases alone, as stated,
@@ -167,8 +167,7 @@ class ComparedTest(unittest.TestCase):
         for reading, old, new, (alone, taken) in COMPARED_BY_READING:
             self.compares(old, new, reading, PreReleases.EXCLUDED, alone)
             self.compares(old, new, reading, None, taken)
-            its = PreReleases.STATED if reading in CRATE else PreReleases.OF_TOOL
-            self.compares(old, new, reading, its, taken)
+            self.compares(old, new, reading, PreReleases.DEFAULT, taken)
 
     def test_defaults(self) -> None:
         cargo = compare_ranges("1.2.3", b"^1.2.3")
@@ -240,8 +239,7 @@ class LeastTest(unittest.TestCase):
         for reading, range, (alone, taken) in LEAST_BY_READING:
             self.has_least(range, reading, PreReleases.EXCLUDED, alone)
             self.has_least(range, reading, None, taken)
-            its = PreReleases.STATED if reading in CRATE else PreReleases.OF_TOOL
-            self.has_least(range, reading, its, taken)
+            self.has_least(range, reading, PreReleases.DEFAULT, taken)
 
     def test_defaults(self) -> None:
         self.assertEqual(least(b"^1.2.3-rc"), Version(1, 2, 3, ("rc",)))

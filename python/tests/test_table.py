@@ -44,9 +44,9 @@ _HINTS = {
     "numbers and raised bounds are at most 2^64 - 1": "limit",
     "npm's numbers and raised bounds are at most 2^53 - 1": "limit of npm",
 }
-# The rules for pre-releases that mean what is asked. None is the tool's own rule too.
+# The rules for pre-releases that mean what is asked. None is the default too.
 _RULES_OF_MEANT: Dict[str, Tuple[Optional[PreReleases], ...]] = {
-    "meant": (None, PreReleases.OF_TOOL),
+    "meant": (None, PreReleases.DEFAULT),
     "meant-with-all": (PreReleases.INCLUDED,),
 }
 

@@ -98,5 +98,5 @@ class VersionSetTest(unittest.TestCase):
     def test_refuses(self) -> None:
         with self.assertRaises(RangeError):
             VersionSet("v1.2.3")
-        with self.assertRaises(ValueError):
-            VersionSet("1.2.3", Reading.CARGO, PreReleases.STATED)
+        with self.assertRaises(TypeError):
+            VersionSet("1.2.3", Reading.CARGO, "default")

@@ -97,26 +97,26 @@ static int32_t comparators_out(void) {
 
 static int32_t meets_range(void) {
     bool meets;
-    return semver_parser_meets(NULL, 5, reading, SEMVER_PARSER_RELEASES_ALONE, bytes_of("1.2.3"), 5,
+    return semver_parser_meets(NULL, 5, reading, SEMVER_PARSER_EXCLUDED, bytes_of("1.2.3"), 5,
                                &meets);
 }
 
 static int32_t meets_version(void) {
     bool meets;
-    return semver_parser_meets(bytes_of("^1.2"), 4, reading, SEMVER_PARSER_RELEASES_ALONE, NULL, 5,
+    return semver_parser_meets(bytes_of("^1.2"), 4, reading, SEMVER_PARSER_EXCLUDED, NULL, 5,
                                &meets);
 }
 
 static int32_t least_range(void) {
     uint8_t out[64];
     size_t length;
-    return semver_parser_least(NULL, 5, reading, SEMVER_PARSER_RELEASES_ALONE, out, sizeof out,
+    return semver_parser_least(NULL, 5, reading, SEMVER_PARSER_EXCLUDED, out, sizeof out,
                                &length);
 }
 
 static int32_t least_out(void) {
     size_t length;
-    return semver_parser_least(bytes_of("^1.2"), 4, reading, SEMVER_PARSER_RELEASES_ALONE, NULL, 64,
+    return semver_parser_least(bytes_of("^1.2"), 4, reading, SEMVER_PARSER_EXCLUDED, NULL, 64,
                                &length);
 }
 
@@ -124,7 +124,7 @@ static int32_t compare_texts(const uint8_t *old_range, const uint8_t *new_range,
     uint8_t out[64];
     size_t length;
     semver_parser_comparison comparison;
-    return semver_parser_compare(old_range, 4, new_range, 4, reading, SEMVER_PARSER_RELEASES_ALONE,
+    return semver_parser_compare(old_range, 4, new_range, 4, reading, SEMVER_PARSER_EXCLUDED,
                                  has_room ? out : NULL, sizeof out, &length, &comparison);
 }
 
@@ -142,7 +142,7 @@ static int32_t compare_out(void) {
 
 static int32_t each_of(
     const uint8_t *range, const semver_parser_text *versions, size_t count, uint8_t *answers) {
-    return semver_parser_meets_each(range, 4, reading, SEMVER_PARSER_RELEASES_ALONE, versions,
+    return semver_parser_meets_each(range, 4, reading, SEMVER_PARSER_EXCLUDED, versions,
                                     count, answers);
 }
 
@@ -185,14 +185,14 @@ static int32_t set_range(void) {
     semver_parser_switch made[4];
     size_t count;
     size_t length;
-    return semver_parser_set(NULL, 4, reading, SEMVER_PARSER_RELEASES_ALONE, made, 4, &count, NULL,
+    return semver_parser_set(NULL, 4, reading, SEMVER_PARSER_EXCLUDED, made, 4, &count, NULL,
                              0, &length);
 }
 
 static int32_t set_made(void) {
     size_t count;
     size_t length;
-    return semver_parser_set(bytes_of("^1.2"), 4, reading, SEMVER_PARSER_RELEASES_ALONE, NULL, 4,
+    return semver_parser_set(bytes_of("^1.2"), 4, reading, SEMVER_PARSER_EXCLUDED, NULL, 4,
                              &count, NULL, 0, &length);
 }
 
@@ -324,11 +324,9 @@ static void too_many(const char *range, int32_t rule, int32_t wanted) {
 }
 
 static void too_many_texts(void) {
-    bool is_of_tool = reading == SEMVER_PARSER_CARGO || reading == SEMVER_PARSER_NPM;
-    int32_t rule = SEMVER_PARSER_ALL_PRE_RELEASES;
-    int32_t no_rule =
-        is_of_tool ? SEMVER_PARSER_STATED_PRE_RELEASES : SEMVER_PARSER_PRE_RELEASES_OF_TOOL;
-    too_many("^1.2", SEMVER_PARSER_RELEASES_ALONE, SEMVER_PARSER_RANGE_OUT_OF_MEMORY);
+    int32_t rule = SEMVER_PARSER_INCLUDED;
+    int32_t no_rule = SEMVER_PARSER_EXCLUDED + 1;
+    too_many("^1.2", SEMVER_PARSER_EXCLUDED, SEMVER_PARSER_RANGE_OUT_OF_MEMORY);
     too_many("^1.2", rule, SEMVER_PARSER_RANGE_OUT_OF_MEMORY);
     too_many("^1.2", no_rule, SEMVER_PARSER_NO_SUCH_RULE);
     too_many("\xFF", no_rule, SEMVER_PARSER_NO_SUCH_RULE);

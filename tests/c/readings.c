@@ -16,11 +16,10 @@ enum {
 };
 
 enum {
-    ALONE = SEMVER_PARSER_RELEASES_ALONE,
-    STATED = SEMVER_PARSER_STATED_PRE_RELEASES,
-    ALL = SEMVER_PARSER_ALL_PRE_RELEASES,
-    OF_TOOL = SEMVER_PARSER_PRE_RELEASES_OF_TOOL,
-    RULES = 4
+    DEFAULT = SEMVER_PARSER_DEFAULT,
+    INCLUDED = SEMVER_PARSER_INCLUDED,
+    EXCLUDED = SEMVER_PARSER_EXCLUDED,
+    RULES = 3
 };
 
 enum {
@@ -46,13 +45,8 @@ static text string(const char *bytes) {
 
 static bool is_of_tool(int32_t reading) { return reading == CARGO || reading == NPM; }
 
-/* The rules that a reading has. */
-static bool has_rule(int32_t reading, int32_t rule) {
-    return rule == ALONE || rule == ALL || rule == (is_of_tool(reading) ? OF_TOOL : STATED);
-}
-
-/* The rule by which a reading is asked for pre-releases where a table doesn't say one. */
-static int32_t rule_of(int32_t reading) { return is_of_tool(reading) ? OF_TOOL : STATED; }
+/* The rules, which each dialect has. */
+static bool is_rule(int32_t rule) { return rule >= 0 && rule < RULES; }
 
 /* A text that stands after a long front, by which it means the same of all versions above
  * 0.0.7. */
@@ -500,8 +494,8 @@ static bool is_release(const char *version) { return strchr(version, '-') == NUL
 
 /* A version by the rule of the tool, and among releases alone, where it counts if it is one. */
 static void is_meant(int32_t reading, const char *range, const char *version, bool meant) {
-    meets_by(reading, OF_TOOL, range, version, meant ? YES : NO);
-    meets_by(reading, ALONE, range, version, meant && is_release(version) ? YES : NO);
+    meets_by(reading, DEFAULT, range, version, meant ? YES : NO);
+    meets_by(reading, EXCLUDED, range, version, meant && is_release(version) ? YES : NO);
 }
 
 static void met(void) {
@@ -511,8 +505,8 @@ static void met(void) {
         for (int32_t reading = 0; reading < READINGS; reading++) {
             int32_t wanted = meetings[at].wanted[reading];
             bool counts = wanted > YES || is_release(version);
-            meets_by(reading, rule_of(reading), range, version, wanted);
-            meets_by(reading, ALONE, range, version, counts ? wanted : (int32_t)NO);
+            meets_by(reading, DEFAULT, range, version, wanted);
+            meets_by(reading, EXCLUDED, range, version, counts ? wanted : (int32_t)NO);
         }
     }
     for (size_t at = 0; at < sizeof meanings / sizeof *meanings; at++) {
@@ -526,16 +520,15 @@ static void met(void) {
     }
 }
 
-/* Many versions at once, by each reading and each rule that it has. */
+/* Many versions at once, by each reading and each rule. */
 static void many(void) {
     static const char *const texts_of[] = {"1.2.3", "2.0.0", "1.2.3-rc", "1.3.0-rc", "1.9.9+b",
         "v1", "", "1.2.3 4", "\xFF", "v1.2.3", " 1.2.3", "1.2.3-c--d", "1.2.3-c.01"};
     enum { COUNT = sizeof texts_of / sizeof *texts_of };
     /* Whether each meets by each rule if it is a version, and its error by each reading. */
-    static const uint8_t meets_by_rule[RULES][COUNT] = {{1, 0, 0, 0, 1, 0, 0, 0, 0, 1, 1, 0, 0},
-                                                        {1, 0, 1, 0, 1, 0, 0, 0, 0, 1, 1, 1, 1},
+    static const uint8_t meets_by_rule[RULES][COUNT] = {{1, 0, 1, 0, 1, 0, 0, 0, 0, 1, 1, 1, 1},
                                                         {1, 0, 1, 1, 1, 0, 0, 0, 0, 1, 1, 1, 1},
-                                                        {1, 0, 1, 0, 1, 0, 0, 0, 0, 1, 1, 1, 1}};
+                                                        {1, 0, 0, 0, 1, 0, 0, 0, 0, 1, 1, 0, 0}};
     static const uint8_t errors[READINGS][COUNT] = {
         {0, 0, 0, 0, 0, NONE, NONE, NONE, NOT_UTF8, NONE, NONE, 0, NONE},
         {0, 0, 0, 0, 0, NONE, NONE, NONE, NOT_UTF8, 0, 0, 0, NONE},
@@ -556,13 +549,8 @@ static void many(void) {
             memset(answers, 0xA5, COUNT);
             int32_t answer =
                 semver_parser_meets_each(range, 11, reading, rule, texts, COUNT, answers);
-            if (has_rule(reading, rule)) {
-                check(answer == SEMVER_PARSER_OK && memcmp(answers, wanted, COUNT) == 0,
-                      "other answers of many", reading, "^1.2.3-beta");
-            } else {
-                check(answer == SEMVER_PARSER_NO_SUCH_RULE && answers[0] == 0xA5,
-                      "a rule that the reading hasn't", reading, "^1.2.3-beta");
-            }
+            check(answer == SEMVER_PARSER_OK && memcmp(answers, wanted, COUNT) == 0,
+                  "other answers of many", reading, "^1.2.3-beta");
         }
     }
 }
@@ -646,15 +634,15 @@ static void compares(int32_t reading, int32_t rule, const char *old_bytes, const
 static void least_and_compared(void) {
     for (size_t at = 0; at < sizeof least_versions / sizeof *least_versions; at++) {
         int32_t reading = least_versions[at].reading;
-        least_is(reading, ALONE, least_versions[at].range, least_versions[at].least[0]);
-        least_is(reading, rule_of(reading), least_versions[at].range, least_versions[at].least[1]);
+        least_is(reading, EXCLUDED, least_versions[at].range, least_versions[at].least[0]);
+        least_is(reading, DEFAULT, least_versions[at].range, least_versions[at].least[1]);
     }
     for (size_t at = 0; at < sizeof comparisons / sizeof *comparisons; at++) {
         int32_t reading = comparisons[at].reading;
         const char *const *ranges = comparisons[at].ranges;
         for (int which = 0; which < 2; which++) {
             const char *const *wanted = comparisons[at].wanted[which];
-            int32_t rule = which == 0 ? (int32_t)ALONE : rule_of(reading);
+            int32_t rule = which == 0 ? EXCLUDED : DEFAULT;
             compares(reading, rule, ranges[0], ranges[1], wanted[0], wanted[1], wanted[2]);
             compares(reading, rule, ranges[1], ranges[0], wanted[1], wanted[0], wanted[2]);
         }
@@ -730,8 +718,8 @@ static void rule_is_taken(int32_t reading, int32_t rule) {
 
 static void no_such_numbers(void) {
     static const int32_t no_readings[] = {-1, 4, 5, 20, 256, 65537, INT32_MAX, INT32_MIN};
-    static const int32_t rules[] = {ALONE, STATED, ALL,   OF_TOOL,   -1,       4,
-                                    15,    256,    65539, INT32_MAX, INT32_MIN};
+    static const int32_t rules[] = {DEFAULT, INCLUDED, EXCLUDED,  -1,       3, 4,
+                                    15,      256,      65538, INT32_MAX, INT32_MIN};
     static const char *const short_texts[TEXTS - 1] = {
         "1", "", "v1", "\xFF", "<=18446744073709551615", "1.2.3-rc"};
     for (int at = 0; at < TEXTS - 1; at++) {
@@ -747,7 +735,7 @@ static void no_such_numbers(void) {
     }
     for (int32_t reading = 0; reading < READINGS; reading++) {
         for (size_t rule = 0; rule < sizeof rules / sizeof *rules; rule++) {
-            if (has_rule(reading, rules[rule])) {
+            if (is_rule(rules[rule])) {
                 rule_is_taken(reading, rules[rule]);
             } else {
                 meaning_is_refused(reading, rules[rule], SEMVER_PARSER_NO_SUCH_RULE);

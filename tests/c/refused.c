@@ -70,9 +70,9 @@ static bool is_of_tool(void) {
     return reading == SEMVER_PARSER_CARGO || reading == SEMVER_PARSER_NPM;
 }
 
-/* One of its rules for pre-releases. */
+/* A rule for pre-releases. */
 static int32_t rule_of_reading(void) {
-    return is_of_tool() ? SEMVER_PARSER_PRE_RELEASES_OF_TOOL : SEMVER_PARSER_ALL_PRE_RELEASES;
+    return is_of_tool() ? SEMVER_PARSER_DEFAULT : SEMVER_PARSER_INCLUDED;
 }
 
 /* A version that takes this many requests. */
@@ -202,7 +202,7 @@ typedef struct {
 
 static int32_t set_of(const char *range, written *to) {
     return semver_parser_set((const uint8_t *)range, strlen(range), SEMVER_PARSER_CRATE_CARGO,
-                             SEMVER_PARSER_ALL_PRE_RELEASES, to->made, 16, &to->count, to->out,
+                             SEMVER_PARSER_INCLUDED, to->made, 16, &to->count, to->out,
                              sizeof to->out, &to->length);
 }
 

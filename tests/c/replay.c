@@ -190,11 +190,11 @@ static bool say_answer(text *to, const char *call, const text *of, const text *s
     } else if (strcmp(call, "report") == 0) {
         say_report(to, of);
     } else if (is_call(call, "filter") || is_call(call, "releases")) {
-        say_met(to, of, reading, SEMVER_PARSER_RELEASES_ALONE, steps);
+        say_met(to, of, reading, SEMVER_PARSER_EXCLUDED, steps);
     } else if (is_call(call, "meet") || is_call(call, "mean")) {
-        say_met(to, of, reading, SEMVER_PARSER_ALL_PRE_RELEASES, steps);
+        say_met(to, of, reading, SEMVER_PARSER_INCLUDED, steps);
     } else if (is_call(call, "stated")) {
-        say_met(to, of, reading, SEMVER_PARSER_STATED_PRE_RELEASES, steps);
+        say_met(to, of, reading, SEMVER_PARSER_DEFAULT, steps);
     } else {
         return false;
     }

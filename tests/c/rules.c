@@ -404,11 +404,11 @@ enum { NO = SEMVER_PARSER_DOES_NOT_MEET, YES = SEMVER_PARSER_MEETS };
 static void texts_meet(
     const text *range, const text *version, int32_t releases, int32_t stated, int32_t all) {
     for (int32_t reading = CRATE_CARGO; reading <= CRATE_NPM; reading++) {
-        check(meets(range, reading, SEMVER_PARSER_RELEASES_ALONE, version) == releases,
+        check(meets(range, reading, SEMVER_PARSER_EXCLUDED, version) == releases,
               "another answer among releases", range);
-        check(meets(range, reading, SEMVER_PARSER_STATED_PRE_RELEASES, version) == stated,
+        check(meets(range, reading, SEMVER_PARSER_DEFAULT, version) == stated,
               "another answer among stated pre-releases", range);
-        check(meets(range, reading, SEMVER_PARSER_ALL_PRE_RELEASES, version) == all,
+        check(meets(range, reading, SEMVER_PARSER_INCLUDED, version) == all,
               "another answer among all versions", range);
     }
 }
@@ -450,9 +450,9 @@ static void long_meetings(void) {
 /* A bare version has a caret in Cargo mode alone. */
 static void modes_differ(const text *range) {
     text later = string("1.9.0");
-    check(meets(range, CRATE_CARGO, SEMVER_PARSER_RELEASES_ALONE, &later) == YES,
+    check(meets(range, CRATE_CARGO, SEMVER_PARSER_EXCLUDED, &later) == YES,
           "no caret in Cargo mode", range);
-    check(meets(range, CRATE_NPM, SEMVER_PARSER_RELEASES_ALONE, &later) == NO,
+    check(meets(range, CRATE_NPM, SEMVER_PARSER_EXCLUDED, &later) == NO,
           "a caret in npm mode", range);
     text_free(&later);
 }
@@ -529,7 +529,7 @@ static void many(void) {
         text of = string(range);
         int32_t answer =
             semver_parser_meets_each((const uint8_t *)range, strlen(range), CRATE_NPM,
-                                     SEMVER_PARSER_STATED_PRE_RELEASES, texts, count, answers);
+                                     SEMVER_PARSER_DEFAULT, texts, count, answers);
         check(answer == SEMVER_PARSER_OK && memcmp(answers, wanted, count) == 0,
             "other answers of many", &of);
         check(answers[count] == 0xA5, "a byte after the answers", &of);
@@ -554,7 +554,7 @@ static void very_many(int32_t reading, bool at_null) {
     }
     text range = string("^1.1000");
     int32_t answer = semver_parser_meets_each((const uint8_t *)range.bytes, range.length, reading,
-                                              SEMVER_PARSER_RELEASES_ALONE, texts, MANY, answers);
+                                              SEMVER_PARSER_EXCLUDED, texts, MANY, answers);
     check(answer == SEMVER_PARSER_OK, "another answer of very many", &range);
     for (int at = 0; at < MANY; at++) {
         bool is_of_tool = reading == CARGO || reading == NPM;
@@ -616,12 +616,12 @@ static void least_versions(void) {
     least_are(CRATE_CARGO, identifier.bytes, "1.2.3", identifier.bytes + 2, identifier.bytes + 2);
     text_free(&identifier);
 
-    least_error_is(CRATE_CARGO, "v1", 2, SEMVER_PARSER_RELEASES_ALONE, SEMVER_PARSER_NOT_A_RANGE);
-    least_error_is(CRATE_CARGO, "1.2.3\xC3", 6, SEMVER_PARSER_RELEASES_ALONE,
+    least_error_is(CRATE_CARGO, "v1", 2, SEMVER_PARSER_EXCLUDED, SEMVER_PARSER_NOT_A_RANGE);
+    least_error_is(CRATE_CARGO, "1.2.3\xC3", 6, SEMVER_PARSER_EXCLUDED,
                    SEMVER_PARSER_RANGE_NOT_UTF8);
-    least_error_is(CRATE_NPM, "<=18446744073709551615", 22, SEMVER_PARSER_STATED_PRE_RELEASES,
+    least_error_is(CRATE_NPM, "<=18446744073709551615", 22, SEMVER_PARSER_DEFAULT,
                    SEMVER_PARSER_NUMBER_TOO_LARGE);
-    least_error_is(CRATE_CARGO, "0.0.18446744073709551615", 24, SEMVER_PARSER_ALL_PRE_RELEASES,
+    least_error_is(CRATE_CARGO, "0.0.18446744073709551615", 24, SEMVER_PARSER_INCLUDED,
                    SEMVER_PARSER_NUMBER_TOO_LARGE);
 }
 

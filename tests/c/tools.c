@@ -154,7 +154,7 @@ static bool replay_meaning(const row *of, int32_t reading, int32_t rule) {
     text by_rule = {NULL, 0, 0};
     text alone = {NULL, 0, 0};
     say_meant(&by_rule, &of->of, reading, rule, of->steps.bytes);
-    say_meant(&alone, &of->of, reading, SEMVER_PARSER_RELEASES_ALONE, of->steps.bytes);
+    say_meant(&alone, &of->of, reading, SEMVER_PARSER_EXCLUDED, of->steps.bytes);
     text all = wanted_of(of->expected, reading, false);
     text releases = wanted_of(of->expected, reading, true);
     bool passed = is_answer(&by_rule, all.bytes, of, "by the rule of the call")
@@ -274,8 +274,8 @@ int main(int count, char **arguments) {
         fprintf(stderr, "tools STDIN STDOUT\n");
         return 2;
     }
-    const int32_t own = SEMVER_PARSER_PRE_RELEASES_OF_TOOL;
-    const int32_t all = SEMVER_PARSER_ALL_PRE_RELEASES;
+    const int32_t own = SEMVER_PARSER_DEFAULT;
+    const int32_t all = SEMVER_PARSER_INCLUDED;
     tool_call calls[] = {
         {"rewritten-as-cargo", SEMVER_PARSER_CARGO, REWRITTEN, 81, 0, 0},
         {"meant-as-cargo", SEMVER_PARSER_CARGO, own, 50, 0, 0},

@@ -44,7 +44,7 @@ static int use_sets(void) {
     bool is_in = false;
     bool within = false;
     bool contains = false;
-    if (semver_parser_set(bytes_of("^1.2"), 4, SEMVER_PARSER_CARGO, SEMVER_PARSER_RELEASES_ALONE,
+    if (semver_parser_set(bytes_of("^1.2"), 4, SEMVER_PARSER_CARGO, SEMVER_PARSER_EXCLUDED,
                           made, 8, &count, out, sizeof out, &length)
             != SEMVER_PARSER_OK
         || count != 3 || made[2].major != 2 || made[2].pre_offset + made[2].pre_length != 0) {
@@ -84,13 +84,13 @@ static int use_meeting(void) {
     versions[1].bytes = NULL;
     versions[1].length = 0;
     if (semver_parser_meets(bytes_of("1"), 1, SEMVER_PARSER_CRATE_NPM,
-                            SEMVER_PARSER_STATED_PRE_RELEASES, bytes_of("1.2.3"), 5, &meets)
+                            SEMVER_PARSER_DEFAULT, bytes_of("1.2.3"), 5, &meets)
             != SEMVER_PARSER_OK
         || !meets) {
         return 1;
     }
     if (semver_parser_meets_each(bytes_of("1"), 1, SEMVER_PARSER_CARGO,
-                                 SEMVER_PARSER_RELEASES_ALONE, versions, 2, answers)
+                                 SEMVER_PARSER_EXCLUDED, versions, 2, answers)
         != SEMVER_PARSER_OK) {
         return 1;
     }
@@ -101,7 +101,7 @@ static int use_least(void) {
     uint8_t out[64];
     size_t length = 0;
     if (semver_parser_least(bytes_of("^1.2 || 3"), 9, SEMVER_PARSER_NPM,
-                            SEMVER_PARSER_PRE_RELEASES_OF_TOOL, out, sizeof out, &length)
+                            SEMVER_PARSER_DEFAULT, out, sizeof out, &length)
         != SEMVER_PARSER_OK) {
         return 1;
     }
@@ -145,7 +145,7 @@ static int use_compare(void) {
     size_t length = 0;
     semver_parser_comparison comparison;
     int32_t answer = semver_parser_compare(bytes_of("^1.2.0"), 6, bytes_of(">=1.4.0"), 7,
-                                           SEMVER_PARSER_CARGO, SEMVER_PARSER_PRE_RELEASES_OF_TOOL,
+                                           SEMVER_PARSER_CARGO, SEMVER_PARSER_DEFAULT,
                                            out, sizeof out, &length, &comparison);
     if (answer != SEMVER_PARSER_OK || length != 15 || memcmp(out, "1.2.02.0.01.4.0", 15) != 0) {
         return 1;
@@ -155,7 +155,7 @@ static int use_compare(void) {
         return 1;
     }
     return semver_parser_compare(NULL, 0, bytes_of("v1"), 2, SEMVER_PARSER_CRATE_NPM,
-                                 SEMVER_PARSER_ALL_PRE_RELEASES, NULL, 0, &length, &comparison)
+                                 SEMVER_PARSER_INCLUDED, NULL, 0, &length, &comparison)
                    == SEMVER_PARSER_NEW_NOT_A_RANGE
                ? 0
                : 1;

@@ -2,15 +2,14 @@
 use Rattle.std.specs.Prelude.{◌≡◌, ◌⊎◌, ◌++◌, ⊤, Bool, true, false, if◌then◌else◌, codes}
 use Rattle.std.specs.Prelude.{Option, Some, None, Result, Ok, Err, MatchResult, string_bytes}
 use Rattle.semver_parser.specs.Texts.{Text}
-use Rattle.semver_parser.specs.declared.Compat.TheVariants as compat
 use Rattle.version_sets.specs.declared.PreReleases.{PreReleases}
-use Rattle.version_sets.specs.declared.PreReleases.TheVariants.{Excluded, Stated, Included}
+use Rattle.version_sets.specs.declared.PreReleases.TheVariants.{Excluded, Default, Included}
 use Rattle.tool_ranges.specs.declared.dialect.Dialect.{Dialect}
-use Rattle.tool_ranges.specs.declared.dialect.Dialect.TheVariants as dialect
+use Rattle.tool_ranges.specs.declared.dialect.Dialect.TheVariants.{Cargo, Npm, CrateCargo}
+use Rattle.tool_ranges.specs.declared.dialect.Dialect.TheVariants.{CrateNpm}
 use Rattle.tool_ranges.specs.declared.meaning.Meaning.{Meaning}
-use Rattle.tool_ranges.specs.declared.meaning.Meaning.TheVariants as meaning
 use Rattle.command_line.specs.declared.error.ArgumentError.{ArgumentError}
-use Rattle.command_line.specs.declared.error.ArgumentError.TheVariants.{NoDialect, NoRuleOfTool}
+use Rattle.command_line.specs.declared.error.ArgumentError.TheVariants.{NoDialect}
 use Rattle.command_line.specs.declared.error.ArgumentError.TheVariants.{GivenTwice, Contradiction}
 use Rattle.command_line.specs.declared.error.ArgumentError.TheVariants.{UnknownDialect, Unreadable}
 
@@ -26,10 +25,10 @@ no_options = record { dialect = None; rule = None; wants_name = false }
 
 -- the name of a dialect after `--as`
 abbrev pub name_of : Dialect → Text
-name_of dialect.Cargo = codes "cargo"
-name_of dialect.Npm = codes "npm"
-name_of (dialect.Crate compat.Cargo) = codes "crate-cargo"
-name_of (dialect.Crate compat.Npm) = codes "crate-npm"
+name_of Cargo = codes "cargo"
+name_of Npm = codes "npm"
+name_of CrateCargo = codes "crate-cargo"
+name_of CrateNpm = codes "crate-npm"
 
 -- the option that asks for a dialect by its name
 abbrev pub as_option_of : Dialect → Text
@@ -38,30 +37,24 @@ as_option_of dialect = codes "--as " ++ name_of dialect
 -- the option of a rule
 abbrev pub option_of : PreReleases → Text
 option_of Excluded = codes "--releases"
-option_of Stated = codes "--pre-stated"
+option_of Default = codes "--pre-stated"
 option_of Included = codes "--pre"
 
 -- without an option it is Cargo's dialect
 abbrev pub dialect_or_cargo : Option (Dialect × Text) → Dialect
-dialect_or_cargo None = dialect.Cargo
+dialect_or_cargo None = Cargo
 dialect_or_cargo (Some r) = r.0
 
--- by the crate's modes only releases count without an option; by a tool's dialect what the tool
--- takes, and it has no rule `Stated`
-abbrev pub meant_by : Dialect → Option PreReleases → Result Meaning ArgumentError
-meant_by (dialect.Crate mode) None = Ok (meaning.Crate mode Excluded)
-meant_by (dialect.Crate mode) (Some rule) = Ok (meaning.Crate mode rule)
-meant_by dialect.Cargo None = Ok meaning.Cargo
-meant_by dialect.Cargo (Some Excluded) = Ok meaning.CargoReleases
-meant_by dialect.Cargo (Some Stated) = Err NoRuleOfTool
-meant_by dialect.Cargo (Some Included) = Ok meaning.CargoAll
-meant_by dialect.Npm None = Ok meaning.Npm
-meant_by dialect.Npm (Some Excluded) = Ok meaning.NpmReleases
-meant_by dialect.Npm (Some Stated) = Err NoRuleOfTool
-meant_by dialect.Npm (Some Included) = Ok meaning.NpmAll
+-- without an option the rule is the default
+abbrev pub rule_or_default : Option PreReleases → PreReleases
+rule_or_default None = Default
+rule_or_default (Some rule) = rule
 
 abbrev pub meant : OptionsValue → Result Meaning ArgumentError
-meant o = if o.wants_name then Err NoDialect else meant_by (dialect_or_cargo o.dialect) o.rule
+meant o = if o.wants_name then Err NoDialect else Ok (record {
+  dialect = dialect_or_cargo o.dialect;
+  pre_releases = rule_or_default o.rule;
+})
 
 -- the name that an argument gives: the argument after `--as`, or what follows `--as=` in it
 abbrev pub Names : OptionsValue → Text → Text → Type 0
@@ -76,7 +69,7 @@ IsDialectName name = (dialect : Dialect) × (name ≡ name_of dialect)
 abbrev pub AsksFor : OptionsValue → Text → Dialect → Text → Type 0
 AsksFor o argument dialect option =
     (Names o argument (name_of dialect) × (option ≡ as_option_of dialect))
-    ⊎ ((o.wants_name ≡ false) × (argument ≡ codes "--npm") × (dialect ≡ dialect.Npm)
+    ⊎ ((o.wants_name ≡ false) × (argument ≡ codes "--npm") × (dialect ≡ Npm)
     × (option ≡ codes "--npm"))
 
 -- the argument is one of these options

@@ -27,9 +27,6 @@ pub enum ArgumentError {
     /// The first option says otherwise than the second, which was given before.
     #[error("{0} contradicts {1}")]
     Contradiction(&'static str, &'static str),
-    /// `--pre-stated` was given with the dialect of Cargo or npm, whose default it is.
-    #[error("--pre-stated belongs to --as crate-cargo and --as crate-npm")]
-    NoRuleOfTool,
     /// There is no range text.
     #[error("no range")]
     NoRange,

@@ -10,7 +10,6 @@ ghost use Rattle.command_line.specs.Options.{TellsContradiction, TellsTwice, Tel
 ghost use Rattle.command_line.specs.Options.{as_option_of, meant, name_of, no_options, option_of};
 
 use crate::error::ArgumentError;
-use semver_parser::Compat;
 use std::alloc::Global;
 use std::marker::Model;
 use tool_ranges::meaning::Meaning;
@@ -126,37 +125,28 @@ impl MeaningOptions {
             "--npm" => self.ask(Dialect::Npm, "--npm")?,
             "--releases" => self.count(PreReleases::Excluded)?,
             "--pre" => self.count(PreReleases::Included)?,
-            "--pre-stated" => self.count(PreReleases::Stated)?,
+            "--pre-stated" => self.count(PreReleases::Default)?,
             _ => return Ok(false),
         }
         Ok(true)
     }
 
-    /// What the options say, once all are taken. Without one it is Cargo's dialect.
+    /// What the options say, once all are taken. Without one it is Cargo's dialect, and the default
+    /// rule for pre-releases.
     ///
     /// # Errors
     ///
-    /// `NoDialect` if nothing followed `--as`, and `NoRuleOfTool` if `--pre-stated` was taken with
-    /// the dialect of Cargo or npm.
+    /// `NoDialect` if nothing followed `--as`.
     pub fn finish(self) -> Result<Meaning, ArgumentError>
         ensures { result ≡ meant self }
     {
         if self.wants_name {
             return Err(ArgumentError::NoDialect);
         }
-        let dialect = self.dialect.map_or(Dialect::Cargo, |(dialect, _)| dialect);
-        match (dialect, self.rule) {
-            (Dialect::Crate(compat), rule) => {
-                Ok(Meaning::Crate(compat, rule.unwrap_or(PreReleases::Excluded)))
-            }
-            (_, Some(PreReleases::Stated)) => Err(ArgumentError::NoRuleOfTool),
-            (Dialect::Cargo, None) => Ok(Meaning::Cargo),
-            (Dialect::Cargo, Some(PreReleases::Included)) => Ok(Meaning::CargoAll),
-            (Dialect::Cargo, Some(PreReleases::Excluded)) => Ok(Meaning::CargoReleases),
-            (Dialect::Npm, None) => Ok(Meaning::Npm),
-            (Dialect::Npm, Some(PreReleases::Included)) => Ok(Meaning::NpmAll),
-            (Dialect::Npm, Some(PreReleases::Excluded)) => Ok(Meaning::NpmReleases),
-        }
+        Ok(Meaning {
+            dialect: self.dialect.map_or(Dialect::Cargo, |(dialect, _)| dialect),
+            pre_releases: self.rule.unwrap_or(PreReleases::Default),
+        })
     }
 
     /// Takes the dialect of a name.
@@ -179,8 +169,8 @@ impl MeaningOptions {
         match name {
             "cargo" => self.ask(Dialect::Cargo, "--as cargo"),
             "npm" => self.ask(Dialect::Npm, "--as npm"),
-            "crate-cargo" => self.ask(Dialect::Crate(Compat::Cargo), "--as crate-cargo"),
-            "crate-npm" => self.ask(Dialect::Crate(Compat::Npm), "--as crate-npm"),
+            "crate-cargo" => self.ask(Dialect::CrateCargo, "--as crate-cargo"),
+            "crate-npm" => self.ask(Dialect::CrateNpm, "--as crate-npm"),
             _ => Err(ArgumentError::UnknownDialect(name.to_string(alloc)?)),
         }
     }
@@ -237,7 +227,7 @@ fn option_of(rule: PreReleases) -> &'static str
 {
     match rule {
         PreReleases::Excluded => "--releases",
-        PreReleases::Stated => "--pre-stated",
+        PreReleases::Default => "--pre-stated",
         PreReleases::Included => "--pre",
     }
 }

@@ -97,7 +97,7 @@ fn run(rt: &HostRuntime, wanted: &Wanted) -> ExitCode {
     let answer = match answered(rt, wanted) {
         Ok(answer) => answer,
         Err(Error::Range(error, range)) => {
-            return PROGRAM.refuse_range(rt, wanted.meaning.dialect(), &error, range);
+            return PROGRAM.refuse_range(rt, wanted.meaning.dialect, &error, range);
         }
         Err(Error::OutOfMemory) => {
             let _ = eprintln!(rt; "{}: out of memory", PROGRAM.name);

@@ -33,12 +33,12 @@ const TEXTS: [(&str, PreReleases, &str, Option<&str>); 21] = [
     ("*", PreReleases::Excluded, "18446744073709551616.0.0", None),
     (
         "^1.2.3-b",
-        PreReleases::Stated,
+        PreReleases::Default,
         "1.2.3-rc+b5",
         Some("1.2.3-rc+b5"),
     ),
-    ("^1.2.3-b", PreReleases::Stated, "1.2.3-a", None),
-    ("^1.2.3-b", PreReleases::Stated, "1.3.0-rc", None),
+    ("^1.2.3-b", PreReleases::Default, "1.2.3-a", None),
+    ("^1.2.3-b", PreReleases::Default, "1.3.0-rc", None),
     (
         "^1.2.3-b",
         PreReleases::Included,

@@ -10,17 +10,17 @@ const LAST: &str = "18446744073709551615.18446744073709551615.184467440737095516
 
 /// A range in Cargo mode, a rule, a version, and whether it is in the set.
 const TEXTS: [(&str, PreReleases, &str, bool); 24] = [
-    ("^1.2.3-beta.4", PreReleases::Stated, "1.9.0", true),
+    ("^1.2.3-beta.4", PreReleases::Default, "1.9.0", true),
     ("^1.2.3-beta.4", PreReleases::Excluded, "1.2.3-rc", false),
-    ("^1.2.3-beta.4", PreReleases::Stated, "1.2.3-rc", true),
-    ("^1.2.3-beta.4", PreReleases::Stated, "1.3.0-rc", false),
+    ("^1.2.3-beta.4", PreReleases::Default, "1.2.3-rc", true),
+    ("^1.2.3-beta.4", PreReleases::Default, "1.3.0-rc", false),
     ("^1.2.3-beta.4", PreReleases::Included, "1.3.0-rc", true),
     ("^1.2.3-beta.4", PreReleases::Included, "2.0.0-alpha", false),
-    (">=1.2.3 <1.2.4-rc", PreReleases::Stated, "1.2.4-a", true),
-    ("=2.0.1-a || >=2.0.0", PreReleases::Stated, "2.0.1-a", true),
-    ("=2.0.1-a || >=2.0.0", PreReleases::Stated, "2.0.1-b", false),
-    ("1.2.3-a - 2", PreReleases::Stated, "1.2.3-b", true),
-    ("1.2.3-a - 2", PreReleases::Stated, "2.0.0-b", false),
+    (">=1.2.3 <1.2.4-rc", PreReleases::Default, "1.2.4-a", true),
+    ("=2.0.1-a || >=2.0.0", PreReleases::Default, "2.0.1-a", true),
+    ("=2.0.1-a || >=2.0.0", PreReleases::Default, "2.0.1-b", false),
+    ("1.2.3-a - 2", PreReleases::Default, "1.2.3-b", true),
+    ("1.2.3-a - 2", PreReleases::Default, "2.0.0-b", false),
     (">1.2.3-a", PreReleases::Included, "1.2.3-a", false),
     (">1.2.3-a", PreReleases::Included, "1.2.3-a.0", true),
     (">1.2.3", PreReleases::Included, "1.2.4-0", true),
@@ -64,7 +64,7 @@ const TEXTS: [(&str, PreReleases, &str, bool); 24] = [
     (">2.0.0 <1.0.0", PreReleases::Included, "1.5.0", false),
     (
         "=18446744073709551615.18446744073709551615.18446744073709551615",
-        PreReleases::Stated,
+        PreReleases::Default,
         LAST,
         true,
     ),
@@ -116,7 +116,7 @@ const COMPARED: [(&str, &str, PreReleases, [&str; 3]); 6] = [
     (
         ">=1.2.3-rc",
         ">=1.2.3",
-        PreReleases::Stated,
+        PreReleases::Default,
         ["1.2.3-rc", "", "1.2.3"],
     ),
     (

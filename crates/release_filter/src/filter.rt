@@ -50,7 +50,7 @@ impl Model for Filter {
 
 impl Filter {
     // Answer: law answer_laws::filters::one_new.
-    /// Reads a range text: `^1.2.3-beta || 3.x` in Cargo mode and with `PreReleases::Stated` gives
+    /// Reads a range text: `^1.2.3-beta || 3.x` in Cargo mode and with `PreReleases::Default` gives
     /// a filter that 1.2.3-rc, 1.9.0 and 3.0.0 pass, and 1.3.0-rc and 2.0.0 don't. Its version
     /// texts are the crate's.
     ///

@@ -131,14 +131,14 @@ pub fn requested(rt: &(impl Env + AllocGlobal)) -> Result<Request, ArgumentError
     };
     let _program = arguments.next();
     let mut range = None;
-    let mut dialect = MeaningOptions::new();
+    let mut meaning = MeaningOptions::new();
     let mut options = Options::new(rt.alloc());
     for argument in arguments {
         if options.wants_prefix {
             options.take_prefix(argument)?;
             continue;
         }
-        if options.has_more && reading.take(rt.alloc(), argument.as_str())? {
+        if options.has_more && meaning.take(rt.alloc(), argument.as_str())? {
             continue;
         }
         match argument.as_str() {
@@ -153,19 +153,19 @@ pub fn requested(rt: &(impl Env + AllocGlobal)) -> Result<Request, ArgumentError
             _ => range = Some(argument),
         }
     }
-    request_of(range, dialect, options)
+    request_of(range, meaning, options)
 }
 
 /// What arguments ask for that are taken one by one.
 fn request_of(
     range: Option<String>,
-    dialect: MeaningOptions,
+    meaning: MeaningOptions,
     options: Options,
 ) -> Result<Request, ArgumentError> {
     if options.wants_prefix {
         return Err(ArgumentError::NoPrefix);
     }
-    let meaning = reading.finish()?;
+    let meaning = meaning.finish()?;
     match range {
         Some(range) => Ok(Request::Filter(Filtering {
             range,

@@ -108,7 +108,7 @@ fn run(rt: &HostRuntime, filtering: Filtering) -> ExitCode {
         Ok(true) => ExitCode::SUCCESS,
         Ok(false) => ExitCode::from(1),
         Err(Error::Write(error)) if error.kind() == ErrorKind::BrokenPipe => ExitCode::SUCCESS,
-        Err(error) => failed(rt, &error, meaning.dialect(), range.as_str()),
+        Err(error) => failed(rt, &error, meaning.dialect, range.as_str()),
     }
 }
 
@@ -121,7 +121,7 @@ fn filtered(
     options: Options,
 ) -> Result<bool, Error> {
     let versions = meaning::read(rt.alloc(), meaning, range).map_err(Error::Range)?;
-    let filter = Filter::of_versions(versions, meaning.dialect().grammar());
+    let filter = Filter::of_versions(versions, meaning.dialect.grammar());
     let mut lines = options.lines(rt.alloc(), filter);
     let has_written = copy_lines(rt, &mut lines)?;
     if !has_written {

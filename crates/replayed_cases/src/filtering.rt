@@ -132,7 +132,7 @@ fn lines_of(
     prefix: &str,
     wanted: Wanted,
 ) -> io::Result<Result<Lines, RangeError>> {
-    let filter = match Filter::new(alloc, text, Compat::Npm, PreReleases::Stated) {
+    let filter = match Filter::new(alloc, text, Compat::Npm, PreReleases::Default) {
         Ok(filter) => filter,
         Err(error) => return Ok(Err(error)),
     };

@@ -29,8 +29,26 @@ use semver_parser::{Compat, version};
 use std::alloc::Global;
 use std::io;
 use std::io::{BufRead, BufReader, BufWriter, Write};
-use tool_ranges::meaning::Meaning;
 use tool_ranges::dialect::Dialect;
+use tool_ranges::meaning::Meaning;
+
+/// A dialect with the default rule for pre-releases, and with each pre-release within the bounds.
+const CARGO: Meaning = Meaning {
+    dialect: Dialect::Cargo,
+    pre_releases: PreReleases::Default,
+};
+const CARGO_INCLUDED: Meaning = Meaning {
+    dialect: Dialect::Cargo,
+    pre_releases: PreReleases::Included,
+};
+const NPM: Meaning = Meaning {
+    dialect: Dialect::Npm,
+    pre_releases: PreReleases::Default,
+};
+const NPM_INCLUDED: Meaning = Meaning {
+    dialect: Dialect::Npm,
+    pre_releases: PreReleases::Included,
+};
 
 fn main(rt: HostRuntime) -> io::Result<()> {
     let input = BufReader::new(rt.alloc(), rt.reader())?;
@@ -94,24 +112,24 @@ fn answer<W: Write>(
         "greatest-line" => filtering::write_greatest_line(alloc, text, "", steps, out),
         "greatest-tag" => filtering::write_greatest_line(alloc, text, "v", steps, out),
         "greatest-release" => greatest(alloc, text, PreReleases::Excluded, steps, out),
-        "greatest-stated" => greatest(alloc, text, PreReleases::Stated, steps, out),
+        "greatest-stated" => greatest(alloc, text, PreReleases::Default, steps, out),
         "greatest-of-all" => greatest(alloc, text, PreReleases::Included, steps, out),
         "refused-range-as-cargo" => places::write_refused(alloc, text, Dialect::Cargo, out),
         "refused-range-as-npm" => places::write_refused(alloc, text, Dialect::Npm, out),
         "refused-range-as-crate-cargo" => {
-            places::write_refused(alloc, text, Dialect::Crate(Compat::Cargo), out)
+            places::write_refused(alloc, text, Dialect::CrateCargo, out)
         }
         "refused-range-as-crate-npm" => {
-            places::write_refused(alloc, text, Dialect::Crate(Compat::Npm), out)
+            places::write_refused(alloc, text, Dialect::CrateNpm, out)
         }
-        "rewritten-as-cargo" => tools::write_rewritten(alloc, Meaning::Cargo, text, out),
-        "rewritten-as-npm" => tools::write_rewritten(alloc, Meaning::Npm, text, out),
-        "meant-as-cargo" => tools::write_meant(alloc, Meaning::Cargo, text, steps, out),
-        "meant-as-npm" => tools::write_meant(alloc, Meaning::Npm, text, steps, out),
+        "rewritten-as-cargo" => tools::write_rewritten(alloc, Dialect::Cargo, text, out),
+        "rewritten-as-npm" => tools::write_rewritten(alloc, Dialect::Npm, text, out),
+        "meant-as-cargo" => tools::write_meant(alloc, CARGO, text, steps, out),
+        "meant-as-npm" => tools::write_meant(alloc, NPM, text, steps, out),
         "meant-with-all-as-cargo" => {
-            tools::write_meant(alloc, Meaning::CargoAll, text, steps, out)
+            tools::write_meant(alloc, CARGO_INCLUDED, text, steps, out)
         }
-        "meant-with-all-as-npm" => tools::write_meant(alloc, Meaning::NpmAll, text, steps, out),
+        "meant-with-all-as-npm" => tools::write_meant(alloc, NPM_INCLUDED, text, steps, out),
         _ => modes::write_answer(alloc, call, text, steps, out),
     }
 }

@@ -60,7 +60,7 @@ fn write_by_rule<W: Write>(
     let (call, word) = call.rsplit_once('-').unwrap_or(("", call));
     let rule = match word {
         "releases" => PreReleases::Excluded,
-        "stated" => PreReleases::Stated,
+        "stated" => PreReleases::Default,
         "mean" => PreReleases::Included,
         _ => return write!(out, "no such call"),
     };

@@ -6,16 +6,16 @@ use std::alloc::Global;
 use std::io;
 use std::io::Write;
 use tool_ranges::meaning::{self, Meaning};
-use tool_ranges::dialect;
+use tool_ranges::dialect::{self, Dialect};
 
-/// Writes what a tool's reading rewrites a text to, or the word of its error.
+/// Writes what a text of a dialect is rewritten to, or the word of its error.
 pub fn write_rewritten<W: Write>(
     alloc: Global,
-    tool: Meaning,
+    tool: Dialect,
     text: &str,
     out: &mut W,
 ) -> io::Result<()> {
-    match dialect::rewrite(alloc, tool.dialect(), text) {
+    match dialect::rewrite(alloc, tool, text) {
         Ok(set) => write!(out, "{set}"),
         Err(error) => write_error(&error, out),
     }

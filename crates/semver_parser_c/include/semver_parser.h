@@ -142,17 +142,16 @@ enum {
     SEMVER_PARSER_CRATE_NPM = 3
 };
 
-/* Values of `pre_releases`. All dialects have the first and the third. */
+/* Values of `pre_releases`: which pre-releases satisfy a range. */
 enum {
-    /* None satisfies a range. */
-    SEMVER_PARSER_RELEASES_ALONE = 0,
-    /* The crate's dialects: one does if it is within the bounds, and a term of the range states its
-     * three numbers and a pre-release. */
-    SEMVER_PARSER_STATED_PRE_RELEASES = 1,
-    /* Each within the bounds does. */
-    SEMVER_PARSER_ALL_PRE_RELEASES = 2,
-    /* Cargo's and npm's dialects: as the tool itself by default. */
-    SEMVER_PARSER_PRE_RELEASES_OF_TOOL = 3
+    /* Those that Cargo and npm match by default (docs/MEANING.md). By the crate's dialects one does
+     * if it is within the bounds, and a term of the range states its three numbers and a
+     * pre-release. */
+    SEMVER_PARSER_DEFAULT = 0,
+    /* Each within the bounds. */
+    SEMVER_PARSER_INCLUDED = 1,
+    /* None. */
+    SEMVER_PARSER_EXCLUDED = 2
 };
 
 /* Operators of comparators. */

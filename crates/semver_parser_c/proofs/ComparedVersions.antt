@@ -11,7 +11,7 @@ use Rattle.version_sets.specs.Comparisons.{TellsLeast}
 use Rattle.version_sets.specs.declared.comparison.Comparison.{Comparison}
 use Rattle.tool_ranges.specs.declared.meaning.Meaning.{Meaning}
 use Rattle.tool_ranges.specs.Dialects.{TreeOf, SpellsAs}
-use Rattle.tool_ranges.specs.Meanings.{MeansAs, dialect_of}
+use Rattle.tool_ranges.specs.Meanings.{MeansAs}
 use Rattle.semver_parser_c.specs.Steps.MeantSets.{IsSetOf}
 use Rattle.semver_parser_c.specs.declared.ComparedRanges.{ComparedRanges}
 use Rattle.semver_parser_c.specs.Compared.{Compares, IsEmptyWithout, TellsWhich, place_after, places_of}
@@ -21,8 +21,8 @@ pub told_alike : (P Q : PlainVersion → Type 0) → ((v : PlainVersion) → P v
 told_alike P Q same o least = grind arith
 
 -- what is in the set of a text is what its tree means
-pub meant : (set : SetValue) (m : Meaning) (text : Text) (tree : TreeOf (dialect_of m)) → MeansAs m text set
-    → SpellsAs (dialect_of m) tree text → IsSetOf m tree set
+pub meant : (set : SetValue) (m : Meaning) (text : Text) (tree : TreeOf m.dialect) → MeansAs m text set
+    → SpellsAs m.dialect tree text → IsSetOf m tree set
 meant set m text tree is spells v = grind arith
 
 -- ---- which of the three there are
@@ -37,7 +37,7 @@ empty_without IsOne None at none = (λ _. none, λ _. refl)
 empty_without IsOne (Some x) at least =
     (λ empty. absurd (omega (arith, empty, some_text (version_value x))), λ none. absurd (none _ least.is_one))
 
-pub tells_which : (m : Meaning) (old new : TreeOf (dialect_of m)) (told : Comparison) (places : ComparedRanges)
+pub tells_which : (m : Meaning) (old new : TreeOf m.dialect) (told : Comparison) (places : ComparedRanges)
     → Compares m old new told → places ≡ places_of told → TellsWhich m old new places
 tells_which m old new told places c is = rw is (record {
   lost = empty_without _ told.lost _ c.lost;

@@ -11,7 +11,6 @@ use Rattle.semver_parser.specs.declared.version.Grammar.{Grammar}
 use Rattle.semver_parser.specs.declared.version.Grammar.TheVariants as grammar
 use Rattle.semver_parser.proofs.WholeText.{one_outcome}
 use Rattle.tool_ranges.specs.declared.dialect.Dialect.{Dialect}
-use Rattle.tool_ranges.specs.Meanings.{dialect_of}
 use Rattle.tool_ranges.specs.Dialects.{grammar_of, fits_as}
 use Rattle.semver_parser_c.specs.Dialects.{IsGrammar, IsDialect}
 use Rattle.semver_parser_c.specs.Numbers as number
@@ -184,6 +183,6 @@ accepted_where {n = n} p not_one none = ⊎_elim
     let r = p.range m named in
     not_one (inr (inr (inl ((r.not_utf8 tt).1 (λ utf8.
     not_one (inr (inr (inr (inl ((r.not_a_range tt utf8).1 (λ text.
-    by_bool (fits_as (dialect_of m) text.0) (λ fit. none (m, named, utf8, (text.0, text.1, fit)))
+    by_bool (fits_as m.dialect text.0) (λ fit. none (m, named, utf8, (text.0, text.1, fit)))
     (λ large. not_one (inr (inr (inr (inr (inl ((r.too_large tt utf8).1 (text.0, text.1, large))))))))))))))))))))
     p.named

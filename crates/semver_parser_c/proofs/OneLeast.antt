@@ -12,7 +12,6 @@ use Rattle.semver_parser_c.specs.Sets.{text_of}
 use Rattle.version_sets.specs.declared.comparison.Comparison.{Comparison}
 use Rattle.tool_ranges.specs.declared.meaning.Meaning.{Meaning}
 use Rattle.tool_ranges.specs.Dialects.{TreeOf}
-use Rattle.tool_ranges.specs.Meanings.{dialect_of}
 use Rattle.semver_parser_c.specs.Compared.{Compares, joined_texts, place_after, places_of}
 
 neither_less : (x y : Ordering) → x ≡ ordering_reverse y → x ≢ Less → y ≢ Less → x ≡ Equal
@@ -33,7 +32,7 @@ one_told P (Some v) (Some w) a b =
     let text = ap version_text (one_version P _ _ a b) in (text, λ at at' e. cc)
 
 -- so of a comparison
-pub one_compared : (m : Meaning) (old new : TreeOf (dialect_of m)) (told other : Comparison) → Compares m old new told
+pub one_compared : (m : Meaning) (old new : TreeOf m.dialect) (told other : Comparison) → Compares m old new told
     → Compares m old new other → (joined_texts told ≡ joined_texts other) × (places_of told ≡ places_of other)
 one_compared m old new told other a b =
     let lost = one_told _ _ _ a.lost b.lost in

@@ -5,7 +5,6 @@ use Rattle.semver_parser.specs.Texts.{Text}
 use Rattle.semver_parser.specs.ToolVersions.{IsVersionTextIn}
 use Rattle.semver_parser.specs.declared.version.Grammar.{Grammar}
 use Rattle.tool_ranges.specs.declared.meaning.Meaning.{Meaning}
-use Rattle.tool_ranges.specs.Meanings.{dialect_of}
 use Rattle.tool_ranges.specs.Dialects.{grammar_of}
 use Rattle.semver_parser_c.specs.Numbers.{range_out_of_memory, version_out_of_memory}
 use Rattle.semver_parser_c.specs.Errors.{IsOneOf, RefusesVersion, named_errors, version_errors}
@@ -41,10 +40,10 @@ range_refused dialect rule range version n told found = record {
 
 -- the version, where the range is read
 pub version_refused : (m : Meaning) (dialect rule : ℤ) (range version : Text) (n : ℤ) → IsMeaningOf m dialect rule
-    → IsReadable (dialect_of m) range → RefusesVersion (grammar_of (dialect_of m)) version n
-    → (IsUtf8 version → ¬ (IsVersionTextIn (grammar_of (dialect_of m)) version)) → IsUnjudged dialect rule range version n
+    → IsReadable m.dialect range → RefusesVersion (grammar_of m.dialect) version n
+    → (IsUtf8 version → ¬ (IsVersionTextIn (grammar_of m.dialect) version)) → IsUnjudged dialect rule range version n
 version_refused m dialect rule range version n only readable told none =
-    let same = λ (d : Grammar) (is : IsGrammar d dialect). of_dialect (dialect_of m) dialect d only.named.0 is in
+    let same = λ (d : Grammar) (is : IsGrammar d dialect). of_dialect m.dialect dialect d only.named.0 is in
     record {
       one = of_version n told.one;
       found = not_range n told.one;

@@ -6,7 +6,7 @@ use Rattle.version_sets.specs.VersionSets.{SetValue, IsIn, IsNormal, has}
 use Rattle.version_sets.specs.declared.FlatSwitch.{FlatSwitch}
 use Rattle.tool_ranges.specs.declared.meaning.Meaning.{Meaning}
 use Rattle.tool_ranges.specs.Dialects.{TreeOf, SpellsAs}
-use Rattle.tool_ranges.specs.Meanings.{MeansAs, dialect_of}
+use Rattle.tool_ranges.specs.Meanings.{MeansAs}
 use Rattle.semver_parser_c.specs.Numbers as number
 use Rattle.semver_parser_c.specs.FlatSets.{AreSets, IsMadeOf, IsNoSet, IsWithin, keeps, operation_number}
 use Rattle.semver_parser_c.specs.Errors.{IsOneOf}
@@ -19,7 +19,7 @@ abbrev pub OneNormalSet : Type 0
 OneNormalSet = (a b : SetValue) → IsNormal a → IsNormal b → ((v : PlainVersion) → IsIn v a ↔ IsIn v b) → a ≡ b
 
 -- of a range
-pub of_range : OneNormalSet → (m : Meaning) (range : Text) (tree : TreeOf (dialect_of m)) → SpellsAs (dialect_of m) tree range
+pub of_range : OneNormalSet → (m : Meaning) (range : Text) (tree : TreeOf m.dialect) → SpellsAs m.dialect tree range
     → (a b : SetValue) → IsNormal a → IsNormal b → MeansAs m range a → MeansAs m range b → a ≡ b
 of_range one m range tree spells a b normal normal' means means' =
     one a b normal normal' (λ v.

@@ -6,7 +6,6 @@ use Rattle.semver_parser.specs.declared.RangeError.{RangeError}
 use Rattle.semver_parser.specs.declared.RangeError.TheVariants.{NotARange, NumberTooLarge, OutOfMemory}
 use Rattle.tool_ranges.specs.declared.dialect.Dialect.{Dialect}
 use Rattle.tool_ranges.specs.declared.meaning.Meaning.{Meaning}
-use Rattle.tool_ranges.specs.Meanings.{dialect_of}
 use Rattle.tool_ranges.specs.Dialects.{RefusesAs}
 use Rattle.semver_parser_c.specs.declared.range_text.TextError.{TextError}
 use Rattle.semver_parser_c.specs.Numbers.{no_such_reading, no_such_rule, ok, no_room, range_out_of_memory, new_range_out_of_memory}
@@ -50,14 +49,14 @@ all_stand IsSo each = record {
 
 -- what the reading of the only meaning refuses is what a call refuses that asks for a meaning
 lifted : (m : Meaning) (dialect rule : ℤ) (text : Text) (n : ℤ) → IsMeaningOf m dialect rule
-    → (IsOneOf (no_such_reading ∷ no_such_rule ∷ []) n → ⊥) → RefusesBy range_numbers ⊤ (dialect_of m) text n
+    → (IsOneOf (no_such_reading ∷ no_such_rule ∷ []) n → ⊥) → RefusesBy range_numbers ⊤ m.dialect text n
     → RefusesRange dialect rule text n
 lifted m dialect rule text n only other by = search rules
 
-pub stands : (m : Meaning) (dialect rule : ℤ) (text : Text) → IsMeaningOf m dialect rule → IsReadable (dialect_of m) text
+pub stands : (m : Meaning) (dialect rule : ℤ) (text : Text) → IsMeaningOf m dialect rule → IsReadable m.dialect text
     → Stands (RefusesRange dialect rule text)
 stands m dialect rule text only read =
-    all_stand _ (λ n one. lifted m dialect rule text n only (not_named n one) (stands_by (dialect_of m) text read n one))
+    all_stand _ (λ n one. lifted m dialect rule text n only (not_named n one) (stands_by m.dialect text read n one))
 
 pub stands_text : (r : Dialect) (dialect : ℤ) (text : Text) → IsDialectOf r dialect → IsReadable r text
     → Stands (RefusesText dialect text)
@@ -68,7 +67,7 @@ stands_text r dialect text only read =
     search rules)
 
 -- an error that the text has, by its number
-pub refused : (m : Meaning) (dialect rule : ℤ) (text : Text) (n : ℤ) → IsMeaningOf m dialect rule → IsTold (dialect_of m) text n
+pub refused : (m : Meaning) (dialect rule : ℤ) (text : Text) (n : ℤ) → IsMeaningOf m dialect rule → IsTold m.dialect text n
     → IsRefused dialect rule text n
 refused m dialect rule text n only told = search rules
 
@@ -113,7 +112,7 @@ not_asked dialect rule old new n refusal found =
 
 -- where the new one is
 pub new_refused : (m : Meaning) (dialect rule : ℤ) (old new : Text) (n : ℤ) → IsMeaningOf m dialect rule
-    → IsReadable (dialect_of m) old → IsOneOf new_range_errors n → RefusesBy new_range_numbers ⊤ (dialect_of m) new n
+    → IsReadable m.dialect old → IsOneOf new_range_errors n → RefusesBy new_range_numbers ⊤ m.dialect new n
     → IsEitherRefused dialect rule old new n
 new_refused m dialect rule old new n only readable one told =
     let number : IsOneOf (named_errors ++ new_range_errors) n = grind arith in
@@ -134,8 +133,8 @@ pub named_found : (n : ℤ) → IsOneOf (no_such_reading ∷ no_such_rule ∷ []
 named_found n one = grind arith
 
 -- where both are read
-pub both_stand : (m : Meaning) (dialect rule : ℤ) (old new : Text) → IsMeaningOf m dialect rule → IsReadable (dialect_of m) old
-    → IsReadable (dialect_of m) new → (n : ℤ) → IsOneOf (ok ∷ no_room ∷ new_range_out_of_memory ∷ []) n
+pub both_stand : (m : Meaning) (dialect rule : ℤ) (old new : Text) → IsMeaningOf m dialect rule → IsReadable m.dialect old
+    → IsReadable m.dialect new → (n : ℤ) → IsOneOf (ok ∷ no_room ∷ new_range_out_of_memory ∷ []) n
     → TellsBoth dialect rule old new n
 both_stand m dialect rule old new only old_read read n one =
     let found : n ≢ range_out_of_memory = grind arith in
@@ -149,12 +148,12 @@ both_stand m dialect rule old new only old_read read n one =
         ),
       );
       old_range = (stands m dialect rule old only old_read).each n (grind arith);
-      new_range = λ k named. rw (← (only.only k named)) (stands_new _ (dialect_of m) new read n one);
+      new_range = λ k named. rw (← (only.only k named)) (stands_new _ m.dialect new read n one);
       one_memory = found;
     }
 
 -- so where memory ran out
-pub neither_refused : (m : Meaning) (dialect rule : ℤ) (old new : Text) → IsMeaningOf m dialect rule → IsReadable (dialect_of m) old
-    → IsReadable (dialect_of m) new → IsEitherRefused dialect rule old new new_range_out_of_memory
+pub neither_refused : (m : Meaning) (dialect rule : ℤ) (old new : Text) → IsMeaningOf m dialect rule → IsReadable m.dialect old
+    → IsReadable m.dialect new → IsEitherRefused dialect rule old new new_range_out_of_memory
 neither_refused m dialect rule old new only old_read read =
     record { number = grind arith; both = both_stand m dialect rule old new only old_read read _ (inr (inr (inl refl))) }

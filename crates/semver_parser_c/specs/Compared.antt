@@ -7,24 +7,23 @@ use Rattle.version_sets.specs.Comparisons.{TellsLeast}
 use Rattle.version_sets.specs.declared.comparison.Comparison.{Comparison}
 use Rattle.tool_ranges.specs.declared.meaning.Meaning.{Meaning}
 use Rattle.tool_ranges.specs.Dialects.{TreeOf}
-use Rattle.tool_ranges.specs.Meanings.{dialect_of}
 use Rattle.semver_parser_c.specs.declared.Part.{Part}
 use Rattle.semver_parser_c.specs.declared.ComparedRanges.{ComparedRanges}
 use Rattle.semver_parser_c.specs.Sets.{IsMeant, text_of}
 
 -- the first tree means it, and the second doesn't
-abbrev pub IsMeantAlone : (m : Meaning) → (first second : TreeOf (dialect_of m)) → PlainVersion
+abbrev pub IsMeantAlone : (m : Meaning) → (first second : TreeOf m.dialect) → PlainVersion
     → Type 0
 IsMeantAlone m first second v = IsMeant m first v × (¬ IsMeant m second v)
 
 -- both mean it
-abbrev pub IsMeantByBoth : (m : Meaning) → (first second : TreeOf (dialect_of m)) → PlainVersion
+abbrev pub IsMeantByBoth : (m : Meaning) → (first second : TreeOf m.dialect) → PlainVersion
     → Type 0
 IsMeantByBoth m first second v = IsMeant m first v × IsMeant m second v
 
 -- lost is the least version that the old tree means alone, gained the least that the new one means
 -- alone, and shared the least that both mean; each is none exactly where there is none
-pub record Compares (m : Meaning) (old new : TreeOf (dialect_of m)) (told : Comparison)
+pub record Compares (m : Meaning) (old new : TreeOf m.dialect) (told : Comparison)
     : Type 0 where
   pub lost : TellsLeast (IsMeantAlone m old new) told.lost
   pub gained : TellsLeast (IsMeantAlone m new old) told.gained
@@ -35,7 +34,7 @@ abbrev pub IsEmptyWithout : (PlainVersion → Type 0) → Part → Type 0
 IsEmptyWithout IsOne part = (part.length ≡ 0) ↔ ((v : PlainVersion) → ¬ IsOne v)
 
 -- so are the three parts
-pub record TellsWhich (m : Meaning) (old new : TreeOf (dialect_of m)) (places : ComparedRanges)
+pub record TellsWhich (m : Meaning) (old new : TreeOf m.dialect) (places : ComparedRanges)
     : Type 0 where
   pub lost : IsEmptyWithout (IsMeantAlone m old new) places.lost
   pub gained : IsEmptyWithout (IsMeantAlone m new old) places.gained

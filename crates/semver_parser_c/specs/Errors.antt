@@ -7,17 +7,17 @@ use Rattle.semver_parser.specs.ToolVersions.{IsVersionTextIn, SpellsIn}
 use Rattle.semver_parser.specs.declared.version.Grammar.{Grammar}
 use Rattle.semver_parser.specs.declared.version.Grammar.TheVariants as grammar
 use Rattle.semver_parser.specs.VersionReading.{IsOutcomeOf, TextMayRunOut}
+use Rattle.semver_parser.specs.declared.Compat.TheVariants as mode
 use Rattle.semver_parser.specs.declared.RangeError.{RangeError}
 use Rattle.semver_parser.specs.declared.RangeError.TheVariants as range_error
 use Rattle.semver_parser.specs.ParserState as spec
 use Rattle.semver_parser.specs.ParserState.{ErrorValue}
 use Rattle.semver_parser.specs.RewritingTable.{rewritten, PlainSet}
 use Rattle.tool_ranges.specs.declared.dialect.Dialect.{Dialect}
-use Rattle.tool_ranges.specs.declared.dialect.Dialect.TheVariants.{Crate}
+use Rattle.tool_ranges.specs.declared.dialect.Dialect.TheVariants.{CrateCargo, CrateNpm}
 use Rattle.tool_ranges.specs.declared.meaning.Meaning.{Meaning}
 use Rattle.tool_ranges.specs.Dialects.{TreeOf, SpellsAs, fits_as, rewritten_as}
 use Rattle.tool_ranges.specs.Dialects.{IsTextAs, HasSetAs, IsTooLargeAs}
-use Rattle.tool_ranges.specs.Meanings.{dialect_of}
 use Rattle.semver_parser_c.specs.Numbers as number
 use Rattle.semver_parser_c.specs.Numbers.{version_out_of_memory}
 use Rattle.semver_parser_c.specs.Dialects.{IsDialect, IsMeaning, IsNamed, dialect_number}
@@ -98,7 +98,8 @@ named_errors = number.no_such_reading ∷ number.no_such_rule ∷ range_errors
 
 -- what a tree is rewritten to, with exact bounds or without: those of a tool are always exact
 abbrev pub set_for : Bool → (dialect : Dialect) → TreeOf dialect → PlainSet
-set_for false (Crate mode) tree = rewritten mode tree
+set_for false CrateCargo tree = rewritten mode.Cargo tree
+set_for false CrateNpm tree = rewritten mode.Npm tree
 set_for exact dialect tree = rewritten_as dialect tree
 
 -- a set of the comparators to which each tree of a text is so rewritten
@@ -132,12 +133,12 @@ pub record RefusesRange (dialect rule : ℤ) (text : Text) (n : ℤ) : Type 0 wh
   pub no_such_rule : (n ≡ number.no_such_rule)
       ↔ (IsDialect dialect × (¬ (IsMeaning dialect rule)))
   pub range : (m : Meaning) → IsNamed m dialect rule
-      → RefusesBy range_numbers ⊤ (dialect_of m) text n
+      → RefusesBy range_numbers ⊤ m.dialect text n
 
 -- what it refuses of the new range, where it is asked for, if two are compared
 abbrev pub RefusesNewRange : Type 0 → ℤ → ℤ → Text → ℤ → Type 0
 RefusesNewRange Asked dialect rule text n = (m : Meaning) → IsNamed m dialect rule
-    → RefusesBy new_range_numbers Asked (dialect_of m) text n
+    → RefusesBy new_range_numbers Asked m.dialect text n
 
 -- the number is the error of a text that spells no version: in the crate's dialect that of its
 -- outcome, in a tool's the one that there is
@@ -192,14 +193,14 @@ pub record IsReadBy (by : RangeNumbers) (dialect : Dialect) (text : Text) (answe
 -- the numbers name a meaning, and the text is so read by its reading
 abbrev pub RangeIsRead : ℤ → ℤ → Text → ℤ → Type 0
 RangeIsRead dialect rule text answer = (m : Meaning) × IsNamed m dialect rule
-    × IsReadBy range_numbers (dialect_of m) text answer
+    × IsReadBy range_numbers m.dialect text answer
 
 -- so of the new range, where two are compared
 abbrev pub NewRangeIsRead : ℤ → ℤ → Text → ℤ → Type 0
 NewRangeIsRead dialect rule text answer = (m : Meaning) × IsNamed m dialect rule
-    × IsReadBy new_range_numbers (dialect_of m) text answer
+    × IsReadBy new_range_numbers m.dialect text answer
 
 -- the text is a range that fits to the reading that is named
 abbrev pub IsAccepted : ℤ → ℤ → Text → Type 0
 IsAccepted dialect rule text = (m : Meaning) × IsNamed m dialect rule × IsUtf8 text
-    × HasSetAs (dialect_of m) text
+    × HasSetAs m.dialect text

@@ -5,7 +5,7 @@ use Rattle.semver_parser.specs.Versions.{VersionValue}
 use Rattle.semver_parser.specs.ToolVersions.{IsVersionTextIn, SpellsIn}
 use Rattle.tool_ranges.specs.declared.meaning.Meaning.{Meaning}
 use Rattle.tool_ranges.specs.Dialects.{TreeOf, SpellsAs, grammar_of}
-use Rattle.tool_ranges.specs.Meanings.{dialect_of, meant_as}
+use Rattle.tool_ranges.specs.Meanings.{meant_as}
 use Rattle.semver_parser_c.specs.Numbers as number
 use Rattle.semver_parser_c.specs.Errors.{IsOneOf, MayRunOutIn, RefusedIn, version_errors}
 
@@ -22,15 +22,15 @@ IsMeeting byte = (byte ≡ number.does_not_meet) ⊎ (byte ≡ number.meets)
 -- spells is one that the range means, or the error of the version
 pub record IsAnswer (m : Meaning) (range version : Text) (byte : ℕ) : Type 0 where
   pub one : IsMeeting byte ⊎ IsOneOf version_errors (pos byte)
-  pub meaning : IsMeeting byte → (tree : TreeOf (dialect_of m)) (v : VersionValue)
-      → SpellsAs (dialect_of m) tree range → SpellsIn (grammar_of (dialect_of m)) v version
+  pub meaning : IsMeeting byte → (tree : TreeOf m.dialect) (v : VersionValue)
+      → SpellsAs m.dialect tree range → SpellsIn (grammar_of m.dialect) v version
       → byte ≡ meeting_byte (meant_as m tree v)
-  pub read : IsMeeting byte → IsVersionTextIn (grammar_of (dialect_of m)) version
+  pub read : IsMeeting byte → IsVersionTextIn (grammar_of m.dialect) version
   pub accepted : (v : VersionValue) → IsUtf8 version
-      → SpellsIn (grammar_of (dialect_of m)) v version → IsMeeting byte
+      → SpellsIn (grammar_of m.dialect) v version → IsMeeting byte
   pub not_utf8 : (pos byte ≡ number.version_not_utf8) ↔ ¬ (IsUtf8 version)
-  pub refused : IsUtf8 version → ¬ (IsVersionTextIn (grammar_of (dialect_of m)) version)
+  pub refused : IsUtf8 version → ¬ (IsVersionTextIn (grammar_of m.dialect) version)
       → pos byte ≢ number.version_out_of_memory
-      → RefusedIn (grammar_of (dialect_of m)) version (pos byte)
+      → RefusedIn (grammar_of m.dialect) version (pos byte)
   pub out_of_memory : pos byte ≡ number.version_out_of_memory
-      → MayRunOutIn (grammar_of (dialect_of m)) version
+      → MayRunOutIn (grammar_of m.dialect) version

@@ -58,7 +58,7 @@ range_out_of_memory = pos 13
 abbrev pub no_room : ℤ
 no_room = pos 14
 
--- the reading has no rule for pre-releases of that number
+-- no rule for pre-releases has that number
 abbrev pub no_such_rule : ℤ
 no_such_rule = pos 15
 
@@ -78,7 +78,7 @@ new_number_too_large = pos 18
 abbrev pub new_range_out_of_memory : ℤ
 new_range_out_of_memory = pos 19
 
--- no reading of range texts has that number
+-- no dialect has that number
 abbrev pub no_such_reading : ℤ
 no_such_reading = pos 20
 
@@ -170,11 +170,11 @@ hint_limit = pos 43
 abbrev pub hint_npm_limit : ℤ
 hint_npm_limit = pos 44
 
--- the readings of a range text: Cargo's own
+-- the dialects: Cargo's
 abbrev pub cargo : ℤ
 cargo = pos 0
 
--- npm's own
+-- npm's
 abbrev pub npm : ℤ
 npm = pos 1
 
@@ -186,21 +186,17 @@ crate_cargo = pos 2
 abbrev pub crate_npm : ℤ
 crate_npm = pos 3
 
--- the rules for pre-releases: none meets
-abbrev pub releases_alone : ℤ
-releases_alone = pos 0
+-- the rules for pre-releases: those count that Cargo and npm match by default
+abbrev pub default : ℤ
+default = pos 0
 
--- one meets where the range states a pre-release of the same three numbers
-abbrev pub stated_pre_releases : ℤ
-stated_pre_releases = pos 1
+-- each within the bounds counts
+abbrev pub included : ℤ
+included = pos 1
 
--- each within the bounds meets
-abbrev pub all_pre_releases : ℤ
-all_pre_releases = pos 2
-
--- those meet that a tool takes, in its dialect
-abbrev pub pre_releases_of_tool : ℤ
-pre_releases_of_tool = pos 3
+-- none counts
+abbrev pub excluded : ℤ
+excluded = pos 2
 
 -- the operators: `<`
 abbrev pub less : ℤ

@@ -8,10 +8,10 @@ use Rattle.semver_parser.specs.declared.version.Version.{Version}
 use Rattle.version_sets.specs.VersionSets.{Fits}
 use Rattle.tool_ranges.specs.declared.meaning.Meaning.{Meaning}
 use Rattle.tool_ranges.specs.Dialects.{TreeOf}
-use Rattle.tool_ranges.specs.Meanings.{dialect_of, meant_as}
+use Rattle.tool_ranges.specs.Meanings.{meant_as}
 
 -- a version whose numbers fit is one that a tree means
-abbrev pub IsMeant : (m : Meaning) → TreeOf (dialect_of m) → PlainVersion → Type 0
+abbrev pub IsMeant : (m : Meaning) → TreeOf m.dialect → PlainVersion → Type 0
 IsMeant m tree v = Fits v × IsTrue (meant_as m tree (without_build v))
 
 -- the text of a version, and an empty one where there is none

@@ -6,7 +6,7 @@ ghost use Rattle.semver_parser.specs.ToolVersions.{IsVersionTextIn, SpellsIn};
 ghost use Rattle.semver_parser.specs.declared.version.Grammar.{Grammar as SomeDialect};
 ghost use Rattle.semver_parser.specs.Outlines.{version_of};
 ghost use Rattle.tool_ranges.specs.declared.meaning.Meaning.{Meaning as SomeMeaning};
-ghost use Rattle.tool_ranges.specs.Meanings.{meant_as, dialect_of};
+ghost use Rattle.tool_ranges.specs.Meanings.{meant_as};
 ghost use Rattle.tool_ranges.specs.Dialects.{SpellsAs, TreeOf, grammar_of};
 ghost use Rattle.semver_parser_c.specs.declared.range_text.TextError.TheVariants.{OutOfMemory};
 ghost use Rattle.semver_parser_c.specs.Errors.{IsAccepted, RefusesRange};
@@ -35,9 +35,9 @@ pub fn judge(
         → IsVersionTextIn d version.now) }
     ensures utf8 { IfOk result (λ _. IsUtf8 version.now) }
     ensures meaning { IfOk result (λ met. (m : SomeMeaning) → IsNamed m dialect pre_releases
-        → (tree : TreeOf (dialect_of m)) (v : VersionValue)
-        → SpellsAs (dialect_of m) tree range.now
-        → SpellsIn (grammar_of (dialect_of m)) v version.now
+        → (tree : TreeOf m.dialect) (v : VersionValue)
+        → SpellsAs m.dialect tree range.now
+        → SpellsIn (grammar_of m.dialect) v version.now
         → met ≡ meant_as m tree v) }
     ensures refused { IfErr result (IsUnjudged dialect pre_releases range.now version.now) }
 {
@@ -46,7 +46,7 @@ pub fn judge(
         Ok(meaning) => meaning,
         Err(number) => return Err(number),
     };
-    let grammar = meaning.dialect().grammar();
+    let grammar = meaning.dialect.grammar();
     let Some(outline) = version::outline_in(version, grammar) else {
         return match check(meaning, range) {
             Ok(()) => Err(version_text::error(alloc, version, grammar)),
@@ -61,11 +61,11 @@ pub fn judge(
 
 /// Whether a range text means the version of an outline, or its error.
 pub fn meets(meaning: Meaning, range: &[u8], version: &Outline<'_>) -> Result<bool, TextError>
-    ensures accepted { IfOk result (λ _. IsReadable (dialect_of meaning) range.now) }
-    ensures meaning { IfOk result (λ met. (tree : TreeOf (dialect_of meaning))
-        → SpellsAs (dialect_of meaning) tree range.now
+    ensures accepted { IfOk result (λ _. IsReadable meaning.dialect range.now) }
+    ensures meaning { IfOk result (λ met. (tree : TreeOf meaning.dialect)
+        → SpellsAs meaning.dialect tree range.now
         → met ≡ meant_as meaning tree (version_of version.now)) }
-    ensures error { IfErr result (λ error. HasError (dialect_of meaning) range.now error) }
+    ensures error { IfErr result (λ error. HasError meaning.dialect range.now error) }
     ensures no_memory { result ≢ Err OutOfMemory }
 {
     let Ok(text) = std::str::from_utf8(range) else {
@@ -79,8 +79,8 @@ pub fn meets(meaning: Meaning, range: &[u8], version: &Outline<'_>) -> Result<bo
 
 /// Whether a range text is read, or its error.
 pub fn check(meaning: Meaning, range: &[u8]) -> Result<(), TextError>
-    ensures accepted { IfOk result (λ _. IsReadable (dialect_of meaning) range.now) }
-    ensures error { IfErr result (λ error. HasError (dialect_of meaning) range.now error) }
+    ensures accepted { IfOk result (λ _. IsReadable meaning.dialect range.now) }
+    ensures error { IfErr result (λ error. HasError meaning.dialect range.now error) }
     ensures no_memory { result ≢ Err OutOfMemory }
 {
     let Ok(text) = std::str::from_utf8(range) else {

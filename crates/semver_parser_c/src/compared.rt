@@ -4,7 +4,6 @@ ghost use Rattle.std.specs.Prelude.{◌≡◌, ◌++◌, IfOk, OnOk, length, str
 ghost use Rattle.version_sets.specs.declared.comparison.Comparison.{Comparison as SomeComparison};
 ghost use Rattle.tool_ranges.specs.declared.meaning.Meaning.{Meaning};
 ghost use Rattle.tool_ranges.specs.Dialects.{TreeOf};
-ghost use Rattle.tool_ranges.specs.Meanings.{dialect_of};
 ghost use Rattle.semver_parser_c.specs.Sets.{text_of};
 ghost use Rattle.semver_parser_c.specs.Compared.{Compares, joined_texts, place_after};
 ghost use Rattle.semver_parser_c.specs.Compared.{places_of};
@@ -31,7 +30,7 @@ pub fn compare(
     old_set: &VersionSet,
     new_set: &VersionSet,
 ) -> Result<Printed, AllocError>
-    ensures { IfOk result (λ printed. (m : Meaning) (old new : TreeOf (dialect_of m))
+    ensures { IfOk result (λ printed. (m : Meaning) (old new : TreeOf m.dialect)
         → IsSetOf m old old_set.now → IsSetOf m new new_set.now
         → (told : SomeComparison) × Compares m old new told
         × (string_bytes printed.text ≡ joined_texts told)

@@ -39,7 +39,7 @@ ghost use Rattle.tool_ranges.specs.declared.meaning.Meaning.{Meaning};
 ghost use Rattle.tool_ranges.specs.Fronts.{BeginsAs, BeginsFitting, IsPlace};
 ghost use Rattle.tool_ranges.specs.Hints.{limit_of};
 ghost use Rattle.tool_ranges.specs.Dialects.{SpellsAs, TreeOf, grammar_of, fits_as};
-ghost use Rattle.tool_ranges.specs.Meanings.{MeansAs, meant_as, dialect_of};
+ghost use Rattle.tool_ranges.specs.Meanings.{MeansAs, meant_as};
 ghost use Rattle.semver_parser_c.specs.Numbers as number;
 ghost use Rattle.semver_parser_c.specs.Dialects.{IsGrammar, IsNamed, IsDialect, dialect_number};
 ghost use Rattle.semver_parser_c.specs.Errors.{IsAccepted, IsOneOf, NewRangeIsRead, RangeIsRead};
@@ -455,9 +455,9 @@ pub extern "C" fn semver_parser_proved_meets(
     ensures numbers { IsOneOf (number.ok ∷ named_errors ++ version_errors) result }
     // An answer is that of the range's own meaning, and comes where both texts are read.
     ensures meaning { result ≡ number.ok → (m : Meaning) → IsNamed m dialect pre_releases
-        → (tree : TreeOf (dialect_of m)) (v : VersionValue)
-        → SpellsAs (dialect_of m) tree range.now
-        → SpellsIn (grammar_of (dialect_of m)) v version.now
+        → (tree : TreeOf m.dialect) (v : VersionValue)
+        → SpellsAs m.dialect tree range.now
+        → SpellsIn (grammar_of m.dialect) v version.now
         → meets.new ≡ meant_as m tree v }
     ensures both_read { result ≡ number.ok → RangeIsRead dialect pre_releases range.now result
         × ((d : Grammar) → IsGrammar d dialect → IsVersionTextIn d version.now) }
@@ -563,7 +563,7 @@ pub extern "C" fn semver_parser_proved_least(
     // empty one exactly where it means none.
     ensures least { (result ≡ number.ok) ⊎ (result ≡ number.no_room)
         → (m : Meaning) → IsNamed m dialect pre_releases
-        → (tree : TreeOf (dialect_of m)) → SpellsAs (dialect_of m) tree range.now
+        → (tree : TreeOf m.dialect) → SpellsAs m.dialect tree range.now
         → (least : Option Version) × TellsLeast (IsMeant m tree) least
         × Puts (text_of least) out.old out.new length.new result }
     ensures read { (result ≡ number.ok) ⊎ (result ≡ number.no_room)
@@ -622,15 +622,15 @@ pub extern "C" fn semver_parser_proved_compare(
     // What is put into the buffer are the texts of what is lost, gained and shared by what both
     // ranges themselves mean, and `comparison` says where each is.
     ensures told { (result ≡ number.ok) ⊎ (result ≡ number.no_room)
-        → (m : Meaning) → IsNamed m dialect pre_releases → (old new : TreeOf (dialect_of m))
-        → SpellsAs (dialect_of m) old old_range.now → SpellsAs (dialect_of m) new new_range.now
+        → (m : Meaning) → IsNamed m dialect pre_releases → (old new : TreeOf m.dialect)
+        → SpellsAs m.dialect old old_range.now → SpellsAs m.dialect new new_range.now
         → (told : Comparison) × Compares m old new told
         × Puts (joined_texts told) out.old out.new length.new result
         × (comparison.new ≡ places_of told) }
     // A part has no length exactly where there is no such version.
     ensures which { (result ≡ number.ok) ⊎ (result ≡ number.no_room)
-        → (m : Meaning) → IsNamed m dialect pre_releases → (old new : TreeOf (dialect_of m))
-        → SpellsAs (dialect_of m) old old_range.now → SpellsAs (dialect_of m) new new_range.now
+        → (m : Meaning) → IsNamed m dialect pre_releases → (old new : TreeOf m.dialect)
+        → SpellsAs m.dialect old old_range.now → SpellsAs m.dialect new new_range.now
         → TellsWhich m old new comparison.new }
     ensures read { (result ≡ number.ok) ⊎ (result ≡ number.no_room)
         → RangeIsRead dialect pre_releases old_range.now result

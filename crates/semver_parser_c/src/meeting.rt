@@ -4,7 +4,6 @@ ghost use Rattle.std.specs.Prelude.{◌≡◌, ◌≢◌, ◌<◌, ◌≤◌, �
 ghost use Rattle.std.specs.Prelude.{slice_get, slice_index, Err, IfOk, IfErr, IfSome};
 ghost use Rattle.semver_parser.specs.Texts.{Text};
 ghost use Rattle.tool_ranges.specs.declared.meaning.Meaning.{Meaning as SomeMeaning};
-ghost use Rattle.tool_ranges.specs.Meanings.{dialect_of};
 ghost use Rattle.semver_parser_c.specs.Numbers as number;
 ghost use Rattle.semver_parser_c.specs.Dialects.{IsNamed};
 ghost use Rattle.semver_parser_c.specs.Errors.{IsAccepted, IsOneOf, RefusesRange, version_errors};
@@ -50,7 +49,7 @@ pub fn question_of<'r>(
     }
     match sets::read(alloc, range, dialect, pre_releases) {
         Ok((meaning, set)) => {
-            let filter = Filter::of_versions(set, meaning.dialect().grammar());
+            let filter = Filter::of_versions(set, meaning.dialect.grammar());
             Ok(Question::Filter(filter))
         }
         Err(number) => Err(number),
@@ -102,11 +101,11 @@ fn judge_by_set(alloc: Global, filter: &Filter, version: &[u8]) -> Result<bool, 
 
 /// Whether a range text that is read means the version of a text, or the number of its error.
 fn judge_by_text(alloc: Global, meaning: Meaning, range: &[u8], version: &[u8]) -> Result<bool, i32>
-    requires { IsReadable (dialect_of meaning) range.now }
+    requires { IsReadable meaning.dialect range.now }
     ensures { IsVerdict meaning range.now version.now result }
 {
     laws::one_version_in();
-    let grammar = meaning.dialect().grammar();
+    let grammar = meaning.dialect.grammar();
     let Some(outline) = version::outline_in(version, grammar) else {
         return Err(version_text::error(alloc, version, grammar));
     };

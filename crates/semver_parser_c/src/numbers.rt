@@ -28,7 +28,7 @@ pub const NUMBER_TOO_LARGE: i32 = 12;
 pub const RANGE_OUT_OF_MEMORY: i32 = 13;
 /// A buffer is too small.
 pub const NO_ROOM: i32 = 14;
-/// The dialect has no rule for pre-releases with this number.
+/// No rule for pre-releases has this number.
 pub const NO_SUCH_RULE: i32 = 15;
 /// The bytes of the new range aren't UTF-8, where two are compared.
 pub const NEW_RANGE_NOT_UTF8: i32 = 16;
@@ -105,14 +105,12 @@ pub const CRATE_CARGO: i32 = 2;
 /// The crate's dialect in npm mode.
 pub const CRATE_NPM: i32 = 3;
 
-/// The rule for pre-releases by which none meets a range.
-pub const RELEASES_ALONE: i32 = 0;
-/// The rule by which one meets where the range states a pre-release of the same three numbers.
-pub const STATED_PRE_RELEASES: i32 = 1;
-/// The rule by which each within the bounds meets the range.
-pub const ALL_PRE_RELEASES: i32 = 2;
-/// The rule of the tool itself, in Cargo's and npm's dialects.
-pub const PRE_RELEASES_OF_TOOL: i32 = 3;
+/// The rule for pre-releases by which those count that Cargo and npm match by default.
+pub const DEFAULT: i32 = 0;
+/// The rule by which each within the bounds counts.
+pub const INCLUDED: i32 = 1;
+/// The rule by which none counts.
+pub const EXCLUDED: i32 = 2;
 
 /// The operator `<`.
 pub const LESS: i32 = 0;

@@ -16,7 +16,7 @@ ghost use Rattle.semver_parser_c.specs.Steps.TextErrors.{HasError, IsReadable, I
 ghost use Rattle.semver_parser_c.specs.Steps.TextErrors.{IsTold, Stands, text_error_of};
 
 use crate::{numbers, dialects};
-use semver_parser::{RangeError, RangeSet};
+use semver_parser::{Compat, RangeError, RangeSet};
 use std::alloc::Global;
 use tool_ranges::dialect::{self, Dialect};
 
@@ -81,9 +81,13 @@ fn rewritten_text(
     ensures refusals { RefusesAs dialect text.now result }
     ensures as_rewritten { IfOk result (λ set. IsSetFor exact dialect text.now (set_of set)) }
 {
+    if exact {
+        return dialect::rewrite(alloc, dialect, text);
+    }
     match dialect {
-        Dialect::Crate(compat) if !exact => RangeSet::parse(alloc, text, compat),
-        _ => dialect::rewrite(alloc, dialect, text),
+        Dialect::CrateCargo => RangeSet::parse(alloc, text, Compat::Cargo),
+        Dialect::CrateNpm => RangeSet::parse(alloc, text, Compat::Npm),
+        Dialect::Cargo | Dialect::Npm => dialect::rewrite(alloc, dialect, text),
     }
 }
 

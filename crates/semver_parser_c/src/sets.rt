@@ -7,7 +7,7 @@ ghost use Rattle.version_sets.specs.Flat.{IsPrintable};
 ghost use Rattle.version_sets.specs.VersionSets.{HasSomeVersion, IsIn};
 ghost use Rattle.version_sets.specs.Comparisons.{TellsLeast};
 ghost use Rattle.tool_ranges.specs.declared.meaning.Meaning.{Meaning as SomeMeaning};
-ghost use Rattle.tool_ranges.specs.Meanings.{MeansAs, dialect_of};
+ghost use Rattle.tool_ranges.specs.Meanings.{MeansAs};
 ghost use Rattle.semver_parser_c.specs.Numbers as number;
 ghost use Rattle.semver_parser_c.specs.Dialects.{IsNamed};
 ghost use Rattle.semver_parser_c.specs.Errors.{IsAccepted, IsOneOf, RefusesRange};
@@ -52,10 +52,10 @@ pub fn read(
 
 /// The set of the versions that a range text means, or its error.
 fn read_as(alloc: Global, meaning: Meaning, range: &[u8]) -> Result<VersionSet, TextError>
-    ensures accepted { IfOk result (λ set. IsReadable (dialect_of meaning) range.now) }
+    ensures accepted { IfOk result (λ set. IsReadable meaning.dialect range.now) }
     ensures meaning { IfOk result (λ set. MeansAs meaning range.now set) }
     ensures printable { IfOk result IsPrintable }
-    ensures error { IfErr result (λ error. HasError (dialect_of meaning) range.now error) }
+    ensures error { IfErr result (λ error. HasError meaning.dialect range.now error) }
 {
     let Ok(text) = std::str::from_utf8(range) else {
         return Err(TextError::NotUtf8);
@@ -104,9 +104,9 @@ pub fn sets_of(
 /// The set of the versions that a range text means, none where memory ran out, or the number of why
 /// the text is refused.
 fn unless_refused(alloc: Global, meaning: Meaning, range: &[u8]) -> Result<Option<VersionSet>, i32>
-    ensures accepted { IfOk result (λ set. IsReadable (dialect_of meaning) range.now) }
+    ensures accepted { IfOk result (λ set. IsReadable meaning.dialect range.now) }
     ensures meaning { IfOk result (λ set. IfSome set (MeansAs meaning range.now)) }
-    ensures refused { IfErr result (λ n. IsTold (dialect_of meaning) range.now n) }
+    ensures refused { IfErr result (λ n. IsTold meaning.dialect range.now n) }
     ensures no_memory { IfErr result (λ n. n ≢ number.range_out_of_memory) }
 {
     match read_as(alloc, meaning, range) {

@@ -3,22 +3,27 @@ use Rattle.std.specs.Prelude.{ℤ, pos, ◌≡◌, ◌⊎◌, Bool, IsUtf8, if�
 use Rattle.semver_parser.specs.Texts.{Text}
 use Rattle.semver_parser.specs.Versions.{VersionValue}
 use Rattle.semver_parser.specs.ToolVersions.{IsVersionTextIn, SpellsIn}
-use Rattle.semver_parser.specs.declared.Compat.TheVariants as mode
 use Rattle.semver_parser.specs.declared.RangeError.{RangeError}
 use Rattle.semver_parser.specs.declared.RangeError.TheVariants.{NotARange, NumberTooLarge}
 use Rattle.semver_parser.specs.declared.RangeError.TheVariants.{OutOfMemory}
-use Rattle.version_sets.specs.declared.rules.PreReleases.TheVariants.{Stated}
-use Rattle.tool_ranges.specs.Meanings.{meant_as, dialect_of}
+use Rattle.version_sets.specs.declared.rules.PreReleases.TheVariants.{Default}
+use Rattle.tool_ranges.specs.Meanings.{meant_as}
 use Rattle.tool_ranges.specs.Dialects.{IsTextAs, IsTooLargeAs, SpellsAs, TreeOf, grammar_of}
+use Rattle.tool_ranges.specs.declared.dialect.Dialect.{Dialect}
+use Rattle.tool_ranges.specs.declared.dialect.Dialect.TheVariants.{Cargo, Npm, CrateCargo}
+use Rattle.tool_ranges.specs.declared.dialect.Dialect.TheVariants.{CrateNpm}
 use Rattle.tool_ranges.specs.declared.meaning.Meaning.{Meaning}
-use Rattle.tool_ranges.specs.declared.meaning.Meaning.TheVariants.{Cargo, Npm, Crate}
 
--- the dialects by their numbers, each with its default rule for pre-releases
+-- a dialect with the default rule for pre-releases
+abbrev pub by_default : Dialect → Meaning
+by_default dialect = record { dialect = dialect; pre_releases = Default }
+
+-- the dialects by their numbers
 abbrev pub IsNamed : Meaning → ℤ → Type 0
-IsNamed meaning n = ((n ≡ pos 0) × (meaning ≡ Cargo))
-    ⊎ (((n ≡ pos 1) × (meaning ≡ Npm))
-    ⊎ (((n ≡ pos 2) × (meaning ≡ Crate mode.Cargo Stated))
-    ⊎ ((n ≡ pos 3) × (meaning ≡ Crate mode.Npm Stated))))
+IsNamed meaning n = ((n ≡ pos 0) × (meaning ≡ by_default Cargo))
+    ⊎ (((n ≡ pos 1) × (meaning ≡ by_default Npm))
+    ⊎ (((n ≡ pos 2) × (meaning ≡ by_default CrateCargo))
+    ⊎ ((n ≡ pos 3) × (meaning ≡ by_default CrateNpm))))
 
 abbrev pub IsDialect : ℤ → Type 0
 IsDialect n = (meaning : Meaning) × IsNamed meaning n
@@ -63,18 +68,18 @@ Decides P This That = ((¬ P) × This) ⊎ (P × That)
 -- each tree of the range says the same of each version that the text spells, and so does the number
 abbrev pub IsMeant : Meaning → Text → Text → ℤ → Type 0
 IsMeant m range version n = (met : Bool) × (n ≡ (if met then meets else does_not_meet))
-    × ((tree : TreeOf (dialect_of m)) (v : VersionValue) → SpellsAs (dialect_of m) tree range
-    → SpellsIn (grammar_of (dialect_of m)) v version → meant_as m tree v ≡ met)
+    × ((tree : TreeOf m.dialect) (v : VersionValue) → SpellsAs m.dialect tree range
+    → SpellsIn (grammar_of m.dialect) v version → meant_as m tree v ≡ met)
 
 -- the range is read first, and the version only then
 abbrev pub IsAnswerOfRange : Meaning → Text → (ℤ → Type 0) → ℤ → Type 0
 IsAnswerOfRange m range IsAnswerOfVersion n =
     Decides (IsUtf8 range) (n ≡ range_not_utf8)
-    (Decides (IsTextAs (dialect_of m) range) (n ≡ not_a_range)
-    (Decides (¬ (IsTooLargeAs (dialect_of m) range)) (n ≡ number_too_large)
+    (Decides (IsTextAs m.dialect range) (n ≡ not_a_range)
+    (Decides (¬ (IsTooLargeAs m.dialect range)) (n ≡ number_too_large)
     (IsAnswerOfVersion n)))
 
 abbrev pub IsAnswer : Meaning → Text → Text → ℤ → Type 0
 IsAnswer m range version n = IsAnswerOfRange m range
-    (λ n. Decides (IsVersionTextIn (grammar_of (dialect_of m)) version) (n ≡ not_a_version)
+    (λ n. Decides (IsVersionTextIn (grammar_of m.dialect) version) (n ≡ not_a_version)
     (IsMeant m range version n)) n

@@ -18,11 +18,12 @@ ghost use Rattle.std.specs.Prelude.{◌≡◌, ◌≢◌, MatchOption};
 ghost use Rattle.semver_parser.specs.declared.RangeError.TheVariants.{OutOfMemory};
 ghost use Rattle.tool_ranges.specs.declared.meaning.Meaning.{Meaning as SomeMeaning};
 ghost use Rattle.semver_parser_wasm.specs.Answers.{Decides, IsAnswer, IsDialect, IsNamed};
-ghost use Rattle.semver_parser_wasm.specs.Answers.{error_number, no_such_dialect};
+ghost use Rattle.semver_parser_wasm.specs.Answers.{by_default, error_number, no_such_dialect};
 
 pub mod laws;
 
-use semver_parser::{Compat, RangeError, laws as of_versions, version};
+use semver_parser::{RangeError, laws as of_versions, version};
+use tool_ranges::dialect::Dialect;
 use tool_ranges::meaning::{self, Meaning};
 use version_sets::PreReleases;
 
@@ -71,11 +72,21 @@ fn meaning_of(dialect: i32) -> Option<Meaning>
         × ((other : SomeMeaning) → IsNamed other dialect → m ≡ other)) }
 {
     match dialect {
-        0 => Some(Meaning::Cargo),
-        1 => Some(Meaning::Npm),
-        2 => Some(Meaning::Crate(Compat::Cargo, PreReleases::Stated)),
-        3 => Some(Meaning::Crate(Compat::Npm, PreReleases::Stated)),
+        0 => Some(by_default(Dialect::Cargo)),
+        1 => Some(by_default(Dialect::Npm)),
+        2 => Some(by_default(Dialect::CrateCargo)),
+        3 => Some(by_default(Dialect::CrateNpm)),
         _ => None,
+    }
+}
+
+/// A dialect with the default rule for pre-releases.
+fn by_default(dialect: Dialect) -> Meaning
+    ensures { result ≡ by_default dialect }
+{
+    Meaning {
+        dialect,
+        pre_releases: PreReleases::Default,
     }
 }
 
@@ -87,7 +98,7 @@ fn answer(meaning: Meaning, range: &[u8], version: &[u8]) -> i32
     let Ok(range) = std::str::from_utf8(range) else {
         return RANGE_NOT_UTF8;
     };
-    match version::outline_in(version, meaning.dialect().grammar()) {
+    match version::outline_in(version, meaning.dialect.grammar()) {
         Some(outline) => match meaning::meets(meaning, range, &outline) {
             Ok(true) => MEETS,
             Ok(false) => DOES_NOT_MEET,

@@ -1,12 +1,12 @@
-//! The dialects that range texts and version texts are read by.
+//! The grammars that range texts and version texts are read by.
 
-/// A dialect: who reads a text so.
+/// A grammar of version texts and range texts.
 #[derive(Clone, Copy, PartialEq, Eq)]
 pub enum Grammar {
-    /// The crate `semver-parser`.
+    /// That of the crate `semver-parser`.
     Crate,
-    /// Cargo. Its versions are those of SemVer 2.0.0.
+    /// Cargo's. Its versions are those of SemVer 2.0.0.
     Cargo,
-    /// npm, as node-semver 7 reads without options.
+    /// npm's, as node-semver 7 reads without options.
     Npm,
 }

@@ -13,6 +13,7 @@ use semver_parser::version::Version;
 use semver_parser::{Compat, RangeSet, version};
 use std::alloc::Global;
 use tool_ranges::cargo;
+use tool_ranges::dialect::Dialect;
 use tool_ranges::meaning::{self, Meaning};
 use version_sets::VersionSet;
 
@@ -82,7 +83,7 @@ pub extern "C" fn speed_meets(range: &[u8], version: &[u8]) -> u64
     requires { IsUtf8 range.now }
 {
     let range = unsafe { std::str::from_utf8_unchecked(range) };
-    meets_as(Meaning::Cargo, range, version)
+    meets_as(Dialect::Cargo, range, version)
 }
 
 /// The same as npm reads both.
@@ -91,14 +92,18 @@ pub extern "C" fn speed_meets_npm(range: &[u8], version: &[u8]) -> u64
     requires { IsUtf8 range.now }
 {
     let range = unsafe { std::str::from_utf8_unchecked(range) };
-    meets_as(Meaning::Npm, range, version)
+    meets_as(Dialect::Npm, range, version)
 }
 
 /// What a range text says of the version of a text.
 #[inline(always)]
-fn meets_as(meaning: Meaning, range: &str, version: &[u8]) -> u64 {
-    let Some(outline) = version::outline_in(version, meaning.dialect().grammar()) else {
+fn meets_as(dialect: Dialect, range: &str, version: &[u8]) -> u64 {
+    let Some(outline) = version::outline_in(version, dialect.grammar()) else {
         return u64::MAX;
+    };
+    let meaning = Meaning {
+        dialect,
+        pre_releases: PreReleases::Default,
     };
     match meaning::meets(meaning, range, &outline) {
         Ok(met) => u64::from(met),
@@ -159,7 +164,7 @@ pub extern "C" fn speed_within(alloc: Global, text: &[u8], times: u64) -> u64
 
 /// The set of the versions that the text means in Cargo mode, as stated.
 fn set_of(alloc: Global, text: &str) -> Option<VersionSet> {
-    VersionSet::of_text(alloc, text, Compat::Cargo, PreReleases::Stated).ok()
+    VersionSet::of_text(alloc, text, Compat::Cargo, PreReleases::Default).ok()
 }
 
 /// Reads the versions, and filters them by each of the ranges in Cargo mode: how many are kept in

@@ -12,9 +12,8 @@ use Rattle.semver_ranges.specs.RewritingTable.{fits}
 use Rattle.semver_ranges.specs.Steps.Reading.{read}
 use Rattle.semver_ranges.proofs.ReadingComplete.{tree_read}
 use Rattle.semver_ranges.proofs.ReadingSound.{read_sound}
-use Rattle.tool_ranges.specs.declared.dialect.Dialect.TheVariants as dialect
 use Rattle.tool_ranges.specs.declared.tally.Terms.TheVariants.{Crate}
-use Rattle.tool_ranges.specs.Dialects.{RefusesAs}
+use Rattle.semver_ranges.specs.RangeTexts.{RefusesExactly}
 use Rattle.tool_ranges.specs.Steps.Asking.{Refuses}
 use Rattle.std.proofs.lemmas.Grind.{common_steps}
 
@@ -30,7 +29,7 @@ module _ (compat : Compat) (t : Text) where
   not_large tree e fit other h large = both_ways _ large (sym (ap (fits compat) (one_read t tree other e h)) ∙ fit)
 
   pub answered : {A : Type 0} (x : A) (tree : SetTree) → read grammar.Crate t ≡ Some tree → fits compat tree ≡ true
-      → RefusesAs (dialect.Crate compat) t (Ok x)
+      → RefusesExactly compat t (Ok x)
   answered x tree e fit = record {
     accepted = (tree, read_sound grammar.Crate t tree e, fit);
     not_a_range = (λ wrong. cc, λ none. absurd (none (tree, read_sound grammar.Crate t tree e)));
@@ -38,7 +37,7 @@ module _ (compat : Compat) (t : Text) where
     out_of_memory = λ wrong. cc;
   }
 
-  pub refused : {A : Type 0} (e : RangeError) → Refuses (Crate compat) t e → RefusesAs {A = A} (dialect.Crate compat) t (Err e)
+  pub refused : {A : Type 0} (e : RangeError) → Refuses (Crate compat) t e → RefusesExactly {A = A} compat t (Err e)
   refused NotARange none = record {
     accepted = tt;
     not_a_range = (λ _ (tree, h). none_read t tree none h, λ _. refl);

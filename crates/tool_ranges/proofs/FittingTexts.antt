@@ -14,7 +14,7 @@ use Rattle.semver_ranges.specs.RangeTree.{Simple}
 use Rattle.semver_ranges.specs.Partials.{stated, fits_u64}
 use Rattle.semver_ranges.specs.RewritingTable.{simple_fits}
 use Rattle.tool_ranges.specs.declared.dialect.Dialect.{Dialect}
-use Rattle.tool_ranges.specs.declared.dialect.Dialect.TheVariants.{Cargo, Npm, Crate}
+use Rattle.tool_ranges.specs.declared.dialect.Dialect.TheVariants.{Cargo, Npm, CrateCargo, CrateNpm}
 use Rattle.tool_ranges.specs.CargoMeaning.{as_read, named}
 use Rattle.tool_ranges.specs.CargoTable.{requirement_fits}
 use Rattle.tool_ranges.specs.Fronts.{BeginsFitting}
@@ -119,6 +119,9 @@ fitting_on Npm t utf8 (rest, (tree, spelled, fits)) =
         w.fits,
       ),
     )
-fitting_on (Crate mode) t utf8 (rest, (tree, spelled, fits)) =
-    let w = fitting_set fits_u64 u64_limit refl false mode (simple_fits mode) (crate_table mode) grammar.Crate tree t rest spelled fits in
+fitting_on CrateCargo t utf8 (rest, (tree, spelled, fits)) =
+    let w = fitting_set fits_u64 u64_limit refl false compat.Cargo (simple_fits compat.Cargo) (crate_table compat.Cargo) grammar.Crate tree t rest spelled fits in
+    (w.more, w.is_rest, (w.tree, w.spelled, w.fits))
+fitting_on CrateNpm t utf8 (rest, (tree, spelled, fits)) =
+    let w = fitting_set fits_u64 u64_limit refl false compat.Npm (simple_fits compat.Npm) (crate_table compat.Npm) grammar.Crate tree t rest spelled fits in
     (w.more, w.is_rest, (w.tree, w.spelled, w.fits))

@@ -15,7 +15,7 @@ use Rattle.semver_ranges.specs.declared.range_set.RangeError.{RangeError}
 use Rattle.semver_ranges.specs.declared.range_set.RangeError.TheVariants.{NotARange, NumberTooLarge, OutOfMemory}
 use Rattle.version_fronts.proofs.FrontRanges.{set_front}
 use Rattle.tool_ranges.specs.declared.dialect.Dialect.{Dialect}
-use Rattle.tool_ranges.specs.declared.dialect.Dialect.TheVariants.{Cargo, Npm, Crate}
+use Rattle.tool_ranges.specs.declared.dialect.Dialect.TheVariants.{Cargo, Npm, CrateCargo, CrateNpm}
 use Rattle.tool_ranges.specs.Fronts.{BeginsAs, IsPlace}
 use Rattle.tool_ranges.proofs.CargoFronts.{requirement_front}
 use Rattle.tool_ranges.proofs.FittingTexts.{fitting_on, still_stand}
@@ -54,8 +54,10 @@ goes_on_any Npm t utf8 (rest, (tree, spelled)) =
       w.tree,
       record { spelled = w.spelled; characters = still_stand Any t rest w.more utf8 spelled.characters w.is_rest },
     )
-goes_on_any (Crate mode) t utf8 (rest, (tree, spelled)) =
-    let w = set_front grammar.Crate tree t rest spelled in goes_by Any (Crate mode) t w.more w.is_rest (w.tree, w.spelled)
+goes_on_any CrateCargo t utf8 (rest, (tree, spelled)) =
+    let w = set_front grammar.Crate tree t rest spelled in goes_by Any CrateCargo t w.more w.is_rest (w.tree, w.spelled)
+goes_on_any CrateNpm t utf8 (rest, (tree, spelled)) =
+    let w = set_front grammar.Crate tree t rest spelled in goes_by Any CrateNpm t w.more w.is_rest (w.tree, w.spelled)
 
 pub goes_on : (wanted : Wanted) (dialect : Dialect) (t : Text) → IsUtf8 t → BeginsBy wanted dialect t → GoesOnBy wanted dialect t
 goes_on Any dialect t utf8 w = goes_on_any dialect t utf8 w
@@ -96,11 +98,13 @@ pub nothing_begins : (wanted : Wanted) (dialect : Dialect) → BeginsBy wanted d
 unfolding chars
 nothing_begins Any Cargo = grind (arith, common_steps, one_comparator)
 nothing_begins Any Npm = ([], (empty ∷ [], record { spelled = empty_range grammar.Npm; characters = refl }))
-nothing_begins Any (Crate mode) = ([], (empty ∷ [], empty_range grammar.Crate))
+nothing_begins Any CrateCargo = ([], (empty ∷ [], empty_range grammar.Crate))
+nothing_begins Any CrateNpm = ([], (empty ∷ [], empty_range grammar.Crate))
 nothing_begins Fitting Cargo = grind (arith, common_steps, one_comparator)
 nothing_begins Fitting Npm =
     ([], (empty ∷ [], record { spelled = empty_range grammar.Npm; characters = refl }, refl))
-nothing_begins Fitting (Crate mode) = ([], (empty ∷ [], empty_range grammar.Crate, refl))
+nothing_begins Fitting CrateCargo = ([], (empty ∷ [], empty_range grammar.Crate, refl))
+nothing_begins Fitting CrateNpm = ([], (empty ∷ [], empty_range grammar.Crate, refl))
 
 pub text_begins : (dialect : Dialect) (t : Text) → IsTextAs dialect t → BeginsAs dialect t
 text_begins dialect t w = search rules

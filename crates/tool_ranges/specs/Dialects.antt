@@ -13,7 +13,8 @@ use Rattle.semver_ranges.specs.RangeTexts.{Refuses}
 use Rattle.semver_ranges.specs.RewritingTable.{PlainSet, fits}
 use Rattle.semver_ranges.specs.ExactBounds.{rewritten_exactly}
 use Rattle.tool_ranges.specs.declared.dialect.Dialect.{Dialect}
-use Rattle.tool_ranges.specs.declared.dialect.Dialect.TheVariants.{Cargo, Npm, Crate}
+use Rattle.tool_ranges.specs.declared.dialect.Dialect.TheVariants.{Cargo, Npm, CrateCargo}
+use Rattle.tool_ranges.specs.declared.dialect.Dialect.TheVariants.{CrateNpm}
 use Rattle.tool_ranges.specs.CargoGrammar.{SpellsRequirement}
 use Rattle.tool_ranges.specs.CargoMeaning.{meets_requirement}
 use Rattle.tool_ranges.specs.CargoTable.{requirement_fits, rewritten_requirement}
@@ -21,30 +22,34 @@ use Rattle.tool_ranges.specs.NpmGrammar.{SpellsNpm}
 use Rattle.tool_ranges.specs.NpmMeaning.{meets_npm}
 use Rattle.tool_ranges.specs.NpmTable.{npm_fits, rewritten_npm}
 
--- the trees of a reading
+-- the trees of a dialect
 abbrev pub TreeOf : Dialect → Type 0
 TreeOf Cargo = List Simple
 TreeOf Npm = SetTree
-TreeOf (Crate mode) = SetTree
+TreeOf CrateCargo = SetTree
+TreeOf CrateNpm = SetTree
 
 -- a tree spells a text
 abbrev pub SpellsAs : (dialect : Dialect) → TreeOf dialect → Text → Type 0
 SpellsAs Cargo tree t = SpellsRequirement tree t
 SpellsAs Npm tree t = SpellsNpm tree t
-SpellsAs (Crate mode) tree t = Spells tree t
+SpellsAs CrateCargo tree t = Spells tree t
+SpellsAs CrateNpm tree t = Spells tree t
 
 -- whether the numbers that a tree states, and those of its raised bounds, are at most 2^64 - 1, or
 -- to npm 2^53 - 1
 abbrev pub fits_as : (dialect : Dialect) → TreeOf dialect → Bool
 fits_as Cargo tree = requirement_fits tree
 fits_as Npm tree = npm_fits tree
-fits_as (Crate mode) tree = fits mode tree
+fits_as CrateCargo tree = fits compat.Cargo tree
+fits_as CrateNpm tree = fits compat.Npm tree
 
 -- the plain comparators that stand for a tree, with exact bounds
 abbrev pub rewritten_as : (dialect : Dialect) → TreeOf dialect → PlainSet
 rewritten_as Cargo tree = rewritten_requirement tree
 rewritten_as Npm tree = rewritten_npm tree
-rewritten_as (Crate mode) tree = rewritten_exactly mode tree
+rewritten_as CrateCargo tree = rewritten_exactly compat.Cargo tree
+rewritten_as CrateNpm tree = rewritten_exactly compat.Npm tree
 
 -- a set of the comparators to which each tree of a text is rewritten
 abbrev pub IsRewrittenAs : Dialect → Text → PlainSet → Type 0
@@ -55,21 +60,24 @@ IsRewrittenAs dialect t set =
 abbrev pub means_release : (dialect : Dialect) → TreeOf dialect → PlainVersion → Bool
 means_release Cargo tree v = meets_requirement tree v
 means_release Npm tree v = meets_npm tree v
-means_release (Crate mode) tree v = meets_tree mode tree v
+means_release CrateCargo tree v = meets_tree compat.Cargo tree v
+means_release CrateNpm tree v = meets_tree compat.Npm tree v
 
--- the dialect of the versions that are judged by a reading
+-- the grammar of the versions that are checked by a dialect
 abbrev pub grammar_of : Dialect → Grammar
 grammar_of Cargo = grammar.Cargo
 grammar_of Npm = grammar.Npm
-grammar_of (Crate mode) = grammar.Crate
+grammar_of CrateCargo = grammar.Crate
+grammar_of CrateNpm = grammar.Crate
 
--- the mode that a set of a reading has
+-- the mode that a set of a dialect has
 abbrev pub mode_of : Dialect → Compat
 mode_of Cargo = compat.Cargo
 mode_of Npm = compat.Npm
-mode_of (Crate mode) = mode
+mode_of CrateCargo = compat.Cargo
+mode_of CrateNpm = compat.Npm
 
--- what a text is to a reading: a range text or none, one that has a set, and one with a number that
+-- what a text is in a dialect: a range text or none, one that has a set, and one with a number that
 -- is too large
 abbrev pub IsTextAs : Dialect → Text → Type 0
 IsTextAs dialect t = (tree : TreeOf dialect) × SpellsAs dialect tree t
@@ -82,6 +90,6 @@ abbrev pub IsTooLargeAs : Dialect → Text → Type 0
 IsTooLargeAs dialect t =
     (tree : TreeOf dialect) × SpellsAs dialect tree t × (fits_as dialect tree ≡ false)
 
--- what a call that reads a text by a reading refuses
+-- what a call that reads a text in a dialect refuses
 abbrev pub RefusesAs : {A : Type 0} → Dialect → Text → Result A RangeError → Type 0
 RefusesAs dialect t r = Refuses (IsTextAs dialect t) (IsTooLargeAs dialect t) (HasSetAs dialect t) r

@@ -1,4 +1,4 @@
-//! The dialects of range texts: Cargo's, npm's, and the port's in one of its modes.
+//! The dialects of range texts: Cargo's, npm's, and those of the Rust crate in its two modes.
 
 ghost use Rattle.std.specs.Prelude.{◌≡◌, [], IfOk, IsTrue};
 ghost use Rattle.semver_texts.specs.Versions.{PlainVersion};
@@ -18,31 +18,33 @@ use std::alloc::Global;
 /// A dialect of range texts. `docs/MEANING.md` compares them ("Which dialect?").
 #[derive(Clone, Copy, PartialEq, Eq, Debug)]
 pub enum Dialect {
-    /// Cargo's own: `1.2` is `>=1.2.0 <2.0.0`, and commas separate comparators.
+    /// Cargo's: `1.2` is `>=1.2.0 <2.0.0`, and commas separate comparators.
     Cargo,
-    /// npm's own: `>1.2` is `>=1.3.0`, and `v1` is a range.
+    /// npm's: `>1.2` is `>=1.3.0`, and `v1` is a range.
     Npm,
-    /// The crate's in one of its modes.
-    Crate(Compat),
+    /// That of the crate `semver-parser` in its Cargo mode: `1.2` is `>=1.2.0 <1.3.0`.
+    CrateCargo,
+    /// That of the crate `semver-parser` in its npm mode: `>1.2` is `>1.2.0`.
+    CrateNpm,
 }
 
 impl Dialect {
     // Answer: equation.
-    /// Returns the dialect of the versions that are judged by a range text of this reading: Cargo's
-    /// of Cargo's own, npm's of npm's own, and the crate's of the crate's in either mode.
+    /// Returns the grammar of the versions that are checked by a range text of this dialect: the
+    /// crate's for both of the crate's.
     pub fn grammar(self) -> Grammar
         ensures grammar { result ≡ grammar_of self }
     {
         match self {
             Dialect::Cargo => Grammar::Cargo,
             Dialect::Npm => Grammar::Npm,
-            Dialect::Crate(_) => Grammar::Crate,
+            Dialect::CrateCargo | Dialect::CrateNpm => Grammar::Crate,
         }
     }
 }
 
 // Answer: law answer_laws::ranges::one_rewrite.
-/// Rewrites a range text, by one of the readings, into plain comparators with exact bounds.
+/// Rewrites a range text of a dialect into plain comparators with exact bounds.
 ///
 /// It is [`cargo::rewrite`](crate::cargo::rewrite), [`npm::rewrite`](crate::npm::rewrite) or
 /// `RangeSet::parse_exact`: `1.2` gives `>=1.2.0 <2.0.0-0` as Cargo reads it, and
@@ -51,13 +53,13 @@ impl Dialect {
 ///
 /// # Errors
 ///
-/// `NotARange` exactly where the reading's grammar has no such text, and `NumberTooLarge` exactly
+/// `NotARange` exactly where the dialect has no such text, and `NumberTooLarge` exactly
 /// where it has, and a number that it states or a bound that is raised by one is above 2^64 - 1, or
 /// as npm reads it above 2^53 - 1. These two do not allocate; `OutOfMemory` comes only in place of
 /// a set.
 pub fn rewrite(alloc: Global, dialect: Dialect, range: &str) -> Result<RangeSet, RangeError>
-    // What the reading's grammar hasn't and what is too large is refused, exactly. The result
-    // is what each tree of the text is rewritten to.
+    // What the dialect hasn't and what is too large is refused, exactly. The result is what each
+    // tree of the text is rewritten to.
     ensures refusals { RefusesAs dialect range.now result }
     ensures as_rewritten { IfOk result (λ set. IsRewrittenAs dialect range.now (set_of set)) }
     // A release meets the answer exactly if the text means it.
@@ -74,6 +76,7 @@ pub fn rewrite(alloc: Global, dialect: Dialect, range: &str) -> Result<RangeSet,
     match dialect {
         Dialect::Cargo => cargo::rewrite(alloc, range),
         Dialect::Npm => npm::rewrite(alloc, range),
-        Dialect::Crate(compat) => RangeSet::parse_exact(alloc, range, compat),
+        Dialect::CrateCargo => RangeSet::parse_exact(alloc, range, Compat::Cargo),
+        Dialect::CrateNpm => RangeSet::parse_exact(alloc, range, Compat::Npm),
     }
 }

@@ -44,7 +44,7 @@ pub(crate) fn hint_at(dialect: Dialect, text: &str, place: usize) -> Option<Hint
     let front = text.as_bytes().get(..place)?;
     let next = text.as_bytes().get(place).copied();
     let ending = Ending::of(front);
-    if !matches!(dialect, Dialect::Crate(..)) && ending.has_leading_zero(front, next) {
+    if !matches!(dialect, Dialect::CrateCargo | Dialect::CrateNpm) && ending.has_leading_zero(front, next) {
         return Some(Hint::LeadingZero);
     }
     match (dialect, next?) {
@@ -52,8 +52,8 @@ pub(crate) fn hint_at(dialect: Dialect, text: &str, place: usize) -> Option<Hint
         (Dialect::Cargo, next) => of_cargo(front, ending, next),
         (Dialect::Npm, next) if ending.may_be_too_long(front, next) => Some(Hint::NpmLength),
         (Dialect::Npm, b',') => Some(Hint::NpmComma),
-        (Dialect::Crate(..), b',') => Some(Hint::CrateComma),
-        (Dialect::Crate(..), b'v') if may_begin(front) => Some(Hint::CrateV),
+        (Dialect::CrateCargo | Dialect::CrateNpm, b',') => Some(Hint::CrateComma),
+        (Dialect::CrateCargo | Dialect::CrateNpm, b'v') if may_begin(front) => Some(Hint::CrateV),
         _ => None,
     }
 }
@@ -82,7 +82,7 @@ pub(crate) fn limit(dialect: Dialect) -> Hint
 {
     match dialect {
         Dialect::Npm => Hint::NpmLimit,
-        Dialect::Cargo | Dialect::Crate(_) => Hint::Limit,
+        Dialect::Cargo | Dialect::CrateCargo | Dialect::CrateNpm => Hint::Limit,
     }
 }
 

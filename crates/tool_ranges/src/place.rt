@@ -6,7 +6,6 @@ ghost use Rattle.std.specs.List.{Any};
 ghost use Rattle.std.specs.Prelude.{◌≡◌, ◌≢◌, ◌<◌, ◌≤◌, ◌↔◌, ◌++◌, ℕ, IfErr, IfOk, IsTrue, map};
 ghost use Rattle.std.specs.Str.{IsCharBoundary};
 ghost use Rattle.tool_ranges.specs.Fronts.{BeginsAs, BeginsFitting, IsPlace};
-ghost use Rattle.tool_ranges.specs.Meanings.{dialect_of};
 ghost use Rattle.tool_ranges.specs.Dialects.{IsTextAs, RefusesAs};
 ghost use Rattle.tool_ranges.specs.Steps.Places.{BeginsBy, GoesOnBy, IsWanted};
 
@@ -175,16 +174,9 @@ pub(crate) fn check(dialect: Dialect, text: &str) -> Result<(), RangeError>
     ensures refusals { RefusesAs dialect text.now result }
     ensures no_memory { result ≢ Err RangeError.OutOfMemory }
 {
-    meaning::check(some_meaning(dialect), text)
-}
-
-/// A meaning by a dialect.
-fn some_meaning(dialect: Dialect) -> Meaning
-    ensures { dialect_of result ≡ dialect }
-{
-    match dialect {
-        Dialect::Cargo => Meaning::Cargo,
-        Dialect::Npm => Meaning::Npm,
-        Dialect::Crate(compat) => Meaning::Crate(compat, PreReleases::Excluded),
-    }
+    let meaning = Meaning {
+        dialect,
+        pre_releases: PreReleases::Default,
+    };
+    meaning::check(meaning, text)
 }

@@ -5,8 +5,7 @@ ghost use Rattle.std.specs.Prelude.{◌≡◌, ◌≢◌, true, Err, IfOk, Match
 ghost use Rattle.std.specs.List.{list_any};
 ghost use Rattle.semver_ranges.specs.RangeTree.{Simple as SimpleTree, SetTree, Spells};
 ghost use Rattle.semver_ranges.specs.Steps.CursorViews.{IsSimpleOf};
-ghost use Rattle.tool_ranges.specs.declared.dialect.Dialect.TheVariants as dialect;
-ghost use Rattle.tool_ranges.specs.Dialects.{RefusesAs};
+ghost use Rattle.semver_ranges.specs.RangeTexts.{RefusesExactly};
 ghost use Rattle.tool_ranges.specs.Steps.Asking.{Refuses, Says, asked_of, begun, ended, taken};
 ghost use Rattle.tool_ranges.specs.Steps.Asking.{grammar_of, lower_of, range_met};
 ghost use Rattle.tool_ranges.specs.Steps.Asking.{term_fits, term_met};
@@ -182,7 +181,7 @@ pub(crate) fn ask_crate(
     version: &Asked<'_>,
     counts: bool,
 ) -> Result<bool, RangeError>
-    ensures refusals { RefusesAs (dialect.Crate compat) range.now result }
+    ensures refusals { RefusesExactly compat range.now result }
     ensures no_memory { result ≢ Err RangeError.OutOfMemory }
     ensures meaning { IfOk result (λ met. (tree : SetTree) → Spells tree range.now
         → met ≡ list_any (range_met (Terms.Crate compat) (asked_of version.now) counts) tree) }

@@ -12,7 +12,7 @@ use Rattle.semver_parser.specs.OwnMeaning.{meets_tree}
 use Rattle.semver_parser.specs.Meeting.{meets_set}
 use Rattle.semver_parser.specs.StatedPreReleases.{meets_set_as_stated, meets_tree_as_stated}
 use Rattle.version_sets.specs.declared.rules.PreReleases.{PreReleases}
-use Rattle.version_sets.specs.declared.rules.PreReleases.TheVariants.{Excluded, Stated, Included}
+use Rattle.version_sets.specs.declared.rules.PreReleases.TheVariants.{Excluded, Default, Included}
 
 -- whether a version has no pre-release
 abbrev pub is_release : VersionValue → Bool
@@ -23,7 +23,7 @@ is_release v = is_empty v.plain.pre
 -- numbers and a pre-release
 abbrev pub meets_text_with : PreReleases → Compat → SetTree → VersionValue → Bool
 meets_text_with Excluded mode tree v = is_release v && meets_tree mode tree v.plain
-meets_text_with Stated mode tree v = meets_tree_as_stated mode tree v.plain
+meets_text_with Default mode tree v = meets_tree_as_stated mode tree v.plain
 meets_text_with Included mode tree v = meets_tree mode tree v.plain
 
 -- whether the numbers of a version fit 64 bits, as those of each `Version` and of each version text
@@ -42,5 +42,5 @@ is_kept = meant_with Excluded
 -- whether a version meets comparators by a rule for pre-releases
 abbrev pub meets_with : PreReleases → PlainSet → VersionValue → Bool
 meets_with Excluded set v = is_release v && meets_set v.plain set
-meets_with Stated set v = meets_set_as_stated v.plain set
+meets_with Default set v = meets_set_as_stated v.plain set
 meets_with Included set v = meets_set v.plain set

@@ -119,7 +119,7 @@ fn push_pre_releases<'a>(
 {
     match rule {
         PreReleases::Excluded => Ok(()),
-        PreReleases::Stated => push_stated(&range.comparator_set, spans),
+        PreReleases::Default => push_stated(&range.comparator_set, spans),
         PreReleases::Included => met_pre_releases(&range.comparator_set).push_to(spans),
     }
 }

@@ -19,7 +19,7 @@ impl VersionSet {
     // Answer: law answer_laws::sets::one_of_text.
     /// The versions that a range text means by a rule for pre-releases (docs/MEANING.md).
     ///
-    /// `^1.2.3-beta || 3.x` in Cargo mode and by `PreReleases::Stated` gives a set with 1.2.3-rc,
+    /// `^1.2.3-beta || 3.x` in Cargo mode and by `PreReleases::Default` gives a set with 1.2.3-rc,
     /// 1.9.0 and 3.0.0, and without 1.3.0-rc and 2.0.0. No version is above the last release, so
     /// `>18446744073709551615.18446744073709551615.18446744073709551615` means nothing, and its
     /// set is empty.
@@ -79,6 +79,6 @@ fn read_set(
     laws::stated_pre_releases_mean_the_text();
     match pre_releases {
         PreReleases::Excluded => RangeSet::parse(alloc, range, compat),
-        PreReleases::Stated | PreReleases::Included => RangeSet::parse_exact(alloc, range, compat),
+        PreReleases::Default | PreReleases::Included => RangeSet::parse_exact(alloc, range, compat),
     }
 }

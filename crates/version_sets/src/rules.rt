@@ -10,7 +10,7 @@ pub enum PreReleases {
     /// precedence, and of which a term of that range states the three numbers and a pre-release.
     /// 1.2.3-rc is meant by `^1.2.3-beta`, and neither by `>=1.2.0` nor by
     /// `^1.2.0 || =1.2.3-beta`.
-    Stated,
+    Default,
     /// Each that meets a range by precedence: 1.3.0-rc is meant by `^1.2.0`.
     Included,
 }

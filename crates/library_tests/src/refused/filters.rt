@@ -40,7 +40,7 @@ pub fn as_stated(alloc: Global) -> Result<Filter, Ending> {
         alloc,
         ">=1.2.0-rc <1.10.0",
         Compat::Cargo,
-        PreReleases::Stated,
+        PreReleases::Default,
     ) {
         Ok(filter) => Ok(filter),
         Err(RangeError::OutOfMemory) => Err(Ending::Refused),

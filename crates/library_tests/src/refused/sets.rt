@@ -3,14 +3,27 @@
 use super::Ending;
 use semver_parser::{Compat, RangeError, RangeSet, version};
 use std::alloc::{AllocError, Global};
+use tool_ranges::dialect::Dialect;
 use tool_ranges::meaning::{self, Meaning};
 use tool_ranges::{cargo, npm};
 use version_sets::{PreReleases, SetRanges, VersionSet};
 
+/// Cargo's dialect, with each pre-release within the bounds.
+const CARGO: Meaning = Meaning {
+    dialect: Dialect::Cargo,
+    pre_releases: PreReleases::Included,
+};
+
+/// So npm's.
+const NPM: Meaning = Meaning {
+    dialect: Dialect::Npm,
+    pre_releases: PreReleases::Included,
+};
+
 /// The sets of `>=1.2.0-b.c` as stated and of `<2.0.0` with all pre-releases, which the calls below
 /// are given.
 pub fn of_texts(alloc: Global) -> Result<(VersionSet, VersionSet), Ending> {
-    let first = set_of(alloc, ">=1.2.0-b.c", PreReleases::Stated)?;
+    let first = set_of(alloc, ">=1.2.0-b.c", PreReleases::Default)?;
     let second = set_of(alloc, "<2.0.0", PreReleases::Included)?;
     Ok((first, second))
 }
@@ -106,13 +119,13 @@ pub fn of_refused_npm_ranges(alloc: Global) -> Ending {
 /// The versions within the bounds of a requirement and of a range text of npm: both begin with a
 /// pre-release.
 pub fn within_bounds(alloc: Global) -> Ending {
-    let requirement = match meaning::read(alloc, Meaning::CargoAll, "^1.2, <1.5.0-b") {
+    let requirement = match meaning::read(alloc, CARGO, "^1.2, <1.5.0-b") {
         Ok(set) => set,
         Err(RangeError::OutOfMemory) => return Ending::Refused,
         Err(_) => return Ending::Wrong,
     };
     let is_begun = has_stated(&requirement, "1.2.0-a") && !has_stated(&requirement, "1.5.0-c");
-    match meaning::read(alloc, Meaning::NpmAll, "1.2.3 - 2 || ~3.1") {
+    match meaning::read(alloc, NPM, "1.2.3 - 2 || ~3.1") {
         Ok(set) => Ending::full_if(
             is_begun && has_stated(&set, "1.2.3-a") && !has_stated(&set, "3.1.0-a"),
         ),
@@ -123,10 +136,10 @@ pub fn within_bounds(alloc: Global) -> Ending {
 
 /// Those that are refused are refused without a request.
 pub fn of_refused_bounds(alloc: Global) -> Ending {
-    let not_a_range = meaning::read(alloc, Meaning::CargoAll, "1.2.3-a, >=1 <2");
-    let no_npm_range = meaning::read(alloc, Meaning::NpmAll, "1.2 || >=1, <2");
-    let bound = meaning::read(alloc, Meaning::CargoAll, "1.2, >1.18446744073709551615");
-    let too_large = meaning::read(alloc, Meaning::NpmAll, "1 - 1.18446744073709551615");
+    let not_a_range = meaning::read(alloc, CARGO, "1.2.3-a, >=1 <2");
+    let no_npm_range = meaning::read(alloc, NPM, "1.2 || >=1, <2");
+    let bound = meaning::read(alloc, CARGO, "1.2, >1.18446744073709551615");
+    let too_large = meaning::read(alloc, NPM, "1 - 1.18446744073709551615");
     Ending::full_if(
         matches!(not_a_range, Err(RangeError::NotARange))
             && matches!(no_npm_range, Err(RangeError::NotARange))

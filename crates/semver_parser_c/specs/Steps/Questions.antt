@@ -7,7 +7,7 @@ use Rattle.semver_parser.specs.ToolVersions.{IsVersionTextIn, SpellsIn}
 use Rattle.release_filter.specs.Filters.{FilterValue, passes}
 use Rattle.tool_ranges.specs.declared.meaning.Meaning.{Meaning}
 use Rattle.tool_ranges.specs.Dialects.{TreeOf, SpellsAs, grammar_of}
-use Rattle.tool_ranges.specs.Meanings.{dialect_of, meant_as}
+use Rattle.tool_ranges.specs.Meanings.{meant_as}
 use Rattle.semver_parser_c.specs.declared.meeting.Question.{Question}
 use Rattle.semver_parser_c.specs.declared.meeting.Question.TheVariants as question
 use Rattle.semver_parser_c.specs.Errors.{RefusesVersion}
@@ -15,9 +15,9 @@ use Rattle.semver_parser_c.specs.Steps.TextErrors.{IsReadable}
 
 -- what passes the filter is what the range text means, of versions in the dialect of its reading
 pub record IsFilterOf (filter : FilterValue) (m : Meaning) (range : Text) : Type 0 where
-  pub grammar : filter.grammar ≡ grammar_of (dialect_of m)
-  pub meaning : (tree : TreeOf (dialect_of m)) (v : VersionValue) (version : Text)
-      → SpellsAs (dialect_of m) tree range → SpellsIn (grammar_of (dialect_of m)) v version
+  pub grammar : filter.grammar ≡ grammar_of m.dialect
+  pub meaning : (tree : TreeOf m.dialect) (v : VersionValue) (version : Text)
+      → SpellsAs m.dialect tree range → SpellsIn (grammar_of m.dialect) v version
       → passes filter v ≡ meant_as m tree v
 
 -- the question is that of the range text by the meaning: a filter of it, or the text itself, which
@@ -25,7 +25,7 @@ pub record IsFilterOf (filter : FilterValue) (m : Meaning) (range : Text) : Type
 abbrev pub IsQuestionOf : Question → Meaning → Text → Type 0
 IsQuestionOf (question.Filter filter) m range = IsFilterOf filter m range
 IsQuestionOf (question.Text meaning text) m range =
-    (meaning ≡ m) × (text.now ≡ range) × IsReadable (dialect_of m) range
+    (meaning ≡ m) × (text.now ≡ range) × IsReadable m.dialect range
 
 -- it is that of some range text
 abbrev pub IsQuestion : Question → Type 0
@@ -34,8 +34,8 @@ IsQuestion q = (m : Meaning) × (range : Text) × IsQuestionOf q m range
 -- whether the version that a text spells is one that the range means, or the error of a text that
 -- spells none
 abbrev pub IsVerdict : Meaning → Text → Text → Result Bool ℤ → Type 0
-IsVerdict m range version (Ok met) = IsVersionTextIn (grammar_of (dialect_of m)) version
-    × ((tree : TreeOf (dialect_of m)) (v : VersionValue) → SpellsAs (dialect_of m) tree range
-    → SpellsIn (grammar_of (dialect_of m)) v version → met ≡ meant_as m tree v)
-IsVerdict m range version (Err n) = RefusesVersion (grammar_of (dialect_of m)) version n
-    × ¬ (IsVersionTextIn (grammar_of (dialect_of m)) version)
+IsVerdict m range version (Ok met) = IsVersionTextIn (grammar_of m.dialect) version
+    × ((tree : TreeOf m.dialect) (v : VersionValue) → SpellsAs m.dialect tree range
+    → SpellsIn (grammar_of m.dialect) v version → met ≡ meant_as m tree v)
+IsVerdict m range version (Err n) = RefusesVersion (grammar_of m.dialect) version n
+    × ¬ (IsVersionTextIn (grammar_of m.dialect) version)

@@ -82,7 +82,7 @@ fn meant(alloc: Global, rewritten: RangeSet) -> Result<VersionSet, AllocError>
     if some_has_no_other(&rewritten.ranges) {
         return VersionSet::of_set(alloc, &rewritten, PreReleases::Excluded);
     }
-    VersionSet::of_set(alloc, &others_in(rewritten), PreReleases::Stated)
+    VersionSet::of_set(alloc, &others_in(rewritten), PreReleases::Default)
 }
 
 /// The same set without its comparators `>=0.0.0`.

@@ -10,11 +10,11 @@ use Rattle.semver_parser.specs.Meeting.{has_pre_release, meets_range}
 use Rattle.semver_parser.specs.StatedPreReleases.{meets_range_as_stated}
 use Rattle.version_sets.specs.SetRanges.{is_lowest_pre}
 use Rattle.version_sets.specs.declared.rules.PreReleases.{PreReleases}
-use Rattle.version_sets.specs.declared.rules.PreReleases.TheVariants.{Excluded, Stated, Included}
+use Rattle.version_sets.specs.declared.rules.PreReleases.TheVariants.{Excluded, Default, Included}
 
 abbrev pub meets_range_with : PreReleases → PlainVersion → PlainRange → Bool
 meets_range_with Excluded v r = is_empty v.pre && meets_range v r
-meets_range_with Stated v r = meets_range_as_stated v r
+meets_range_with Default v r = meets_range_as_stated v r
 meets_range_with Included v r = meets_range v r
 
 -- whether a comparator has a pre-release, and isn't below all of its numbers

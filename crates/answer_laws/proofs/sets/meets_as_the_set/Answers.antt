@@ -1,6 +1,5 @@
 use Rattle.std.proofs.Common.{◌≡◌, Bool, Result, Ok, sym, ◌∙◌}
 use Rattle.semver_parser.specs.Outlines.{version_of}
-use Rattle.tool_ranges.specs.Meanings.{dialect_of}
 use Rattle.tool_ranges.specs.Dialects.{HasSetAs, IsTextAs, IsTooLargeAs}
 use Rattle.tool_ranges.proofs.ReadSets.{same_refusal}
 use Rattle.tool_ranges.proofs.ReadingLaws.{answered_too}
@@ -15,7 +14,7 @@ inner e = cc
 
 pub returns : goal.returns
 returns c =
-    let dialect = dialect_of c.args.meaning in
+    let dialect = c.args.meaning.dialect in
     let range = c.args.range.now in
     let w = version_of c.args.version.now in
     let r = c.meets.ensures in

@@ -1,6 +1,7 @@
 use Rattle.std.proofs.Common.{◌≡◌, ◌≢◌, ◌∙◌, ap, refl, rules}
-use Rattle.tool_ranges.specs.Meanings.{meant_as, dialect_of}
+use Rattle.tool_ranges.specs.Meanings.{meant_as}
 use Rattle.tool_ranges.specs.Dialects.{grammar_of}
+use Rattle.tool_ranges.specs.declared.meaning.Meaning.{Meaning}
 use Rattle.semver_parser.specs.Outlines.{version_of}
 use Rattle.semver_parser_c.specs.Numbers.{range_out_of_memory}
 use Rattle.semver_parser_c.specs.Steps.TextErrors.{IsMeaningOf}
@@ -20,7 +21,7 @@ returns-in-Err-clause-refused c =
 
 pub returns-in-Ok-check-clause-refused : goal.returns-in-Ok-check-clause-refused
 returns-in-Ok-check-clause-refused c =
-    let same = c.grammar-grammar.ensures.grammar ∙ ap grammar_of c.dialect.ensures in
+    let same = c.grammar-grammar.ensures.grammar in
     search (
       rules,
       version_refused c.in-Ok.meaning _ _ c.args.range.now c.args.version.now _ c.in-Ok.ensures.named c.in-Ok-check.ensures.accepted
@@ -42,15 +43,15 @@ returns-in-Ok-meets-clause-stands c = stands c.in-Ok.meaning _ _ _ (search rules
 pub returns-in-Ok-meets-clause-read : goal.returns-in-Ok-meets-clause-read
 returns-in-Ok-meets-clause-read c = λ d is.
     let only : IsMeaningOf c.in-Ok.meaning c.args.dialect c.args.pre_releases = search rules in
-    let same = c.grammar-grammar.ensures.grammar ∙ ap grammar_of c.dialect.ensures
-    ∙ of_dialect (dialect_of c.in-Ok.meaning) _ d only.named.0 is in
+    let same = c.grammar-grammar.ensures.grammar
+    ∙ of_dialect c.in-Ok.meaning.dialect _ d only.named.0 is in
     (version_of c.in-Some.outline, rw same at c.in-Some.ensures.version)
 
 pub returns-in-Ok-meets-clause-meaning : goal.returns-in-Ok-meets-clause-meaning
 returns-in-Ok-meets-clause-meaning c = λ m named tree v spells version_spells.
     let only : IsMeaningOf c.in-Ok.meaning c.args.dialect c.args.pre_releases = search rules in
     let own : c.in-Ok.meaning ≡ m = only.only m named in
-    let same = c.grammar-grammar.ensures.grammar ∙ ap grammar_of c.dialect.ensures ∙ ap (λ k. grammar_of (dialect_of k)) own in
+    let same = c.grammar-grammar.ensures.grammar ∙ ap (λ (k : Meaning). grammar_of k.dialect) own in
     let one = c.one_version_in.ensures.same_version _ _ _ _ (rw same at c.in-Some.ensures.version) version_spells in
     (rw own at c.in-Ok-meets.ensures.meaning) tree spells ∙ ap (meant_as m tree) one
 

@@ -2,7 +2,6 @@ use Rattle.std.proofs.Common.{◌≡◌, ◌≢◌, ◌∙◌, ◌++◌, ℤ, Li
 use Rattle.semver_parser_c.specs.Numbers as number
 use Rattle.semver_parser.specs.Texts.{Text}
 use Rattle.semver_parser.specs.declared.version.Grammar.{Grammar}
-use Rattle.tool_ranges.specs.Meanings.{dialect_of}
 use Rattle.tool_ranges.specs.Dialects.{grammar_of}
 use Rattle.semver_parser_c.specs.Dialects.{IsGrammar}
 use Rattle.semver_parser_c.specs.Errors.{IsOneOf, RangeIsRead, named_errors, version_errors}
@@ -20,9 +19,9 @@ left : (n : ℤ) → IsOneOf beside n → n ≢ number.ok → n ≢ number.versi
     → IsOneOf text_errors n
 left n one wrong bytes found = grind arith
 
--- the dialect of the reading by which a range is read
+-- the grammar of the dialect by which a range is read
 its_dialect : {dialect rule n : ℤ} {text : Text} → RangeIsRead dialect rule text n → (d : Grammar) × IsGrammar d dialect
-its_dialect (m, named, _) = (grammar_of (dialect_of m), (dialect_of m, named.0, refl))
+its_dialect (m, named, _) = (grammar_of m.dialect, (m.dialect, named.0, refl))
 
 pub returns : goal.returns
 returns c =
@@ -45,7 +44,7 @@ returns c =
     (λ _. by_ok n.result m.result
     (λ ok ok'.
     let ((meaning, named, read), version) = p.both_read ok in
-    let (v, spelled) = version (grammar_of (dialect_of meaning)) (dialect_of meaning, named.0, refl) in
+    let (v, spelled) = version (grammar_of meaning.dialect) (meaning.dialect, named.0, refl) in
     p.meaning ok meaning named read.tree v read.spells spelled ∙ sym (q.meaning ok' meaning named read.tree v read.spells spelled))
     (λ no no'. p.unchanged no ∙ c.requires ∙ sym (q.unchanged no'))) in
     rw (as_it_is, as_it_is') (record {
@@ -56,8 +55,8 @@ returns c =
           left _ b
           (λ ok.
           let ((meaning, named, is), version) = q.both_read ok in
-          let d : IsGrammar (grammar_of (dialect_of meaning)) _ = (dialect_of meaning, named.0, refl) in
-          let (v, spelled) = version (grammar_of (dialect_of meaning)) d in
+          let d : IsGrammar (grammar_of meaning.dialect) _ = (meaning.dialect, named.0, refl) in
+          let (v, spelled) = version (grammar_of meaning.dialect) d in
           let read = read_of _ _ _ n.result (meaning, named, is.utf8, (is.tree, is.spells, is.fit)) found in
           let bytes = (p.version_not_utf8 read).1 (λ utf8. let ok = p.accepted read _ d v utf8 spelled in cc (e, ok)) in
           cc (e, bytes))

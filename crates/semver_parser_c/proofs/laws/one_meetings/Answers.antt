@@ -5,7 +5,6 @@ use Rattle.std.proofs.lemmas.Option.{slice_get_cases}
 use Rattle.semver_parser.specs.Texts.{Text}
 use Rattle.tool_ranges.specs.declared.meaning.Meaning.{Meaning}
 use Rattle.tool_ranges.specs.Dialects.{TreeOf, SpellsAs, grammar_of}
-use Rattle.tool_ranges.specs.Meanings.{dialect_of}
 use Rattle.semver_parser_c.specs.Numbers as number
 use Rattle.semver_parser_c.specs.Errors.{IsOneOf, named_errors, version_errors}
 use Rattle.semver_parser_c.specs.Meetings.{IsAnswer, IsMeeting}
@@ -34,7 +33,7 @@ meeting_or b one = grind arith
 no_meeting : (b : ℕ) → IsMeeting b → pos b ≢ number.version_not_utf8
 no_meeting b meeting = grind arith
 
-module _ {m : Meaning} {range version : Text} (tree : TreeOf (dialect_of m)) (spells : SpellsAs (dialect_of m) tree range) where
+module _ {m : Meaning} {range version : Text} (tree : TreeOf m.dialect) (spells : SpellsAs m.dialect tree range) where
   byte_once : {b b' : ℕ} → IsAnswer m range version b → IsAnswer m range version b' → IsMeeting b ⊎ (pos b ≡ number.version_not_utf8)
       → pos b ≡ pos b'
   byte_once p q (inl meeting) =
@@ -49,7 +48,7 @@ module _ {m : Meaning} {range version : Text} (tree : TreeOf (dialect_of m)) (sp
       are_one (exact ++ text_errors) exact refl refl (sorted_byte _ p.one) (sorted_byte _ q.one) (λ e. byte_once p q (meeting_or _ e))
       (λ e. byte_once q p (meeting_or _ e))
       (λ _ _.
-      version_once (grammar_of (dialect_of m)) version p.not_utf8 q.not_utf8
+      version_once (grammar_of m.dialect) version p.not_utf8 q.not_utf8
       (λ utf8 is. byte_once p q (inl (p.accepted is.0 utf8 is.1)))
       (of_error _ version p.refused) (of_error _ version q.refused))
       (λ _ _. tt)

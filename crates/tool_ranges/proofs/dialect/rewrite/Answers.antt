@@ -23,10 +23,21 @@ returns-in-Npm c =
       reads_back = e.reads_back;
     })
 
-pub returns-in-Crate : goal.returns-in-Crate
-returns-in-Crate c =
+pub returns-in-CrateCargo : goal.returns-in-CrateCargo
+returns-in-CrateCargo c =
     let e = c.parse_exact.ensures in
-    rw c.in-Crate.is (record {
+    rw c.in-CrateCargo.is (record {
+      refusals = e.refusals;
+      as_rewritten = e.as_rewritten;
+      releases = search rules;
+      printable = e.printable;
+      reads_back = e.reads_back;
+    })
+
+pub returns-in-CrateNpm : goal.returns-in-CrateNpm
+returns-in-CrateNpm c =
+    let e = c.parse_exact-in-CrateNpm.ensures in
+    rw c.in-CrateNpm.is (record {
       refusals = e.refusals;
       as_rewritten = e.as_rewritten;
       releases = search rules;

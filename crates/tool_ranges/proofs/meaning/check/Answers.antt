@@ -1,11 +1,9 @@
 use Rattle.std.proofs.Common.{rules}
-use Rattle.tool_ranges.specs.Meanings.{dialect_of}
 use Rattle.tool_ranges.proofs.ReadingLaws.{answered_too}
 use Rattle.tool_ranges.proofs.meaning.check.Goals as goal
 
 pub returns-in-Ok-clause-refusals : goal.returns-in-Ok-clause-refusals
 returns-in-Ok-clause-refusals c =
-    let dialect = dialect_of c.args.meaning in
     answered_too _ _ _ _ _
     c.in-Ok.ensures.refusals
 

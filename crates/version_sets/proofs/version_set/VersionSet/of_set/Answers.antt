@@ -12,7 +12,7 @@ use Rattle.version_sets.specs.PreReleaseRules.{is_release, meets_with}
 use Rattle.version_sets.specs.VersionSets.{has}
 use Rattle.version_sets.specs.Steps.RangeRules.{meets_range_with}
 use Rattle.version_sets.specs.declared.rules.PreReleases.{PreReleases}
-use Rattle.version_sets.specs.declared.rules.PreReleases.TheVariants.{Excluded, Stated, Included}
+use Rattle.version_sets.specs.declared.rules.PreReleases.TheVariants.{Excluded, Default, Included}
 use Rattle.version_sets.proofs.BoundLaws.{and_true}
 use Rattle.version_sets.proofs.Lists.{list_all-map, list_any-map}
 use Rattle.version_sets.proofs.SetLaws.{has-release, has-pre_release}
@@ -27,13 +27,13 @@ any_beside false p (x ∷ xs) = any_beside false p xs
 
 by_rule : (rule : PreReleases) (s : PlainSet) (v : VersionValue) → list_any (meets_range_with rule v.plain) s.ranges ≡ meets_with rule s v
 by_rule Excluded s v = any_beside (is_release v) (meets_range v.plain) s.ranges
-by_rule Stated s v = refl
+by_rule Default s v = refl
 by_rule Included s v = refl
 
 -- releases meet a range by each rule
 released : (rule : PreReleases) (v : PlainVersion) (r : PlainRange) → is_empty v.pre ≡ true → meets_range v r ≡ meets_range_with rule v r
 released Excluded v r e = sym (ap (λ b. b && meets_range v r) e)
-released Stated v r e =
+released Default v r e =
     sym (ap (λ b. meets_range v r && (b || list_any (has_pre_release_at v) r.comparators)) e ∙ and_true (meets_range v r))
 released Included v r e = refl
 
