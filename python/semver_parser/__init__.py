@@ -18,7 +18,7 @@ Texts are `str` or `bytes` in UTF-8. A text that is refused raises `VersionError
 and out of memory is `MemoryError`. Everything may be called from several threads at once, and
 nothing from a signal handler or from a forked child of a process that has several threads.
 
-The calls are those of the shared library `libsemver_parser.so.0.6`, which is loaded when the
+The calls are those of the shared library `libsemver_parser.so.0.7`, which is loaded when the
 package is imported. It is looked for at the path that the environment variable
 SEMVER_PARSER_LIBRARY has; or else beside these modules, and then where the system looks for
 libraries.
@@ -44,7 +44,7 @@ from .values import (
 )
 from .version_sets import VersionSet
 
-__version__ = "0.6.1"
+__version__ = "0.7.0"
 
 __all__ = [
     "AnyVersion",

@@ -49,20 +49,19 @@ range text in npm's syntax, as '=1.2.0 || >=1.9.0 <2.0.0', or '*' for all.
     --releases       count releases only
     --pre            count each pre-release within the bounds of a range, too;
                      as cargo and npm, '*' is every version then
-    --pre-stated     count pre-releases that a range means, and of which a term
-                     of the same range states the three numbers and a
-                     pre-release
+    --pre-stated     the default: count the pre-releases that cargo or npm
+                     matches; as crate-cargo and crate-npm, those within the
+                     bounds of which a term of the same range states the three
+                     numbers and a pre-release
     --               end the options
     -h, --help       print this help
     --version        print the version of this program
 
-Without --pre, a range means the pre-releases that the tool takes as cargo and
-npm read it, and none as crate-cargo and crate-npm do; --pre-stated belongs to
-these two. The status is 0 if both ranges mean the same versions, 1 if they
-differ, 0 for one range, and 2 after an error.";
+The status is 0 if both ranges mean the same versions, 1 if they differ, 0 for
+one range, and 2 after an error.";
 
 /// The version of this program, as the file VERSION has it.
-const VERSION: &str = "compare-ranges 0.6.1";
+const VERSION: &str = "compare-ranges 0.7.0";
 
 /// Why a run ended by an error.
 #[derive(Drop)]

@@ -41,9 +41,10 @@ that are a version which RANGE means.
     --releases       copy releases only
     --pre            copy each pre-release within the bounds of RANGE, too; as
                      cargo and npm, with '*' every version
-    --pre-stated     copy pre-releases that RANGE means, and of which a term
-                     of the same range states the three numbers and a
-                     pre-release
+    --pre-stated     the default: copy the pre-releases that cargo or npm matches;
+                     as crate-cargo and crate-npm, those within the bounds of
+                     which a term of the same range states the three numbers
+                     and a pre-release
     --greatest       print only the line with the greatest version, by
                      precedence (the first, if several are equal)
     --least          print only the line with the least version (the first,
@@ -61,13 +62,11 @@ that are a version which RANGE means.
     -h, --help       print this, and read no input
     --version        print the version of this program, and read no input
 
-Without --pre, the pre-releases are copied that cargo or npm takes, and none as
-crate-cargo and crate-npm read RANGE; --pre-stated belongs to these two. The
-status is 0 if a line was written, 1 if none was, and 2 after an error, which
-standard error describes.";
+The status is 0 if a line was written, 1 if none was, and 2 after an error,
+which standard error describes.";
 
 /// The version of this program, as the file VERSION has it.
-const VERSION: &str = "release-filter 0.6.1";
+const VERSION: &str = "release-filter 0.7.0";
 
 /// So many bytes of the input are read at once.
 const AT_ONCE: usize = 65536;

@@ -15,7 +15,6 @@ pub mod Meanings
 pub mod OnlySimples
 pub mod PartRuns
 pub mod PrintedLaws
-pub mod RangeExamples
 pub mod Qualifiers
 pub mod ReadingComplete
 pub mod ReadingPieces
