@@ -53,6 +53,7 @@ impl MeaningOptions {
         }
     }
 
+    // Answer: free, UnknownDialect or Unreadable: ../../tests/release-filter-runs.
     /// Takes an argument, and returns whether it is one of these options, or the name that follows
     /// `--as`. Others are left to the program.
     ///
@@ -131,6 +132,7 @@ impl MeaningOptions {
         Ok(true)
     }
 
+    // Answer: equation.
     /// What the options say, once all are taken. Without one it is Cargo's dialect, and the default
     /// rule for pre-releases.
     ///

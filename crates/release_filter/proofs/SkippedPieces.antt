@@ -251,6 +251,19 @@ module _ (total : IsTotalOrder precedence) where
         },
       )
 
+  -- what is left of a piece goes on where the taking stopped
+  pub took_rest : (s t u : LinesValue) (p q : Text) (js ks : List JudgedLine) (old mid new : Text) → TakesAll s p js t old mid
+      → Takes t q ks u mid new → Takes s (p ++ q) (js ++ ks) u old new
+  took_rest s t u p q js ks old mid new a b =
+      let grammar = ap (λ (v : LinesValue). v.filter.grammar) a.state in
+      let prefixes = ap (λ (v : LinesValue). v.prefixes) a.state in
+      record {
+        unended = b.unended;
+        all = took_both total s t (record u { unended = b.unended }) p q js ks old mid new a b.all;
+        left = subst (λ d. IsLeft d s.prefixes u.at_front b.unended u.unended) grammar
+            (subst (λ ps. IsLeft t.filter.grammar ps u.at_front b.unended u.unended) prefixes b.left);
+      }
+
   -- and the end of the text does what the whole text does
   pub took_whole : (s t u : LinesValue) (text : Text) (js ks : List JudgedLine) (old mid new : Text) → Takes (begun s) text js t old mid
       → Finishes t ks u mid new

@@ -5,7 +5,7 @@ ghost use Rattle.std.specs.Prelude.{◌≡◌, ◌++◌, ℕ, List, IfErr, IfOk}
 ghost use Rattle.semver_parser.specs.Texts.{Text};
 ghost use Rattle.release_filter.specs.LineTexts.{without_mark};
 ghost use Rattle.release_filter.specs.Pieces.{AreAlike, Completes, Finishes, LinesValue, Takes};
-ghost use Rattle.release_filter.specs.Pieces.{begun};
+ghost use Rattle.release_filter.specs.Pieces.{TakesAll, begun};
 ghost use Rattle.release_filter.specs.Verdicts.{JudgedLine};
 ghost use Rattle.release_filter.specs.declared.lines.LinesError.TheVariants.{NoVersion};
 
@@ -21,6 +21,10 @@ pub fn pieces_do_not_matter()
         (old mid new : Text) → Takes s piece judged t old mid → Takes t next more u mid new
         → (lines : List JudgedLine) × AreAlike more lines
         × Takes s (piece ++ next) (judged ++ lines) u old new }
+    // After an error, pushing the rest of the piece goes on as if there had been none.
+    ensures rest { (s t u : LinesValue) (piece next : Text) (judged more : List JudgedLine)
+        (old mid new : Text) → TakesAll s piece judged t old mid → Takes t next more u mid new
+        → Takes s (piece ++ next) (judged ++ more) u old new }
     // And the end of the text does what the whole text does.
     ensures whole { (s t u : LinesValue) (text : Text) (judged more : List JudgedLine)
         (old mid new : Text) → Takes (begun s) text judged t old mid → Finishes t more u mid new

@@ -1,5 +1,5 @@
 -- How long the numbers and identifiers of a range text may be to npm. They are the bounds of
--- node-semver 7, by its constants `MAX_LENGTH`, 256, and `MAX_SAFE_BUILD_LENGTH`, 250.
+-- node-semver 7.6.2, by its constants `MAX_LENGTH`, 256, and `MAX_SAFE_BUILD_LENGTH`, 250.
 use Rattle.std.specs.Prelude.{ℕ, ◌+◌, Bool, ◌&&◌, ◌==◌, if◌then◌else◌, nat_le, length}
 use Rattle.std.specs.Char.{is_ascii_digit}
 use Rattle.std.specs.List.{prefix_len}
