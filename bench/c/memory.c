@@ -1,6 +1,6 @@
 /* Finds how much memory the calls that allocate hold at most for each byte of a range text, or of
  * the data of a set, beyond the first 1,000 bytes: on texts of many forms and lengths, by each
- * reading and rule. It counts the memory itself, in place of c/heap.c. */
+ * dialect and rule. It counts the memory itself, in place of c/heap.c. */
 #include "../../crates/semver_parser_c/c/heap.h"
 #include "../../crates/semver_parser_c/include/semver_parser.h"
 
@@ -60,85 +60,85 @@ static semver_parser_switch switches[ROWS], more_switches[ROWS];
 /* How many bytes a call is given: those of the text, or of a set. */
 static size_t given;
 
-static int32_t rewrite(size_t length, int32_t reading, int32_t rule) {
+static int32_t rewrite(size_t length, int32_t dialect, int32_t rule) {
     size_t needed;
     (void)rule;
-    return semver_parser_rewrite(text, length, reading, true, out, sizeof out, &needed);
+    return semver_parser_rewrite(text, length, dialect, true, out, sizeof out, &needed);
 }
 
-static int32_t list(size_t length, int32_t reading, int32_t rule) {
+static int32_t list(size_t length, int32_t dialect, int32_t rule) {
     size_t count, needed;
     (void)rule;
     return semver_parser_comparators(
-        text, length, reading, true, comparators, ROWS, &count, out, sizeof out, &needed);
+        text, length, dialect, true, comparators, ROWS, &count, out, sizeof out, &needed);
 }
 
-static int32_t ask(size_t length, int32_t reading, int32_t rule) {
+static int32_t ask(size_t length, int32_t dialect, int32_t rule) {
     static const semver_parser_text version = {(const uint8_t *)"1.2.3", 5};
     const semver_parser_text versions[4] = {version, version, version, version};
     uint8_t answers[4];
-    return semver_parser_meets_each(text, length, reading, rule, versions, 4, answers);
+    return semver_parser_meets_each(text, length, dialect, rule, versions, 4, answers);
 }
 
-static int32_t make(size_t length, int32_t reading, int32_t rule) {
+static int32_t make(size_t length, int32_t dialect, int32_t rule) {
     size_t count, needed;
     return semver_parser_set(
-        text, length, reading, rule, switches, ROWS, &count, out, sizeof out, &needed);
+        text, length, dialect, rule, switches, ROWS, &count, out, sizeof out, &needed);
 }
 
-static int32_t least(size_t length, int32_t reading, int32_t rule) {
+static int32_t least(size_t length, int32_t dialect, int32_t rule) {
     size_t needed;
-    return semver_parser_least(text, length, reading, rule, out, sizeof out, &needed);
+    return semver_parser_least(text, length, dialect, rule, out, sizeof out, &needed);
 }
 
-static int32_t compare(size_t length, int32_t reading, int32_t rule) {
+static int32_t compare(size_t length, int32_t dialect, int32_t rule) {
     size_t needed;
     semver_parser_comparison comparison;
-    return semver_parser_compare(text, length, (const uint8_t *)"*", 1, reading, rule, out,
+    return semver_parser_compare(text, length, (const uint8_t *)"*", 1, dialect, rule, out,
         sizeof out, &needed, &comparison);
 }
 
 /* The set of the text, as data. What making it takes is not counted. */
-static semver_parser_flat_set set_of(size_t length, int32_t reading, int32_t rule) {
+static semver_parser_flat_set set_of(size_t length, int32_t dialect, int32_t rule) {
     static uint8_t bytes[LONGEST];
     size_t count = 0, needed = 0;
     semver_parser_set(
-        text, length, reading, rule, switches, ROWS, &count, bytes, sizeof bytes, &needed);
+        text, length, dialect, rule, switches, ROWS, &count, bytes, sizeof bytes, &needed);
     semver_parser_flat_set made = {switches, count, bytes, needed};
     most = held = 0;
     given = count * sizeof *switches + needed;
     return made;
 }
 
-static int32_t combine(size_t length, int32_t reading, int32_t rule) {
+static int32_t combine(size_t length, int32_t dialect, int32_t rule) {
     size_t count, needed;
-    semver_parser_flat_set set = set_of(length, reading, rule);
+    semver_parser_flat_set set = set_of(length, dialect, rule);
     given *= 2;
     return semver_parser_combine(set, set, SEMVER_PARSER_UNION, more_switches, ROWS, &count, out,
         sizeof out, &needed);
 }
 
-static int32_t compare_sets(size_t length, int32_t reading, int32_t rule) {
+static int32_t compare_sets(size_t length, int32_t dialect, int32_t rule) {
     bool is_within, contains;
-    semver_parser_flat_set set = set_of(length, reading, rule);
+    semver_parser_flat_set set = set_of(length, dialect, rule);
     given *= 2;
     return semver_parser_compare_sets(set, set, &is_within, &contains);
 }
 
-static int32_t set_least(size_t length, int32_t reading, int32_t rule) {
+static int32_t set_least(size_t length, int32_t dialect, int32_t rule) {
     size_t needed;
-    return semver_parser_set_least(set_of(length, reading, rule), out, sizeof out, &needed);
+    return semver_parser_set_least(set_of(length, dialect, rule), out, sizeof out, &needed);
 }
 
-static int32_t print_set(size_t length, int32_t reading, int32_t rule) {
+static int32_t print_set(size_t length, int32_t dialect, int32_t rule) {
     size_t needed;
     return semver_parser_print_set(
-        set_of(length, reading, rule), false, out, sizeof out, &needed);
+        set_of(length, dialect, rule), false, out, sizeof out, &needed);
 }
 
 static const struct {
     const char *name;
-    int32_t (*run)(size_t length, int32_t reading, int32_t rule);
+    int32_t (*run)(size_t length, int32_t dialect, int32_t rule);
 } calls[] = {{"rewrite", rewrite}, {"comparators", list}, {"meets_each", ask}, {"set", make},
     {"least", least}, {"compare", compare}, {"combine", combine}, {"compare_sets", compare_sets},
     {"set_least", set_least}, {"print_set", print_set}};
@@ -186,13 +186,13 @@ static void write_text(
 static double rate;
 static char shown[80];
 
-/* Runs a call on the text, by each reading and rule. */
+/* Runs a call on the text, by each dialect and rule. */
 static void run(size_t call, const char *term, size_t count, size_t often) {
-    for (int32_t reading = SEMVER_PARSER_CARGO; reading <= SEMVER_PARSER_CRATE_NPM; reading++) {
+    for (int32_t dialect = SEMVER_PARSER_CARGO; dialect <= SEMVER_PARSER_CRATE_NPM; dialect++) {
         for (int32_t rule = 0; rule <= SEMVER_PARSER_EXCLUDED; rule++) {
             most = held = 0;
             given = length;
-            if (calls[call].run(length, reading, rule) != SEMVER_PARSER_OK || most < 1000) continue;
+            if (calls[call].run(length, dialect, rule) != SEMVER_PARSER_OK || most < 1000) continue;
             double found = (double)(most - 1000) / (double)given;
             if (found <= rate) continue;
             rate = found;

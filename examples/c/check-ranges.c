@@ -24,14 +24,14 @@
  * CANNOT_BE_CHECKED. */
 enum { HOLDS = 0, DOES_NOT_HOLD = 1, CANNOT_BE_CHECKED = 2, STOPPED = 3 };
 
-/* A reading, and the rule by which pre-releases meet a range. */
+/* A dialect, and the rule by which pre-releases meet a range. */
 typedef struct {
     const char *name;
-    int32_t reading;
+    int32_t dialect;
     int32_t pre_releases;
-} reading_by_name;
+} dialect_by_name;
 
-static const reading_by_name readings[] = {
+static const dialect_by_name dialects[] = {
     {"npm", SEMVER_PARSER_NPM, SEMVER_PARSER_DEFAULT},
     {"cargo", SEMVER_PARSER_CARGO, SEMVER_PARSER_DEFAULT},
     {"crate-npm", SEMVER_PARSER_CRATE_NPM, SEMVER_PARSER_INCLUDED},
@@ -52,7 +52,7 @@ static int print(const char *line, size_t length, unsigned long number) {
 }
 
 /* Checks a line. */
-static int check(const char *line, size_t length, unsigned long number, const reading_by_name *by) {
+static int check(const char *line, size_t length, unsigned long number, const dialect_by_name *by) {
     const char *end = line + length;
     const char *tab = memchr(line, '\t', length);
     if (tab == NULL) {
@@ -65,7 +65,7 @@ static int check(const char *line, size_t length, unsigned long number, const re
         after = end;
     }
     bool meets;
-    int32_t answer = semver_parser_meets((const uint8_t *)line, (size_t)(tab - line), by->reading,
+    int32_t answer = semver_parser_meets((const uint8_t *)line, (size_t)(tab - line), by->dialect,
                                          by->pre_releases, (const uint8_t *)version,
                                          (size_t)(after - version), &meets);
     if (answer != SEMVER_PARSER_OK) {
@@ -76,7 +76,7 @@ static int check(const char *line, size_t length, unsigned long number, const re
 }
 
 /* Checks all lines, and answers the status. */
-static int check_all(const reading_by_name *by) {
+static int check_all(const dialect_by_name *by) {
     char *line = NULL;
     size_t room = 0;
     int status = HOLDS;
@@ -109,9 +109,9 @@ static int check_all(const reading_by_name *by) {
 
 int main(int count, char **arguments) {
     const char *name = count == 1 ? "npm" : arguments[1];
-    for (size_t at = 0; count <= 2 && at < sizeof readings / sizeof *readings; at++) {
-        if (strcmp(name, readings[at].name) == 0) {
-            return check_all(&readings[at]);
+    for (size_t at = 0; count <= 2 && at < sizeof dialects / sizeof *dialects; at++) {
+        if (strcmp(name, dialects[at].name) == 0) {
+            return check_all(&dialects[at]);
         }
     }
     fprintf(stderr, "check-ranges [npm|cargo|crate-npm|crate-cargo] < lines\n");

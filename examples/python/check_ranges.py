@@ -13,24 +13,24 @@ one doesn't, and 2 if one can't be checked.
 
 import sys
 
-from semver_parser import PreReleases, RangeError, Reading, VersionError, meets
+from semver_parser import PreReleases, RangeError, Dialect, VersionError, meets
 
-READINGS = {
-    "npm": (Reading.NPM, PreReleases.DEFAULT),
-    "cargo": (Reading.CARGO, PreReleases.DEFAULT),
-    "crate-npm": (Reading.CRATE_NPM, PreReleases.INCLUDED),
-    "crate-cargo": (Reading.CRATE_CARGO, PreReleases.INCLUDED),
+DIALECTS = {
+    "npm": (Dialect.NPM, PreReleases.DEFAULT),
+    "cargo": (Dialect.CARGO, PreReleases.DEFAULT),
+    "crate-npm": (Dialect.CRATE_NPM, PreReleases.INCLUDED),
+    "crate-cargo": (Dialect.CRATE_CARGO, PreReleases.INCLUDED),
 }
 
 
-def check(line: bytes, number: int, reading: Reading, pre_releases: PreReleases) -> int:
+def check(line: bytes, number: int, dialect: Dialect, pre_releases: PreReleases) -> int:
     """The status of a line."""
     wanted, tab, after = line.partition(b"\t")
     if not tab:
         print(f"line {number}: no tab", file=sys.stderr)
         return 2
     try:
-        if meets(wanted, after.split(b"\t")[0], reading, pre_releases):
+        if meets(wanted, after.split(b"\t")[0], dialect, pre_releases):
             return 0
     except (RangeError, VersionError) as error:
         print(f"line {number}: {error.sentence}", file=sys.stderr)
@@ -40,9 +40,9 @@ def check(line: bytes, number: int, reading: Reading, pre_releases: PreReleases)
 
 
 name, *more = sys.argv[1:] or ["npm"]
-if more or name not in READINGS:
+if more or name not in DIALECTS:
     print("usage: check_ranges.py [npm|cargo|crate-npm|crate-cargo] < lines", file=sys.stderr)
     sys.exit(2)
 lines = enumerate(sys.stdin.buffer, 1)
-statuses = (check(line.rstrip(b"\n"), number, *READINGS[name]) for number, line in lines)
+statuses = (check(line.rstrip(b"\n"), number, *DIALECTS[name]) for number, line in lines)
 sys.exit(max(statuses, default=0))

@@ -9,7 +9,7 @@ import subprocess
 import sys
 from typing import Dict, Iterator, List, NamedTuple, Optional, Tuple
 
-from semver_parser import RangeError, Reading, compare_ranges
+from semver_parser import RangeError, Dialect, compare_ranges
 
 from .cargo.manifests import Need, by_table
 from .files import (
@@ -73,7 +73,7 @@ class Manifest(NamedTuple):
     """The requirements of a manifest by table and key, and the dialect that they are in."""
 
     requirements: Dict[Key, Requirement]
-    reading: Reading
+    dialect: Dialect
 
 
 class Change(NamedTuple):
@@ -105,7 +105,7 @@ def manifest_of(text: bytes) -> Manifest:
     if text.lstrip()[:1] == b"{":
         return manifest_of_npm(json_object(text))
     needs = by_table(toml_object(text))
-    return Manifest({key: of_cargo(need) for key, need in needs.items()}, Reading.CARGO)
+    return Manifest({key: of_cargo(need) for key, need in needs.items()}, Dialect.CARGO)
 
 
 def of_cargo(need: Need) -> Requirement:
@@ -119,7 +119,7 @@ def of_cargo(need: Need) -> Requirement:
 def of_npm(name: str, spec: str) -> Requirement:
     """A requirement of a package.json. What is at an address has its name there."""
     alias, at_git, wanted = alias_of(spec), git_range_of(spec), range_of(spec)
-    is_none = is_met(wanted, "0.0.0", Reading.NPM) is None and is_no_range(spec)
+    is_none = is_met(wanted, "0.0.0", Dialect.NPM) is None and is_no_range(spec)
     own_name = None if is_elsewhere(spec) else name if alias is None else alias[0]
     source = "" if at_git is None else at_git[0]
     return Requirement(spec, own_name, source, None if is_none else wanted)
@@ -135,7 +135,7 @@ def manifest_of_npm(entry: Entry) -> Manifest:
         for kind in KINDS_OF_NPM
         for name, spec in texts_at(entry.get(kind, {}), kind).items()
     }
-    return Manifest(found, Reading.NPM)
+    return Manifest(found, Dialect.NPM)
 
 
 def read(path: str) -> Manifest:
@@ -173,22 +173,22 @@ def changes(old: Manifest, new: Manifest) -> Iterator[Change]:
         if other is None:
             yield Change(key[1], key[0], requirement.text, None, "removed")
         elif other != requirement:
-            yield change(key, requirement, other, new.reading)
+            yield change(key, requirement, other, new.dialect)
     for key, requirement in new.requirements.items():
         if key not in old.requirements:
             yield Change(key[1], key[0], None, requirement.text, "added")
 
 
-def change(key: Key, old: Requirement, new: Requirement, reading: Reading) -> Change:
+def change(key: Key, old: Requirement, new: Requirement, dialect: Dialect) -> Change:
     """What a changed requirement loses and gains. A tag, an address or a path has no versions, and
     those of two packages aren't compared."""
     table, name = key
-    note, ranges = comparison(old, new, reading)
+    note, ranges = comparison(old, new, dialect)
     return Change(name, table, old.text, new.text, note, *ranges)
 
 
 def comparison(
-    old: Requirement, new: Requirement, reading: Reading
+    old: Requirement, new: Requirement, dialect: Dialect
 ) -> Tuple[str, List[Optional[str]]]:
     """The note of a change, and its versions, if there are any."""
     if None not in (old.name, new.name) and old.name != new.name:
@@ -198,7 +198,7 @@ def comparison(
     if old.source != new.source:
         return ANOTHER, []
     try:
-        compared = compare_ranges(old.range, new.range, reading)
+        compared = compare_ranges(old.range, new.range, dialect)
     except RangeError:
         return "not read", []
     ranges = [
@@ -243,7 +243,7 @@ def compare(options: Options) -> Outcome:
         old, new = found if len(found) > 1 else (*found, read(path))
     else:
         old, new = (read(path) for path in options.files)
-    if old.reading is not new.reading:
+    if old.dialect is not new.dialect:
         raise Misuse("one file is npm's and the other Cargo's")
     differ = list(changes(old, new))
     if "--json" in options.given:

@@ -2,7 +2,7 @@
 
 from typing import NamedTuple, Optional
 
-from semver_parser import RangeError, Reading, VersionError, meets, parse_version
+from semver_parser import RangeError, Dialect, VersionError, meets, parse_version
 
 NO_VERSION = "no version"
 NOT_THERE = "not there"
@@ -20,20 +20,20 @@ class Finding(NamedTuple):
     is_strict: bool = False
 
 
-def is_version(text: str, reading: Reading) -> bool:
+def is_version(text: str, dialect: Dialect) -> bool:
     """Whether a text is a version to a tool."""
     try:
-        parse_version(text, reading)
+        parse_version(text, dialect)
     except VersionError:
         return False
     return True
 
 
-def is_met(wanted: str, version: str, reading: Reading) -> Optional[bool]:
+def is_met(wanted: str, version: str, dialect: Dialect) -> Optional[bool]:
     """Whether a version meets a range; None if the range isn't read. What is no version meets
     none."""
     try:
-        return meets(wanted, version, reading)
+        return meets(wanted, version, dialect)
     except RangeError:
         return None
     except VersionError:

@@ -1,16 +1,16 @@
 """Version texts and range texts, read, rewritten and compared by a proved library.
 
-    >>> from semver_parser import Filter, Reading, meets, parse_range, parse_version
+    >>> from semver_parser import Filter, Dialect, meets, parse_range, parse_version
     >>> parse_version("1.2.3-rc.1+b5").pre
     ('rc', 1)
-    >>> str(parse_range("^1.2 || 3.x", Reading.NPM))
+    >>> str(parse_range("^1.2 || 3.x", Dialect.NPM))
     '>=1.2.0 <2.0.0-0 || >=3.0.0 <4.0.0-0'
-    >>> meets("1.2.3", "1.9.0"), meets("1.2.3", "1.9.0", Reading.NPM)
+    >>> meets("1.2.3", "1.9.0"), meets("1.2.3", "1.9.0", Dialect.NPM)
     (True, False)
     >>> Filter("^1.2").greatest(["1.2.0", "1.9.0", "2.0.0"])
     '1.9.0'
 
-A range and a version are read as Cargo itself reads them unless another `Reading` is given: npm's
+A range and a version are read as Cargo itself reads them unless another `Dialect` is given: npm's
 own, or that of the Rust crate `semver-parser` in one of its two modes. docs/GRAMMAR.md of the
 repository says which texts are versions and ranges, and docs/MEANING.md what a range means.
 
@@ -38,7 +38,7 @@ from .values import (
     PreReleases,
     Range,
     RangeSet,
-    Reading,
+    Dialect,
     Version,
     precedence,
 )
@@ -58,7 +58,7 @@ __all__ = [
     "Range",
     "RangeError",
     "RangeSet",
-    "Reading",
+    "Dialect",
     "Text",
     "Version",
     "VersionError",

@@ -4,7 +4,7 @@ from dataclasses import dataclass
 from typing import Optional
 
 from .errors import RangeError, Text, encoded
-from .values import PreReleases, Reading
+from .values import PreReleases, Dialect
 from .version_sets import VersionSet
 
 
@@ -41,11 +41,11 @@ class Comparison:
 def compare_ranges(
     old: Text,
     new: Text,
-    reading: Reading = Reading.CARGO,
+    dialect: Dialect = Dialect.CARGO,
     pre_releases: Optional[PreReleases] = None,
 ) -> Comparison:
     """What is lost, gained and shared if a new range takes the place of an old one, both by one
-    reading and by one rule for pre-releases, which is the reading's own if none is given: among all
+    dialect and by one rule for pre-releases, which is the dialect's own if none is given: among all
     versions with numbers up to 2^64 - 1.
 
     Raises `RangeError` if one of the texts is no range; its `which` is `old` or `new`, and the
@@ -53,16 +53,16 @@ def compare_ranges(
     """
     for text in (old, new):
         encoded(text)
-    first = _set_of("old", old, reading, pre_releases)
-    second = _set_of("new", new, reading, pre_releases)
+    first = _set_of("old", old, dialect, pre_releases)
+    second = _set_of("new", new, dialect, pre_releases)
     return Comparison(first - second, second - first, first & second)
 
 
 def _set_of(
-    which: str, text: Text, reading: Reading, pre_releases: Optional[PreReleases]
+    which: str, text: Text, dialect: Dialect, pre_releases: Optional[PreReleases]
 ) -> VersionSet:
     """The set of one of the ranges."""
     try:
-        return VersionSet(text, reading, pre_releases)
+        return VersionSet(text, dialect, pre_releases)
     except RangeError as error:
         raise error.of(which) from None

@@ -100,7 +100,7 @@ class RangeError(_TextError):
     - `not-utf8`: the bytes aren't UTF-8, or the `str` has a surrogate by itself.
     - `not-a-range`: the text isn't in the grammar of ranges, as `1.2.3 -4`.
     - `number-too-large`: it is, and a number that it states, or a bound that is raised by one, is
-      above 2**64 - 1, or by npm's reading above 2**53 - 1.
+      above 2**64 - 1, or by npm's dialect above 2**53 - 1.
 
     `place` is where in the text it stops being a range: the index of the first character that no
     range has there; of a number that is too large, that of the first after which no range has
@@ -153,18 +153,18 @@ def _index(text: Text, place: int) -> int:
     return len(encoded(text)[:place].decode("utf-8", "surrogatepass"))
 
 
-def _explained(error: VersionError, reading: int) -> VersionError:
+def _explained(error: VersionError, dialect: int) -> VersionError:
     """The error, with where and why its text is no version in the dialect of a number."""
     text_bytes, place = encoded(error.text), ctypes.c_size_t()
-    answer = LIBRARY.semver_parser_explain_version(text_bytes, len(text_bytes), reading, place)
+    answer = LIBRARY.semver_parser_explain_version(text_bytes, len(text_bytes), dialect, place)
     error.reason, error.place = _REASONS.get(answer), _index(error.text, place.value)
     return error
 
 
-def _explained_range(error: RangeError, reading: int) -> RangeError:
+def _explained_range(error: RangeError, dialect: int) -> RangeError:
     """The error, with where and why its text gives no range in the dialect of a number."""
     text_bytes, place, hint = encoded(error.text), ctypes.c_size_t(), ctypes.c_int32()
-    answer = LIBRARY.semver_parser_explain_range(text_bytes, len(text_bytes), reading, place, hint)
+    answer = LIBRARY.semver_parser_explain_range(text_bytes, len(text_bytes), dialect, place, hint)
     if answer == RANGE_OUT_OF_MEMORY:
         raise MemoryError
     if _RANGE_ERRORS.get(answer) == error.name != "not-utf8":
@@ -179,18 +179,18 @@ def raise_error(
     range: Text = "",
     version: Text = "",
     index: Optional[int] = None,
-    reading: Optional[int] = None,
+    dialect: Optional[int] = None,
 ) -> None:
     """Raises what the answer of a call says, unless that is OK. The index is that of the version
-    among many, and the number of the reading is given where a text is read."""
+    among many, and the number of the dialect is given where a text is read."""
     if answer == OK:
         return
     if answer in _VERSION_ERRORS:
         error = VersionError(_VERSION_ERRORS[answer], version, index)
-        raise error if reading is None else _explained(error, reading)
+        raise error if dialect is None else _explained(error, dialect)
     if answer in _RANGE_ERRORS:
         of_range = RangeError(_RANGE_ERRORS[answer], range)
-        raise of_range if reading is None else _explained_range(of_range, reading)
+        raise of_range if dialect is None else _explained_range(of_range, dialect)
     if answer in (VERSION_OUT_OF_MEMORY, RANGE_OUT_OF_MEMORY, NEW_RANGE_OUT_OF_MEMORY):
         raise MemoryError
     raise AssertionError(f"the library answered {answer}")

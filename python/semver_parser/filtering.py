@@ -2,7 +2,7 @@
 
 Versions are given as texts or as `Version`s, and what is answered are those that were given. A
 range is given as its text, and judged by what that means by itself, and not by its comparators.
-Both are read by one reading.
+Both are read by one dialect.
 """
 
 import ctypes
@@ -16,7 +16,7 @@ from .values import (
     AnyVersion,
     PrecedenceKey,
     PreReleases,
-    Reading,
+    Dialect,
     Version,
     precedence,
     text_of,
@@ -30,42 +30,42 @@ _DOES_NOT_MEET = 0
 _MEETS = 1
 
 
-def _precedence(version: AnyVersion, reading: Reading) -> PrecedenceKey:
-    """What stands for a version in the order of precedence. Its text is read by the reading."""
-    return precedence(version if isinstance(version, Version) else parse_version(version, reading))
+def _precedence(version: AnyVersion, dialect: Dialect) -> PrecedenceKey:
+    """What stands for a version in the order of precedence. Its text is read by the dialect."""
+    return precedence(version if isinstance(version, Version) else parse_version(version, dialect))
 
 
 def meets(
     range: Text,
     version: AnyVersion,
-    reading: Reading = Reading.CARGO,
+    dialect: Dialect = Dialect.CARGO,
     pre_releases: Optional[PreReleases] = None,
 ) -> bool:
-    """Whether a version meets a range, both by one reading, and by a rule for pre-releases, which
+    """Whether a version meets a range, both by one dialect, and by a rule for pre-releases, which
     is the default where none is given. A build never counts.
 
     Raises `RangeError` where the range is none, and else `VersionError` where the version is none.
     """
-    reading_number, rule_number = numbers_of(reading, pre_releases)
+    dialect_number, rule_number = numbers_of(dialect, pre_releases)
     text = text_of(version)
     range_bytes, version_bytes = encoded(range), encoded(text)
     answered = ctypes.c_bool()
     answer = LIBRARY.semver_parser_meets(
         range_bytes,
         len(range_bytes),
-        reading_number,
+        dialect_number,
         rule_number,
         version_bytes,
         len(version_bytes),
         answered,
     )
-    raise_error(answer, range, text, reading=reading_number)
+    raise_error(answer, range, text, dialect=dialect_number)
     return answered.value
 
 
 @dataclass(frozen=True)
 class Filter:
-    """A text of a range (`range`), the `reading` by which it and the versions are read, and the
+    """A text of a range (`range`), the `dialect` by which it and the versions are read, and the
     rule for pre-releases (`pre_releases`), to be asked about many versions. Where no rule is given,
     it becomes `DEFAULT`.
 
@@ -75,14 +75,14 @@ class Filter:
     """
 
     range: Text
-    reading: Reading = Reading.CARGO
+    dialect: Dialect = Dialect.CARGO
     pre_releases: Optional[PreReleases] = None
     _set: VersionSet = field(init=False, repr=False, compare=False)
 
     def __post_init__(self) -> None:
-        # So that two filters of one text and one reading are equal, however the rule was given.
+        # So that two filters of one text and one dialect are equal, however the rule was given.
         object.__setattr__(self, "pre_releases", rule_of(self.pre_releases))
-        object.__setattr__(self, "_set", VersionSet(self.range, self.reading, self.pre_releases))
+        object.__setattr__(self, "_set", VersionSet(self.range, self.dialect, self.pre_releases))
 
     def meets(self, version: AnyVersion) -> bool:
         """Whether a version meets the range. Raises `VersionError` where the version is none."""
@@ -108,7 +108,7 @@ class Filter:
             if answer == _MEETS:
                 kept.append(given[index])
             elif answer != _DOES_NOT_MEET:
-                _refuse(answer, texts[index], index, self.reading, pass_over)
+                _refuse(answer, texts[index], index, self.dialect, pass_over)
         return kept
 
     def greatest(self, versions: Iterable[_Given], pass_over: bool = False) -> Optional[_Given]:
@@ -119,11 +119,11 @@ class Filter:
         choice among the versions that meet the range is Python code, and not proved.
         """
         kept = self.kept(versions, pass_over)
-        return max(kept, key=lambda it: _precedence(it, self.reading)) if kept else None
+        return max(kept, key=lambda it: _precedence(it, self.dialect)) if kept else None
 
     def _answers(self, texts: List[Text]) -> bytes:
         """What there is to say of each text, by one call: it meets, it doesn't, or its error."""
-        reading_number, rule_number = numbers_of(self.reading, self.pre_releases)
+        dialect_number, rule_number = numbers_of(self.dialect, self.pre_releases)
         range_bytes = encoded(self.range)
         kept_bytes = [encoded(text) for text in texts]
         items = (TextItem * len(texts))()
@@ -133,13 +133,13 @@ class Filter:
         answer = LIBRARY.semver_parser_meets_each(
             range_bytes,
             len(range_bytes),
-            reading_number,
+            dialect_number,
             rule_number,
             items,
             len(texts),
             answers,
         )
-        raise_error(answer, range=self.range, reading=reading_number)
+        raise_error(answer, range=self.range, dialect=dialect_number)
         return answers.raw[: len(texts)]
 
 
@@ -151,11 +151,11 @@ def _item_text(index: int, version: object) -> Text:
     raise TypeError(f"a version is a str, bytes or Version, and not {what}, at index {index}")
 
 
-def _refuse(answer: int, text: Text, index: int, reading: Reading, pass_over: bool) -> None:
+def _refuse(answer: int, text: Text, index: int, dialect: Dialect, pass_over: bool) -> None:
     """Raises the error of a version, unless it is skipped. Out of memory never is."""
     try:
-        number = None if pass_over else reading.value
-        raise_error(answer, version=text, index=index, reading=number)
+        number = None if pass_over else dialect.value
+        raise_error(answer, version=text, index=index, dialect=number)
     except ValueError:
         if not pass_over:
             raise
@@ -164,11 +164,11 @@ def _refuse(answer: int, text: Text, index: int, reading: Reading, pass_over: bo
 def greatest(
     range: Text,
     versions: Iterable[_Given],
-    reading: Reading = Reading.CARGO,
+    dialect: Dialect = Dialect.CARGO,
     pre_releases: Optional[PreReleases] = None,
     pass_over: bool = False,
 ) -> Optional[_Given]:
     """The greatest of the versions that meet a range: what `Filter.greatest` answers. A text that
     is no version raises `VersionError` with its `index`, or is skipped with `pass_over=True`.
     """
-    return Filter(range, reading, pre_releases).greatest(versions, pass_over)
+    return Filter(range, dialect, pre_releases).greatest(versions, pass_over)

@@ -12,7 +12,7 @@ from .values import (
     PreReleases,
     Range,
     RangeSet,
-    Reading,
+    Dialect,
     Version,
     identifier_of,
 )
@@ -24,11 +24,11 @@ _COMPARATORS = 8
 _BYTES = 64
 
 
-def reading_number(reading: Reading) -> int:
-    """The number of a reading."""
-    if isinstance(reading, Reading):
-        return reading.value
-    raise TypeError(f"a reading is a Reading, and not {reading!r}")
+def dialect_number(dialect: Dialect) -> int:
+    """The number of a dialect."""
+    if isinstance(dialect, Dialect):
+        return dialect.value
+    raise TypeError(f"a dialect is a Dialect, and not {dialect!r}")
 
 
 def rule_of(pre_releases: Optional[PreReleases]) -> PreReleases:
@@ -40,9 +40,9 @@ def rule_of(pre_releases: Optional[PreReleases]) -> PreReleases:
     return pre_releases
 
 
-def numbers_of(reading: Reading, pre_releases: Optional[PreReleases]) -> Tuple[int, int]:
-    """The numbers of a reading and of the rule for pre-releases."""
-    return reading_number(reading), rule_of(pre_releases).value
+def numbers_of(dialect: Dialect, pre_releases: Optional[PreReleases]) -> Tuple[int, int]:
+    """The numbers of a dialect and of the rule for pre-releases."""
+    return dialect_number(dialect), rule_of(pre_releases).value
 
 
 def _identifiers(text: bytes, part: Part) -> Tuple[Identifier, ...]:
@@ -53,8 +53,8 @@ def _identifiers(text: bytes, part: Part) -> Tuple[Identifier, ...]:
     return tuple(map(identifier_of, joined.split(".")))
 
 
-def parse_version(text: Text, reading: Reading = Reading.CARGO) -> Version:
-    """Reads a version, as Cargo itself reads it unless another reading is given.
+def parse_version(text: Text, dialect: Dialect = Dialect.CARGO) -> Version:
+    """Reads a version, as Cargo itself reads it unless another dialect is given.
 
     In Cargo's dialect versions are those of SemVer 2.0.0. In npm's their numbers go up to
     2**53 - 1, and there may be a `v` before them and white space around them, in at most 256
@@ -62,37 +62,37 @@ def parse_version(text: Text, reading: Reading = Reading.CARGO) -> Version:
 
     Raises `VersionError` if the text is no version.
     """
-    number = reading_number(reading)
+    number = dialect_number(dialect)
     read, text_bytes = ReadVersion(), encoded(text)
     answer = LIBRARY.semver_parser_parse_version(text_bytes, len(text_bytes), number, read)
-    raise_error(answer, version=text, reading=number)
+    raise_error(answer, version=text, dialect=number)
     pre, build = _identifiers(text_bytes, read.pre), _identifiers(text_bytes, read.build)
     return Version(read.major, read.minor, read.patch, pre, build)
 
 
-def parse_range(text: Text, reading: Reading = Reading.CARGO, exact: bool = False) -> RangeSet:
+def parse_range(text: Text, dialect: Dialect = Dialect.CARGO, exact: bool = False) -> RangeSet:
     """Reads a range and rewrites it to plain comparators, as Cargo itself reads it unless another
-    reading is given.
+    dialect is given.
 
     Where bounds are exact an upper bound that is raised by one has the lowest pre-release, as
-    `<2.0.0-0`, so that no pre-release of that bound meets the comparators. By the readings of Cargo
+    `<2.0.0-0`, so that no pre-release of that bound meets the comparators. By the dialects of Cargo
     and npm themselves they always are. By those of the crate they are where `exact` holds, and else
     those of the Rust crate, as `<2.0.0`.
 
     Raises `RangeError` where the text is no range.
     """
-    comparators, pre_releases = _comparators(text, reading_number(reading), bool(exact))
+    comparators, pre_releases = _comparators(text, dialect_number(dialect), bool(exact))
     ranges: List[List[Comparator]] = []
     for it in comparators:
         if it.range == len(ranges):
             ranges.append([])
         pre = _identifiers(pre_releases, it.pre)
         ranges[it.range].append(Comparator(_OPS[it.op], it.major, it.minor, it.patch, pre))
-    compat = reading.compat
+    compat = dialect.compat
     return RangeSet(tuple(Range(tuple(them), compat) for them in ranges), compat)
 
 
-def _comparators(text: Text, reading: int, exact: bool) -> Tuple[List[ReadComparator], bytes]:
+def _comparators(text: Text, dialect: int, exact: bool) -> Tuple[List[ReadComparator], bytes]:
     """The comparators of a range and the bytes of their pre-releases, in buffers that are large
     enough."""
     text_bytes = encoded(text)
@@ -103,7 +103,7 @@ def _comparators(text: Text, reading: int, exact: bool) -> Tuple[List[ReadCompar
         pre_releases = ctypes.create_string_buffer(length.value)
         rooms = (comparators, len(comparators), count, pre_releases, len(pre_releases), length)
         answer = LIBRARY.semver_parser_comparators(
-            text_bytes, len(text_bytes), reading, exact, *rooms
+            text_bytes, len(text_bytes), dialect, exact, *rooms
         )
-    raise_error(answer, range=text, reading=reading)
+    raise_error(answer, range=text, dialect=dialect)
     return comparators[: count.value], pre_releases.raw[: length.value]

@@ -9,7 +9,7 @@ from typing import Optional
 from .errors import NO_ROOM, Text, encoded, raise_error
 from .library import LIBRARY
 from .reading import numbers_of
-from .values import PreReleases, Reading, Version, identifier_of
+from .values import PreReleases, Dialect, Version, identifier_of
 
 # The buffer for printed versions that is tried first.
 _BYTES = 64
@@ -17,16 +17,16 @@ _BYTES = 64
 
 def least(
     range: Text,
-    reading: Reading = Reading.CARGO,
+    dialect: Dialect = Dialect.CARGO,
     pre_releases: Optional[PreReleases] = None,
 ) -> Optional[Version]:
-    """The least version that a range means, by a reading and by a rule for pre-releases, which is
-    the reading's own where none is given; None where it means none. Least it is by precedence,
+    """The least version that a range means, by a dialect and by a rule for pre-releases, which is
+    the dialect's own where none is given; None where it means none. Least it is by precedence,
     among all versions with numbers up to 2^64 - 1, and it has no build.
 
     Raises `RangeError` where the range is none.
     """
-    reading_number, rule_number = numbers_of(reading, pre_releases)
+    dialect_number, rule_number = numbers_of(dialect, pre_releases)
     range_bytes, length = encoded(range), ctypes.c_size_t(_BYTES)
     answer = NO_ROOM
     while answer == NO_ROOM:
@@ -34,19 +34,19 @@ def least(
         answer = LIBRARY.semver_parser_least(
             range_bytes,
             len(range_bytes),
-            reading_number,
+            dialect_number,
             rule_number,
             printed,
             len(printed),
             length,
         )
-    raise_error(answer, range=range, reading=reading_number)
+    raise_error(answer, range=range, dialect=dialect_number)
     return version_of(printed.raw[: length.value]) if length.value else None
 
 
 def version_of(printed: bytes) -> Version:
     """The version that the library printed, which has no build. It is made of its parts: by the
-    crate's readings a range can have identifiers that no version text of theirs has."""
+    crate's dialects a range can have identifiers that no version text of theirs has."""
     numbers, _, pre = printed.decode("ascii").partition("-")
     major, minor, patch = map(int, numbers.split("."))
     return Version(major, minor, patch, tuple(map(identifier_of, pre.split("."))) if pre else ())

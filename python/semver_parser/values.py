@@ -22,7 +22,7 @@ It is an `int` where it is the canonical decimal of a number up to 2**64 - 1, as
 _MOST = 2**64 - 1
 _LONGEST_NUMBER = len(str(_MOST))
 
-# An identifier of a version, as SemVer 2.0.0 has it. Some readings take fewer.
+# An identifier of a version, as SemVer 2.0.0 has it. Some dialects take fewer.
 _IDENTIFIER = re.compile(r"[0-9A-Za-z-]+")
 
 
@@ -58,7 +58,7 @@ def _check_identifiers(name: str, identifiers: object) -> None:
 
 class Compat(enum.Enum):
     """The modes that sets and their ranges have, as those of the Rust crate: they tell how a bare
-    version of three numbers was read. `Reading` is what a range is read by."""
+    version of three numbers was read. `Dialect` is what a range is read by."""
 
     CARGO = "cargo"
     """As with a caret: `1.2.3` is `>=1.2.3 <2.0.0`."""
@@ -66,8 +66,8 @@ class Compat(enum.Enum):
     """As this version alone: `1.2.3` is `=1.2.3`."""
 
 
-class Reading(enum.Enum):
-    """The readings of range texts and of version texts: those of Cargo and of npm themselves, and
+class Dialect(enum.Enum):
+    """The dialects of range texts and of version texts: those of Cargo and of npm themselves, and
     that of the Rust crate `semver-parser` in its two modes, which differ from both
     (docs/MEANING.md, "Which dialect?")."""
 
@@ -86,9 +86,9 @@ class Reading(enum.Enum):
 
     @property
     def compat(self) -> Compat:
-        """The mode of the sets that are read so: Cargo's by both readings that are named after
+        """The mode of the sets that are read so: Cargo's by both dialects that are named after
         Cargo, and npm's by the other two."""
-        is_npm = self in (Reading.NPM, Reading.CRATE_NPM)
+        is_npm = self in (Dialect.NPM, Dialect.CRATE_NPM)
         return Compat.NPM if is_npm else Compat.CARGO
 
 
@@ -136,12 +136,12 @@ class Version:
     """A version: the numbers `major`, `minor` and `patch`, and the identifiers of its pre-release
     (`pre`) and its build (`build`).
 
-    An identifier has one or more ASCII letters, digits and hyphens, so versions of every reading
+    An identifier has one or more ASCII letters, digits and hyphens, so versions of every dialect
     can be made, printed and compared. Which of them `parse_version` reads from their printed text
-    depends on the reading: `1.2.3--a` is no version by the crate's two, and `1.2.3-01` is one by
+    depends on the dialect: `1.2.3--a` is no version by the crate's two, and `1.2.3-01` is one by
     these alone.
 
-    What no reading has raises when it is made: `TypeError` if a number is no `int`, the identifiers
+    What no dialect has raises when it is made: `TypeError` if a number is no `int`, the identifiers
     are no `tuple`, or one is neither `int` nor `str`; and `ValueError` if a number isn't from 0 to
     2**64 - 1, or a `str` is no identifier, or one that is read as an `int`.
 
@@ -221,7 +221,7 @@ class Range:
 
 @dataclass(frozen=True)
 class RangeSet:
-    """A range set: ranges of which a version meets one (`ranges`), and the mode of the reading by
+    """A range set: ranges of which a version meets one (`ranges`), and the mode of the dialect by
     which it was read (`compat`).
 
     `version in range_set` is whether a version satisfies the comparators by `PreReleases.DEFAULT`:
@@ -244,10 +244,10 @@ class RangeSet:
 
         if not self.ranges:
             text = str(version) if isinstance(version, Version) else version
-            parse_version(text, Reading.CRATE_CARGO)
+            parse_version(text, Dialect.CRATE_CARGO)
             return False
         is_npm = self.compat is Compat.NPM
-        return meets(str(self), version, Reading.CRATE_NPM if is_npm else Reading.CRATE_CARGO)
+        return meets(str(self), version, Dialect.CRATE_NPM if is_npm else Dialect.CRATE_CARGO)
 
 
 PrecedenceKey = Tuple[int, int, int, bool, Tuple[Tuple[bool, int, str], ...]]

@@ -7,7 +7,7 @@ from .errors import NO_ROOM, Text, encoded, raise_error
 from .library import LIBRARY, FlatSet, Switch
 from .reading import numbers_of
 from .sets import version_of
-from .values import AnyVersion, PreReleases, Reading, Version, text_of
+from .values import AnyVersion, PreReleases, Dialect, Version, text_of
 
 _UNION, _INTERSECTION, _DIFFERENCE = range(3)
 
@@ -16,34 +16,34 @@ _SWITCHES, _BYTES = 8, 64
 
 
 class VersionSet:
-    """The versions that a range means, by a reading and by a rule for pre-releases, which is the
-    reading's own if none is given.
+    """The versions that a range means, by a dialect and by a rule for pre-releases, which is the
+    dialect's own if none is given.
 
-    `version in set` doesn't read the range anew; a text of a version is read by the `reading`,
+    `version in set` doesn't read the range anew; a text of a version is read by the `dialect`,
     which a set that is made of two has from the first. `|`, `&` and `-` make sets, `==` and `<=`
     compare them, and a set is true if it has a version. Sets with the same versions are equal.
 
     Raises `RangeError` if the range is none.
     """
 
-    __slots__ = ("reading", "_switches", "_bytes")
+    __slots__ = ("dialect", "_switches", "_bytes")
 
-    reading: Reading
+    dialect: Dialect
     _switches: bytes
     _bytes: bytes
 
     def __init__(
         self,
         range: Text,
-        reading: Reading = Reading.CARGO,
+        dialect: Dialect = Dialect.CARGO,
         pre_releases: Optional[PreReleases] = None,
     ) -> None:
-        numbers, text = numbers_of(reading, pre_releases), encoded(range)
+        numbers, text = numbers_of(dialect, pre_releases), encoded(range)
         made = _made(LIBRARY.semver_parser_set, (text, len(text), *numbers), range, numbers[0])
-        self._keep(reading, made)
+        self._keep(dialect, made)
 
-    def _keep(self, reading: Reading, data: Tuple[bytes, bytes]) -> None:
-        self.reading = reading
+    def _keep(self, dialect: Dialect, data: Tuple[bytes, bytes]) -> None:
+        self.dialect = dialect
         self._switches, self._bytes = data
 
     def _flat(self) -> FlatSet:
@@ -57,11 +57,11 @@ class VersionSet:
         is none."""
         text = text_of(version)
         version_bytes, is_in = encoded(text), ctypes.c_bool()
-        number, _ = numbers_of(self.reading, None)
+        number, _ = numbers_of(self.dialect, None)
         answer = LIBRARY.semver_parser_set_has(
             self._flat(), version_bytes, len(version_bytes), number, is_in
         )
-        raise_error(answer, version=text, reading=number)
+        raise_error(answer, version=text, dialect=number)
         return is_in.value
 
     def _combined(self, operation: int, other: object) -> "VersionSet":
@@ -69,7 +69,7 @@ class VersionSet:
             return NotImplemented
         inputs = (self._flat(), other._flat(), operation)
         made = VersionSet.__new__(VersionSet)
-        made._keep(self.reading, _made(LIBRARY.semver_parser_combine, inputs))
+        made._keep(self.dialect, _made(LIBRARY.semver_parser_combine, inputs))
         return made
 
     def __or__(self, other: object) -> "VersionSet":
@@ -138,7 +138,7 @@ def _made(
     call: Callable[..., int],
     inputs: Tuple[Any, ...],
     range: Text = "",
-    reading: Optional[int] = None,
+    dialect: Optional[int] = None,
 ) -> Tuple[bytes, bytes]:
     """The data of a set that a call makes."""
     count, length = ctypes.c_size_t(_SWITCHES), ctypes.c_size_t(_BYTES)
@@ -147,7 +147,7 @@ def _made(
         switches = (Switch * count.value)()
         out = ctypes.create_string_buffer(length.value)
         answer = call(*inputs, switches, len(switches), count, out, len(out), length)
-    raise_error(answer, range=range, reading=reading)
+    raise_error(answer, range=range, dialect=dialect)
     return bytes(switches)[: count.value * ctypes.sizeof(Switch)], out.raw[: length.value]
 
 

@@ -3,7 +3,7 @@
 `crates/replayed_cases` of the checkout has the rows in its `stdin` and the wanted answers in its
 `stdout`. How texts are escaped is told by its `src/text.rt`. Its calls that end with `-as-cargo`
 and `-as-npm` read ranges and versions as these tools do, beside which their rows were made; all
-others read them by the crate's readings.
+others read them by the crate's dialects.
 """
 
 import re
@@ -17,7 +17,7 @@ from semver_parser import (
     PreReleases,
     RangeError,
     RangeSet,
-    Reading,
+    Dialect,
     Version,
     VersionError,
     parse_range,
@@ -111,9 +111,9 @@ def rows_of_tools() -> Iterator[Tuple[str, str, Row]]:
             yield asked, tool, row
 
 
-def _reading(npm: bool) -> Reading:
-    """The crate's reading in one of its modes."""
-    return Reading.CRATE_NPM if npm else Reading.CRATE_CARGO
+def _dialect(npm: bool) -> Dialect:
+    """The crate's dialect in one of its modes."""
+    return Dialect.CRATE_NPM if npm else Dialect.CRATE_CARGO
 
 
 def _kinds(identifiers: Tuple[Identifier, ...]) -> str:
@@ -140,7 +140,7 @@ def _fields_of_set(answered: RangeSet) -> str:
 
 def _of_version(text: str, show: Callable[[Version], str], errors: Dict[str, str]) -> str:
     try:
-        return show(parse_version(text, Reading.CRATE_CARGO))
+        return show(parse_version(text, Dialect.CRATE_CARGO))
     except VersionError as error:
         return errors[error.name]
 
@@ -149,7 +149,7 @@ def _of_range(
     text: str, npm: bool, exact: bool, show: Callable[[RangeSet], str], errors: Dict[str, str]
 ) -> str:
     try:
-        return show(parse_range(text, _reading(npm), exact))
+        return show(parse_range(text, _dialect(npm), exact))
     except RangeError as error:
         return errors[error.name]
 
@@ -172,10 +172,10 @@ def _of_filter(
     show: Callable[[Filter, List[Version]], str],
 ) -> str:
     try:
-        chosen = Filter(text, _reading(npm), pre_releases)
+        chosen = Filter(text, _dialect(npm), pre_releases)
     except RangeError as error:
         return _RANGE_SENTENCES[error.name]
-    return show(chosen, [parse_version(it, chosen.reading) for it in steps.split(" ") if it])
+    return show(chosen, [parse_version(it, chosen.dialect) for it in steps.split(" ") if it])
 
 
 def _kept(chosen: Filter, versions: List[Version]) -> str:

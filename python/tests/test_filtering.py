@@ -1,4 +1,4 @@
-"""Which versions meet a range by each reading and each rule, in order and with repeats, and the
+"""Which versions meet a range by each dialect and each rule, in order and with repeats, and the
 greatest of them."""
 
 import ctypes
@@ -16,7 +16,7 @@ from semver_parser import (
     Range,
     RangeError,
     RangeSet,
-    Reading,
+    Dialect,
     Version,
     VersionError,
     compare_ranges,
@@ -45,11 +45,11 @@ ORDERED = [
 ]
 
 # In the order in which the tables below have what meets.
-READINGS = (Reading.CARGO, Reading.NPM, Reading.CRATE_CARGO, Reading.CRATE_NPM)
+DIALECTS = (Dialect.CARGO, Dialect.NPM, Dialect.CRATE_CARGO, Dialect.CRATE_NPM)
 RULES = (PreReleases.EXCLUDED, PreReleases.DEFAULT, PreReleases.INCLUDED)
 
 # Of docs/MEANING.md, "Which dialect?" and what it has of each tool: a range, a version, and whether
-# it meets by each reading, in the order above and by the rule that is taken where none is named;
+# it meets by each dialect, in the order above and by the rule that is taken where none is named;
 # None where the text is no range.
 BY_READING = [
     ("1.2.3", "1.9.0", (True, False, True, False)),
@@ -89,40 +89,40 @@ class Meeting(unittest.TestCase):
         for text, version, wanted in THREE_RULES:
             for rule, met in zip(RULES, wanted):
                 with self.subTest(range=text, version=version, rule=rule):
-                    self.assertIs(meets(text, version, Reading.CRATE_NPM, rule), met)
-                    self.assertIs(meets(text, version, Reading.CRATE_CARGO, rule), met)
-                    chosen = Filter(text, Reading.CRATE_NPM, rule)
+                    self.assertIs(meets(text, version, Dialect.CRATE_NPM, rule), met)
+                    self.assertIs(meets(text, version, Dialect.CRATE_CARGO, rule), met)
+                    chosen = Filter(text, Dialect.CRATE_NPM, rule)
                     self.assertIs(chosen.meets(parse_version(version)), met)
                     self.assertEqual(chosen.kept([version]), [version] if met else [])
 
-    def check_reading(
-        self, text: str, version: str, reading: Reading, wanted: Optional[bool]
+    def check_dialect(
+        self, text: str, version: str, dialect: Dialect, wanted: Optional[bool]
     ) -> None:
-        """Whether a version meets by the rule of a reading, and among releases alone."""
+        """Whether a version meets by the rule of a dialect, and among releases alone."""
         if wanted is None:
             for rule in (None, *PreReleases):
                 with self.assertRaises(RangeError):
-                    Filter(text, reading, rule)
+                    Filter(text, dialect, rule)
                 with self.assertRaises(RangeError):
-                    meets(text, version, reading, rule)
+                    meets(text, version, dialect, rule)
             return
         for rule in (None, PreReleases.DEFAULT):
-            self.assertIs(meets(text, version, reading, rule), wanted)
-            chosen = Filter(text, reading, rule)
+            self.assertIs(meets(text, version, dialect, rule), wanted)
+            chosen = Filter(text, dialect, rule)
             self.assertIs(version in chosen, wanted)
             self.assertEqual(chosen.kept([version, version]), 2 * [version] if wanted else [])
-            self.assertEqual(greatest(text, [version], reading, rule), version if wanted else None)
+            self.assertEqual(greatest(text, [version], dialect, rule), version if wanted else None)
         alone = wanted and "-" not in version
-        self.assertIs(meets(text, version, reading, PreReleases.EXCLUDED), alone)
+        self.assertIs(meets(text, version, dialect, PreReleases.EXCLUDED), alone)
 
-    def test_readings(self) -> None:
+    def test_dialects(self) -> None:
         for text, version, wanted in BY_READING:
-            for reading, met in zip(READINGS, wanted):
-                with self.subTest(range=text, version=version, reading=reading):
-                    self.check_reading(text, version, reading, met)
+            for dialect, met in zip(DIALECTS, wanted):
+                with self.subTest(range=text, version=version, dialect=dialect):
+                    self.check_dialect(text, version, dialect, met)
 
-    def test_rules_of_readings(self) -> None:
-        """Each reading takes each rule in every call."""
+    def test_rules_of_dialects(self) -> None:
+        """Each dialect takes each rule in every call."""
         calls = [
             lambda *by: meets("^1", "1.2.3", *by),
             lambda *by: Filter("^1", *by),
@@ -130,37 +130,37 @@ class Meeting(unittest.TestCase):
             lambda *by: least("^1", *by),
             lambda *by: compare_ranges("^1", "^1.2", *by),
         ]
-        for reading in Reading:
+        for dialect in Dialect:
             for rule in PreReleases:
                 for call in calls:
-                    with self.subTest(reading=reading, rule=rule):
-                        call(reading, rule)
+                    with self.subTest(dialect=dialect, rule=rule):
+                        call(dialect, rule)
 
     def test_numbers_of_the_library(self) -> None:
-        """Each number is one of a reading or of a rule, and beside these there is none."""
-        for reading in Reading:
+        """Each number is one of a dialect or of a rule, and beside these there is none."""
+        for dialect in Dialect:
             for rule in PreReleases:
-                self.assertNotEqual(self.asked(reading.value, rule.value), 15)
+                self.assertNotEqual(self.asked(dialect.value, rule.value), 15)
             for number in (-1, len(PreReleases)):
-                self.assertEqual(self.asked(reading.value, number), 15)
-        for number in (-1, len(Reading)):
+                self.assertEqual(self.asked(dialect.value, number), 15)
+        for number in (-1, len(Dialect)):
             self.assertEqual(self.asked(number, 0), 20)
 
-    def asked(self, reading: int, rule: int) -> int:
+    def asked(self, dialect: int, rule: int) -> int:
         """What the library answers."""
         length = ctypes.c_size_t()
-        answer: int = LIBRARY.semver_parser_least(b"1", 1, reading, rule, b"", 0, length)
+        answer: int = LIBRARY.semver_parser_least(b"1", 1, dialect, rule, b"", 0, length)
         return answer
 
     def test_defaults(self) -> None:
         self.assertTrue(meets("1.2.3", "1.9.0"))
         self.assertTrue(meets("1.2", "1.9.0"))
-        self.assertFalse(meets("1.2.3", "1.9.0", Reading.NPM))
+        self.assertFalse(meets("1.2.3", "1.9.0", Dialect.NPM))
         self.assertTrue(meets("^1.2.3-beta", "1.2.3-rc"))
         self.assertFalse(meets("^1.2.3-beta", "1.3.0-rc"))
-        for reading in Reading:
-            self.assertIs(Filter("1", reading).pre_releases, PreReleases.DEFAULT)
-            self.assertEqual(Filter("1", reading), Filter("1", reading, PreReleases.DEFAULT))
+        for dialect in Dialect:
+            self.assertIs(Filter("1", dialect).pre_releases, PreReleases.DEFAULT)
+            self.assertEqual(Filter("1", dialect), Filter("1", dialect, PreReleases.DEFAULT))
 
     def test_errors(self) -> None:
         for call in (meets, lambda text, version: Filter(text).meets(version)):
@@ -180,7 +180,7 @@ class Meeting(unittest.TestCase):
     def test_in_a_filter(self) -> None:
         for text, version, wanted in THREE_RULES:
             for rule, met in zip(RULES, wanted):
-                chosen = Filter(text, Reading.CRATE_NPM, rule)
+                chosen = Filter(text, Dialect.CRATE_NPM, rule)
                 for asked in (version, version.encode(), parse_version(version)):
                     self.assertIs(asked in chosen, met, (text, version, rule))
         with self.assertRaises(VersionError):
@@ -191,19 +191,19 @@ class Meeting(unittest.TestCase):
     def test_in_a_range_set(self) -> None:
         """It goes by the comparators, which differ from the text in pre-releases of a raised bound
         alone, and not where bounds are exact."""
-        crate = Reading.CRATE_CARGO
-        for reading in (crate, Reading.CRATE_NPM):
+        crate = Dialect.CRATE_CARGO
+        for dialect in (crate, Dialect.CRATE_NPM):
             for text, version, wanted in THREE_RULES:
                 for exact in (False, True):
-                    answered = parse_range(text, reading, exact)
+                    answered = parse_range(text, dialect, exact)
                     self.assertIs(version in answered, wanted[1], (text, version, exact))
                     self.assertIs(parse_version(version) in answered, wanted[1])
         self.assertIn("2.0.0-a", parse_range("^1.2 <2.0.0-b", crate))
         self.assertNotIn("2.0.0-a", parse_range("^1.2 <2.0.0-b", crate, exact=True))
         self.assertIn("1.9.0", parse_range("1.2.3"))
-        self.assertNotIn("1.9.0", parse_range("1.2.3", Reading.NPM))
+        self.assertNotIn("1.9.0", parse_range("1.2.3", Dialect.NPM))
         for version in ("0.0.0", b"1.0.0", Version(1, 0, 0)):
-            self.assertIn(version, parse_range("", Reading.NPM))
+            self.assertIn(version, parse_range("", Dialect.NPM))
             self.assertIn(version, parse_range("*"))
             self.assertIn(version, RangeSet((Range((), Compat.NPM),), Compat.NPM))
             self.assertNotIn(version, RangeSet((), Compat.NPM))
@@ -218,32 +218,32 @@ class Meeting(unittest.TestCase):
     def test_tools_in_a_range_set(self) -> None:
         """Of releases the comparators tell what the text means to the tool, and of pre-releases
         what they state: so the text has to be asked for those of the tool."""
-        for text, reading, version, means, states in (
-            ("* || =1.0.0-a", Reading.NPM, "1.0.0-a", False, True),
-            ("^1.2.3-beta", Reading.NPM, "1.2.3-rc", True, True),
-            ("=1.2, >=1.2.0-a", Reading.CARGO, "1.2.0-b", False, False),
-            ("^1.2, >=1.2.0-a", Reading.CARGO, "1.2.0-b", True, False),
+        for text, dialect, version, means, states in (
+            ("* || =1.0.0-a", Dialect.NPM, "1.0.0-a", False, True),
+            ("^1.2.3-beta", Dialect.NPM, "1.2.3-rc", True, True),
+            ("=1.2, >=1.2.0-a", Dialect.CARGO, "1.2.0-b", False, False),
+            ("^1.2, >=1.2.0-a", Dialect.CARGO, "1.2.0-b", True, False),
         ):
-            self.assertIs(meets(text, version, reading), means, text)
-            self.assertIs(version in parse_range(text, reading), states, text)
+            self.assertIs(meets(text, version, dialect), means, text)
+            self.assertIs(version in parse_range(text, dialect), states, text)
         for text, version, wanted in BY_READING:
-            for reading, met in zip(Reading, wanted):
+            for dialect, met in zip(Dialect, wanted):
                 if met is not None and "-" not in version:
-                    self.assertIs(version in parse_range(text, reading), met, (text, reading))
+                    self.assertIs(version in parse_range(text, dialect), met, (text, dialect))
 
     def test_other_types(self) -> None:
         for arguments in (("1", 1), (None, "1.2.3"), ("1", "1.2.3", "npm"), ("1", "1.2.3", 1)):
             with self.assertRaises(TypeError):
                 meets(*arguments)
-        for reading in (1, True, "npm", None, Compat.NPM):
+        for dialect in (1, True, "npm", None, Compat.NPM):
             for call in (Filter, least, partial(compare_ranges, "1")):
                 for rule in (None, *PreReleases):
-                    with self.assertRaisesRegex(TypeError, "^a reading is a Reading, and not "):
-                        call("1", reading, rule)
-        for rule in (1, True, "stated", Reading.NPM):
+                    with self.assertRaisesRegex(TypeError, "^a dialect is a Dialect, and not "):
+                        call("1", dialect, rule)
+        for rule in (1, True, "stated", Dialect.NPM):
             for call in (Filter, least, partial(compare_ranges, "1")):
                 with self.assertRaisesRegex(TypeError, "^a rule for pre-releases is a PreReleases"):
-                    call("1", Reading.CRATE_NPM, rule)
+                    call("1", Dialect.CRATE_NPM, rule)
 
 
 class Kept(unittest.TestCase):
@@ -257,14 +257,14 @@ class Kept(unittest.TestCase):
 
     def test_errors(self) -> None:
         given = ["1.2.0", "1.2", "\ud800", "1.2.3/", "1.4.0"]
-        for reading, name, sentence in (
-            (Reading.CARGO, "not-a-version", "not a version"),
-            (Reading.NPM, "not-a-version", "not a version"),
-            (Reading.CRATE_CARGO, "unexpected-end", "the version ends too early"),
-            (Reading.CRATE_NPM, "unexpected-end", "the version ends too early"),
+        for dialect, name, sentence in (
+            (Dialect.CARGO, "not-a-version", "not a version"),
+            (Dialect.NPM, "not-a-version", "not a version"),
+            (Dialect.CRATE_CARGO, "unexpected-end", "the version ends too early"),
+            (Dialect.CRATE_NPM, "unexpected-end", "the version ends too early"),
         ):
             with self.assertRaises(VersionError) as caught:
-                Filter("^1.2", reading).kept(given)
+                Filter("^1.2", dialect).kept(given)
             error = caught.exception
             self.assertEqual((error.name, error.text, error.index), (name, "1.2", 1))
             self.assertEqual(str(error), f"{sentence}, at index 1: '1.2'")
@@ -284,27 +284,27 @@ class Kept(unittest.TestCase):
             with self.assertRaises(TypeError):
                 Filter("^1").greatest(one)
 
-    def test_readings(self) -> None:
-        """The versions are read by the reading of the range, as docs/GRAMMAR.md has them."""
-        of_crate = (Reading.CRATE_CARGO, Reading.CRATE_NPM)
+    def test_dialects(self) -> None:
+        """The versions are read by the dialect of the range, as docs/GRAMMAR.md has them."""
+        of_crate = (Dialect.CRATE_CARGO, Dialect.CRATE_NPM)
         for text, takes in (
-            ("1.0.0--a", (Reading.CARGO, Reading.NPM)),
+            ("1.0.0--a", (Dialect.CARGO, Dialect.NPM)),
             ("1.0.0-01", of_crate),
-            ("v1.2.3", (Reading.NPM,)),
-            (" 1.2.3 ", (Reading.NPM, *of_crate)),
-            ("\u00a01.2.3", (Reading.NPM,)),
-            ("9007199254740992.0.0", (Reading.CARGO, *of_crate)),
+            ("v1.2.3", (Dialect.NPM,)),
+            (" 1.2.3 ", (Dialect.NPM, *of_crate)),
+            ("\u00a01.2.3", (Dialect.NPM,)),
+            ("9007199254740992.0.0", (Dialect.CARGO, *of_crate)),
         ):
-            for reading in Reading:
-                with self.subTest(text=text, reading=reading):
-                    chosen = Filter(">=1.0.0-0", reading)
-                    if reading in takes:
+            for dialect in Dialect:
+                with self.subTest(text=text, dialect=dialect):
+                    chosen = Filter(">=1.0.0-0", dialect)
+                    if dialect in takes:
                         self.assertTrue(chosen.meets(text))
-                        self.assertTrue(meets(">=1.0.0-0", text, reading))
+                        self.assertTrue(meets(">=1.0.0-0", text, dialect))
                         self.assertEqual(chosen.kept(["0.1.0", text]), [text])
                         self.assertEqual(chosen.greatest(["0.1.0", text]), text)
                         continue
-                    for call in (chosen.meets, lambda it, by=reading: meets(">=1.0.0-0", it, by)):
+                    for call in (chosen.meets, lambda it, by=dialect: meets(">=1.0.0-0", it, by)):
                         with self.assertRaises(VersionError):
                             call(text)
                     for call in (chosen.kept, chosen.greatest):
@@ -318,17 +318,17 @@ class Kept(unittest.TestCase):
         canary = "6.2.0--canary.14175.ab12.0"
         given = ["6.2.0--canary.9.0", canary, "6.2.0--canary.14175.ab12", "6.2.1--canary.1"]
         given.append("5.0.0")
-        for reading in (Reading.CARGO, Reading.NPM):
-            chosen = Filter("^6.2.0--canary.10", reading)
+        for dialect in (Dialect.CARGO, Dialect.NPM):
+            chosen = Filter("^6.2.0--canary.10", dialect)
             self.assertEqual(chosen.kept(given), [canary, given[2]])
             self.assertEqual(chosen.greatest(given), canary)
             made = list(map(parse_version, given))
             self.assertEqual(chosen.greatest(made), made[1])
             self.assertEqual(chosen.greatest([*given, "6.2.0"]), "6.2.0")
-            self.assertEqual(Filter("^6.2.0", reading).kept(given), [])
-            self.assertEqual(greatest("=" + canary, given, reading), canary)
-        for reading in (Reading.CRATE_CARGO, Reading.CRATE_NPM):
-            chosen = Filter("^6.2.0--canary.10", reading)
+            self.assertEqual(Filter("^6.2.0", dialect).kept(given), [])
+            self.assertEqual(greatest("=" + canary, given, dialect), canary)
+        for dialect in (Dialect.CRATE_CARGO, Dialect.CRATE_NPM):
+            chosen = Filter("^6.2.0--canary.10", dialect)
             with self.assertRaises(VersionError) as caught:
                 chosen.greatest(given)
             self.assertEqual(caught.exception.name, "unexpected-token")
@@ -341,8 +341,8 @@ class Kept(unittest.TestCase):
         self.assertEqual(Filter("1.x").greatest(given), given[-1])
 
     def test_filter_is_a_value(self) -> None:
-        self.assertEqual(Filter("^1"), Filter("^1", Reading.CARGO, PreReleases.DEFAULT))
-        self.assertEqual(len({Filter("^1"), Filter("^1"), Filter("^1", Reading.NPM)}), 2)
+        self.assertEqual(Filter("^1"), Filter("^1", Dialect.CARGO, PreReleases.DEFAULT))
+        self.assertEqual(len({Filter("^1"), Filter("^1"), Filter("^1", Dialect.NPM)}), 2)
         self.assertNotEqual(Filter("^1.2"), Filter("1.2"))
         self.assertEqual(pickle.loads(pickle.dumps(Filter("^1"))), Filter("^1"))
 
@@ -354,25 +354,25 @@ class Greatest(unittest.TestCase):
         for lower, higher in zip(versions, versions[1:]):
             self.assertLess(precedence(lower), precedence(higher))
 
-    def goes_as_comparators(self, ends: List[str], readings: Tuple[Reading, ...]) -> None:
+    def goes_as_comparators(self, ends: List[str], dialects: Tuple[Dialect, ...]) -> None:
         """The order of the keys is that of the comparators."""
         versions = [f"1.2.3{end}" for end in ends]
-        for reading in readings:
-            keys = {it: precedence(parse_version(it, reading)) for it in versions}
+        for dialect in dialects:
+            keys = {it: precedence(parse_version(it, dialect)) for it in versions}
             for one in versions:
                 for other in versions:
                     if "-01" in other or "+" in other:
                         continue  # a range has it as another identifier, or drops it
-                    wanted = meets(f"<{other}", one, reading, PreReleases.INCLUDED)
-                    self.assertIs(keys[one] < keys[other], wanted, (one, other, reading))
+                    wanted = meets(f"<{other}", one, dialect, PreReleases.INCLUDED)
+                    self.assertIs(keys[one] < keys[other], wanted, (one, other, dialect))
 
     def test_precedence_is_the_library_s(self) -> None:
         """For identifiers of all kinds."""
         ends = ["", "-0", "-1", "-10", "-2", "-a", "-A", "-a-b", "-a.0", "-a.a", "-a.0.0", "-a+b"]
         large = [f"-{number}" for number in (2**64 - 1, 2**64, 99999999999999999999)]
         hyphens = ["--", "--a", "--1", "-a-", "-a--b", "-a.-", "---"]
-        self.goes_as_comparators([*ends, *large, "-01"], (Reading.CRATE_CARGO, Reading.CRATE_NPM))
-        self.goes_as_comparators([*ends, *hyphens], (Reading.CARGO, Reading.NPM))
+        self.goes_as_comparators([*ends, *large, "-01"], (Dialect.CRATE_CARGO, Dialect.CRATE_NPM))
+        self.goes_as_comparators([*ends, *hyphens], (Dialect.CARGO, Dialect.NPM))
 
     def test_other_types(self) -> None:
         for value in ("1.2.3", b"1.2.3", (1, 2, 3), 1, None):
@@ -417,7 +417,7 @@ class Greatest(unittest.TestCase):
         self.assertEqual(greatest("<1.0.0-rc.1", ORDERED), "1.0.0-beta.11")
         self.assertIsNone(greatest("^3", ORDERED))
         self.assertIsNone(greatest("^3", []))
-        self.assertEqual(greatest("1", ["1.9.0", "1.10.0", "1.2.0"], Reading.NPM), "1.10.0")
+        self.assertEqual(greatest("1", ["1.9.0", "1.10.0", "1.2.0"], Dialect.NPM), "1.10.0")
 
     def test_first_among_equals(self) -> None:
         given: List[object] = ["1.0.0", "1.2.0+a", b"1.2.0+b", Version(1, 2, 0)]
@@ -441,7 +441,7 @@ class Threads(unittest.TestCase):
         def ask(number: int) -> None:
             mine = [f"{number}.{minor}.0-rc.{minor}" for minor in range(50)]
             for _ in range(40):
-                chosen = Filter(f"^{number}.10.0-rc", Reading.CRATE_NPM, PreReleases.INCLUDED)
+                chosen = Filter(f"^{number}.10.0-rc", Dialect.CRATE_NPM, PreReleases.INCLUDED)
                 if chosen.kept(mine) != mine[10:] or chosen.greatest(mine) != mine[-1]:
                     wrong.append(number)
                 if [str(parse_version(text)) for text in mine] != mine:

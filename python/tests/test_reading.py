@@ -14,7 +14,7 @@ from semver_parser import (
     Range,
     RangeError,
     RangeSet,
-    Reading,
+    Dialect,
     Text,
     Version,
     VersionError,
@@ -32,7 +32,7 @@ MOST = 2**64 - 1
 # The greatest number of npm's versions.
 MOST_OF_NPM = 2**53 - 1
 
-CRATE = (Reading.CRATE_CARGO, Reading.CRATE_NPM)
+CRATE = (Dialect.CRATE_CARGO, Dialect.CRATE_NPM)
 
 # A version text, and what docs/GRAMMAR.md has of it under "Versions of Cargo and npm" and under
 # "Version texts": the version in Cargo's dialect, in npm's, and in the crate's two, or None
@@ -79,21 +79,21 @@ VERSIONS: List[Tuple[Text, Tuple[Optional[Version], Optional[Version], Optional[
 
 
 class ByReading(unittest.TestCase):
-    """Versions by each reading."""
+    """Versions by each dialect."""
 
-    def test_readings(self) -> None:
+    def test_dialects(self) -> None:
         for text, (by_cargo, by_npm, by_crate) in VERSIONS:
-            for reading, wanted in zip(Reading, (by_cargo, by_npm, by_crate, by_crate)):
-                with self.subTest(text=text, reading=reading):
+            for dialect, wanted in zip(Dialect, (by_cargo, by_npm, by_crate, by_crate)):
+                with self.subTest(text=text, dialect=dialect):
                     if wanted is not None:
-                        self.assertEqual(parse_version(text, reading), wanted)
-                        self.assertEqual(parse_version(str(wanted), reading), wanted)
+                        self.assertEqual(parse_version(text, dialect), wanted)
+                        self.assertEqual(parse_version(str(wanted), dialect), wanted)
                         continue
                     with self.assertRaises(VersionError) as caught:
-                        parse_version(text, reading)
+                        parse_version(text, dialect)
                     self.assertEqual(caught.exception.text, text)
                     is_none = caught.exception.name == "not-a-version"
-                    self.assertIs(is_none, reading not in CRATE)
+                    self.assertIs(is_none, dialect not in CRATE)
 
     def test_default(self) -> None:
         """It is Cargo's dialect."""
@@ -107,22 +107,22 @@ class ByReading(unittest.TestCase):
 
     def test_places(self) -> None:
         """Where and why a text is none."""
-        for text, reading, place, reason in (
-            ("", Reading.CARGO, 0, "empty"),
-            ("1.2", Reading.CARGO, 3, "not-three-numbers"),
-            ("1.2.03", Reading.CARGO, 5, "leading-zero"),
-            ("1.2.3-a..b", Reading.NPM, 8, "empty-identifier"),
-            ("1.2.x", Reading.CARGO, 4, "unexpected-character"),
-            ("9007199254740992.0.0", Reading.NPM, 15, "too-large"),
-            ("1.0.0-" + 251 * "a", Reading.NPM, 256, "too-long"),
-            ("\u30001.2.3\u3000x", Reading.NPM, 7, "text-after"),
-            ("\u30001.2.3\u3000x".encode(), Reading.NPM, 11, "text-after"),
-            (b"1.2.3-\xff", Reading.CARGO, 6, "unexpected-character"),
-            ("1.2.3-\udc80", Reading.CARGO, 6, "unexpected-character"),
-            ("1.2.3--1", Reading.CRATE_CARGO, 6, "empty-identifier"),
+        for text, dialect, place, reason in (
+            ("", Dialect.CARGO, 0, "empty"),
+            ("1.2", Dialect.CARGO, 3, "not-three-numbers"),
+            ("1.2.03", Dialect.CARGO, 5, "leading-zero"),
+            ("1.2.3-a..b", Dialect.NPM, 8, "empty-identifier"),
+            ("1.2.x", Dialect.CARGO, 4, "unexpected-character"),
+            ("9007199254740992.0.0", Dialect.NPM, 15, "too-large"),
+            ("1.0.0-" + 251 * "a", Dialect.NPM, 256, "too-long"),
+            ("\u30001.2.3\u3000x", Dialect.NPM, 7, "text-after"),
+            ("\u30001.2.3\u3000x".encode(), Dialect.NPM, 11, "text-after"),
+            (b"1.2.3-\xff", Dialect.CARGO, 6, "unexpected-character"),
+            ("1.2.3-\udc80", Dialect.CARGO, 6, "unexpected-character"),
+            ("1.2.3--1", Dialect.CRATE_CARGO, 6, "empty-identifier"),
         ):
             with self.subTest(text=text), self.assertRaises(VersionError) as caught:
-                parse_version(text, reading)
+                parse_version(text, dialect)
             self.assertEqual((caught.exception.place, caught.exception.reason), (place, reason))
 
     def test_sizes(self) -> None:
@@ -131,36 +131,36 @@ class ByReading(unittest.TestCase):
         self.assertEqual((read.pre, read.build), (("a", 1) * 50_000, ("a", 1) * 50_000))
         self.assertEqual(parse_version("1.2.3-" + "-" * 100_000).pre, ("-" * 100_000,))
         white_space = " " * 251
-        self.assertEqual(parse_version(f"{white_space}1.2.3", Reading.NPM), Version(1, 2, 3))
+        self.assertEqual(parse_version(f"{white_space}1.2.3", Dialect.NPM), Version(1, 2, 3))
         with self.assertRaises(VersionError):
-            parse_version(f"{white_space}1.2.30", Reading.NPM)
+            parse_version(f"{white_space}1.2.30", Dialect.NPM)
 
 
 class Versions(unittest.TestCase):
     """Versions of the crate's grammar."""
 
     def test_fields(self) -> None:
-        for reading in CRATE:
-            self.assertEqual(parse_version("1.2.3", reading), Version(1, 2, 3, (), ()))
+        for dialect in CRATE:
+            self.assertEqual(parse_version("1.2.3", dialect), Version(1, 2, 3, (), ()))
             self.assertEqual(
-                parse_version("1.2.3-rc.1.07+b5.5", reading),
+                parse_version("1.2.3-rc.1.07+b5.5", dialect),
                 Version(1, 2, 3, ("rc", 1, "07"), ("b5", 5)),
             )
-            read = parse_version(f"{MOST}.{MOST}.{MOST}", reading)
+            read = parse_version(f"{MOST}.{MOST}.{MOST}", dialect)
             self.assertEqual(read, Version(MOST, MOST, MOST))
 
     def test_kinds_of_identifiers(self) -> None:
-        read = parse_version(f"0.0.0-0.00.{MOST}.{MOST + 1}.1a.1-2", Reading.CRATE_CARGO)
+        read = parse_version(f"0.0.0-0.00.{MOST}.{MOST + 1}.1a.1-2", Dialect.CRATE_CARGO)
         self.assertEqual(read.pre, (0, "00", MOST, str(MOST + 1), "1a", "1-2"))
 
     def test_white_space_and_bytes(self) -> None:
         wanted = Version(1, 2, 3, ("a",), ("b",))
         for text in (" \t\r\n1.2.3-a+b \n", b"1.2.3-a+b", b"  1.2.3-a+b"):
-            self.assertEqual(parse_version(text, Reading.CRATE_CARGO), wanted)
+            self.assertEqual(parse_version(text, Dialect.CRATE_CARGO), wanted)
 
     def test_printed(self) -> None:
         for text in ("1.2.3", "1.2.3-rc.1.07+b5.5", "0.0.0-0", "1.2.3+a-b.0"):
-            self.assertEqual(str(parse_version(f" {text} ", Reading.CRATE_NPM)), text)
+            self.assertEqual(str(parse_version(f" {text} ", Dialect.CRATE_NPM)), text)
 
     def refuses_parts(self, kind: type, part: object) -> None:
         """As a pre-release and as a build."""
@@ -169,7 +169,7 @@ class Versions(unittest.TestCase):
                 Version(1, 2, 3, *parts)
 
     def test_made_by_hand(self) -> None:
-        """The printed text of a version is read as that version by each reading that has it."""
+        """The printed text of a version is read as that version by each dialect that has it."""
         of_all = (0, MOST, "a", "1-2", "a-b-3", str(MOST + 1), "9" * 100)
         of_tools = ("-", "--", "-a", "a-", "a--b", "-1", "-01", "0-")
         for number in (0, 7, MOST_OF_NPM):
@@ -178,15 +178,15 @@ class Versions(unittest.TestCase):
                     Version(number, 0, number, (identifier,)),
                     Version(0, number, 1, (), (identifier, "b")),
                 ):
-                    for reading in Reading:
-                        if identifier in of_tools and reading in CRATE:
+                    for dialect in Dialect:
+                        if identifier in of_tools and dialect in CRATE:
                             with self.assertRaises(VersionError):
-                                parse_version(str(made), reading)
+                                parse_version(str(made), dialect)
                         else:
-                            self.assertEqual(parse_version(str(made), reading), made)
+                            self.assertEqual(parse_version(str(made), dialect), made)
         for made in (Version(MOST, 0, MOST, ("a",)), Version(1, 2, 3, ("a", "00"), ("00",))):
-            for reading in CRATE:
-                self.assertEqual(parse_version(str(made), reading), made)
+            for dialect in CRATE:
+                self.assertEqual(parse_version(str(made), dialect), made)
 
     def test_no_version(self) -> None:
         for wrong in (-1, MOST + 1):
@@ -218,11 +218,11 @@ class Versions(unittest.TestCase):
 
     def test_sizes(self) -> None:
         many = ".".join(["a", "1"] * 50_000)
-        read = parse_version(f"1.2.3-{many}+{many}", Reading.CRATE_NPM)
+        read = parse_version(f"1.2.3-{many}+{many}", Dialect.CRATE_NPM)
         self.assertEqual(read.pre, ("a", 1) * 50_000)
         self.assertEqual(read.build, read.pre)
         nines = "9" * 100_000
-        self.assertEqual(parse_version(f"1.2.3-{nines}", Reading.CRATE_CARGO).pre, (nines,))
+        self.assertEqual(parse_version(f"1.2.3-{nines}", Dialect.CRATE_CARGO).pre, (nines,))
 
 
 class Ranges(unittest.TestCase):
@@ -235,45 +235,45 @@ class Ranges(unittest.TestCase):
             ),
             npm,
         )
-        answered = parse_range("^1.2 || 1.2.3-b.007+c", Reading.CRATE_NPM, exact=True)
+        answered = parse_range("^1.2 || 1.2.3-b.007+c", Dialect.CRATE_NPM, exact=True)
         self.assertEqual(answered, wanted)
-        self.assertEqual(parse_range("^1.2 || 1.2.3-b.7+c", Reading.NPM), wanted)
+        self.assertEqual(parse_range("^1.2 || 1.2.3-b.7+c", Dialect.NPM), wanted)
         self.assertEqual(str(wanted), ">=1.2.0 <2.0.0-0 || =1.2.3-b.7")
 
-    def test_readings(self) -> None:
+    def test_dialects(self) -> None:
         """What docs/MEANING.md has in the table of "Which dialect?", with exact bounds."""
-        for text, wanted in READINGS:
-            for reading, set_text in zip(Reading, wanted):
-                with self.subTest(text=text, reading=reading):
+        for text, wanted in DIALECTS:
+            for dialect, set_text in zip(Dialect, wanted):
+                with self.subTest(text=text, dialect=dialect):
                     if set_text is None:
                         with self.assertRaises(RangeError) as caught:
-                            parse_range(text, reading, exact=True)
+                            parse_range(text, dialect, exact=True)
                         self.assertEqual(caught.exception.name, "not-a-range")
                     else:
-                        answered = parse_range(text, reading, exact=True)
+                        answered = parse_range(text, dialect, exact=True)
                         self.assertEqual(str(answered), set_text)
-                        self.assertIs(answered.compat, reading.compat)
+                        self.assertIs(answered.compat, dialect.compat)
 
     def test_compat(self) -> None:
         wanted = [Compat.CARGO, Compat.NPM, Compat.CARGO, Compat.NPM]
-        self.assertEqual([reading.compat for reading in Reading], wanted)
+        self.assertEqual([dialect.compat for dialect in Dialect], wanted)
 
     def test_default(self) -> None:
         """It is Cargo's dialect."""
-        self.assertEqual(parse_range("1.2"), parse_range("1.2", Reading.CARGO))
+        self.assertEqual(parse_range("1.2"), parse_range("1.2", Dialect.CARGO))
         self.assertEqual(str(parse_range("1.2")), ">=1.2.0 <2.0.0-0")
         self.assertIs(parse_range("1.2").compat, Compat.CARGO)
 
     def test_exact_bounds(self) -> None:
-        for reading in Reading:
-            exact = [str(parse_range(it, reading, True)) for it in ("<=1.2", "^1.2.3", "<2.0.0")]
+        for dialect in Dialect:
+            exact = [str(parse_range(it, dialect, True)) for it in ("<=1.2", "^1.2.3", "<2.0.0")]
             self.assertEqual(exact, ["<1.3.0-0", ">=1.2.3 <2.0.0-0", "<2.0.0"])
-        for reading in (Reading.CRATE_CARGO, Reading.CRATE_NPM):
-            self.assertEqual(str(parse_range("<=1.2", reading)), "<1.3.0")
-            self.assertEqual(str(parse_range("^1.2.3", reading)), ">=1.2.3 <2.0.0")
-        for reading in (Reading.CARGO, Reading.NPM):
-            self.assertEqual(str(parse_range("<=1.2", reading)), "<1.3.0-0")
-            self.assertEqual(str(parse_range("^1.2.3", reading)), ">=1.2.3 <2.0.0-0")
+        for dialect in (Dialect.CRATE_CARGO, Dialect.CRATE_NPM):
+            self.assertEqual(str(parse_range("<=1.2", dialect)), "<1.3.0")
+            self.assertEqual(str(parse_range("^1.2.3", dialect)), ">=1.2.3 <2.0.0")
+        for dialect in (Dialect.CARGO, Dialect.NPM):
+            self.assertEqual(str(parse_range("<=1.2", dialect)), "<1.3.0-0")
+            self.assertEqual(str(parse_range("^1.2.3", dialect)), ">=1.2.3 <2.0.0-0")
 
     def test_operators(self) -> None:
         text = "<1.0.0, <=1.0.0, >1.0.0, >=1.0.0, =1.0.0"
@@ -295,30 +295,30 @@ class Ranges(unittest.TestCase):
             text = "||".join(["^1.2.3-rc.1"] * count)
             one = Range((Comparator(Op.GTE, 1, 2, 3, ("rc", 1)), Comparator(Op.LT, 2, 0, 0)), NPM)
             wanted = RangeSet((one,) * count, NPM)
-            self.assertEqual(parse_range(text, Reading.CRATE_NPM), wanted)
+            self.assertEqual(parse_range(text, Dialect.CRATE_NPM), wanted)
         for length in range(40, 100):
             answered = parse_range("=1.2.3-" + "a" * length)
             self.assertEqual(answered.ranges[0].comparator_set[0].pre, ("a" * length,))
 
     def test_sizes(self) -> None:
-        for reading in (Reading.NPM, Reading.CRATE_CARGO, Reading.CRATE_NPM):
-            self.assertEqual(len(parse_range("||" * 99_999, reading).ranges), 100_000)
-            comparators = parse_range("* " * 100_000, reading).ranges[0].comparator_set
+        for dialect in (Dialect.NPM, Dialect.CRATE_CARGO, Dialect.CRATE_NPM):
+            self.assertEqual(len(parse_range("||" * 99_999, dialect).ranges), 100_000)
+            comparators = parse_range("* " * 100_000, dialect).ranges[0].comparator_set
             self.assertEqual(len(comparators), 100_000)
         self.assertEqual(len(parse_range(",".join(["1"] * 32)).ranges[0].comparator_set), 64)
         with self.assertRaises(RangeError):
             parse_range(",".join(["1"] * 33))
         many = parse_range("=1.2.3-" + ".".join(["a", "1"] * 50_000))
         self.assertEqual(many.ranges[0].comparator_set[0].pre, ("a", 1) * 50_000)
-        many = parse_range("=1.2.3-" + ".".join(["a", "01"] * 50_000), Reading.CRATE_CARGO)
+        many = parse_range("=1.2.3-" + ".".join(["a", "01"] * 50_000), Dialect.CRATE_CARGO)
         self.assertEqual(many.ranges[0].comparator_set[0].pre, ("a", 1) * 50_000)
 
 
 NPM = Compat.NPM
 
-# A range text, and what it is rewritten to by each reading, or None where it is none: Cargo's own,
+# A range text, and what it is rewritten to by each dialect, or None where it is none: Cargo's own,
 # npm's own, and the crate's in Cargo mode and in npm mode.
-READINGS = [
+DIALECTS = [
     ("1.2.3", (">=1.2.3 <2.0.0-0", "=1.2.3", ">=1.2.3 <2.0.0-0", "=1.2.3")),
     ("1.2", (">=1.2.0 <2.0.0-0", *3 * (">=1.2.0 <1.3.0-0",))),
     (">1.2", (*2 * (">=1.3.0",), *2 * (">1.2.0",))),
@@ -337,24 +337,24 @@ READINGS = [
 
 class Errors(unittest.TestCase):
     def refuses_version(self, text: Text, name: str) -> None:
-        """By the crate's readings the name is that of the error, and by the tools' one."""
+        """By the crate's dialects the name is that of the error, and by the tools' one."""
         of_tool = name if name == "not-utf8" else "not-a-version"
-        for reading in Reading:
+        for dialect in Dialect:
             with self.assertRaises(VersionError) as caught:
-                parse_version(text, reading)
-            wanted = name if reading in CRATE else of_tool
+                parse_version(text, dialect)
+            wanted = name if dialect in CRATE else of_tool
             self.assertEqual((caught.exception.name, caught.exception.text), (wanted, text))
 
     def refuses_version_of_crate(self, text: Text, name: str) -> None:
-        for reading in CRATE:
+        for dialect in CRATE:
             with self.assertRaises(VersionError) as caught:
-                parse_version(text, reading)
+                parse_version(text, dialect)
             self.assertEqual((caught.exception.name, caught.exception.text), (name, text))
 
     def refuses_range(self, text: Text, name: str) -> None:
-        for reading in Reading:
+        for dialect in Dialect:
             with self.assertRaises(RangeError) as caught:
-                parse_range(text, reading)
+                parse_range(text, dialect)
             self.assertEqual((caught.exception.name, caught.exception.text), (name, text))
 
     def test_versions(self) -> None:
@@ -373,9 +373,9 @@ class Errors(unittest.TestCase):
         for text in ("1.2.3 -4", ">=1.0.0, <2.0.0 || 3", "v 1.2.3", "|", "V1", "*\0"):
             self.refuses_range(text, "not-a-range")
         for text in (">=1.0.0, <2.0.0", "v1.2.3", "1\n"):
-            for reading in (Reading.CRATE_CARGO, Reading.CRATE_NPM):
+            for dialect in (Dialect.CRATE_CARGO, Dialect.CRATE_NPM):
                 with self.assertRaises(RangeError):
-                    parse_range(text, reading)
+                    parse_range(text, dialect)
         for text in (f"{MOST + 1}", f"<={MOST}"):
             self.refuses_range(text, "number-too-large")
 
@@ -383,7 +383,7 @@ class Errors(unittest.TestCase):
         """The place counts characters of a `str`, and bytes of `bytes`."""
         for text, place in (("\u3000>\u3000v\u2070", 4), ("\u3000>\u3000v\u2070".encode(), 8)):
             with self.assertRaises(RangeError) as caught:
-                parse_range(text, Reading.NPM)
+                parse_range(text, Dialect.NPM)
             self.assertEqual((caught.exception.place, caught.exception.hint), (place, None))
         for call in (least, VersionSet, lambda it: Filter(it).kept(["1.2.3"])):
             with self.assertRaises(RangeError) as caught:
@@ -408,10 +408,10 @@ class Errors(unittest.TestCase):
 
     def test_messages(self) -> None:
         with self.assertRaisesRegex(ValueError, r"^the version ends too early: '1\.2'$"):
-            parse_version("1.2", Reading.CRATE_CARGO)
-        for reading in (Reading.CARGO, Reading.NPM):
+            parse_version("1.2", Dialect.CRATE_CARGO)
+        for dialect in (Dialect.CARGO, Dialect.NPM):
             with self.assertRaisesRegex(ValueError, r"^not a version: '1\.2'$"):
-                parse_version("1.2", reading)
+                parse_version("1.2", dialect)
         with self.assertRaisesRegex(ValueError, r"^not a range: b'v1' \(Cargo takes no leading v; npm does\)$"):
             parse_range(b"v1")
         with self.assertRaisesRegex(ValueError, r"^not a range: 'v{79}\.\. \(of length 100000\) \("):
@@ -439,9 +439,9 @@ class Errors(unittest.TestCase):
                 parse_version(value)
             with self.assertRaises(TypeError):
                 parse_range(value)
-        for reading in ("npm", True, 0, None, Compat.NPM):
-            with self.assertRaisesRegex(TypeError, "^a reading is a Reading, and not "):
-                parse_range("1", reading)
+        for dialect in ("npm", True, 0, None, Compat.NPM):
+            with self.assertRaisesRegex(TypeError, "^a dialect is a Dialect, and not "):
+                parse_range("1", dialect)
             for text in ("1.2.3", "1.2", b"\xff"):
-                with self.assertRaisesRegex(TypeError, "^a reading is a Reading, and not "):
-                    parse_version(text, reading)
+                with self.assertRaisesRegex(TypeError, "^a dialect is a Dialect, and not "):
+                    parse_version(text, dialect)

@@ -1,4 +1,4 @@
-"""The rows of the table: versions, ranges by each reading, printing, exact bounds, and filters."""
+"""The rows of the table: versions, ranges by each dialect, printing, exact bounds, and filters."""
 
 import re
 import unittest
@@ -10,7 +10,7 @@ from semver_parser import (
     Filter,
     PreReleases,
     RangeError,
-    Reading,
+    Dialect,
     VersionError,
     meets,
     parse_range,
@@ -22,10 +22,10 @@ _SUM = "sum-of-"
 _VERSION = "version"
 _REFUSED = "refused"
 _NO_RANGE = "refused-range"
-_READINGS_OF_TOOLS = {"cargo": Reading.CARGO, "npm": Reading.NPM}
-_READINGS_OF_CRATE = {"crate-cargo": Reading.CRATE_CARGO, "crate-npm": Reading.CRATE_NPM}
-_READINGS_OF_REFUSED = {**_READINGS_OF_TOOLS, "crate": Reading.CRATE_CARGO}
-_READINGS = {**_READINGS_OF_REFUSED, **_READINGS_OF_CRATE}
+_DIALECTS_OF_TOOLS = {"cargo": Dialect.CARGO, "npm": Dialect.NPM}
+_DIALECTS_OF_CRATE = {"crate-cargo": Dialect.CRATE_CARGO, "crate-npm": Dialect.CRATE_NPM}
+_DIALECTS_OF_REFUSED = {**_DIALECTS_OF_TOOLS, "crate": Dialect.CRATE_CARGO}
+_READINGS = {**_DIALECTS_OF_REFUSED, **_DIALECTS_OF_CRATE}
 # How the table writes the reasons for which a text is no version, where it isn't the name in words.
 _REASONS = {"text-after": "text after the version"}
 # How the table writes the hints.
@@ -77,40 +77,40 @@ class Table(unittest.TestCase):
 
 
 class Tools(unittest.TestCase):
-    """The rows that were made beside Cargo's `semver` and beside node-semver, by their readings."""
+    """The rows that were made beside Cargo's `semver` and beside node-semver, by their dialects."""
 
     def test_rows(self) -> None:
         counts: Counts[Tuple[str, str]] = Counter()
         for asked, tool, row in rows_of_tools():
             asked = asked.removeprefix(_SUM)
             with self.subTest(call=row.call, text=row.text[:200], steps=row.steps):
-                reading = _READINGS[tool]
+                dialect = _READINGS[tool]
                 if asked == _NO_RANGE:
-                    self.check_no_range(row.text, reading, row.wanted)
+                    self.check_no_range(row.text, dialect, row.wanted)
                 elif asked == _REFUSED:
-                    self.check_refusal(row.text, reading, row.wanted)
+                    self.check_refusal(row.text, dialect, row.wanted)
                 elif asked == _VERSION:
-                    self.check_version(row.call, row.text, reading, row.wanted)
+                    self.check_version(row.call, row.text, dialect, row.wanted)
                 elif asked in _RULES_OF_MEANT:
                     rules = _RULES_OF_MEANT[asked]
-                    self.check_meaning(row.text, reading, rules, row.steps.split(" "), row.wanted)
+                    self.check_meaning(row.text, dialect, rules, row.steps.split(" "), row.wanted)
                 else:
-                    self.check_rewriting(row.text, reading, row.wanted)
+                    self.check_rewriting(row.text, dialect, row.wanted)
             counts[tool, asked] += 1
-        for tool in _READINGS_OF_TOOLS:
+        for tool in _DIALECTS_OF_TOOLS:
             self.assertGreater(counts[tool, "rewritten"], 80)
             self.assertGreaterEqual(counts[tool, "meant"], 50)
             self.assertGreater(counts[tool, "meant-with-all"], 50)
             self.assertGreater(counts[tool, _VERSION], 50)
-        for tool in _READINGS_OF_REFUSED:
+        for tool in _DIALECTS_OF_REFUSED:
             self.assertGreaterEqual(counts[tool, _REFUSED], 15)
-        for tool in (*_READINGS_OF_TOOLS, *_READINGS_OF_CRATE):
+        for tool in (*_DIALECTS_OF_TOOLS, *_DIALECTS_OF_CRATE):
             self.assertGreaterEqual(counts[tool, _NO_RANGE], 69)
 
-    def check_refusal(self, text: str, reading: Reading, wanted: str) -> None:
+    def check_refusal(self, text: str, dialect: Dialect, wanted: str) -> None:
         """Where and why a text is no version; the table has the place in bytes."""
         try:
-            parse_version(text, reading)
+            parse_version(text, dialect)
             answered = "a version"
         except VersionError as error:
             assert error.place is not None and error.reason is not None
@@ -118,10 +118,10 @@ class Tools(unittest.TestCase):
             answered = f"{len(text[: error.place].encode())}: {words}"
         self.assertEqual(answered, wanted)
 
-    def check_no_range(self, text: str, reading: Reading, wanted: str) -> None:
+    def check_no_range(self, text: str, dialect: Dialect, wanted: str) -> None:
         """Where and why a text gives no range, and the hint."""
         try:
-            parse_range(text, reading)
+            parse_range(text, dialect)
             answered = "a range"
         except RangeError as error:
             assert error.place is not None
@@ -130,27 +130,27 @@ class Tools(unittest.TestCase):
             answered = f"{place}: {error.name.replace('-', ' ')}{words}"
         self.assertEqual(answered, wanted)
 
-    def check_version(self, call: str, text: str, reading: Reading, wanted: str) -> None:
+    def check_version(self, call: str, text: str, dialect: Dialect, wanted: str) -> None:
         """The fields, or `none`; a long answer by its checksum."""
         try:
-            answered = fields_of_version(parse_version(text, reading))
+            answered = fields_of_version(parse_version(text, dialect))
         except VersionError as error:
             self.assertEqual(error.name, "not-a-version")
             answered = "none"
         self.assertEqual(checksum(answered) if call.startswith(_SUM) else answered, wanted)
 
-    def check_rewriting(self, text: str, reading: Reading, wanted: str) -> None:
+    def check_rewriting(self, text: str, dialect: Dialect, wanted: str) -> None:
         """In a tool's dialect bounds are exact, whatever is asked for."""
         for exact in (False, True):
             try:
-                self.assertEqual(str(parse_range(text, reading, exact)), wanted)
+                self.assertEqual(str(parse_range(text, dialect, exact)), wanted)
             except RangeError as error:
                 self.assertEqual(error.name, wanted)
 
     def check_meaning(
         self,
         text: str,
-        reading: Reading,
+        dialect: Dialect,
         rules: Tuple[Optional[PreReleases], ...],
         versions: List[str],
         wanted: str,
@@ -158,18 +158,18 @@ class Tools(unittest.TestCase):
         """By rules that mean the same, and of the releases among them. Versions whose numbers are
         too large for npm are left out."""
         try:
-            chosen = [Filter(text, reading, rule) for rule in rules]
-            releases = Filter(text, reading, PreReleases.EXCLUDED)
+            chosen = [Filter(text, dialect, rule) for rule in rules]
+            releases = Filter(text, dialect, PreReleases.EXCLUDED)
         except RangeError as error:
             self.assertEqual(error.name, wanted)
             return
         means, *meant = wanted.split(" ")
         self.assertEqual(means, "means")
-        if reading is Reading.NPM:
+        if dialect is Dialect.NPM:
             versions, meant = ([it for it in them if fits_npm(it)] for them in (versions, meant))
         for each in chosen:
             self.assertEqual(each.kept(versions), meant)
-        without = [it for it in meant if not parse_version(it, reading).pre]
+        without = [it for it in meant if not parse_version(it, dialect).pre]
         self.assertEqual(releases.kept(versions), without)
         for version in versions:
-            self.assertIs(meets(text, version, reading, rules[0]), version in meant)
+            self.assertIs(meets(text, version, dialect, rules[0]), version in meant)

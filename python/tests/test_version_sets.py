@@ -7,19 +7,19 @@ from semver_parser import (
     Filter,
     PreReleases,
     RangeError,
-    Reading,
+    Dialect,
     Version,
     VersionError,
     VersionSet,
     parse_version,
 )
 
-NPM, CRATE = Reading.NPM, Reading.CRATE_CARGO
+NPM, CRATE = Dialect.NPM, Dialect.CRATE_CARGO
 ALL = PreReleases.INCLUDED
 
-# A range, a reading, a rule, and the releases and pre-releases that it means.
+# A range, a dialect, a rule, and the releases and pre-releases that it means.
 PRINTED = [
-    ("^1.2", Reading.CARGO, PreReleases.EXCLUDED, ">=1.2.0 <2.0.0", "<0.0.0-0"),
+    ("^1.2", Dialect.CARGO, PreReleases.EXCLUDED, ">=1.2.0 <2.0.0", "<0.0.0-0"),
     ("*", NPM, PreReleases.EXCLUDED, "*", "<0.0.0-0"),
     (">2 <1", NPM, ALL, "<0.0.0-0", "<0.0.0-0"),
     (">1.2.3 <2.0.0-0", CRATE, ALL, ">=1.2.4 <2.0.0", ">=1.2.4-0 <2.0.0-0"),
@@ -41,8 +41,8 @@ def set_of(text: str) -> VersionSet:
 
 class VersionSetTest(unittest.TestCase):
     def test_prints(self) -> None:
-        for text, reading, rule, releases, pre_releases in PRINTED:
-            made = VersionSet(text, reading, rule)
+        for text, dialect, rule, releases, pre_releases in PRINTED:
+            made = VersionSet(text, dialect, rule)
             self.assertEqual((made.releases, made.pre_releases), (releases, pre_releases))
         self.assertEqual(str(VersionSet("^1.2", NPM, PreReleases.EXCLUDED)), ">=1.2.0 <2.0.0")
         self.assertEqual(
@@ -99,4 +99,4 @@ class VersionSetTest(unittest.TestCase):
         with self.assertRaises(RangeError):
             VersionSet("v1.2.3")
         with self.assertRaises(TypeError):
-            VersionSet("1.2.3", Reading.CARGO, "default")
+            VersionSet("1.2.3", Dialect.CARGO, "default")

@@ -47,9 +47,9 @@ static bool is_part(semver_parser_part part, const text *of) {
 }
 
 static int32_t read_version_at(
-    const uint8_t *bytes, const text *of, int32_t reading, semver_parser_version *out) {
+    const uint8_t *bytes, const text *of, int32_t dialect, semver_parser_version *out) {
     memset(out, FILL, sizeof *out);
-    int32_t answer = semver_parser_parse_version(bytes, of->length, reading, out);
+    int32_t answer = semver_parser_parse_version(bytes, of->length, dialect, out);
     if (answer == SEMVER_PARSER_OK) {
         require(is_part(out->pre, of) && is_part(out->build, of), "a part outside of the text", of);
         require(out->pre.length == 0 || of->bytes[out->pre.offset - 1] == '-',
@@ -62,21 +62,21 @@ static int32_t read_version_at(
     return answer;
 }
 
-int32_t read_version(const text *of, int32_t reading, semver_parser_version *out) {
+int32_t read_version(const text *of, int32_t dialect, semver_parser_version *out) {
     uint8_t *bytes = alone(of);
-    int32_t answer = read_version_at(bytes, of, reading, out);
+    int32_t answer = read_version_at(bytes, of, dialect, out);
     free(bytes);
     if (of->length == 0) {
-        require(read_version_at(NULL, of, reading, out) == answer, "another answer at null", of);
+        require(read_version_at(NULL, of, dialect, out) == answer, "another answer at null", of);
     }
     return answer;
 }
 
 static int32_t explain_version_at(
-    const uint8_t *bytes, const text *of, int32_t reading, size_t *place) {
+    const uint8_t *bytes, const text *of, int32_t dialect, size_t *place) {
     *place = SIZE_MAX;
-    int32_t answer = semver_parser_explain_version(bytes, of->length, reading, place);
-    if (answer == SEMVER_PARSER_OK || answer == SEMVER_PARSER_NO_SUCH_READING) {
+    int32_t answer = semver_parser_explain_version(bytes, of->length, dialect, place);
+    if (answer == SEMVER_PARSER_OK || answer == SEMVER_PARSER_NO_SUCH_DIALECT) {
         require(*place == SIZE_MAX, "a place where none is", of);
     } else {
         require(*place <= of->length, "a place outside of the text", of);
@@ -86,23 +86,23 @@ static int32_t explain_version_at(
     return answer;
 }
 
-int32_t explain_version(const text *of, int32_t reading, size_t *place) {
+int32_t explain_version(const text *of, int32_t dialect, size_t *place) {
     uint8_t *bytes = alone(of);
-    int32_t answer = explain_version_at(bytes, of, reading, place);
+    int32_t answer = explain_version_at(bytes, of, dialect, place);
     free(bytes);
     if (of->length == 0) {
         size_t again;
-        require(explain_version_at(NULL, of, reading, &again) == answer && again == *place,
+        require(explain_version_at(NULL, of, dialect, &again) == answer && again == *place,
             "another answer at null", of);
     }
     return answer;
 }
 
 static int32_t explain_range_at(
-    const uint8_t *bytes, const text *of, int32_t reading, size_t *place, int32_t *hint) {
+    const uint8_t *bytes, const text *of, int32_t dialect, size_t *place, int32_t *hint) {
     *place = SIZE_MAX;
     *hint = UNTOLD;
-    int32_t answer = semver_parser_explain_range(bytes, of->length, reading, place, hint);
+    int32_t answer = semver_parser_explain_range(bytes, of->length, dialect, place, hint);
     if (answer == SEMVER_PARSER_NOT_A_RANGE || answer == SEMVER_PARSER_NUMBER_TOO_LARGE) {
         require(*place <= of->length, "a place outside of the text", of);
         require(*hint == 0
@@ -115,14 +115,14 @@ static int32_t explain_range_at(
     return answer;
 }
 
-int32_t explain_range(const text *of, int32_t reading, size_t *place, int32_t *hint) {
+int32_t explain_range(const text *of, int32_t dialect, size_t *place, int32_t *hint) {
     uint8_t *bytes = alone(of);
-    int32_t answer = explain_range_at(bytes, of, reading, place, hint);
+    int32_t answer = explain_range_at(bytes, of, dialect, place, hint);
     free(bytes);
     if (of->length == 0) {
         size_t again;
         int32_t other;
-        require(explain_range_at(NULL, of, reading, &again, &other) == answer && again == *place
+        require(explain_range_at(NULL, of, dialect, &again, &other) == answer && again == *place
                     && other == *hint,
             "another answer at null", of);
     }
@@ -134,7 +134,7 @@ bool is_of_version(int32_t answer) {
            || answer == SEMVER_PARSER_NOT_A_VERSION;
 }
 
-static int32_t precedence_at(const text *version, const text *other, int32_t reading,
+static int32_t precedence_at(const text *version, const text *other, int32_t dialect,
     int32_t *order, bool *in_other, bool before, bool at_null) {
     uint8_t *bytes = alone(version);
     uint8_t *other_bytes = alone(other);
@@ -142,28 +142,28 @@ static int32_t precedence_at(const text *version, const text *other, int32_t rea
     *in_other = before;
     int32_t answer =
         semver_parser_precedence(at_null && version->length == 0 ? NULL : bytes, version->length,
-            at_null && other->length == 0 ? NULL : other_bytes, other->length, reading, order,
+            at_null && other->length == 0 ? NULL : other_bytes, other->length, dialect, order,
             in_other);
     free(bytes);
     free(other_bytes);
     bool is_ok = answer == SEMVER_PARSER_OK;
     require(is_ok ? *order >= -1 && *order <= 1 : *order == UNTOLD, "an order at an error, or none",
         version);
-    bool is_error_of_text = !is_ok && answer != SEMVER_PARSER_NO_SUCH_READING;
+    bool is_error_of_text = !is_ok && answer != SEMVER_PARSER_NO_SUCH_DIALECT;
     require(is_error_of_text || *in_other == before, "a text at fault where none is", version);
     return answer;
 }
 
 int32_t precedence(
-    const text *version, const text *other, int32_t reading, int32_t *order, bool *in_other) {
-    int32_t answer = precedence_at(version, other, reading, order, in_other, false, false);
+    const text *version, const text *other, int32_t dialect, int32_t *order, bool *in_other) {
+    int32_t answer = precedence_at(version, other, dialect, order, in_other, false, false);
     int32_t again_order;
     bool again_in_other;
-    require(precedence_at(version, other, reading, &again_order, &again_in_other, true, true)
+    require(precedence_at(version, other, dialect, &again_order, &again_in_other, true, true)
                 == answer,
         "another answer at null", version);
     bool is_error_of_text =
-        answer != SEMVER_PARSER_OK && answer != SEMVER_PARSER_NO_SUCH_READING;
+        answer != SEMVER_PARSER_OK && answer != SEMVER_PARSER_NO_SUCH_DIALECT;
     require(again_order == *order && (!is_error_of_text || again_in_other == *in_other),
         "another order at null", version);
     return answer;
@@ -201,7 +201,7 @@ static void free_rooms(rooms *some) {
 /* Which call is made: the first leaves the buffer of comparators alone. */
 enum { PRINTED, COMPARATORS };
 
-static int32_t call(int which, const text *of, int32_t reading, bool exact, rooms *to,
+static int32_t call(int which, const text *of, int32_t dialect, bool exact, rooms *to,
                     bool at_null) {
     uint8_t *bytes = alone(of);
     const uint8_t *from = at_null && of->length == 0 ? NULL : bytes;
@@ -211,10 +211,10 @@ static int32_t call(int which, const text *of, int32_t reading, bool exact, room
     int32_t answer;
     if (which == PRINTED) {
         answer =
-            semver_parser_rewrite(from, of->length, reading, exact, out, to->room, &to->length);
+            semver_parser_rewrite(from, of->length, dialect, exact, out, to->room, &to->length);
     } else {
         answer =
-            semver_parser_comparators(from, of->length, reading, exact, comparators,
+            semver_parser_comparators(from, of->length, dialect, exact, comparators,
                                       to->comparator_room, &to->count, out, to->room, &to->length);
     }
     free(bytes);
@@ -249,12 +249,12 @@ static bool is_same_comparator(
 
 /* One call in some buffers, which has to answer and to write what is wanted: the bytes, and the
  * comparators where it tells them. */
-static void try_rooms(int which, const text *of, int32_t reading, bool exact, size_t room,
+static void try_rooms(int which, const text *of, int32_t dialect, bool exact, size_t room,
                       size_t comparator_room, const text *bytes, const comparator_list *list) {
     bool is_empty = of->length == 0 || room == 0 || (which == COMPARATORS && comparator_room == 0);
     for (int at_null = 0; at_null < (is_empty ? 2 : 1); at_null++) {
         rooms to = rooms_of(room, comparator_room);
-        int32_t answer = call(which, of, reading, exact, &to, at_null != 0);
+        int32_t answer = call(which, of, dialect, exact, &to, at_null != 0);
         bool fits = room >= bytes->length && (which == PRINTED || comparator_room >= list->count);
         require(answer == (fits ? (int32_t)SEMVER_PARSER_OK : (int32_t)SEMVER_PARSER_NO_ROOM),
             "another answer in another room", of);
@@ -277,28 +277,28 @@ static bool is_tried(size_t room, size_t needed, size_t all) {
 
 /* Each buffer of comparators goes with each buffer of bytes that decides: none, one that is a byte
  * too small, and one that fits; and each of bytes with a buffer of comparators that fits. */
-static void try_all_rooms(const text *of, int32_t reading, bool exact, const text *set,
+static void try_all_rooms(const text *of, int32_t dialect, bool exact, const text *set,
                           const comparator_list *list) {
     const text *pre_releases = &list->pre_releases;
     for (size_t room = 0; room <= set->length + 1; room++) {
         if (is_tried(room, set->length, 300)) {
-            try_rooms(PRINTED, of, reading, exact, room, 0, set, list);
+            try_rooms(PRINTED, of, dialect, exact, room, 0, set, list);
         }
     }
     for (size_t comparator_room = 0; comparator_room <= list->count + 1; comparator_room++) {
         if (!is_tried(comparator_room, list->count, 12)) {
             continue;
         }
-        try_rooms(COMPARATORS, of, reading, exact, 0, comparator_room, pre_releases, list);
-        try_rooms(COMPARATORS, of, reading, exact,
+        try_rooms(COMPARATORS, of, dialect, exact, 0, comparator_room, pre_releases, list);
+        try_rooms(COMPARATORS, of, dialect, exact,
                   pre_releases->length > 0 ? pre_releases->length - 1 : 1, comparator_room,
                   pre_releases, list);
-        try_rooms(COMPARATORS, of, reading, exact, pre_releases->length, comparator_room,
+        try_rooms(COMPARATORS, of, dialect, exact, pre_releases->length, comparator_room,
                   pre_releases, list);
     }
     for (size_t room = 0; room <= pre_releases->length + 1; room++) {
         if (is_tried(room, pre_releases->length, 300)) {
-            try_rooms(COMPARATORS, of, reading, exact, room, list->count, pre_releases, list);
+            try_rooms(COMPARATORS, of, dialect, exact, room, list->count, pre_releases, list);
         }
     }
 }
@@ -346,11 +346,11 @@ static void require_printed(const text *of, const text *set, const comparator_li
 }
 
 /* An error of a range, which both calls have to answer. */
-static int32_t require_error(const text *of, int32_t reading, bool exact, int32_t error) {
+static int32_t require_error(const text *of, int32_t dialect, bool exact, int32_t error) {
     for (int which = PRINTED; which <= COMPARATORS; which++) {
         for (int case_of = 0; case_of < 4; case_of++) {
             rooms to = rooms_of(case_of % 2 == 0 ? 0 : 64, case_of % 2 == 0 ? 0 : 8);
-            int32_t answer = call(which, of, reading, exact, &to, case_of >= 2);
+            int32_t answer = call(which, of, dialect, exact, &to, case_of >= 2);
             require(answer == error, "another error", of);
             require_kept(which, answer, &to, of);
             free_rooms(&to);
@@ -360,35 +360,35 @@ static int32_t require_error(const text *of, int32_t reading, bool exact, int32_
 }
 
 /* What a call puts into buffers of the size that it asks for. */
-static rooms filled_rooms(int which, const text *of, int32_t reading, bool exact) {
+static rooms filled_rooms(int which, const text *of, int32_t dialect, bool exact) {
     rooms none = rooms_of(0, 0);
-    require(call(which, of, reading, exact, &none, false) == SEMVER_PARSER_NO_ROOM,
+    require(call(which, of, dialect, exact, &none, false) == SEMVER_PARSER_NO_ROOM,
             "room for a set of no bytes, or of no comparators", of);
     free_rooms(&none);
     rooms to = rooms_of(none.length, which == COMPARATORS ? none.count : 0);
-    require(call(which, of, reading, exact, &to, false) == SEMVER_PARSER_OK,
+    require(call(which, of, dialect, exact, &to, false) == SEMVER_PARSER_OK,
             "no room in rooms of its size", of);
     require(to.length == none.length && to.count == none.count, "another size", of);
     return to;
 }
 
-int32_t rewrite(const text *of, int32_t reading, bool exact, text *printed,
+int32_t rewrite(const text *of, int32_t dialect, bool exact, text *printed,
                 comparator_list *comparators) {
     rooms none = rooms_of(0, 0);
-    int32_t answer = call(PRINTED, of, reading, exact, &none, false);
+    int32_t answer = call(PRINTED, of, dialect, exact, &none, false);
     free_rooms(&none);
     if (answer != SEMVER_PARSER_NO_ROOM) {
         require(answer != SEMVER_PARSER_OK, "a set of no bytes", of);
-        return require_error(of, reading, exact, answer);
+        return require_error(of, dialect, exact, answer);
     }
-    rooms of_set = filled_rooms(PRINTED, of, reading, exact);
-    rooms of_comparators = filled_rooms(COMPARATORS, of, reading, exact);
+    rooms of_set = filled_rooms(PRINTED, of, dialect, exact);
+    rooms of_comparators = filled_rooms(COMPARATORS, of, dialect, exact);
     text set = {NULL, 0, 0};
     text_add(&set, (const char *)of_set.out, of_set.length);
     comparator_list list = {of_comparators.comparators, of_comparators.count, {NULL, 0, 0}};
     text_add(&list.pre_releases, (const char *)of_comparators.out, of_comparators.length);
     require_printed(of, &set, &list);
-    try_all_rooms(of, reading, exact, &set, &list);
+    try_all_rooms(of, dialect, exact, &set, &list);
     text_add(printed, set.bytes, set.length);
     text_free(&set);
     free_rooms(&of_set);
@@ -409,13 +409,13 @@ void free_comparators(comparator_list *comparators) {
 /* ---- meeting */
 
 /* Asks for one version. */
-static int32_t meets_one(const text *range, int32_t reading, int32_t pre_releases,
+static int32_t meets_one(const text *range, int32_t dialect, int32_t pre_releases,
                          const text *version, bool at_null, bool before) {
     uint8_t *range_bytes = alone(range);
     uint8_t *version_bytes = alone(version);
     bool met = before;
     int32_t answer = semver_parser_meets(
-        at_null && range->length == 0 ? NULL : range_bytes, range->length, reading, pre_releases,
+        at_null && range->length == 0 ? NULL : range_bytes, range->length, dialect, pre_releases,
         at_null && version->length == 0 ? NULL : version_bytes, version->length, &met);
     free(range_bytes);
     free(version_bytes);
@@ -427,7 +427,7 @@ static int32_t meets_one(const text *range, int32_t reading, int32_t pre_release
 
 /* Asks for many: the version, an empty text at null and one elsewhere, 1.2.3 without its dots, and
  * the version again, of which the first `count` are passed. */
-static void require_each(const text *range, int32_t reading, int32_t pre_releases,
+static void require_each(const text *range, int32_t dialect, int32_t pre_releases,
                          const text *version, int32_t wanted, size_t count) {
     uint8_t *range_bytes = alone(range);
     uint8_t *version_bytes = alone(version);
@@ -436,14 +436,14 @@ static void require_each(const text *range, int32_t reading, int32_t pre_release
     const semver_parser_text all[5] = {
         {version->length != 0 ? version_bytes : NULL, version->length}, {NULL, 0}, {range_bytes, 0},
         {(const uint8_t *)"123", 3}, {version_bytes, version->length}};
-    bool is_of_tool = reading == SEMVER_PARSER_CARGO || reading == SEMVER_PARSER_NPM;
+    bool is_of_tool = dialect == SEMVER_PARSER_CARGO || dialect == SEMVER_PARSER_NPM;
     int32_t none = is_of_tool ? SEMVER_PARSER_NOT_A_VERSION : SEMVER_PARSER_UNEXPECTED_END;
     const int32_t bytes[5] = {wanted, none, none, none, wanted};
     memcpy(versions, all, count * sizeof *versions);
     uint8_t answers[6];
     memset(answers, FILL, sizeof answers);
     int32_t answer =
-        semver_parser_meets_each(range_bytes, range->length, reading, pre_releases,
+        semver_parser_meets_each(range_bytes, range->length, dialect, pre_releases,
                                  count != 0 ? versions : NULL, count, count != 0 ? answers : NULL);
     bool read = is_of_version(wanted);
     require(
@@ -459,18 +459,18 @@ static void require_each(const text *range, int32_t reading, int32_t pre_release
     free(versions_block);
 }
 
-int32_t meets(const text *range, int32_t reading, int32_t pre_releases, const text *version) {
-    int32_t answer = meets_one(range, reading, pre_releases, version, false, false);
-    require(meets_one(range, reading, pre_releases, version, false, true) == answer,
+int32_t meets(const text *range, int32_t dialect, int32_t pre_releases, const text *version) {
+    int32_t answer = meets_one(range, dialect, pre_releases, version, false, false);
+    require(meets_one(range, dialect, pre_releases, version, false, true) == answer,
             "an answer by what was there", range);
-    require(meets_one(range, reading, pre_releases, version, true, true) == answer,
+    require(meets_one(range, dialect, pre_releases, version, true, true) == answer,
             "another answer at null", range);
     if (is_of_version(answer)) {
         for (size_t count = 0; count <= 5; count++) {
-            require_each(range, reading, pre_releases, version, answer, count);
+            require_each(range, dialect, pre_releases, version, answer, count);
         }
     } else {
-        require_each(range, reading, pre_releases, version, answer, 5);
+        require_each(range, dialect, pre_releases, version, answer, 5);
     }
     return answer;
 }
@@ -479,14 +479,14 @@ int32_t meets(const text *range, int32_t reading, int32_t pre_releases, const te
 
 /* Asks for it in a buffer of some length. What is after what was written has to be as it was, and
  * all of it at an error. */
-static int32_t least_in(const text *range, int32_t reading, int32_t pre_releases, uint8_t *out,
+static int32_t least_in(const text *range, int32_t dialect, int32_t pre_releases, uint8_t *out,
                         size_t room, size_t *length, bool at_null) {
     uint8_t *range_bytes = alone(range);
     memset(out, FILL, room + 1);
     *length = 777;
     int32_t answer =
         semver_parser_least(at_null && range->length == 0 ? NULL : range_bytes, range->length,
-                            reading, pre_releases, at_null && room == 0 ? NULL : out, room, length);
+                            dialect, pre_releases, at_null && room == 0 ? NULL : out, room, length);
     free(range_bytes);
     size_t written = answer == SEMVER_PARSER_OK ? *length : 0;
     require(written <= room && is_filled(out + written, FILL, room + 1 - written),
@@ -496,10 +496,10 @@ static int32_t least_in(const text *range, int32_t reading, int32_t pre_releases
     return answer;
 }
 
-int32_t least(const text *range, int32_t reading, int32_t pre_releases, text *printed) {
+int32_t least(const text *range, int32_t dialect, int32_t pre_releases, text *printed) {
     uint8_t none;
     size_t wanted;
-    int32_t answer = least_in(range, reading, pre_releases, &none, 0, &wanted, true);
+    int32_t answer = least_in(range, dialect, pre_releases, &none, 0, &wanted, true);
     size_t bytes = answer == SEMVER_PARSER_OK || answer == SEMVER_PARSER_NO_ROOM ? wanted : 0;
     require(answer != SEMVER_PARSER_NO_ROOM || wanted > 0, "no room for no byte", range);
     for (size_t room = 0; room <= bytes + 1; room++) {
@@ -509,7 +509,7 @@ int32_t least(const text *range, int32_t reading, int32_t pre_releases, text *pr
         uint8_t *out = (uint8_t *)block(room + 1);
         size_t length;
         int32_t answered =
-            least_in(range, reading, pre_releases, out, room, &length, room % 2 == 0);
+            least_in(range, dialect, pre_releases, out, room, &length, room % 2 == 0);
         bool fits = room >= bytes;
         require(answered ==
                     (answer == SEMVER_PARSER_NO_ROOM && fits ? (int32_t)SEMVER_PARSER_OK : answer),
@@ -528,7 +528,7 @@ int32_t least(const text *range, int32_t reading, int32_t pre_releases, text *pr
 
 /* Compares in a buffer of some length. What is after what was written has to be as it was, and all
  * of it at an error. */
-static int32_t compare_in(const text *old_range, const text *new_range, int32_t reading,
+static int32_t compare_in(const text *old_range, const text *new_range, int32_t dialect,
                           int32_t pre_releases, uint8_t *out, size_t room, size_t *length,
                           semver_parser_comparison *told, bool at_null) {
     uint8_t *old_bytes = alone(old_range);
@@ -538,7 +538,7 @@ static int32_t compare_in(const text *old_range, const text *new_range, int32_t 
     *length = 777;
     int32_t answer = semver_parser_compare(
         at_null && old_range->length == 0 ? NULL : old_bytes, old_range->length,
-        at_null && new_range->length == 0 ? NULL : new_bytes, new_range->length, reading,
+        at_null && new_range->length == 0 ? NULL : new_bytes, new_range->length, dialect,
         pre_releases, at_null && room == 0 ? NULL : out, room, length, told);
     free(old_bytes);
     free(new_bytes);
@@ -580,28 +580,28 @@ static bool is_same_comparison(
 }
 
 /* An error, which has to come in each buffer. */
-static int32_t require_no_comparison(const text *old_range, const text *new_range, int32_t reading,
+static int32_t require_no_comparison(const text *old_range, const text *new_range, int32_t dialect,
                                      int32_t pre_releases, int32_t error) {
     uint8_t out[65];
     for (size_t room = 0; room <= 64; room += 32) {
         semver_parser_comparison told;
         size_t length;
-        int32_t answer = compare_in(old_range, new_range, reading, pre_releases, out, room, &length,
+        int32_t answer = compare_in(old_range, new_range, dialect, pre_releases, out, room, &length,
                                     &told, room == 0);
         require(answer == error, "another error in another room", old_range);
     }
     return error;
 }
 
-int32_t compare(const text *old_range, const text *new_range, int32_t reading, int32_t pre_releases,
+int32_t compare(const text *old_range, const text *new_range, int32_t dialect, int32_t pre_releases,
                 compared *told) {
     uint8_t none;
     size_t bytes;
     semver_parser_comparison wanted;
     int32_t answer =
-        compare_in(old_range, new_range, reading, pre_releases, &none, 0, &bytes, &wanted, true);
+        compare_in(old_range, new_range, dialect, pre_releases, &none, 0, &bytes, &wanted, true);
     if (answer != SEMVER_PARSER_OK && answer != SEMVER_PARSER_NO_ROOM) {
-        return require_no_comparison(old_range, new_range, reading, pre_releases, answer);
+        return require_no_comparison(old_range, new_range, dialect, pre_releases, answer);
     }
     require((answer == SEMVER_PARSER_OK) == (bytes == 0), "no room for no byte", old_range);
     require_places(&wanted, bytes, old_range);
@@ -612,7 +612,7 @@ int32_t compare(const text *old_range, const text *new_range, int32_t reading, i
         uint8_t *out = (uint8_t *)block(room + 1);
         size_t length;
         semver_parser_comparison here;
-        int32_t answered = compare_in(old_range, new_range, reading, pre_releases, out, room,
+        int32_t answered = compare_in(old_range, new_range, dialect, pre_releases, out, room,
                                       &length, &here, room % 2 == 0);
         require(answered ==
                     (room >= bytes ? (int32_t)SEMVER_PARSER_OK : (int32_t)SEMVER_PARSER_NO_ROOM),

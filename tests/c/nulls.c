@@ -25,30 +25,30 @@ static const uint8_t *bytes_of(const char *string) {
     return (const uint8_t *)string;
 }
 
-/* ---- the calls, each by this reading */
+/* ---- the calls, each by this dialect */
 
-static int32_t reading;
+static int32_t dialect;
 
 static int32_t read_text(void) {
     semver_parser_version out;
-    return semver_parser_parse_version(NULL, 5, reading, &out);
+    return semver_parser_parse_version(NULL, 5, dialect, &out);
 }
 
 static int32_t explain_text(void) {
     size_t place;
-    return semver_parser_explain_version(NULL, 5, reading, &place);
+    return semver_parser_explain_version(NULL, 5, dialect, &place);
 }
 
 static int32_t explain_range_text(void) {
     size_t place;
     int32_t hint;
-    return semver_parser_explain_range(NULL, 5, reading, &place, &hint);
+    return semver_parser_explain_range(NULL, 5, dialect, &place, &hint);
 }
 
 static int32_t precedence_of(const uint8_t *version, const uint8_t *other) {
     int32_t order;
     bool in_other;
-    return semver_parser_precedence(version, 5, other, 5, reading, &order, &in_other);
+    return semver_parser_precedence(version, 5, other, 5, dialect, &order, &in_other);
 }
 
 static int32_t precedence_version(void) {
@@ -62,12 +62,12 @@ static int32_t precedence_other(void) {
 static int32_t rewrite_text(void) {
     uint8_t out[64];
     size_t length;
-    return semver_parser_rewrite(NULL, 5, reading, true, out, sizeof out, &length);
+    return semver_parser_rewrite(NULL, 5, dialect, true, out, sizeof out, &length);
 }
 
 static int32_t rewrite_out(void) {
     size_t length;
-    return semver_parser_rewrite(bytes_of("^1.2"), 4, reading, true, NULL, 64, &length);
+    return semver_parser_rewrite(bytes_of("^1.2"), 4, dialect, true, NULL, 64, &length);
 }
 
 static int32_t comparators_text(void) {
@@ -75,7 +75,7 @@ static int32_t comparators_text(void) {
     uint8_t out[64];
     size_t count;
     size_t length;
-    return semver_parser_comparators(NULL, 5, reading, true, comparators, 4, &count, out,
+    return semver_parser_comparators(NULL, 5, dialect, true, comparators, 4, &count, out,
                                      sizeof out, &length);
 }
 
@@ -83,7 +83,7 @@ static int32_t comparators_room(void) {
     uint8_t out[64];
     size_t count;
     size_t length;
-    return semver_parser_comparators(bytes_of("^1.2"), 4, reading, true, NULL, 4, &count, out,
+    return semver_parser_comparators(bytes_of("^1.2"), 4, dialect, true, NULL, 4, &count, out,
                                      sizeof out, &length);
 }
 
@@ -91,32 +91,32 @@ static int32_t comparators_out(void) {
     semver_parser_comparator comparators[4];
     size_t count;
     size_t length;
-    return semver_parser_comparators(bytes_of("^1.2"), 4, reading, true, comparators, 4, &count,
+    return semver_parser_comparators(bytes_of("^1.2"), 4, dialect, true, comparators, 4, &count,
                                      NULL, 64, &length);
 }
 
 static int32_t meets_range(void) {
     bool meets;
-    return semver_parser_meets(NULL, 5, reading, SEMVER_PARSER_EXCLUDED, bytes_of("1.2.3"), 5,
+    return semver_parser_meets(NULL, 5, dialect, SEMVER_PARSER_EXCLUDED, bytes_of("1.2.3"), 5,
                                &meets);
 }
 
 static int32_t meets_version(void) {
     bool meets;
-    return semver_parser_meets(bytes_of("^1.2"), 4, reading, SEMVER_PARSER_EXCLUDED, NULL, 5,
+    return semver_parser_meets(bytes_of("^1.2"), 4, dialect, SEMVER_PARSER_EXCLUDED, NULL, 5,
                                &meets);
 }
 
 static int32_t least_range(void) {
     uint8_t out[64];
     size_t length;
-    return semver_parser_least(NULL, 5, reading, SEMVER_PARSER_EXCLUDED, out, sizeof out,
+    return semver_parser_least(NULL, 5, dialect, SEMVER_PARSER_EXCLUDED, out, sizeof out,
                                &length);
 }
 
 static int32_t least_out(void) {
     size_t length;
-    return semver_parser_least(bytes_of("^1.2"), 4, reading, SEMVER_PARSER_EXCLUDED, NULL, 64,
+    return semver_parser_least(bytes_of("^1.2"), 4, dialect, SEMVER_PARSER_EXCLUDED, NULL, 64,
                                &length);
 }
 
@@ -124,7 +124,7 @@ static int32_t compare_texts(const uint8_t *old_range, const uint8_t *new_range,
     uint8_t out[64];
     size_t length;
     semver_parser_comparison comparison;
-    return semver_parser_compare(old_range, 4, new_range, 4, reading, SEMVER_PARSER_EXCLUDED,
+    return semver_parser_compare(old_range, 4, new_range, 4, dialect, SEMVER_PARSER_EXCLUDED,
                                  has_room ? out : NULL, sizeof out, &length, &comparison);
 }
 
@@ -142,7 +142,7 @@ static int32_t compare_out(void) {
 
 static int32_t each_of(
     const uint8_t *range, const semver_parser_text *versions, size_t count, uint8_t *answers) {
-    return semver_parser_meets_each(range, 4, reading, SEMVER_PARSER_EXCLUDED, versions,
+    return semver_parser_meets_each(range, 4, dialect, SEMVER_PARSER_EXCLUDED, versions,
                                     count, answers);
 }
 
@@ -185,27 +185,27 @@ static int32_t set_range(void) {
     semver_parser_switch made[4];
     size_t count;
     size_t length;
-    return semver_parser_set(NULL, 4, reading, SEMVER_PARSER_EXCLUDED, made, 4, &count, NULL,
+    return semver_parser_set(NULL, 4, dialect, SEMVER_PARSER_EXCLUDED, made, 4, &count, NULL,
                              0, &length);
 }
 
 static int32_t set_made(void) {
     size_t count;
     size_t length;
-    return semver_parser_set(bytes_of("^1.2"), 4, reading, SEMVER_PARSER_EXCLUDED, NULL, 4,
+    return semver_parser_set(bytes_of("^1.2"), 4, dialect, SEMVER_PARSER_EXCLUDED, NULL, 4,
                              &count, NULL, 0, &length);
 }
 
 static int32_t has_switches(void) {
     const semver_parser_flat_set set = {NULL, 1, NULL, 0};
     bool is_in;
-    return semver_parser_set_has(set, bytes_of("1.2.3"), 5, reading, &is_in);
+    return semver_parser_set_has(set, bytes_of("1.2.3"), 5, dialect, &is_in);
 }
 
 static int32_t has_version(void) {
     const semver_parser_flat_set set = {&head, 1, NULL, 0};
     bool is_in;
-    return semver_parser_set_has(set, NULL, 5, reading, &is_in);
+    return semver_parser_set_has(set, NULL, 5, dialect, &is_in);
 }
 
 static int32_t print_out(void) {
@@ -310,13 +310,13 @@ static void nulls_with_a_length(void) {
 
 /* ---- more texts than any block has room for */
 
-/* Of a range that is one, or that is refused. An error of the reading, the rule or the range goes
+/* Of a range that is one, or that is refused. An error of the dialect, the rule or the range goes
  * before running out of memory. */
 static void too_many(const char *range, int32_t rule, int32_t wanted) {
     const size_t least = SIZE_MAX / sizeof(semver_parser_text) + 1;
     uint8_t answers[2] = {7, 7};
     for (size_t more = 0; more < 3; more++) {
-        int32_t answer = semver_parser_meets_each(bytes_of(range), strlen(range), reading, rule,
+        int32_t answer = semver_parser_meets_each(bytes_of(range), strlen(range), dialect, rule,
                                                   &no_text, least + more, answers);
         check(answer == wanted, "another answer of too many texts", range);
         check(answers[0] == 7 && answers[1] == 7, "an answer of too many texts", range);
@@ -335,19 +335,19 @@ static void too_many_texts(void) {
     too_many("\xFF", rule, SEMVER_PARSER_RANGE_NOT_UTF8);
 }
 
-static void too_many_texts_by_no_reading(void) {
+static void too_many_texts_by_no_dialect(void) {
     for (int32_t rule = -1; rule <= 4; rule++) {
-        too_many("^1.2", rule, SEMVER_PARSER_NO_SUCH_READING);
-        too_many("\xFF", rule, SEMVER_PARSER_NO_SUCH_READING);
+        too_many("^1.2", rule, SEMVER_PARSER_NO_SUCH_DIALECT);
+        too_many("\xFF", rule, SEMVER_PARSER_NO_SUCH_DIALECT);
     }
 }
 
 int main(void) {
-    for (reading = SEMVER_PARSER_CARGO; reading <= SEMVER_PARSER_CRATE_NPM; reading++) {
+    for (dialect = SEMVER_PARSER_CARGO; dialect <= SEMVER_PARSER_CRATE_NPM; dialect++) {
         nulls_with_a_length();
         too_many_texts();
     }
-    too_many_texts_by_no_reading();
+    too_many_texts_by_no_dialect();
     printf("nulls: %s\n", failed == 0 ? "passed" : "failed");
     return failed == 0 ? 0 : 1;
 }

@@ -12,7 +12,7 @@ enum {
     NPM = SEMVER_PARSER_NPM,
     CRATE_CARGO = SEMVER_PARSER_CRATE_CARGO,
     CRATE_NPM = SEMVER_PARSER_CRATE_NPM,
-    READINGS = 4
+    DIALECTS = 4
 };
 
 enum {
@@ -30,9 +30,9 @@ enum {
 
 static int failed;
 
-static void check(bool holds, const char *what, int32_t reading, const char *of) {
+static void check(bool holds, const char *what, int32_t dialect, const char *of) {
     if (!holds) {
-        printf("%s, by the reading %d: %.200s\n", what, (int)reading, of);
+        printf("%s, by the dialect %d: %.200s\n", what, (int)dialect, of);
         failed++;
     }
 }
@@ -43,19 +43,19 @@ static text string(const char *bytes) {
     return made;
 }
 
-static bool is_of_tool(int32_t reading) { return reading == CARGO || reading == NPM; }
+static bool is_of_tool(int32_t dialect) { return dialect == CARGO || dialect == NPM; }
 
 /* The rules, which each dialect has. */
 static bool is_rule(int32_t rule) { return rule >= 0 && rule < RULES; }
 
 /* A text that stands after a long front, by which it means the same of all versions above
  * 0.0.7. */
-static text after_a_front(int32_t reading, const char *bytes) {
+static text after_a_front(int32_t dialect, const char *bytes) {
     text made = {NULL, 0, 0};
     for (int at = 0; at < 300; at++) {
-        text_say(&made, "%s", reading == CARGO ? "          " : "=0.0.7 || ");
+        text_say(&made, "%s", dialect == CARGO ? "          " : "=0.0.7 || ");
     }
-    for (int at = 0; at < 20 && reading == CARGO; at++) {
+    for (int at = 0; at < 20 && dialect == CARGO; at++) {
         text_say(&made, ">= 0.0.0 , ");
     }
     text_say(&made, "%s", bytes);
@@ -74,19 +74,19 @@ enum {
     NONE = SEMVER_PARSER_NOT_A_VERSION
 };
 
-/* A text, its parts where it is a version, and the answer of each reading. */
+/* A text, its parts where it is a version, and the answer of each dialect. */
 typedef struct {
     const char *bytes;
     uint64_t numbers[3];
     semver_parser_part pre;
     semver_parser_part build;
-    int32_t answers[READINGS];
-} version_by_reading;
+    int32_t answers[DIALECTS];
+} version_by_dialect;
 
 /* The greatest number of npm's versions, and the next one. */
 #define MOST_OF_NPM 9007199254740991
 
-static const version_by_reading versions_by_reading[] = {
+static const version_by_dialect versions_by_dialect[] = {
     {"1.2.3", {1, 2, 3}, {0, 0}, {0, 0}, {OK, OK, OK, OK}},
     {"1.2.3-rc.1+b5", {1, 2, 3}, {6, 4}, {11, 2}, {OK, OK, OK, OK}},
     {"1.2.3-x-y.0a+01", {1, 2, 3}, {6, 6}, {13, 2}, {OK, OK, OK, OK}},
@@ -131,59 +131,59 @@ static bool is_same_part(semver_parser_part one, semver_parser_part other) {
     return one.offset == other.offset && one.length == other.length;
 }
 
-static void version_is(int32_t reading, const text *of, int32_t answer, const uint64_t *numbers,
+static void version_is(int32_t dialect, const text *of, int32_t answer, const uint64_t *numbers,
     semver_parser_part pre, semver_parser_part build) {
     semver_parser_version read;
-    check(read_version(of, reading, &read) == answer, "another answer of a version", reading,
+    check(read_version(of, dialect, &read) == answer, "another answer of a version", dialect,
         of->bytes);
     if (answer == OK) {
         check(read.major == numbers[0] && read.minor == numbers[1] && read.patch == numbers[2],
-            "other numbers", reading, of->bytes);
-        check(is_same_part(read.pre, pre), "another pre-release", reading, of->bytes);
-        check(is_same_part(read.build, build), "another build", reading, of->bytes);
+            "other numbers", dialect, of->bytes);
+        check(is_same_part(read.pre, pre), "another pre-release", dialect, of->bytes);
+        check(is_same_part(read.build, build), "another build", dialect, of->bytes);
     }
 }
 
 static void order_is(
-    int32_t reading, const char *bytes, const char *other_bytes, int32_t wanted) {
+    int32_t dialect, const char *bytes, const char *other_bytes, int32_t wanted) {
     text version = string(bytes);
     text other = string(other_bytes);
     int32_t order;
     bool in_other;
-    check(precedence(&version, &other, reading, &order, &in_other) == OK && order == wanted,
-        "another order", reading, bytes);
-    check(precedence(&other, &version, reading, &order, &in_other) == OK && order == -wanted,
-        "another order the other way round", reading, bytes);
+    check(precedence(&version, &other, dialect, &order, &in_other) == OK && order == wanted,
+        "another order", dialect, bytes);
+    check(precedence(&other, &version, dialect, &order, &in_other) == OK && order == -wanted,
+        "another order the other way round", dialect, bytes);
     text_free(&version);
     text_free(&other);
 }
 
-static void order_error_is(int32_t reading, const char *bytes, int32_t error) {
+static void order_error_is(int32_t dialect, const char *bytes, int32_t error) {
     text faulty = string(bytes);
     text version = string("1.2.3-rc.1+b");
     int32_t order;
     bool in_other;
-    check(precedence(&faulty, &version, reading, &order, &in_other) == error && !in_other,
-        "another error of an order", reading, bytes);
-    check(precedence(&version, &faulty, reading, &order, &in_other) == error && in_other,
-        "another error of the other version", reading, bytes);
-    check(precedence(&faulty, &faulty, reading, &order, &in_other) == error && !in_other,
-        "another error of both", reading, bytes);
+    check(precedence(&faulty, &version, dialect, &order, &in_other) == error && !in_other,
+        "another error of an order", dialect, bytes);
+    check(precedence(&version, &faulty, dialect, &order, &in_other) == error && in_other,
+        "another error of the other version", dialect, bytes);
+    check(precedence(&faulty, &faulty, dialect, &order, &in_other) == error && !in_other,
+        "another error of both", dialect, bytes);
     text_free(&faulty);
     text_free(&version);
 }
 
 static void versions(void) {
-    for (size_t at = 0; at < sizeof versions_by_reading / sizeof *versions_by_reading; at++) {
-        const version_by_reading *row = &versions_by_reading[at];
+    for (size_t at = 0; at < sizeof versions_by_dialect / sizeof *versions_by_dialect; at++) {
+        const version_by_dialect *row = &versions_by_dialect[at];
         text of = string(row->bytes);
-        for (int32_t reading = 0; reading < READINGS; reading++) {
-            int32_t answer = row->answers[reading];
-            version_is(reading, &of, answer, row->numbers, row->pre, row->build);
+        for (int32_t dialect = 0; dialect < DIALECTS; dialect++) {
+            int32_t answer = row->answers[dialect];
+            version_is(dialect, &of, answer, row->numbers, row->pre, row->build);
             if (answer == OK) {
-                order_is(reading, row->bytes, row->bytes, 0);
+                order_is(dialect, row->bytes, row->bytes, 0);
             } else {
-                order_error_is(reading, row->bytes, answer);
+                order_error_is(dialect, row->bytes, answer);
             }
         }
         text_free(&of);
@@ -204,38 +204,38 @@ static text repeated(const char *front, const char *unit, int count, const char 
 static void long_versions(void) {
     const semver_parser_part none = {0, 0};
     const uint64_t numbers[3] = {1, 2, 3};
-    for (int32_t reading = 0; reading < READINGS; reading++) {
-        bool is_npm = reading == NPM;
+    for (int32_t dialect = 0; dialect < DIALECTS; dialect++) {
+        bool is_npm = dialect == NPM;
         for (int count = 250; count <= 3000; count += count < 252 ? 1 : 2748) {
             text identifier = repeated("1.2.3-", "a", count, "");
             text build = repeated("1.2.3+", "0", count, "");
             int32_t answer = is_npm && count > 250 ? (int32_t)NONE : (int32_t)OK;
             semver_parser_part part = {6, (size_t)count};
-            version_is(reading, &identifier, answer, numbers, part, none);
-            version_is(reading, &build, answer, numbers, none, part);
+            version_is(dialect, &identifier, answer, numbers, part, none);
+            version_is(dialect, &build, answer, numbers, none, part);
             text_free(&identifier);
             text_free(&build);
 
             text white = repeated("", " ", count + 1, "1.2.3");
-            int32_t of_white = reading == CARGO ? (int32_t)NONE : answer;
-            version_is(reading, &white, of_white, numbers, none, none);
+            int32_t of_white = dialect == CARGO ? (int32_t)NONE : answer;
+            version_is(dialect, &white, of_white, numbers, none, none);
             text_free(&white);
             text wide = repeated("v1.2.3", "\xC2\xA0", count, "");
             int32_t of_wide = is_npm               ? answer
-                              : is_of_tool(reading) ? (int32_t)NONE
+                              : is_of_tool(dialect) ? (int32_t)NONE
                                                     : (int32_t)TOKEN;
-            version_is(reading, &wide, of_wide, numbers, none, none);
+            version_is(dialect, &wide, of_wide, numbers, none, none);
             text_free(&wide);
         }
         text hyphens = repeated("1.2.3-", "-", 240, "a");
         semver_parser_part part = {6, 241};
-        int32_t answer = is_of_tool(reading) ? (int32_t)OK : (int32_t)TOKEN;
-        version_is(reading, &hyphens, answer, numbers, part, none);
+        int32_t answer = is_of_tool(dialect) ? (int32_t)OK : (int32_t)TOKEN;
+        version_is(dialect, &hyphens, answer, numbers, part, none);
         text_free(&hyphens);
     }
 }
 
-/* Each is below those after it, by the readings of the tools. A hyphen is below any letter and
+/* Each is below those after it, by the dialects of the tools. A hyphen is below any letter and
  * digit, and a number below any text. */
 static void versions_in_order(void) {
     static const char *const ordered[] = {"1.0.0-1", "1.0.0-10", "1.0.0--", "1.0.0---",
@@ -250,9 +250,9 @@ static void versions_in_order(void) {
     }
     order_is(NPM, " v1.2.3-a+b", "1.2.3-a\xC2\xA0", 0);
     order_is(NPM, "v1.2.3--a", "1.2.3-a", -1);
-    for (int32_t reading = CRATE_CARGO; reading <= CRATE_NPM; reading++) {
-        order_is(reading, "1.0.0-2", "1.0.0-01", -1);
-        order_is(reading, " 1.2.3-a+b", "1.2.3-a\n", 0);
+    for (int32_t dialect = CRATE_CARGO; dialect <= CRATE_NPM; dialect++) {
+        order_is(dialect, "1.0.0-2", "1.0.0-01", -1);
+        order_is(dialect, " 1.2.3-a+b", "1.2.3-a\n", 0);
     }
 }
 
@@ -260,23 +260,23 @@ static void versions_in_order(void) {
 
 #define MOST "18446744073709551615"
 
-/* A text, and what it is rewritten to by each reading, with exact bounds, or the word of its
+/* A text, and what it is rewritten to by each dialect, with exact bounds, or the word of its
  * error. */
 typedef struct {
     const char *range;
-    const char *sets[READINGS];
+    const char *sets[DIALECTS];
 } rewriting;
 
 static const char not_a_range[] = "not-a-range";
 static const char too_large[] = "number-too-large";
 
-/* The comparators of all four readings. */
+/* The comparators of all four dialects. */
 #define IN_ALL(set)                                                                                \
     { set, set, set, set }
 /* Those of npm's own and of the crate's two, where Cargo refuses the text. */
 #define BUT_IN_CARGO(set)                                                                          \
     { not_a_range, set, set, set }
-/* Those of a text that one reading alone takes. */
+/* Those of a text that one dialect alone takes. */
 #define IN_CARGO(set)                                                                              \
     { set, not_a_range, not_a_range, not_a_range }
 #define IN_NPM(set)                                                                                \
@@ -335,24 +335,24 @@ static text with_plain_bounds(const char *set) {
     return made;
 }
 
-static void is_rewritten(int32_t reading, bool exact, const text *of, const char *wanted) {
+static void is_rewritten(int32_t dialect, bool exact, const text *of, const char *wanted) {
     text printed = {NULL, 0, 0};
-    int32_t answer = rewrite(of, reading, exact, &printed, NULL);
+    int32_t answer = rewrite(of, dialect, exact, &printed, NULL);
     const char *told = answer == SEMVER_PARSER_OK ? printed.bytes : error_word(answer);
     check(strcmp(told, wanted) == 0, exact ? "another set" : "another set without exact bounds",
-          reading, of->bytes);
+          dialect, of->bytes);
     text_free(&printed);
 }
 
 static void rewritten(void) {
     for (size_t at = 0; at < sizeof rewritings / sizeof *rewritings; at++) {
         text of = string(rewritings[at].range);
-        for (int32_t reading = 0; reading < READINGS; reading++) {
-            const char *exact = rewritings[at].sets[reading];
+        for (int32_t dialect = 0; dialect < DIALECTS; dialect++) {
+            const char *exact = rewritings[at].sets[dialect];
             bool is_error = exact == not_a_range || exact == too_large;
-            text plain = is_of_tool(reading) || is_error ? string(exact) : with_plain_bounds(exact);
-            is_rewritten(reading, true, &of, exact);
-            is_rewritten(reading, false, &of, plain.bytes);
+            text plain = is_of_tool(dialect) || is_error ? string(exact) : with_plain_bounds(exact);
+            is_rewritten(dialect, true, &of, exact);
+            is_rewritten(dialect, false, &of, plain.bytes);
             text_free(&plain);
         }
         text_free(&of);
@@ -394,10 +394,10 @@ static void long_rewritten(void) {
     for (int at = 25; at < 300; at++) {
         text_say(&identifier, "aaaaaaaaaa");
     }
-    for (int32_t reading = 0; reading < READINGS; reading++) {
-        const char *set = reading == NPM ? not_a_range : identifier.bytes;
-        is_rewritten(reading, true, &identifier, set);
-        is_rewritten(reading, false, &identifier, set);
+    for (int32_t dialect = 0; dialect < DIALECTS; dialect++) {
+        const char *set = dialect == NPM ? not_a_range : identifier.bytes;
+        is_rewritten(dialect, true, &identifier, set);
+        is_rewritten(dialect, false, &identifier, set);
     }
     text_free(&comparators);
     text_free(&ranges);
@@ -408,11 +408,11 @@ static void long_rewritten(void) {
 
 /* ---- which versions a range means */
 
-/* A range and a version, and the answer of each reading: of those of the crate as stated. */
+/* A range and a version, and the answer of each dialect: of those of the crate as stated. */
 static const struct {
     const char *range;
     const char *version;
-    int32_t wanted[READINGS];
+    int32_t wanted[DIALECTS];
 } meetings[] = {
     {"* || =1.0.0-a", "1.0.0-a", {NO_RANGE, NO, YES, YES}},
     {"=1.2 >=1.2.3-a", "1.2.3-b", {NO_RANGE, YES, YES, YES}},
@@ -435,7 +435,7 @@ static const struct {
 
 /* A range of a tool, and versions that it means and doesn't mean by the rule of that tool. */
 static const struct {
-    int32_t reading;
+    int32_t dialect;
     const char *range;
     const char *meant[4];
     const char *not_meant[3];
@@ -454,10 +454,10 @@ static const struct {
     {NPM, "* || =1.0.0-a", {"0.0.0", "1.0.0", NULL, NULL}, {"1.0.0-a", NULL, NULL}},
 };
 
-/* A long text of a version, as its reading takes it: Cargo's has no white space, and npm's 256
+/* A long text of a version, as its dialect takes it: Cargo's has no white space, and npm's 256
  * characters. */
-static text long_text_of(int32_t reading, const char *version) {
-    if (reading == CARGO) {
+static text long_text_of(int32_t dialect, const char *version) {
+    if (dialect == CARGO) {
         text made = string(version);
         text_say(&made, "+build");
         for (int at = 0; at < 300; at++) {
@@ -465,24 +465,24 @@ static text long_text_of(int32_t reading, const char *version) {
         }
         return made;
     }
-    int count = reading == NPM ? 256 - (int)strlen("\t\nv+build") - (int)strlen(version) : 3000;
-    text made = repeated("\t\n", " ", count, reading == NPM ? "v" : "");
+    int count = dialect == NPM ? 256 - (int)strlen("\t\nv+build") - (int)strlen(version) : 3000;
+    text made = repeated("\t\n", " ", count, dialect == NPM ? "v" : "");
     text_say(&made, "%s+build", version);
     return made;
 }
 
-static void meets_by(int32_t reading, int32_t rule, const char *range, const char *version,
+static void meets_by(int32_t dialect, int32_t rule, const char *range, const char *version,
                      int32_t wanted) {
     text short_range = string(range);
     text short_version = string(version);
-    text long_range = after_a_front(reading, range);
-    text long_version = long_text_of(reading, version);
-    check(meets(&short_range, reading, rule, &short_version) == wanted, "another answer", reading,
+    text long_range = after_a_front(dialect, range);
+    text long_version = long_text_of(dialect, version);
+    check(meets(&short_range, dialect, rule, &short_version) == wanted, "another answer", dialect,
           range);
     /* Nothing of 0.0.0 is above the fronts. */
     if (strncmp(version, "0.0.0", 5) != 0) {
-        check(meets(&long_range, reading, rule, &long_version) == wanted,
-              "another answer of a long range", reading, range);
+        check(meets(&long_range, dialect, rule, &long_version) == wanted,
+              "another answer of a long range", dialect, range);
     }
     text_free(&short_range);
     text_free(&short_version);
@@ -493,49 +493,49 @@ static void meets_by(int32_t reading, int32_t rule, const char *range, const cha
 static bool is_release(const char *version) { return strchr(version, '-') == NULL; }
 
 /* A version by the rule of the tool, and among releases alone, where it counts if it is one. */
-static void is_meant(int32_t reading, const char *range, const char *version, bool meant) {
-    meets_by(reading, DEFAULT, range, version, meant ? YES : NO);
-    meets_by(reading, EXCLUDED, range, version, meant && is_release(version) ? YES : NO);
+static void is_meant(int32_t dialect, const char *range, const char *version, bool meant) {
+    meets_by(dialect, DEFAULT, range, version, meant ? YES : NO);
+    meets_by(dialect, EXCLUDED, range, version, meant && is_release(version) ? YES : NO);
 }
 
 static void met(void) {
     for (size_t at = 0; at < sizeof meetings / sizeof *meetings; at++) {
         const char *range = meetings[at].range;
         const char *version = meetings[at].version;
-        for (int32_t reading = 0; reading < READINGS; reading++) {
-            int32_t wanted = meetings[at].wanted[reading];
+        for (int32_t dialect = 0; dialect < DIALECTS; dialect++) {
+            int32_t wanted = meetings[at].wanted[dialect];
             bool counts = wanted > YES || is_release(version);
-            meets_by(reading, DEFAULT, range, version, wanted);
-            meets_by(reading, EXCLUDED, range, version, counts ? wanted : (int32_t)NO);
+            meets_by(dialect, DEFAULT, range, version, wanted);
+            meets_by(dialect, EXCLUDED, range, version, counts ? wanted : (int32_t)NO);
         }
     }
     for (size_t at = 0; at < sizeof meanings / sizeof *meanings; at++) {
         for (int which = 0; which < 4 && meanings[at].meant[which] != NULL; which++) {
-            is_meant(meanings[at].reading, meanings[at].range, meanings[at].meant[which], true);
+            is_meant(meanings[at].dialect, meanings[at].range, meanings[at].meant[which], true);
         }
         for (int which = 0; which < 3 && meanings[at].not_meant[which] != NULL; which++) {
-            is_meant(meanings[at].reading, meanings[at].range, meanings[at].not_meant[which],
+            is_meant(meanings[at].dialect, meanings[at].range, meanings[at].not_meant[which],
                      false);
         }
     }
 }
 
-/* Many versions at once, by each reading and each rule. */
+/* Many versions at once, by each dialect and each rule. */
 static void many(void) {
     static const char *const texts_of[] = {"1.2.3", "2.0.0", "1.2.3-rc", "1.3.0-rc", "1.9.9+b",
         "v1", "", "1.2.3 4", "\xFF", "v1.2.3", " 1.2.3", "1.2.3-c--d", "1.2.3-c.01"};
     enum { COUNT = sizeof texts_of / sizeof *texts_of };
-    /* Whether each meets by each rule if it is a version, and its error by each reading. */
+    /* Whether each meets by each rule if it is a version, and its error by each dialect. */
     static const uint8_t meets_by_rule[RULES][COUNT] = {{1, 0, 1, 0, 1, 0, 0, 0, 0, 1, 1, 1, 1},
                                                         {1, 0, 1, 1, 1, 0, 0, 0, 0, 1, 1, 1, 1},
                                                         {1, 0, 0, 0, 1, 0, 0, 0, 0, 1, 1, 0, 0}};
-    static const uint8_t errors[READINGS][COUNT] = {
+    static const uint8_t errors[DIALECTS][COUNT] = {
         {0, 0, 0, 0, 0, NONE, NONE, NONE, NOT_UTF8, NONE, NONE, 0, NONE},
         {0, 0, 0, 0, 0, NONE, NONE, NONE, NOT_UTF8, 0, 0, 0, NONE},
         {0, 0, 0, 0, 0, TOKEN, END, MORE, NOT_UTF8, TOKEN, 0, TOKEN, 0},
         {0, 0, 0, 0, 0, TOKEN, END, MORE, NOT_UTF8, TOKEN, 0, TOKEN, 0}};
     const uint8_t *range = (const uint8_t *)"^1.2.3-beta";
-    for (int32_t reading = 0; reading < READINGS; reading++) {
+    for (int32_t dialect = 0; dialect < DIALECTS; dialect++) {
         for (int32_t rule = 0; rule < RULES; rule++) {
             semver_parser_text texts[COUNT];
             uint8_t answers[COUNT];
@@ -543,14 +543,14 @@ static void many(void) {
             for (size_t at = 0; at < COUNT; at++) {
                 texts[at].bytes = (const uint8_t *)texts_of[at];
                 texts[at].length = strlen(texts_of[at]);
-                uint8_t error = errors[reading][at];
+                uint8_t error = errors[dialect][at];
                 wanted[at] = error != 0 ? error : meets_by_rule[rule][at];
             }
             memset(answers, 0xA5, COUNT);
             int32_t answer =
-                semver_parser_meets_each(range, 11, reading, rule, texts, COUNT, answers);
+                semver_parser_meets_each(range, 11, dialect, rule, texts, COUNT, answers);
             check(answer == SEMVER_PARSER_OK && memcmp(answers, wanted, COUNT) == 0,
-                  "other answers of many", reading, "^1.2.3-beta");
+                  "other answers of many", dialect, "^1.2.3-beta");
         }
     }
 }
@@ -560,7 +560,7 @@ static void many(void) {
 /* A range, and its least version among releases only and with pre-releases: in a tool's dialect
  * those that it takes, and in the crate's those that are stated. */
 static const struct {
-    int32_t reading;
+    int32_t dialect;
     const char *range;
     const char *least[2];
 } least_versions[] = {
@@ -583,19 +583,19 @@ static const struct {
     {CRATE_NPM, "<1.0 >=1.0.0-a", {"", "1.0.0-a"}},
 };
 
-static void least_is(int32_t reading, int32_t rule, const char *range, const char *wanted) {
+static void least_is(int32_t dialect, int32_t rule, const char *range, const char *wanted) {
     text of = string(range);
     text printed = string("");
-    check(least(&of, reading, rule, &printed) == SEMVER_PARSER_OK, "no least version", reading,
+    check(least(&of, dialect, rule, &printed) == SEMVER_PARSER_OK, "no least version", dialect,
           range);
-    check(strcmp(printed.bytes, wanted) == 0, "another least version", reading, range);
+    check(strcmp(printed.bytes, wanted) == 0, "another least version", dialect, range);
     text_free(&printed);
     text_free(&of);
 }
 
 /* What is lost, gained and shared among releases alone, and with pre-releases, as above. */
 static const struct {
-    int32_t reading;
+    int32_t dialect;
     const char *ranges[2];
     const char *wanted[2][3];
 } comparisons[] = {
@@ -616,16 +616,16 @@ static const struct {
     {CARGO, {"*", ">=0.0.0-a"}, {{"", "", "0.0.0"}, {"", "0.0.0-a", "0.0.0"}}},
 };
 
-static void compares(int32_t reading, int32_t rule, const char *old_bytes, const char *new_bytes,
+static void compares(int32_t dialect, int32_t rule, const char *old_bytes, const char *new_bytes,
                      const char *lost, const char *gained, const char *shared) {
     text old_range = string(old_bytes);
     text new_range = string(new_bytes);
     compared told = {{NULL, 0, 0}, {NULL, 0, 0}, {NULL, 0, 0}};
-    check(compare(&old_range, &new_range, reading, rule, &told) == SEMVER_PARSER_OK,
-          "no comparison", reading, old_bytes);
-    check(strcmp(told.lost.bytes, lost) == 0, "another version is lost", reading, old_bytes);
-    check(strcmp(told.gained.bytes, gained) == 0, "another version is gained", reading, old_bytes);
-    check(strcmp(told.shared.bytes, shared) == 0, "another version is shared", reading, old_bytes);
+    check(compare(&old_range, &new_range, dialect, rule, &told) == SEMVER_PARSER_OK,
+          "no comparison", dialect, old_bytes);
+    check(strcmp(told.lost.bytes, lost) == 0, "another version is lost", dialect, old_bytes);
+    check(strcmp(told.gained.bytes, gained) == 0, "another version is gained", dialect, old_bytes);
+    check(strcmp(told.shared.bytes, shared) == 0, "another version is shared", dialect, old_bytes);
     free_compared(&told);
     text_free(&old_range);
     text_free(&new_range);
@@ -633,23 +633,23 @@ static void compares(int32_t reading, int32_t rule, const char *old_bytes, const
 
 static void least_and_compared(void) {
     for (size_t at = 0; at < sizeof least_versions / sizeof *least_versions; at++) {
-        int32_t reading = least_versions[at].reading;
-        least_is(reading, EXCLUDED, least_versions[at].range, least_versions[at].least[0]);
-        least_is(reading, DEFAULT, least_versions[at].range, least_versions[at].least[1]);
+        int32_t dialect = least_versions[at].dialect;
+        least_is(dialect, EXCLUDED, least_versions[at].range, least_versions[at].least[0]);
+        least_is(dialect, DEFAULT, least_versions[at].range, least_versions[at].least[1]);
     }
     for (size_t at = 0; at < sizeof comparisons / sizeof *comparisons; at++) {
-        int32_t reading = comparisons[at].reading;
+        int32_t dialect = comparisons[at].dialect;
         const char *const *ranges = comparisons[at].ranges;
         for (int which = 0; which < 2; which++) {
             const char *const *wanted = comparisons[at].wanted[which];
             int32_t rule = which == 0 ? EXCLUDED : DEFAULT;
-            compares(reading, rule, ranges[0], ranges[1], wanted[0], wanted[1], wanted[2]);
-            compares(reading, rule, ranges[1], ranges[0], wanted[1], wanted[0], wanted[2]);
+            compares(dialect, rule, ranges[0], ranges[1], wanted[0], wanted[1], wanted[2]);
+            compares(dialect, rule, ranges[1], ranges[0], wanted[1], wanted[0], wanted[2]);
         }
     }
 }
 
-/* ---- numbers of no reading, and of no rule of one */
+/* ---- numbers of no dialect, and of no rule of one */
 
 /* Texts that are ranges, a version, and neither, an empty one, one that is no UTF-8, and a long
  * one. */
@@ -658,66 +658,66 @@ static text texts[TEXTS];
 
 /* What the calls answer that ask what a range means: of a version and of many, of the least one,
  * and of two ranges. */
-static void meaning_is_refused(int32_t reading, int32_t rule, int32_t error) {
+static void meaning_is_refused(int32_t dialect, int32_t rule, int32_t error) {
     for (int at = 0; at < TEXTS; at++) {
         const text *range = &texts[at];
         const text *other = &texts[TEXTS - 1 - at];
         text printed = string("");
         compared told = {{NULL, 0, 0}, {NULL, 0, 0}, {NULL, 0, 0}};
-        check(meets(range, reading, rule, other) == error, "a version is judged", reading,
+        check(meets(range, dialect, rule, other) == error, "a version is judged", dialect,
               range->bytes);
-        check(least(range, reading, rule, &printed) == error, "a least version is told", reading,
+        check(least(range, dialect, rule, &printed) == error, "a least version is told", dialect,
               range->bytes);
-        check(compare(range, other, reading, rule, &told) == error, "two ranges are compared",
-              reading, range->bytes);
+        check(compare(range, other, dialect, rule, &told) == error, "two ranges are compared",
+              dialect, range->bytes);
         free_compared(&told);
         text_free(&printed);
     }
 }
 
-static void rewriting_is_refused(int32_t reading) {
+static void rewriting_is_refused(int32_t dialect) {
     for (int at = 0; at < TEXTS; at++) {
         text printed = string("");
         for (int exact = 0; exact < 2; exact++) {
-            check(rewrite(&texts[at], reading, exact != 0, &printed, NULL)
-                      == SEMVER_PARSER_NO_SUCH_READING,
-                  "a range is rewritten", reading, texts[at].bytes);
+            check(rewrite(&texts[at], dialect, exact != 0, &printed, NULL)
+                      == SEMVER_PARSER_NO_SUCH_DIALECT,
+                  "a range is rewritten", dialect, texts[at].bytes);
         }
         text_free(&printed);
     }
 }
 
 /* A version isn't read then, nor are two compared. */
-static void versions_are_refused(int32_t reading) {
+static void versions_are_refused(int32_t dialect) {
     for (int at = 0; at < TEXTS; at++) {
         semver_parser_version read;
         int32_t order;
         bool in_other;
-        check(read_version(&texts[at], reading, &read) == SEMVER_PARSER_NO_SUCH_READING,
-            "a version is read", reading, texts[at].bytes);
+        check(read_version(&texts[at], dialect, &read) == SEMVER_PARSER_NO_SUCH_DIALECT,
+            "a version is read", dialect, texts[at].bytes);
         for (int other = 0; other < TEXTS; other++) {
-            check(precedence(&texts[at], &texts[other], reading, &order, &in_other)
-                      == SEMVER_PARSER_NO_SUCH_READING,
-                "two versions are compared", reading, texts[at].bytes);
+            check(precedence(&texts[at], &texts[other], dialect, &order, &in_other)
+                      == SEMVER_PARSER_NO_SUCH_DIALECT,
+                "two versions are compared", dialect, texts[at].bytes);
         }
     }
 }
 
-/* That a number is one of a rule of a reading is seen by the error of the text that isn't UTF-8. */
-static void rule_is_taken(int32_t reading, int32_t rule) {
+/* That a number is one of a rule of a dialect is seen by the error of the text that isn't UTF-8. */
+static void rule_is_taken(int32_t dialect, int32_t rule) {
     text range = string("1");
     text version = string("1.0.0");
     text not_utf8 = string("\xFF");
-    check(meets(&range, reading, rule, &version) == YES, "no rule of that number", reading, "1");
-    check(meets(&not_utf8, reading, rule, &version) == SEMVER_PARSER_RANGE_NOT_UTF8,
-          "another error of the bytes", reading, "1");
+    check(meets(&range, dialect, rule, &version) == YES, "no rule of that number", dialect, "1");
+    check(meets(&not_utf8, dialect, rule, &version) == SEMVER_PARSER_RANGE_NOT_UTF8,
+          "another error of the bytes", dialect, "1");
     text_free(&range);
     text_free(&version);
     text_free(&not_utf8);
 }
 
 static void no_such_numbers(void) {
-    static const int32_t no_readings[] = {-1, 4, 5, 20, 256, 65537, INT32_MAX, INT32_MIN};
+    static const int32_t no_dialects[] = {-1, 4, 5, 20, 256, 65537, INT32_MAX, INT32_MIN};
     static const int32_t rules[] = {DEFAULT, INCLUDED, EXCLUDED,  -1,       3, 4,
                                     15,      256,      65538, INT32_MAX, INT32_MIN};
     static const char *const short_texts[TEXTS - 1] = {
@@ -726,19 +726,19 @@ static void no_such_numbers(void) {
         texts[at] = string(short_texts[at]);
     }
     texts[TEXTS - 1] = after_a_front(NPM, "1");
-    for (size_t at = 0; at < sizeof no_readings / sizeof *no_readings; at++) {
-        rewriting_is_refused(no_readings[at]);
-        versions_are_refused(no_readings[at]);
+    for (size_t at = 0; at < sizeof no_dialects / sizeof *no_dialects; at++) {
+        rewriting_is_refused(no_dialects[at]);
+        versions_are_refused(no_dialects[at]);
         for (size_t rule = 0; rule < sizeof rules / sizeof *rules; rule++) {
-            meaning_is_refused(no_readings[at], rules[rule], SEMVER_PARSER_NO_SUCH_READING);
+            meaning_is_refused(no_dialects[at], rules[rule], SEMVER_PARSER_NO_SUCH_DIALECT);
         }
     }
-    for (int32_t reading = 0; reading < READINGS; reading++) {
+    for (int32_t dialect = 0; dialect < DIALECTS; dialect++) {
         for (size_t rule = 0; rule < sizeof rules / sizeof *rules; rule++) {
             if (is_rule(rules[rule])) {
-                rule_is_taken(reading, rules[rule]);
+                rule_is_taken(dialect, rules[rule]);
             } else {
-                meaning_is_refused(reading, rules[rule], SEMVER_PARSER_NO_SUCH_RULE);
+                meaning_is_refused(dialect, rules[rule], SEMVER_PARSER_NO_SUCH_RULE);
             }
         }
     }
@@ -757,6 +757,6 @@ int main(void) {
     many();
     least_and_compared();
     no_such_numbers();
-    printf("readings: %s\n", failed == 0 ? "passed" : "failed");
+    printf("dialects: %s\n", failed == 0 ? "passed" : "failed");
     return failed == 0 ? 0 : 1;
 }

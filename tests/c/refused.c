@@ -63,15 +63,15 @@ static void grant(int requests) {
     refused = false;
 }
 
-/* The reading that is asked. */
-static int32_t reading;
+/* The dialect that is asked. */
+static int32_t dialect;
 
 static bool is_of_tool(void) {
-    return reading == SEMVER_PARSER_CARGO || reading == SEMVER_PARSER_NPM;
+    return dialect == SEMVER_PARSER_CARGO || dialect == SEMVER_PARSER_NPM;
 }
 
 /* A rule for pre-releases. */
-static int32_t rule_of_reading(void) {
+static int32_t rule_of_dialect(void) {
     return is_of_tool() ? SEMVER_PARSER_DEFAULT : SEMVER_PARSER_INCLUDED;
 }
 
@@ -82,7 +82,7 @@ static void version_takes(const char *bytes, int requests, int32_t wanted) {
     for (int request = 0; request <= requests; request++) {
         semver_parser_version read;
         grant(request);
-        int32_t answered = read_version(&of, reading, &read);
+        int32_t answered = read_version(&of, dialect, &read);
         check(refused == (request < requests), "another number of requests", bytes, request);
         check(answered == (refused ? SEMVER_PARSER_VERSION_OUT_OF_MEMORY : wanted),
             "another answer", bytes, request);
@@ -99,13 +99,13 @@ static void order_takes(
         bool in_other = !is_other;
         grant(request);
         int32_t answered = semver_parser_precedence((const uint8_t *)bytes, strlen(bytes),
-            (const uint8_t *)other, strlen(other), reading, &order, &in_other);
+            (const uint8_t *)other, strlen(other), dialect, &order, &in_other);
         check(refused == (request < requests), "another number of requests", other, request);
         check(answered == (refused ? (int32_t)SEMVER_PARSER_VERSION_OUT_OF_MEMORY : wanted),
             "another answer of an order", other, request);
         check((order == 777) == (answered != SEMVER_PARSER_OK), "another order", other, request);
         bool is_kept =
-            answered == SEMVER_PARSER_OK || answered == SEMVER_PARSER_NO_SUCH_READING;
+            answered == SEMVER_PARSER_OK || answered == SEMVER_PARSER_NO_SUCH_DIALECT;
         check(in_other == (is_kept ? !is_other : is_other), "another text at fault", other,
             request);
         check(taken == 0, "memory is kept", other, request);
@@ -127,9 +127,9 @@ static void range_takes(const char *bytes, bool exact, bool tells, bool some, in
         const uint8_t *from = (const uint8_t *)bytes;
         grant(request);
         int32_t answered =
-            tells ? semver_parser_comparators(from, strlen(bytes), reading, exact, comparators, 4,
+            tells ? semver_parser_comparators(from, strlen(bytes), dialect, exact, comparators, 4,
                                               &count, out, sizeof out, &length)
-                  : semver_parser_rewrite(from, strlen(bytes), reading, exact, out, sizeof out,
+                  : semver_parser_rewrite(from, strlen(bytes), dialect, exact, out, sizeof out,
                                           &length);
         check(answered == (refused ? (int32_t)SEMVER_PARSER_RANGE_OUT_OF_MEMORY : wanted),
             "another answer", bytes, request);
@@ -151,7 +151,7 @@ static void meeting_takes(
         bool met = !meets;
         grant(request);
         int32_t answered =
-            semver_parser_meets((const uint8_t *)range, strlen(range), reading, rule_of_reading(),
+            semver_parser_meets((const uint8_t *)range, strlen(range), dialect, rule_of_dialect(),
                                 (const uint8_t *)version, strlen(version), &met);
         check(refused == (request < requests), "another number of requests", range, request);
         check(answered == (refused ? (int32_t)SEMVER_PARSER_VERSION_OUT_OF_MEMORY : wanted),
@@ -170,8 +170,8 @@ static void least_takes(const char *range, bool some, int32_t wanted, size_t byt
         memset(out, 'x', sizeof out);
         size_t length = 777;
         grant(request);
-        int32_t answered = semver_parser_least((const uint8_t *)range, strlen(range), reading,
-                                               rule_of_reading(), out, sizeof out, &length);
+        int32_t answered = semver_parser_least((const uint8_t *)range, strlen(range), dialect,
+                                               rule_of_dialect(), out, sizeof out, &length);
         check(answered == (refused ? (int32_t)SEMVER_PARSER_RANGE_OUT_OF_MEMORY : wanted),
             "another answer of the least", range, request);
         check(length == (answered == SEMVER_PARSER_OK ? bytes : 777), "another length of the least",
@@ -261,7 +261,7 @@ static void explanation_takes(const char *bytes, int requests, int32_t wanted) {
         int32_t hint = 777;
         grant(request);
         int32_t answered = semver_parser_explain_range(
-            (const uint8_t *)bytes, strlen(bytes), reading, &place, &hint);
+            (const uint8_t *)bytes, strlen(bytes), dialect, &place, &hint);
         check(refused == (request < requests), "another number of requests", bytes, request);
         check(answered == (refused ? (int32_t)SEMVER_PARSER_RANGE_OUT_OF_MEMORY : wanted),
             "another answer of a range", bytes, request);
@@ -285,7 +285,7 @@ static void comparison_takes(
         grant(request);
         int32_t answered = semver_parser_compare(
             (const uint8_t *)old_range, strlen(old_range), (const uint8_t *)new_range,
-            strlen(new_range), reading, rule_of_reading(), out, sizeof out, &length, &told);
+            strlen(new_range), dialect, rule_of_dialect(), out, sizeof out, &length, &told);
         bool runs_out = refused && wanted == SEMVER_PARSER_OK;
         check(answered == (runs_out ? (int32_t)SEMVER_PARSER_NEW_RANGE_OUT_OF_MEMORY : wanted),
             "another answer of a comparison", old_range, request);
@@ -301,7 +301,7 @@ static void comparison_takes(
     check(!refused && (request > 1) == some, "another number of requests", old_range, request);
 }
 
-/* Many texts, of which the second takes requests to tell its error by the crate's readings, and one
+/* Many texts, of which the second takes requests to tell its error by the crate's dialects, and one
  * is at null where that is asked for: the texts are copied then, before the range is read. */
 static void many_take(const char *range, bool at_null, int32_t wanted) {
     const semver_parser_text versions[] = {{(const uint8_t *)"1.2.3", 5},
@@ -311,8 +311,8 @@ static void many_take(const char *range, bool at_null, int32_t wanted) {
     do {
         uint8_t answers[4] = {'x', 'x', 'x', 'x'};
         grant(request);
-        int32_t answered = semver_parser_meets_each((const uint8_t *)range, strlen(range), reading,
-                                                    rule_of_reading(), versions, 4, answers);
+        int32_t answered = semver_parser_meets_each((const uint8_t *)range, strlen(range), dialect,
+                                                    rule_of_dialect(), versions, 4, answers);
         check(answered == wanted || (refused && answered == SEMVER_PARSER_RANGE_OUT_OF_MEMORY),
             "another answer of many", range, request);
         if (answered == SEMVER_PARSER_OK) {
@@ -342,15 +342,15 @@ static void few_take_none(const char *range, int32_t wanted) {
     uint8_t answers[3];
     for (size_t count = 0; count <= 3; count++) {
         grant(0);
-        int32_t answered = semver_parser_meets_each((const uint8_t *)range, strlen(range), reading,
-                                                    rule_of_reading(), versions, count, answers);
+        int32_t answered = semver_parser_meets_each((const uint8_t *)range, strlen(range), dialect,
+                                                    rule_of_dialect(), versions, count, answers);
         check(answered == wanted && !refused, "few versions take memory", range, 0);
     }
 }
 
-/* A version takes none by any reading, nor does its error by a tool's own. By the crate's the error
+/* A version takes none by any dialect, nor does its error by a tool's own. By the crate's the error
  * takes what is read before it. */
-static void versions_take_by_reading(void) {
+static void versions_take_by_dialect(void) {
     const int32_t none = SEMVER_PARSER_NOT_A_VERSION;
     const int32_t unexpected_end = is_of_tool() ? none : (int32_t)SEMVER_PARSER_UNEXPECTED_END;
     const int32_t unexpected_char = is_of_tool() ? none : (int32_t)SEMVER_PARSER_UNEXPECTED_CHAR;
@@ -376,11 +376,11 @@ static void versions_take_by_reading(void) {
     }
 }
 
-/* What each call takes by the reading: the ranges of a text are separated by bars, and the
+/* What each call takes by the dialect: the ranges of a text are separated by bars, and the
  * comparators by blanks or, as Cargo has them, by commas. The caret raises a bound, so the least pre-release of
  * 2.0.0 is gained where all pre-releases count. */
-static void takes_by_reading(void) {
-    bool is_cargo = reading == SEMVER_PARSER_CARGO;
+static void takes_by_dialect(void) {
+    bool is_cargo = dialect == SEMVER_PARSER_CARGO;
     const char *two = is_cargo ? "1.2.3-rc, 4" : "1.2.3-rc || 4";
     const char *three = is_cargo ? "1, 2, 3" : "1 || 2 || 3";
     const char *empty = is_cargo ? ">2.0.0, <1.0.0" : ">2.0.0 <1.0.0";
@@ -436,25 +436,25 @@ static void takes_by_reading(void) {
     few_take_none("<=18446744073709551615", SEMVER_PARSER_NUMBER_TOO_LARGE);
 }
 
-/* `reading` is the number of none then. */
-static void takes_nothing_by_no_reading(void) {
-    version_takes("1.2.3", 0, SEMVER_PARSER_NO_SUCH_READING);
-    version_takes("1.2.3-rc.1/", 0, SEMVER_PARSER_NO_SUCH_READING);
-    order_takes("1.2.3", "1.2.3-rc.1", 0, SEMVER_PARSER_NO_SUCH_READING, true);
-    range_takes("^1.2", false, false, false, SEMVER_PARSER_NO_SUCH_READING);
-    range_takes("^1.2", true, true, false, SEMVER_PARSER_NO_SUCH_READING);
-    meeting_takes("1.2.3", "1.2.3-rc.1/", 0, SEMVER_PARSER_NO_SUCH_READING, false);
-    least_takes("^1.2", false, SEMVER_PARSER_NO_SUCH_READING, 0);
-    comparison_takes("^1.2.0", ">=1.4.0", false, SEMVER_PARSER_NO_SUCH_READING, 0);
-    many_take("=1.2.3", false, SEMVER_PARSER_NO_SUCH_READING);
+/* `dialect` is the number of none then. */
+static void takes_nothing_by_no_dialect(void) {
+    version_takes("1.2.3", 0, SEMVER_PARSER_NO_SUCH_DIALECT);
+    version_takes("1.2.3-rc.1/", 0, SEMVER_PARSER_NO_SUCH_DIALECT);
+    order_takes("1.2.3", "1.2.3-rc.1", 0, SEMVER_PARSER_NO_SUCH_DIALECT, true);
+    range_takes("^1.2", false, false, false, SEMVER_PARSER_NO_SUCH_DIALECT);
+    range_takes("^1.2", true, true, false, SEMVER_PARSER_NO_SUCH_DIALECT);
+    meeting_takes("1.2.3", "1.2.3-rc.1/", 0, SEMVER_PARSER_NO_SUCH_DIALECT, false);
+    least_takes("^1.2", false, SEMVER_PARSER_NO_SUCH_DIALECT, 0);
+    comparison_takes("^1.2.0", ">=1.4.0", false, SEMVER_PARSER_NO_SUCH_DIALECT, 0);
+    many_take("=1.2.3", false, SEMVER_PARSER_NO_SUCH_DIALECT);
 }
 
 int main(void) {
-    for (reading = SEMVER_PARSER_CARGO; reading <= SEMVER_PARSER_CRATE_NPM; reading++) {
-        versions_take_by_reading();
-        takes_by_reading();
+    for (dialect = SEMVER_PARSER_CARGO; dialect <= SEMVER_PARSER_CRATE_NPM; dialect++) {
+        versions_take_by_dialect();
+        takes_by_dialect();
     }
-    takes_nothing_by_no_reading();
+    takes_nothing_by_no_dialect();
     sets_take();
     printf("refused memory: %s\n", failed == 0 ? "passed" : "failed");
     return failed == 0 ? 0 : 1;

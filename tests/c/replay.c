@@ -79,15 +79,15 @@ static int32_t say_printed_version(text *to, const text *of) {
 }
 
 /* Writes the fields of a set. */
-static void say_set(text *to, const text *of, int32_t reading) {
+static void say_set(text *to, const text *of, int32_t dialect) {
     text printed = {NULL, 0, 0};
     comparator_list list = {NULL, 0, {NULL, 0, 0}};
-    int32_t answer = rewrite(of, reading, false, &printed, &list);
+    int32_t answer = rewrite(of, dialect, false, &printed, &list);
     if (answer != SEMVER_PARSER_OK) {
         text_say(to, "%s", range_error(answer, BY_NAME));
         return;
     }
-    text_say(to, reading == SEMVER_PARSER_CRATE_NPM ? "Npm" : "Cargo");
+    text_say(to, dialect == SEMVER_PARSER_CRATE_NPM ? "Npm" : "Cargo");
     for (size_t at = 0; at < list.count; at++) {
         const semver_parser_comparator *one = &list.items[at];
         text_say(to, "%s %s%" PRIu64 ".%" PRIu64 ".%" PRIu64 "[",
@@ -100,8 +100,8 @@ static void say_set(text *to, const text *of, int32_t reading) {
     free_comparators(&list);
 }
 
-static bool say_printed_set(text *to, const text *of, int32_t reading, bool exact, int how) {
-    int32_t answer = rewrite(of, reading, exact, to, NULL);
+static bool say_printed_set(text *to, const text *of, int32_t dialect, bool exact, int how) {
+    int32_t answer = rewrite(of, dialect, exact, to, NULL);
     if (answer != SEMVER_PARSER_OK) {
         text_say(to, "%s", range_error(answer, how));
     }
@@ -122,15 +122,15 @@ static void say_report(text *to, const text *of) {
 }
 
 /* Writes the versions of a list that meet a range. */
-static void say_met(text *to, const text *range, int32_t reading, int32_t pre_releases,
+static void say_met(text *to, const text *range, int32_t dialect, int32_t pre_releases,
                     const text *list) {
     text ignored = {NULL, 0, 0};
-    int32_t error = rewrite(range, reading, false, &ignored, NULL);
+    int32_t error = rewrite(range, dialect, false, &ignored, NULL);
     text_free(&ignored);
     if (error != SEMVER_PARSER_OK) {
         text version = {NULL, 0, 0};
         text_say(&version, "1.2.3");
-        bool same = meets(range, reading, pre_releases, &version) == error;
+        bool same = meets(range, dialect, pre_releases, &version) == error;
         text_say(to, "%s", same ? range_error(error, BY_SENTENCE) : "another error");
         text_free(&version);
         return;
@@ -142,7 +142,7 @@ static void say_met(text *to, const text *range, int32_t reading, int32_t pre_re
         at += length + 1;
         text version = {NULL, 0, 0};
         text_add(&version, item, length);
-        int32_t answer = length > 0 ? meets(range, reading, pre_releases, &version)
+        int32_t answer = length > 0 ? meets(range, dialect, pre_releases, &version)
                                     : SEMVER_PARSER_DOES_NOT_MEET;
         if (answer == SEMVER_PARSER_MEETS) {
             say_printed_version(to, &version);
@@ -157,9 +157,9 @@ static void say_met(text *to, const text *range, int32_t reading, int32_t pre_re
 
 /* ---- rows */
 
-/* The reading of a call of the table: the crate's, in the mode that its name begins or ends with,
+/* The dialect of a call of the table: the crate's, in the mode that its name begins or ends with,
  * and in Cargo's where it has none. */
-static int32_t reading_of(const char *call) {
+static int32_t dialect_of(const char *call) {
     const char *mode = strrchr(call, '-');
     bool is_npm = strncmp(call, "npm", 3) == 0 || (mode != NULL && strcmp(mode, "-npm") == 0);
     return is_npm ? SEMVER_PARSER_CRATE_NPM : SEMVER_PARSER_CRATE_CARGO;
@@ -174,27 +174,27 @@ static bool is_call(const char *call, const char *name) {
 
 /* Writes what a call of the table answers. False where C has no such call. */
 static bool say_answer(text *to, const char *call, const text *of, const text *steps) {
-    int32_t reading = reading_of(call);
+    int32_t dialect = dialect_of(call);
     if (strcmp(call, "version") == 0) {
         say_version(to, of);
     } else if (strcmp(call, "version-text") == 0) {
         int32_t answer = say_printed_version(to, of);
         text_say(to, "%s", answer == SEMVER_PARSER_OK ? "" : version_error(answer));
     } else if (strcmp(call, "cargo") == 0 || strcmp(call, "npm") == 0) {
-        say_set(to, of, reading);
+        say_set(to, of, dialect);
     } else if (strcmp(call, "cargo-text") == 0 || strcmp(call, "npm-text") == 0
                || strcmp(call, "from-str") == 0) {
-        say_printed_set(to, of, reading, false, BY_SENTENCE);
+        say_printed_set(to, of, dialect, false, BY_SENTENCE);
     } else if (strcmp(call, "cargo-exact") == 0 || strcmp(call, "npm-exact") == 0) {
-        say_printed_set(to, of, reading, true, BY_SENTENCE);
+        say_printed_set(to, of, dialect, true, BY_SENTENCE);
     } else if (strcmp(call, "report") == 0) {
         say_report(to, of);
     } else if (is_call(call, "filter") || is_call(call, "releases")) {
-        say_met(to, of, reading, SEMVER_PARSER_EXCLUDED, steps);
+        say_met(to, of, dialect, SEMVER_PARSER_EXCLUDED, steps);
     } else if (is_call(call, "meet") || is_call(call, "mean")) {
-        say_met(to, of, reading, SEMVER_PARSER_INCLUDED, steps);
+        say_met(to, of, dialect, SEMVER_PARSER_INCLUDED, steps);
     } else if (is_call(call, "stated")) {
-        say_met(to, of, reading, SEMVER_PARSER_DEFAULT, steps);
+        say_met(to, of, dialect, SEMVER_PARSER_DEFAULT, steps);
     } else {
         return false;
     }

@@ -6,13 +6,13 @@
 #include <stdio.h>
 #include <string.h>
 
-/* The readings, by short names. */
+/* The dialects, by short names. */
 enum {
     CARGO = SEMVER_PARSER_CARGO,
     NPM = SEMVER_PARSER_NPM,
     CRATE_CARGO = SEMVER_PARSER_CRATE_CARGO,
     CRATE_NPM = SEMVER_PARSER_CRATE_NPM,
-    READINGS = 4
+    DIALECTS = 4
 };
 
 static int failed;
@@ -53,7 +53,7 @@ static text long_text(const char *front, const char *unit, const char *end) {
     return made;
 }
 
-/* ---- versions, by the crate's readings, which read them alike */
+/* ---- versions, by the crate's dialects, which read them alike */
 
 static semver_parser_part part(size_t offset, size_t length) {
     semver_parser_part made = {offset, length};
@@ -197,16 +197,16 @@ static void order_error_is(const char *bytes, size_t length, int32_t error) {
     text faulty = bytes_of(bytes, length);
     text version = string("1.2.3-rc.1+b");
     text empty = string("");
-    for (int32_t reading = CRATE_CARGO; reading <= CRATE_NPM; reading++) {
+    for (int32_t dialect = CRATE_CARGO; dialect <= CRATE_NPM; dialect++) {
         int32_t order;
         bool in_other;
-        check(precedence(&faulty, &version, reading, &order, &in_other) == error && !in_other,
+        check(precedence(&faulty, &version, dialect, &order, &in_other) == error && !in_other,
             "another error of a version", &faulty);
-        check(precedence(&version, &faulty, reading, &order, &in_other) == error && in_other,
+        check(precedence(&version, &faulty, dialect, &order, &in_other) == error && in_other,
             "another error of the other version", &faulty);
-        check(precedence(&faulty, &empty, reading, &order, &in_other) == error && !in_other,
+        check(precedence(&faulty, &empty, dialect, &order, &in_other) == error && !in_other,
             "another error of both", &faulty);
-        check(precedence(&empty, &faulty, reading, &order, &in_other)
+        check(precedence(&empty, &faulty, dialect, &order, &in_other)
                       == SEMVER_PARSER_UNEXPECTED_END
                   && !in_other,
             "another error of an empty text", &faulty);
@@ -228,27 +228,27 @@ static void errors_of_orders(void) {
 
 /* ---- ranges */
 
-static void range_is(int32_t reading, bool exact, const char *bytes, const char *wanted) {
+static void range_is(int32_t dialect, bool exact, const char *bytes, const char *wanted) {
     text of = string(bytes);
     text printed = {NULL, 0, 0};
     text_add(&printed, "", 0);
-    check(rewrite(&of, reading, exact, &printed, NULL) == SEMVER_PARSER_OK, "not rewritten", &of);
+    check(rewrite(&of, dialect, exact, &printed, NULL) == SEMVER_PARSER_OK, "not rewritten", &of);
     check(strcmp(printed.bytes, wanted) == 0, "rewritten to another set", &of);
     text_free(&printed);
     text_free(&of);
 }
 
-/* An error that a range has by a reading, with exact bounds and without. */
-static void range_error_by(int32_t reading, const text *of, int32_t error) {
+/* An error that a range has by a dialect, with exact bounds and without. */
+static void range_error_by(int32_t dialect, const text *of, int32_t error) {
     text printed = {NULL, 0, 0};
     for (int exact = 0; exact < 2; exact++) {
-        int32_t answer = rewrite(of, reading, exact != 0, &printed, NULL);
+        int32_t answer = rewrite(of, dialect, exact != 0, &printed, NULL);
         check(answer == error, "another error of a range", of);
     }
     text_free(&printed);
 }
 
-/* So by both readings of the crate. */
+/* So by both dialects of the crate. */
 static void range_error_is(const char *bytes, size_t length, int32_t error) {
     text of = bytes_of(bytes, length);
     range_error_by(CRATE_CARGO, &of, error);
@@ -257,7 +257,7 @@ static void range_error_is(const char *bytes, size_t length, int32_t error) {
 }
 
 /* Many ranges, whose last number is their place, as a text has them and as they are printed. */
-static void many_ranges_are(int32_t reading, bool exact, const char *before, const char *after) {
+static void many_ranges_are(int32_t dialect, bool exact, const char *before, const char *after) {
     text of = {NULL, 0, 0};
     text wanted = {NULL, 0, 0};
     for (int at = 0; at < 300; at++) {
@@ -265,7 +265,7 @@ static void many_ranges_are(int32_t reading, bool exact, const char *before, con
         text_say(&of, "%s1.2.%d", between, at);
         text_say(&wanted, "%s%s1.2.%d%s", between, before, at, after);
     }
-    range_is(reading, exact, of.bytes, wanted.bytes);
+    range_is(dialect, exact, of.bytes, wanted.bytes);
     text_free(&of);
     text_free(&wanted);
 }
@@ -331,13 +331,13 @@ static semver_parser_comparator comparator(size_t range, int32_t op, uint64_t ma
 }
 
 /* The comparators of a range, and the bytes of their pre-releases. */
-static void comparators_are(int32_t reading, bool exact, const char *bytes,
+static void comparators_are(int32_t dialect, bool exact, const char *bytes,
                             const semver_parser_comparator *wanted, size_t count,
                             const char *pre_releases) {
     text of = string(bytes);
     text printed = {NULL, 0, 0};
     comparator_list list = {NULL, 0, {NULL, 0, 0}};
-    check(rewrite(&of, reading, exact, &printed, &list) == SEMVER_PARSER_OK && list.count == count,
+    check(rewrite(&of, dialect, exact, &printed, &list) == SEMVER_PARSER_OK && list.count == count,
           "another number of comparators", &of);
     for (size_t at = 0; at < count && at < list.count; at++) {
         const semver_parser_comparator *one = &list.items[at];
@@ -399,16 +399,16 @@ static void comparators(void) {
 
 enum { NO = SEMVER_PARSER_DOES_NOT_MEET, YES = SEMVER_PARSER_MEETS };
 
-/* Both readings of the crate answer the same: of releases alone, of stated pre-releases, and of
+/* Both dialects of the crate answer the same: of releases alone, of stated pre-releases, and of
  * all. */
 static void texts_meet(
     const text *range, const text *version, int32_t releases, int32_t stated, int32_t all) {
-    for (int32_t reading = CRATE_CARGO; reading <= CRATE_NPM; reading++) {
-        check(meets(range, reading, SEMVER_PARSER_EXCLUDED, version) == releases,
+    for (int32_t dialect = CRATE_CARGO; dialect <= CRATE_NPM; dialect++) {
+        check(meets(range, dialect, SEMVER_PARSER_EXCLUDED, version) == releases,
               "another answer among releases", range);
-        check(meets(range, reading, SEMVER_PARSER_DEFAULT, version) == stated,
+        check(meets(range, dialect, SEMVER_PARSER_DEFAULT, version) == stated,
               "another answer among stated pre-releases", range);
-        check(meets(range, reading, SEMVER_PARSER_INCLUDED, version) == all,
+        check(meets(range, dialect, SEMVER_PARSER_INCLUDED, version) == all,
               "another answer among all versions", range);
     }
 }
@@ -539,7 +539,7 @@ static void many(void) {
 
 /* More versions than stand in the table, of which each has the number of its place. The first may
  * be an empty one at null, so that all are copied. */
-static void very_many(int32_t reading, bool at_null) {
+static void very_many(int32_t dialect, bool at_null) {
     enum { MANY = 3000 };
     static char versions[MANY][16];
     static semver_parser_text texts[MANY];
@@ -553,11 +553,11 @@ static void very_many(int32_t reading, bool at_null) {
         texts[0].length = 0;
     }
     text range = string("^1.1000");
-    int32_t answer = semver_parser_meets_each((const uint8_t *)range.bytes, range.length, reading,
+    int32_t answer = semver_parser_meets_each((const uint8_t *)range.bytes, range.length, dialect,
                                               SEMVER_PARSER_EXCLUDED, texts, MANY, answers);
     check(answer == SEMVER_PARSER_OK, "another answer of very many", &range);
     for (int at = 0; at < MANY; at++) {
-        bool is_of_tool = reading == CARGO || reading == NPM;
+        bool is_of_tool = dialect == CARGO || dialect == NPM;
         int none = is_of_tool ? SEMVER_PARSER_NOT_A_VERSION : SEMVER_PARSER_UNEXPECTED_END;
         int wanted = at == 0 && at_null ? none : at >= 1000 ? (int)YES : (int)NO;
         check(answers[at] == wanted, "another answer of one of very many", &range);
@@ -569,14 +569,14 @@ static void very_many(int32_t reading, bool at_null) {
 
 /* What the range means least by each rule: releases alone, as stated, and all. An empty text is
  * none. */
-static void least_are(int32_t reading, const char *bytes, const char *releases, const char *stated,
+static void least_are(int32_t dialect, const char *bytes, const char *releases, const char *stated,
                       const char *all) {
     const char *wanted[3] = {releases, stated, all};
     text range = string(bytes);
     for (int rule = 0; rule < 3; rule++) {
         text printed = {NULL, 0, 0};
         text_add(&printed, "", 0);
-        check(least(&range, reading, rule, &printed) == SEMVER_PARSER_OK, "no least version",
+        check(least(&range, dialect, rule, &printed) == SEMVER_PARSER_OK, "no least version",
               &range);
         check(strcmp(printed.bytes, wanted[rule]) == 0, "another least version", &range);
         text_free(&printed);
@@ -584,11 +584,11 @@ static void least_are(int32_t reading, const char *bytes, const char *releases, 
     text_free(&range);
 }
 
-static void least_error_is(int32_t reading, const char *bytes, size_t length, int32_t rule,
+static void least_error_is(int32_t dialect, const char *bytes, size_t length, int32_t rule,
                            int32_t error) {
     text range = bytes_of(bytes, length);
     text printed = {NULL, 0, 0};
-    check(least(&range, reading, rule, &printed) == error, "another error of a range", &range);
+    check(least(&range, dialect, rule, &printed) == error, "another error of a range", &range);
     check(printed.length == 0, "a version at an error", &range);
     text_free(&printed);
     text_free(&range);
@@ -640,10 +640,10 @@ static three differ_by(const char *lost, const char *gained, const char *shared)
     return made;
 }
 
-static void rule_compares(int32_t reading, int32_t rule, const text *old_range,
+static void rule_compares(int32_t dialect, int32_t rule, const text *old_range,
                           const text *new_range, three wanted) {
     compared told = {{NULL, 0, 0}, {NULL, 0, 0}, {NULL, 0, 0}};
-    check(compare(old_range, new_range, reading, rule, &told) == SEMVER_PARSER_OK, "no comparison",
+    check(compare(old_range, new_range, dialect, rule, &told) == SEMVER_PARSER_OK, "no comparison",
           old_range);
     check(strcmp(told.lost.bytes, wanted.lost) == 0, "another version is lost", old_range);
     check(strcmp(told.gained.bytes, wanted.gained) == 0, "another version is gained", old_range);
@@ -652,14 +652,14 @@ static void rule_compares(int32_t reading, int32_t rule, const text *old_range,
 }
 
 /* What is lost one way round is gained the other way round. */
-static void compare_are(int32_t reading, const char *old_bytes, const char *new_bytes,
+static void compare_are(int32_t dialect, const char *old_bytes, const char *new_bytes,
                         three releases, three stated, three all) {
     const three wanted[3] = {releases, stated, all};
     text old_range = string(old_bytes);
     text new_range = string(new_bytes);
     for (int rule = 0; rule < 3; rule++) {
-        rule_compares(reading, rule, &old_range, &new_range, wanted[rule]);
-        rule_compares(reading, rule, &new_range, &old_range,
+        rule_compares(dialect, rule, &old_range, &new_range, wanted[rule]);
+        rule_compares(dialect, rule, &new_range, &old_range,
                       differ_by(wanted[rule].gained, wanted[rule].lost, wanted[rule].shared));
     }
     text_free(&old_range);
@@ -667,18 +667,18 @@ static void compare_are(int32_t reading, const char *old_bytes, const char *new_
 }
 
 /* So of ranges that no rule for pre-releases tells apart. */
-static void differ_alike(int32_t reading, const char *old_bytes, const char *new_bytes,
+static void differ_alike(int32_t dialect, const char *old_bytes, const char *new_bytes,
                          const char *lost, const char *gained, const char *shared) {
     three wanted = differ_by(lost, gained, shared);
-    compare_are(reading, old_bytes, new_bytes, wanted, wanted, wanted);
+    compare_are(dialect, old_bytes, new_bytes, wanted, wanted, wanted);
 }
 
-static void compare_error_is(int32_t reading, const char *old_bytes, const char *new_bytes,
+static void compare_error_is(int32_t dialect, const char *old_bytes, const char *new_bytes,
                              int32_t rule, int32_t error) {
     text old_range = string(old_bytes);
     text new_range = string(new_bytes);
     compared told = {{NULL, 0, 0}, {NULL, 0, 0}, {NULL, 0, 0}};
-    check(compare(&old_range, &new_range, reading, rule, &told) == error,
+    check(compare(&old_range, &new_range, dialect, rule, &told) == error,
           "another error of two ranges", &old_range);
     check(told.lost.length + told.gained.length + told.shared.length == 0, "a version at an error",
         &old_range);
@@ -792,9 +792,9 @@ int main(void) {
     long_meetings();
     errors_in_order();
     many();
-    for (int32_t reading = 0; reading < READINGS; reading++) {
-        very_many(reading, false);
-        very_many(reading, true);
+    for (int32_t dialect = 0; dialect < DIALECTS; dialect++) {
+        very_many(dialect, false);
+        very_many(dialect, true);
     }
     least_versions();
     compared_releases();

@@ -69,7 +69,7 @@ static void release(owned *set) {
 /* What makes a set: a range, or two sets and an operation. */
 typedef struct {
     const char *range;
-    int32_t reading;
+    int32_t dialect;
     int32_t rule;
     const owned *first;
     const owned *second;
@@ -78,7 +78,7 @@ typedef struct {
 
 static int32_t put(const source *of, owned *made, size_t *count, size_t *length) {
     if (of->range != NULL) {
-        return semver_parser_set(bytes_of(of->range), strlen(of->range), of->reading, of->rule,
+        return semver_parser_set(bytes_of(of->range), strlen(of->range), of->dialect, of->rule,
                                  made->switches, made->count, count, made->bytes, made->length,
                                  length);
     }
@@ -115,14 +115,14 @@ static owned made_of(const source *of, const char *name) {
     exit(2);
 }
 
-static owned set_of(const char *range, int32_t reading, int32_t rule) {
-    source of = {range, reading, rule, NULL, NULL, 0};
+static owned set_of(const char *range, int32_t dialect, int32_t rule) {
+    source of = {range, dialect, rule, NULL, NULL, 0};
     return made_of(&of, range);
 }
 
-static void set_is(const char *range, int32_t reading, int32_t rule,
+static void set_is(const char *range, int32_t dialect, int32_t rule,
                    const semver_parser_switch *switches, size_t count, const char *bytes) {
-    owned set = set_of(range, reading, rule);
+    owned set = set_of(range, dialect, rule);
     check(set.count == count
               && memcmp(set.switches, switches, count * sizeof(semver_parser_switch)) == 0,
           "other switches", range);
@@ -143,17 +143,17 @@ static void sets(void) {
     set_is(">2 <1", NPM, ALL, none, 1, "");
 }
 
-static void error_is(const char *range, int32_t reading, int32_t rule, int32_t error) {
+static void error_is(const char *range, int32_t dialect, int32_t rule, int32_t error) {
     size_t count = 7;
     size_t length = 7;
-    check(semver_parser_set(bytes_of(range), strlen(range), reading, rule, NULL, 0, &count, NULL, 0,
+    check(semver_parser_set(bytes_of(range), strlen(range), dialect, rule, NULL, 0, &count, NULL, 0,
                             &length) == error
               && count == 7 && length == 7,
           "another error", range);
 }
 
 static void errors(void) {
-    error_is("", 4, 9, SEMVER_PARSER_NO_SUCH_READING);
+    error_is("", 4, 9, SEMVER_PARSER_NO_SUCH_DIALECT);
     error_is("\xFF", CARGO, 9, SEMVER_PARSER_NO_SUCH_RULE);
     error_is("\xFF", CARGO, ALL, SEMVER_PARSER_RANGE_NOT_UTF8);
     error_is("1..2", NPM, ALL, SEMVER_PARSER_NOT_A_RANGE);
@@ -162,9 +162,9 @@ static void errors(void) {
 
 /* ---- what is asked of a set */
 
-static int32_t has(const owned *set, const char *version, int32_t reading) {
+static int32_t has(const owned *set, const char *version, int32_t dialect) {
     bool is_in = false;
-    int32_t answer = semver_parser_set_has(view(set), bytes_of(version), strlen(version), reading,
+    int32_t answer = semver_parser_set_has(view(set), bytes_of(version), strlen(version), dialect,
                                            &is_in);
     return answer != SEMVER_PARSER_OK ? answer : (int32_t)(is_in ? -1 : -2);
 }
@@ -184,7 +184,7 @@ static void versions(void) {
     check(has(&set, "\xFF", CARGO) == SEMVER_PARSER_VERSION_NOT_UTF8, "no UTF-8 is read", "");
     owned none = {NULL, 0, NULL, 0};
     check(has(&none, "1.9", CARGO) == SEMVER_PARSER_NOT_A_SET, "nothing is a set", "");
-    check(has(&none, "1.9", 4) == SEMVER_PARSER_NO_SUCH_READING, "a reading 4", "");
+    check(has(&none, "1.9", 4) == SEMVER_PARSER_NO_SUCH_DIALECT, "a dialect 4", "");
     release(&set);
 }
 

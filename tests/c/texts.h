@@ -1,4 +1,4 @@
-/* Texts that grow, and the reading of the table of cases. */
+/* Texts that grow, and the dialect of the table of cases. */
 #ifndef TEXTS_H
 #define TEXTS_H
 

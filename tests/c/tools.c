@@ -1,5 +1,5 @@
 /* Replays the tools' rows of the table of cases through the C library: tools STDIN STDOUT, where
- * these are the files of crates/replayed_cases. Their calls end with the reading, `-as-cargo` or
+ * these are the files of crates/replayed_cases. Their calls end with the dialect, `-as-cargo` or
  * `-as-npm`: `rewritten-as-npm` has a range text, of which the table has what it is rewritten to,
  * or the word of its error; `meant-as-npm` has versions too, of which the table has those that the
  * range means by the tool's own rule for pre-releases, and `meant-with-all-as-npm` those that it
@@ -19,11 +19,11 @@
  * version is, or where and why a text is none, or gives no range. */
 enum { REWRITTEN = -1, VERSION = -2, EXPLAINED = -3, NO_RANGE = -4 };
 
-/* A call of the table, its reading, its rule for pre-releases or one of these numbers, how many rows
+/* A call of the table, its dialect, its rule for pre-releases or one of these numbers, how many rows
  * it has at least, and how many of them passed and failed. */
 typedef struct {
     const char *name;
-    int32_t reading;
+    int32_t dialect;
     int32_t rule;
     int least;
     int passed;
@@ -86,10 +86,10 @@ static bool has_pre_release(const text *version) {
 }
 
 /* Whether a number of a version is too large for npm, which doesn't read it then. */
-static bool is_too_large(const text *version, int32_t reading) {
+static bool is_too_large(const text *version, int32_t dialect) {
     const uint64_t most = 9007199254740991;
     semver_parser_version read;
-    return reading == SEMVER_PARSER_NPM
+    return dialect == SEMVER_PARSER_NPM
            && read_version(version, SEMVER_PARSER_CARGO, &read) == SEMVER_PARSER_OK
            && (read.major > most || read.minor > most || read.patch > most);
 }
@@ -97,14 +97,14 @@ static bool is_too_large(const text *version, int32_t reading) {
 /* Writes those versions of a list that meet a range by a rule, as the table does, or the word of
  * the range's error. The versions are separated by spaces. Those that are too large for npm have to
  * be refused. */
-static void say_meant(text *to, const text *range, int32_t reading, int32_t rule,
+static void say_meant(text *to, const text *range, int32_t dialect, int32_t rule,
                       const char *list) {
     text_say(to, "means");
     while (*list != 0) {
         size_t length = strcspn(list, " ");
         text version = string(list, length);
-        int32_t answer = meets(range, reading, rule, &version);
-        if (answer == SEMVER_PARSER_NOT_A_VERSION && is_too_large(&version, reading)) {
+        int32_t answer = meets(range, dialect, rule, &version);
+        if (answer == SEMVER_PARSER_NOT_A_VERSION && is_too_large(&version, dialect)) {
             answer = SEMVER_PARSER_DOES_NOT_MEET;
         } else if (answer == SEMVER_PARSER_MEETS) {
             text_say(to, " ");
@@ -123,13 +123,13 @@ static void say_meant(text *to, const text *range, int32_t reading, int32_t rule
 
 /* What the table has, without the versions that are too large for npm, and without those that have
  * a pre-release where releases alone are asked for. */
-static text wanted_of(const char *expected, int32_t reading, bool releases) {
+static text wanted_of(const char *expected, int32_t dialect, bool releases) {
     text kept = {NULL, 0, 0};
     text_add(&kept, "", 0);
     while (*expected != 0) {
         size_t length = strcspn(expected, " ");
         text word = string(expected, length);
-        if (!is_too_large(&word, reading) && !(releases && has_pre_release(&word))) {
+        if (!is_too_large(&word, dialect) && !(releases && has_pre_release(&word))) {
             text_say(&kept, kept.length > 0 ? " " : "");
             text_add(&kept, word.bytes, word.length);
         }
@@ -150,13 +150,13 @@ static bool is_answer(const text *answer, const char *expected, const row *of, c
 }
 
 /* Replays a row on what a range means: by the rule of the call, and among releases only. */
-static bool replay_meaning(const row *of, int32_t reading, int32_t rule) {
+static bool replay_meaning(const row *of, int32_t dialect, int32_t rule) {
     text by_rule = {NULL, 0, 0};
     text alone = {NULL, 0, 0};
-    say_meant(&by_rule, &of->of, reading, rule, of->steps.bytes);
-    say_meant(&alone, &of->of, reading, SEMVER_PARSER_EXCLUDED, of->steps.bytes);
-    text all = wanted_of(of->expected, reading, false);
-    text releases = wanted_of(of->expected, reading, true);
+    say_meant(&by_rule, &of->of, dialect, rule, of->steps.bytes);
+    say_meant(&alone, &of->of, dialect, SEMVER_PARSER_EXCLUDED, of->steps.bytes);
+    text all = wanted_of(of->expected, dialect, false);
+    text releases = wanted_of(of->expected, dialect, true);
     bool passed = is_answer(&by_rule, all.bytes, of, "by the rule of the call")
                   && is_answer(&alone, releases.bytes, of, "among releases only");
     text_free(&all);
@@ -167,11 +167,11 @@ static bool replay_meaning(const row *of, int32_t reading, int32_t rule) {
 }
 
 /* Replays a row on what a range is rewritten to, where it doesn't matter what `exact` says. */
-static bool replay_rewriting(const row *of, int32_t reading) {
+static bool replay_rewriting(const row *of, int32_t dialect) {
     bool passed = true;
     for (int exact = 0; exact < 2; exact++) {
         text printed = {NULL, 0, 0};
-        int32_t answer = rewrite(&of->of, reading, exact != 0, &printed, NULL);
+        int32_t answer = rewrite(&of->of, dialect, exact != 0, &printed, NULL);
         if (answer != SEMVER_PARSER_OK) {
             text_say(&printed, "%s", error_word(answer));
         }
@@ -186,11 +186,11 @@ static const char sum[] = "sum-of-";
 static bool is_sum(const char *call) { return strncmp(call, sum, strlen(sum)) == 0; }
 
 /* Replays a row on what a version is. */
-static bool replay_version(const row *of, int32_t reading) {
+static bool replay_version(const row *of, int32_t dialect) {
     text fields = {NULL, 0, 0};
     text checksum = {NULL, 0, 0};
     semver_parser_version read;
-    int32_t answer = read_version(&of->of, reading, &read);
+    int32_t answer = read_version(&of->of, dialect, &read);
     if (answer == SEMVER_PARSER_OK) {
         say_fields(&fields, &of->of, &read);
     } else {
@@ -205,26 +205,26 @@ static bool replay_version(const row *of, int32_t reading) {
 }
 
 /* Replays a row on where and why a text is no version. */
-static bool replay_explanation(const row *of, int32_t reading) {
+static bool replay_explanation(const row *of, int32_t dialect) {
     text told = {NULL, 0, 0};
     size_t place;
-    int32_t answer = explain_version(&of->of, reading, &place);
+    int32_t answer = explain_version(&of->of, dialect, &place);
     if (answer == SEMVER_PARSER_OK) {
         text_say(&told, "a version");
     } else {
         text_say(&told, "%zu: %s", place, reason_words(answer));
     }
-    bool passed = is_answer(&told, of->expected, of, "by the reading");
+    bool passed = is_answer(&told, of->expected, of, "by the dialect");
     text_free(&told);
     return passed;
 }
 
 /* Replays a row on where and why a text gives no range. */
-static bool replay_no_range(const row *of, int32_t reading) {
+static bool replay_no_range(const row *of, int32_t dialect) {
     text told = {NULL, 0, 0};
     size_t place;
     int32_t hint;
-    int32_t answer = explain_range(&of->of, reading, &place, &hint);
+    int32_t answer = explain_range(&of->of, dialect, &place, &hint);
     if (answer == SEMVER_PARSER_OK) {
         text_say(&told, "a range");
     } else {
@@ -232,18 +232,18 @@ static bool replay_no_range(const row *of, int32_t reading) {
             answer == SEMVER_PARSER_NOT_A_RANGE ? "not a range" : "number too large";
         text_say(&told, "%zu: %s%s", place, error, hint_words(hint));
     }
-    bool passed = is_answer(&told, of->expected, of, "by the reading");
+    bool passed = is_answer(&told, of->expected, of, "by the dialect");
     text_free(&told);
     return passed;
 }
 
 /* Replays a row of a call, and counts it. */
 static void replay(tool_call *by, const row *of) {
-    bool passed = by->rule == REWRITTEN   ? replay_rewriting(of, by->reading)
-                  : by->rule == VERSION   ? replay_version(of, by->reading)
-                  : by->rule == EXPLAINED ? replay_explanation(of, by->reading)
-                  : by->rule == NO_RANGE  ? replay_no_range(of, by->reading)
-                                          : replay_meaning(of, by->reading, by->rule);
+    bool passed = by->rule == REWRITTEN   ? replay_rewriting(of, by->dialect)
+                  : by->rule == VERSION   ? replay_version(of, by->dialect)
+                  : by->rule == EXPLAINED ? replay_explanation(of, by->dialect)
+                  : by->rule == NO_RANGE  ? replay_no_range(of, by->dialect)
+                                          : replay_meaning(of, by->dialect, by->rule);
     by->passed += passed;
     by->failed += !passed;
 }

@@ -44,84 +44,84 @@ static const semver_parser_text *texts_at(const semver_parser_text *texts, size_
 }
 
 int32_t semver_parser_parse_version(
-    const uint8_t *text, size_t text_length, int32_t reading, semver_parser_version *out) {
+    const uint8_t *text, size_t text_length, int32_t dialect, semver_parser_version *out) {
     return semver_parser_proved_parse_version(
-        text_at(text, text_length), text_length, reading, out);
+        text_at(text, text_length), text_length, dialect, out);
 }
 
 int32_t semver_parser_explain_version(
-    const uint8_t *text, size_t text_length, int32_t reading, size_t *place) {
+    const uint8_t *text, size_t text_length, int32_t dialect, size_t *place) {
     return semver_parser_proved_explain_version(
-        text_at(text, text_length), text_length, reading, place);
+        text_at(text, text_length), text_length, dialect, place);
 }
 
 int32_t semver_parser_explain_range(
-    const uint8_t *text, size_t text_length, int32_t reading, size_t *place, int32_t *hint) {
+    const uint8_t *text, size_t text_length, int32_t dialect, size_t *place, int32_t *hint) {
     return semver_parser_proved_explain_range(
-        text_at(text, text_length), text_length, reading, place, hint);
+        text_at(text, text_length), text_length, dialect, place, hint);
 }
 
 int32_t semver_parser_precedence(const uint8_t *version, size_t version_length,
-    const uint8_t *other, size_t other_length, int32_t reading, int32_t *order, bool *in_other) {
+    const uint8_t *other, size_t other_length, int32_t dialect, int32_t *order, bool *in_other) {
     return semver_parser_proved_precedence(text_at(version, version_length), version_length,
-        text_at(other, other_length), other_length, reading, order, in_other);
+        text_at(other, other_length), other_length, dialect, order, in_other);
 }
 
-int32_t semver_parser_rewrite(const uint8_t *text, size_t text_length, int32_t reading, bool exact,
+int32_t semver_parser_rewrite(const uint8_t *text, size_t text_length, int32_t dialect, bool exact,
                               uint8_t *out, size_t room, size_t *length) {
-    return semver_parser_proved_rewrite(text_at(text, text_length), text_length, reading, exact,
+    return semver_parser_proved_rewrite(text_at(text, text_length), text_length, dialect, exact,
                                         room_at(out, room), room, length);
 }
 
-int32_t semver_parser_comparators(const uint8_t *text, size_t text_length, int32_t reading,
+int32_t semver_parser_comparators(const uint8_t *text, size_t text_length, int32_t dialect,
                                   bool exact, semver_parser_comparator *comparators,
                                   size_t comparator_room, size_t *count, uint8_t *out, size_t room,
                                   size_t *length) {
-    return semver_parser_proved_comparators(text_at(text, text_length), text_length, reading, exact,
+    return semver_parser_proved_comparators(text_at(text, text_length), text_length, dialect, exact,
                                             comparators_at(comparators, comparator_room),
                                             comparator_room, count, room_at(out, room), room,
                                             length);
 }
 
-int32_t semver_parser_meets(const uint8_t *range, size_t range_length, int32_t reading,
+int32_t semver_parser_meets(const uint8_t *range, size_t range_length, int32_t dialect,
                             int32_t pre_releases, const uint8_t *version, size_t version_length,
                             bool *meets) {
-    return semver_parser_proved_meets(text_at(range, range_length), range_length, reading,
+    return semver_parser_proved_meets(text_at(range, range_length), range_length, dialect,
                                       pre_releases, text_at(version, version_length),
                                       version_length, meets);
 }
 
-int32_t semver_parser_least(const uint8_t *range, size_t range_length, int32_t reading,
+int32_t semver_parser_least(const uint8_t *range, size_t range_length, int32_t dialect,
                             int32_t pre_releases, uint8_t *out, size_t room, size_t *length) {
-    return semver_parser_proved_least(text_at(range, range_length), range_length, reading,
+    return semver_parser_proved_least(text_at(range, range_length), range_length, dialect,
                                       pre_releases, room_at(out, room), room, length);
 }
 
 int32_t semver_parser_compare(const uint8_t *old_range, size_t old_range_length,
-                              const uint8_t *new_range, size_t new_range_length, int32_t reading,
+                              const uint8_t *new_range, size_t new_range_length, int32_t dialect,
                               int32_t pre_releases, uint8_t *out, size_t room, size_t *length,
                               semver_parser_comparison *comparison) {
     return semver_parser_proved_compare(text_at(old_range, old_range_length), old_range_length,
                                         text_at(new_range, new_range_length), new_range_length,
-                                        reading, pre_releases, room_at(out, room), room, length,
+                                        dialect, pre_releases, room_at(out, room), room, length,
                                         comparison);
 }
 
 /* ---- sets */
 
-int32_t semver_parser_set(const uint8_t *range, size_t range_length, int32_t reading,
+int32_t semver_parser_set(const uint8_t *range, size_t range_length, int32_t dialect,
                           int32_t pre_releases, semver_parser_switch *made, size_t made_room,
                           size_t *count, uint8_t *out, size_t room, size_t *length) {
-    return semver_parser_proved_set(text_at(range, range_length), range_length, reading,
+    return semver_parser_proved_set(text_at(range, range_length), range_length, dialect,
                                     pre_releases, made_at(made, made_room), made_room, count,
                                     room_at(out, room), room, length);
 }
 
 int32_t semver_parser_set_has(semver_parser_flat_set set, const uint8_t *version,
-                              size_t version_length, int32_t reading, bool *is_in) {
+                              size_t version_length, int32_t dialect, bool *is_in) {
     semver_parser_flat_set at = set_at(set);
     return semver_parser_proved_set_has(at.switches, at.count, at.bytes, at.length,
-                                        text_at(version, version_length), version_length, reading,
+                                        text_at(version, version_length), version_length, dialect,
                                         is_in);
 }
 
@@ -187,25 +187,25 @@ static rattle_answer block_of_texts(size_t count) {
 }
 
 /* The texts are copied only where an empty one is at null. Where that copy is refused, an error of
- * the reading, of the rule or of the range goes before it. */
-int32_t semver_parser_meets_each(const uint8_t *range, size_t range_length, int32_t reading,
+ * the dialect, of the rule or of the range goes before it. */
+int32_t semver_parser_meets_each(const uint8_t *range, size_t range_length, int32_t dialect,
                                  int32_t pre_releases, const semver_parser_text *versions,
                                  size_t count, uint8_t *answers) {
     const uint8_t *range_at = text_at(range, range_length);
     if (!has_null(versions, count)) {
-        return semver_parser_proved_meets_each(range_at, range_length, reading, pre_releases,
+        return semver_parser_proved_meets_each(range_at, range_length, dialect, pre_releases,
                                                texts_at(versions, count), count,
                                                room_at(answers, count), count);
     }
     rattle_answer copies = block_of_texts(count);
     if (!copies.found) {
-        int32_t error = semver_parser_proved_meets_each(range_at, range_length, reading,
+        int32_t error = semver_parser_proved_meets_each(range_at, range_length, dialect,
                                                         pre_releases, &no_text, 0, &no_byte, 0);
         return error != SEMVER_PARSER_OK ? error : (int32_t)SEMVER_PARSER_RANGE_OUT_OF_MEMORY;
     }
     semver_parser_text *texts = (semver_parser_text *)copies.block;
     copy_texts(texts, versions, count);
-    int32_t answer = semver_parser_proved_meets_each(range_at, range_length, reading, pre_releases,
+    int32_t answer = semver_parser_proved_meets_each(range_at, range_length, dialect, pre_releases,
                                                      texts, count, answers, count);
     rattle_dealloc(copies.block);
     return answer;
@@ -238,7 +238,7 @@ const char *semver_parser_fault_text(int32_t answer) {
     case SEMVER_PARSER_NEW_NOT_A_RANGE: return "the new range is not a range";
     case SEMVER_PARSER_NEW_NUMBER_TOO_LARGE: return "the new range has a number that is too large";
     case SEMVER_PARSER_NEW_RANGE_OUT_OF_MEMORY: return "out of memory at two ranges";
-    case SEMVER_PARSER_NO_SUCH_READING: return "no dialect has this number";
+    case SEMVER_PARSER_NO_SUCH_DIALECT: return "no dialect has this number";
     case SEMVER_PARSER_NOT_A_VERSION: return "not a version";
     case SEMVER_PARSER_VERSION_EMPTY: return "the version is empty";
     case SEMVER_PARSER_VERSION_NOT_THREE_NUMBERS: return "the version has not three numbers";

@@ -16,7 +16,7 @@
  * RESULTS. A function returns SEMVER_PARSER_OK (0) or the number of an error. An error writes
  * nothing, but for what is said of SEMVER_PARSER_NO_ROOM, `in_other`, `place` and `hint`. Errors
  * come in this order, each exactly if it applies:
- * - SEMVER_PARSER_NO_SUCH_READING, _NO_SUCH_RULE, _NO_SUCH_OPERATION, then _NOT_A_SET;
+ * - SEMVER_PARSER_NO_SUCH_DIALECT, _NO_SUCH_RULE, _NO_SUCH_OPERATION, then _NOT_A_SET;
  * - of a range: SEMVER_PARSER_RANGE_NOT_UTF8, _NOT_A_RANGE, _NUMBER_TOO_LARGE;
  * - of a version: SEMVER_PARSER_VERSION_NOT_UTF8; then by Cargo's and npm's dialects
  *   SEMVER_PARSER_NOT_A_VERSION, and by the crate's SEMVER_PARSER_UNEXPECTED_END,
@@ -88,7 +88,7 @@ enum {
     SEMVER_PARSER_NEW_NUMBER_TOO_LARGE = 18,
     SEMVER_PARSER_NEW_RANGE_OUT_OF_MEMORY = 19,
 
-    SEMVER_PARSER_NO_SUCH_READING = 20,
+    SEMVER_PARSER_NO_SUCH_DIALECT = 20,
     /* By Cargo's or npm's dialect. */
     SEMVER_PARSER_NOT_A_VERSION = 21,
 
@@ -129,7 +129,7 @@ enum {
     SEMVER_PARSER_HINT_NPM_LIMIT = 44
 };
 
-/* Dialects: values of `reading` (docs/MEANING.md, "Which dialect?"). */
+/* Dialects: values of `dialect` (docs/MEANING.md, "Which dialect?"). */
 enum {
     /* `1.2` is `>=1.2.0 <2.0.0`. Versions are SemVer 2.0.0. */
     SEMVER_PARSER_CARGO = 0,
@@ -242,41 +242,41 @@ const char *semver_parser_fault_text(int32_t answer);
 /* Reads a version. `1.2.3-rc.1+b5` gives 1, 2, 3, the pre-release at offset 6 with length 4, and
  * the build at offset 11 with length 2. A version allocates nothing; the error of another text may.
  */
-int32_t semver_parser_parse_version(const uint8_t *text, size_t text_length, int32_t reading,
+int32_t semver_parser_parse_version(const uint8_t *text, size_t text_length, int32_t dialect,
                                     semver_parser_version *out);
 
 /* Returns SEMVER_PARSER_OK exactly for a version, and otherwise the reason, one of
  * SEMVER_PARSER_VERSION_EMPTY to _VERSION_TEXT_AFTER. Then `place` is the offset of the first
  * character that no version has there, or `text_length`: `1.2.03` gives _VERSION_LEADING_ZERO and
  * 5. The bytes need not be UTF-8. Does not allocate. */
-int32_t semver_parser_explain_version(const uint8_t *text, size_t text_length, int32_t reading,
+int32_t semver_parser_explain_version(const uint8_t *text, size_t text_length, int32_t dialect,
                                       size_t *place);
 
 /* Returns SEMVER_PARSER_OK exactly for a range. After _NOT_A_RANGE `place` is the first
  * character that no range has there, after _NUMBER_TOO_LARGE where no numbers fit any more, or
  * `text_length`: `1 || 2` by SEMVER_PARSER_CARGO gives 2 and _HINT_CARGO_BARS. Only these two
  * allocate; _RANGE_OUT_OF_MEMORY may replace them. */
-int32_t semver_parser_explain_range(const uint8_t *text, size_t text_length, int32_t reading,
+int32_t semver_parser_explain_range(const uint8_t *text, size_t text_length, int32_t dialect,
                                     size_t *place, int32_t *hint);
 
 /* Compares two versions by precedence (SemVer 2.0.0, section 11): `order` is -1, 0 or 1. Builds
  * don't count. After an error `in_other` says whether it is of `other`; the first text is read
  * first. For two versions only a pre-release of `other` allocates. */
 int32_t semver_parser_precedence(const uint8_t *version, size_t version_length,
-                                 const uint8_t *other, size_t other_length, int32_t reading,
+                                 const uint8_t *other, size_t other_length, int32_t dialect,
                                  int32_t *order, bool *in_other);
 
 /* Rewrites a range into comparators, and prints them: `^1.2 || 3.x` by SEMVER_PARSER_NPM gives
  * `>=1.2.0 <2.0.0-0 || >=3.0.0 <4.0.0-0`. By the crate's dialects raised bounds are so only if
  * `exact`, and otherwise `<2.0.0`. By Cargo's and npm's the comparators say which releases the
  * range means. Allocates up to 155 bytes per byte. */
-int32_t semver_parser_rewrite(const uint8_t *text, size_t text_length, int32_t reading, bool exact,
+int32_t semver_parser_rewrite(const uint8_t *text, size_t text_length, int32_t dialect, bool exact,
                               uint8_t *out, size_t room, size_t *length);
 
 /* Gives the same comparators as data, with their pre-releases one after the other in `out`.
  * `^1.2.3-rc.1` by SEMVER_PARSER_NPM gives `rc.10`: `>=` 1, 2, 3 with offset 0 and length 4, and
  * `<` 2, 0, 0 with 4 and 1. Allocates up to 300 bytes per byte. */
-int32_t semver_parser_comparators(const uint8_t *text, size_t text_length, int32_t reading,
+int32_t semver_parser_comparators(const uint8_t *text, size_t text_length, int32_t dialect,
                                   bool exact, semver_parser_comparator *comparators,
                                   size_t comparator_room, size_t *count, uint8_t *out, size_t room,
                                   size_t *length);
@@ -284,20 +284,20 @@ int32_t semver_parser_comparators(const uint8_t *text, size_t text_length, int32
 /* Returns whether a range means a version: by the meaning of the text, and not by its comparators.
  * Builds don't count. Allocates only for a text that is no version:
  * SEMVER_PARSER_RANGE_OUT_OF_MEMORY never comes. */
-int32_t semver_parser_meets(const uint8_t *range, size_t range_length, int32_t reading,
+int32_t semver_parser_meets(const uint8_t *range, size_t range_length, int32_t dialect,
                             int32_t pre_releases, const uint8_t *version, size_t version_length,
                             bool *meets);
 
 /* The same for `count` versions. Each byte of `answers` is SEMVER_PARSER_MEETS,
  * SEMVER_PARSER_DOES_NOT_MEET, or the error of that version. If an empty string is null, the array
  * is copied. */
-int32_t semver_parser_meets_each(const uint8_t *range, size_t range_length, int32_t reading,
+int32_t semver_parser_meets_each(const uint8_t *range, size_t range_length, int32_t dialect,
                                  int32_t pre_releases, const semver_parser_text *versions,
                                  size_t count, uint8_t *answers);
 
 /* Prints the least version that a range means, without a build. `length` is 0 exactly if it means
  * none. `>1.0.0-rc.1` has 1.0.0 by SEMVER_PARSER_RELEASES_ALONE, and else 1.0.0-rc.1.0. */
-int32_t semver_parser_least(const uint8_t *range, size_t range_length, int32_t reading,
+int32_t semver_parser_least(const uint8_t *range, size_t range_length, int32_t dialect,
                             int32_t pre_releases, uint8_t *out, size_t room, size_t *length);
 
 /* Prints the least versions that are lost, gained and shared, one after the other, if a new range
@@ -306,19 +306,19 @@ int32_t semver_parser_least(const uint8_t *range, size_t range_length, int32_t r
  * buffer is too small. Errors of the old range come first, then those of the new one, then
  * SEMVER_PARSER_NEW_RANGE_OUT_OF_MEMORY. */
 int32_t semver_parser_compare(const uint8_t *old_range, size_t old_range_length,
-                              const uint8_t *new_range, size_t new_range_length, int32_t reading,
+                              const uint8_t *new_range, size_t new_range_length, int32_t dialect,
                               int32_t pre_releases, uint8_t *out, size_t room, size_t *length,
                               semver_parser_comparison *comparison);
 
 /* Makes a range into a set of versions as data, which can be copied and stored. Equal sets have
  * equal data: `^1.2` by SEMVER_PARSER_RELEASES_ALONE gives 1, 2, 0, then 1, 2, 0, then 2, 0, 0. */
-int32_t semver_parser_set(const uint8_t *range, size_t range_length, int32_t reading,
+int32_t semver_parser_set(const uint8_t *range, size_t range_length, int32_t dialect,
                           int32_t pre_releases, semver_parser_switch *made, size_t made_room,
                           size_t *count, uint8_t *out, size_t room, size_t *length);
 
 /* Returns whether a set has a version. Other data gives SEMVER_PARSER_NOT_A_SET, here and below. */
 int32_t semver_parser_set_has(semver_parser_flat_set set, const uint8_t *version,
-                              size_t version_length, int32_t reading, bool *is_in);
+                              size_t version_length, int32_t dialect, bool *is_in);
 
 /* Makes a set of two. */
 int32_t semver_parser_combine(semver_parser_flat_set set, semver_parser_flat_set other,

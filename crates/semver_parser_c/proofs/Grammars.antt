@@ -1,4 +1,4 @@
--- The dialect of the reading of a number, and what a text has in a dialect.
+-- The grammar of the dialect of a number, and what a text has in a dialect.
 use Rattle.std.proofs.Common.{◌≡◌, ◌∙◌, ◌<◌, ℤ, Ok, Err, ap, inl, inr, length, refl, sym}
 use Rattle.semver_parser.specs.Texts.{Text}
 use Rattle.semver_parser.specs.Versions.{VersionValue}

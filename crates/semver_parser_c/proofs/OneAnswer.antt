@@ -94,10 +94,10 @@ uncast n m e e' one = rw (e, e') one
 
 -- ---- version texts
 
--- a reading has that number, or none, and then both answers say so
-pub by_dialect : {dialect : ℤ} {beside : List ℤ} {n m : ℤ} {IsSame : Type 0} → (n ≡ number.no_such_reading) ⊎ IsDialect dialect
-    → (m ≡ number.no_such_reading) ↔ ¬ (IsDialect dialect) → (n ≡ number.no_such_reading) ↔ ¬ (IsDialect dialect)
-    → (n ≡ number.no_such_reading → m ≡ number.no_such_reading → IsSame) → ((d : Grammar) → IsGrammar d dialect
+-- a dialect has that number, or none, and then both answers say so
+pub by_dialect : {dialect : ℤ} {beside : List ℤ} {n m : ℤ} {IsSame : Type 0} → (n ≡ number.no_such_dialect) ⊎ IsDialect dialect
+    → (m ≡ number.no_such_dialect) ↔ ¬ (IsDialect dialect) → (n ≡ number.no_such_dialect) ↔ ¬ (IsDialect dialect)
+    → (n ≡ number.no_such_dialect → m ≡ number.no_such_dialect → IsSame) → ((d : Grammar) → IsGrammar d dialect
     → AreOne beside n m IsSame) → AreOne beside n m IsSame
 by_dialect (inl e) q p wrong by =
     let e' = q.1 (p.0 e) in
@@ -135,16 +135,16 @@ version_once d text u u' read p q some some' =
 
 -- ---- range texts
 
--- the exact errors of a text by the reading
+-- the exact errors of a text by the dialect
 abbrev pub exact_range_errors : RangeNumbers → List ℤ
 exact_range_errors k = k.not_utf8 ∷ k.not_a_range ∷ k.too_large ∷ []
 
 -- and those of a call that rewrites, and of one that asks what a range means
 abbrev pub rewrite_exact : List ℤ
-rewrite_exact = number.no_such_reading ∷ exact_range_errors range_numbers
+rewrite_exact = number.no_such_dialect ∷ exact_range_errors range_numbers
 
 abbrev pub range_exact : List ℤ
-range_exact = number.no_such_reading ∷ number.no_such_rule ∷ exact_range_errors range_numbers
+range_exact = number.no_such_dialect ∷ number.no_such_rule ∷ exact_range_errors range_numbers
 
 by_once : {k : RangeNumbers} {Asked : Type 0} {r : Dialect} {text : Text} {n m : ℤ} → k.not_utf8 ≢ k.not_a_range
     → k.not_utf8 ≢ k.too_large → Asked → RefusesBy k Asked r text n → RefusesBy k Asked r text m → IsOneOf (exact_range_errors k) n → n ≡ m
@@ -177,7 +177,7 @@ range_once p q one = grind (arith, old_once)
 pub accepted_where : {dialect rule : ℤ} {text : Text} {n : ℤ} → RefusesRange dialect rule text n → ¬ (IsOneOf range_exact n)
     → ¬ (¬ (IsAccepted dialect rule text))
 accepted_where {n = n} p not_one none = ⊎_elim
-    (λ one. not_one (among (number.no_such_reading ∷ number.no_such_rule ∷ []) range_exact n refl one))
+    (λ one. not_one (among (number.no_such_dialect ∷ number.no_such_rule ∷ []) range_exact n refl one))
     (λ is.
     let (m, named) = is in
     let r = p.range m named in

@@ -10,7 +10,7 @@ use Rattle.semver_parser_c.specs.Errors.{range_errors, set_for}
 
 -- the errors of a call that rewrites
 abbrev pub rewrite_errors : List ℤ
-rewrite_errors = number.no_such_reading ∷ range_errors
+rewrite_errors = number.no_such_dialect ∷ range_errors
 
 pub one_reading : (r s : Dialect) → dialect_number r ≡ dialect_number s → r ≡ s
 one_reading r s e = grind arith

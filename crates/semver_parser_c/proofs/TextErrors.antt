@@ -8,7 +8,7 @@ use Rattle.tool_ranges.specs.declared.dialect.Dialect.{Dialect}
 use Rattle.tool_ranges.specs.declared.meaning.Meaning.{Meaning}
 use Rattle.tool_ranges.specs.Dialects.{RefusesAs}
 use Rattle.semver_parser_c.specs.declared.range_text.TextError.{TextError}
-use Rattle.semver_parser_c.specs.Numbers.{no_such_reading, no_such_rule, ok, no_room, range_out_of_memory, new_range_out_of_memory}
+use Rattle.semver_parser_c.specs.Numbers.{no_such_dialect, no_such_rule, ok, no_room, range_out_of_memory, new_range_out_of_memory}
 use Rattle.semver_parser_c.specs.Errors.{IsAccepted, IsOneOf, RefusesBy, RefusesRange, RefusesText, range_numbers, new_range_numbers}
 use Rattle.semver_parser_c.specs.Errors.{RangeIsRead, named_errors, new_range_errors}
 use Rattle.semver_parser_c.specs.Steps.TextErrors.{IsMeaningOf, IsDialectOf, IsReadable, IsTold, IsRefused, IsTextRefused, Stands}
@@ -29,8 +29,8 @@ has_error r text read error named is refuses same utf8 = rw is (has r text error
 stands_by : (r : Dialect) (text : Text) → IsReadable r text → (n : ℤ) → IsOneOf other_numbers n → RefusesBy range_numbers ⊤ r text n
 stands_by r text read n one = grind arith
 
--- and such a number says nothing of the reading and the rule
-not_named : (n : ℤ) → IsOneOf other_numbers n → IsOneOf (no_such_reading ∷ no_such_rule ∷ []) n → ⊥
+-- and such a number says nothing of the dialect and the rule
+not_named : (n : ℤ) → IsOneOf other_numbers n → IsOneOf (no_such_dialect ∷ no_such_rule ∷ []) n → ⊥
 not_named n one other = grind arith
 
 -- so of a new range, where both are read
@@ -47,9 +47,9 @@ all_stand IsSo each = record {
   each = each;
 }
 
--- what the reading of the only meaning refuses is what a call refuses that asks for a meaning
+-- what the dialect of the only meaning refuses is what a call refuses that asks for a meaning
 lifted : (m : Meaning) (dialect rule : ℤ) (text : Text) (n : ℤ) → IsMeaningOf m dialect rule
-    → (IsOneOf (no_such_reading ∷ no_such_rule ∷ []) n → ⊥) → RefusesBy range_numbers ⊤ m.dialect text n
+    → (IsOneOf (no_such_dialect ∷ no_such_rule ∷ []) n → ⊥) → RefusesBy range_numbers ⊤ m.dialect text n
     → RefusesRange dialect rule text n
 lifted m dialect rule text n only other by = search rules
 
@@ -129,7 +129,7 @@ new_refused m dialect rule old new n only readable one told =
 put_found : (n : ℤ) → (n ≡ ok) ⊎ (n ≡ no_room) → n ≢ new_range_out_of_memory
 put_found n put = grind arith
 
-pub named_found : (n : ℤ) → IsOneOf (no_such_reading ∷ no_such_rule ∷ []) n → n ≢ range_out_of_memory
+pub named_found : (n : ℤ) → IsOneOf (no_such_dialect ∷ no_such_rule ∷ []) n → n ≢ range_out_of_memory
 named_found n one = grind arith
 
 -- where both are read

@@ -92,9 +92,9 @@ range_errors = listed range_numbers
 abbrev pub new_range_errors : List ℤ
 new_range_errors = listed new_range_numbers
 
--- those of a range that is read by the numbers of a reading and of a rule
+-- those of a range that is read by the numbers of a dialect and of a rule
 abbrev pub named_errors : List ℤ
-named_errors = number.no_such_reading ∷ number.no_such_rule ∷ range_errors
+named_errors = number.no_such_dialect ∷ number.no_such_rule ∷ range_errors
 
 -- what a tree is rewritten to, with exact bounds or without: those of a tool are always exact
 abbrev pub set_for : Bool → (dialect : Dialect) → TreeOf dialect → PlainSet
@@ -117,19 +117,19 @@ pub record RefusesBy (by : RangeNumbers) (Asked : Type 0) (dialect : Dialect) (t
   pub too_large : Asked → IsUtf8 text → (n ≡ by.too_large) ↔ IsTooLargeAs dialect text
   pub out_of_memory : n ≡ by.out_of_memory → HasSetAs dialect text
 
--- what a call that rewrites refuses by a number: the number of the reading, exactly, and else what
--- that reading refuses of the text
+-- what a call that rewrites refuses by a number: the number of the dialect, exactly, and else what
+-- that dialect refuses of the text
 pub record RefusesText (dialect : ℤ) (text : Text) (n : ℤ) : Type 0 where
-  pub named : (n ≡ number.no_such_reading) ⊎ IsDialect dialect
-  pub no_such_reading : (n ≡ number.no_such_reading) ↔ ¬ (IsDialect dialect)
+  pub named : (n ≡ number.no_such_dialect) ⊎ IsDialect dialect
+  pub no_such_dialect : (n ≡ number.no_such_dialect) ↔ ¬ (IsDialect dialect)
   pub range : (r : Dialect) → dialect ≡ dialect_number r → RefusesBy range_numbers ⊤ r text n
 
--- what a call that asks what a range means refuses by a number: the number of the reading, exactly,
--- that of the rule, exactly, and else what that reading refuses of the text
+-- what a call that asks what a range means refuses by a number: the number of the dialect, exactly,
+-- that of the rule, exactly, and else what that dialect refuses of the text
 pub record RefusesRange (dialect rule : ℤ) (text : Text) (n : ℤ) : Type 0 where
-  pub named : IsOneOf (number.no_such_reading ∷ number.no_such_rule ∷ []) n
+  pub named : IsOneOf (number.no_such_dialect ∷ number.no_such_rule ∷ []) n
       ⊎ IsMeaning dialect rule
-  pub no_such_reading : (n ≡ number.no_such_reading) ↔ ¬ (IsDialect dialect)
+  pub no_such_dialect : (n ≡ number.no_such_dialect) ↔ ¬ (IsDialect dialect)
   pub no_such_rule : (n ≡ number.no_such_rule)
       ↔ (IsDialect dialect × (¬ (IsMeaning dialect rule)))
   pub range : (m : Meaning) → IsNamed m dialect rule
@@ -181,7 +181,7 @@ pub record RefusesVersion (grammar : Grammar) (text : Text) (n : ℤ) : Type 0 w
   pub refused : IsUtf8 text → n ≢ version_out_of_memory → RefusedIn grammar text n
   pub out_of_memory : n ≡ version_out_of_memory → MayRunOutIn grammar text
 
--- the text is a range that fits to a reading, and its memory was found
+-- the text is a range that fits to a dialect, and its memory was found
 pub record IsReadBy (by : RangeNumbers) (dialect : Dialect) (text : Text) (answer : ℤ)
     : Type 0 where
   pub utf8 : IsUtf8 text
@@ -190,7 +190,7 @@ pub record IsReadBy (by : RangeNumbers) (dialect : Dialect) (text : Text) (answe
   pub fit : IsTrue (fits_as dialect tree)
   pub memory : answer ≢ by.out_of_memory
 
--- the numbers name a meaning, and the text is so read by its reading
+-- the numbers name a meaning, and the text is so read by its dialect
 abbrev pub RangeIsRead : ℤ → ℤ → Text → ℤ → Type 0
 RangeIsRead dialect rule text answer = (m : Meaning) × IsNamed m dialect rule
     × IsReadBy range_numbers m.dialect text answer
@@ -200,7 +200,7 @@ abbrev pub NewRangeIsRead : ℤ → ℤ → Text → ℤ → Type 0
 NewRangeIsRead dialect rule text answer = (m : Meaning) × IsNamed m dialect rule
     × IsReadBy new_range_numbers m.dialect text answer
 
--- the text is a range that fits to the reading that is named
+-- the text is a range that fits to the dialect that is named
 abbrev pub IsAccepted : ℤ → ℤ → Text → Type 0
 IsAccepted dialect rule text = (m : Meaning) × IsNamed m dialect rule × IsUtf8 text
     × HasSetAs m.dialect text

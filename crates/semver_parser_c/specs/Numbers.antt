@@ -79,8 +79,8 @@ abbrev pub new_range_out_of_memory : ℤ
 new_range_out_of_memory = pos 19
 
 -- no dialect has that number
-abbrev pub no_such_reading : ℤ
-no_such_reading = pos 20
+abbrev pub no_such_dialect : ℤ
+no_such_dialect = pos 20
 
 -- the dialect has no such version
 abbrev pub not_a_version : ℤ

@@ -9,7 +9,7 @@ use Rattle.semver_parser_c.specs.Numbers as number
 use Rattle.semver_parser_c.specs.Errors.{IsOneOf}
 use Rattle.semver_parser_c.specs.Dialects.{IsDialect, dialect_number}
 
--- the number says whether a text gives a range by a reading, or why not; memory may run out in
+-- the number says whether a text gives a range by a dialect, or why not; memory may run out in
 -- place of the last two errors
 pub record ExplainsBy (dialect : Dialect) (text : Text) (n : ℤ) : Type 0 where
   pub ok : (n ≡ number.ok) ↔ (IsUtf8 text × HasSetAs dialect text)
@@ -19,8 +19,8 @@ pub record ExplainsBy (dialect : Dialect) (text : Text) (n : ℤ) : Type 0 where
 
 -- so in the dialect of a number, if there is one
 pub record ExplainsRange (dialect : ℤ) (text : Text) (n : ℤ) : Type 0 where
-  pub named : (n ≡ number.no_such_reading) ⊎ IsDialect dialect
-  pub no_such_reading : (n ≡ number.no_such_reading) ↔ ¬ (IsDialect dialect)
+  pub named : (n ≡ number.no_such_dialect) ⊎ IsDialect dialect
+  pub no_such_dialect : (n ≡ number.no_such_dialect) ↔ ¬ (IsDialect dialect)
   pub range : (r : Dialect) → dialect ≡ dialect_number r → ExplainsBy r text n
 
 -- there is a place, and perhaps a hint

@@ -20,7 +20,7 @@ use semver_parser::version::{self, Outline};
 use std::alloc::Global;
 use tool_ranges::meaning::{self, Meaning};
 
-/// Whether a range text means the version of a text, by the numbers of a reading and a rule, or the
+/// Whether a range text means the version of a text, by the numbers of a dialect and a rule, or the
 /// number of the error.
 pub fn judge(
     alloc: Global,

@@ -18,10 +18,10 @@ pub fn meaning_of(dialect: i32, pre_releases: i32) -> Result<Meaning, i32>
     ensures named { IfOk result (λ m. IsMeaningOf m dialect pre_releases) }
     ensures refused { IfErr result (λ n. (text : Text)
         → IsRefused dialect pre_releases text n) }
-    ensures numbers { IfErr result (IsOneOf (number.no_such_reading ∷ number.no_such_rule ∷ [])) }
+    ensures numbers { IfErr result (IsOneOf (number.no_such_dialect ∷ number.no_such_rule ∷ [])) }
 {
     let Some(dialect) = dialect_of(dialect) else {
-        return Err(numbers::NO_SUCH_READING);
+        return Err(numbers::NO_SUCH_DIALECT);
     };
     match rule_of(pre_releases) {
         Some(pre_releases) => Ok(Meaning {

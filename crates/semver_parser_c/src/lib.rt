@@ -138,18 +138,18 @@ pub struct ComparedRanges {
 }
 
 // Answer: law semver_parser_c::laws::one_parsed_version.
-/// Reads a version text in the dialect `reading`: `OK` with the version in `out`, or the number
+/// Reads a version text in the dialect `dialect`: `OK` with the version in `out`, or the number
 /// of an error with `out` as it was. By `CARGO` the versions are those of SemVer 2.0.0, by `NPM`
 /// those of node-semver, and by `CRATE_CARGO` and `CRATE_NPM` the crate's.
 ///
 /// `1.2.3-rc.1+b5` gives the numbers 1, 2 and 3, the pre-release at offset 6 with length 4, and the
 /// build at offset 11 with length 2. The offsets count from the start of the text, also where a
-/// reading takes white space or `v` before the version.
+/// dialect takes white space or `v` before the version.
 ///
 /// # Errors
 ///
-/// `NO_SUCH_READING`, whatever the text. Then `VERSION_NOT_UTF8`. A text that is no version is
-/// `NOT_A_VERSION` by a tool's reading. By the crate's it has one of the errors of
+/// `NO_SUCH_DIALECT`, whatever the text. Then `VERSION_NOT_UTF8`. A text that is no version is
+/// `NOT_A_VERSION` by a tool's dialect. By the crate's it has one of the errors of
 /// `semver_parser::version::parse`: `UNEXPECTED_END`, `UNEXPECTED_TOKEN`, `UNEXPECTED_CHAR`,
 /// `MORE_INPUT`, and `VERSION_OUT_OF_MEMORY`, which is never returned for a version: memory is
 /// allocated only to find the error of a text that is none.
@@ -160,9 +160,9 @@ pub extern "C" fn semver_parser_proved_parse_version(
     dialect: i32,
     out: &mut ReadVersion,
 ) -> i32
-    ensures numbers { IsOneOf (number.ok ∷ number.no_such_reading ∷ version_errors) result }
+    ensures numbers { IsOneOf (number.ok ∷ number.no_such_dialect ∷ version_errors) result }
     // What is read is the outline of the version that the text spells in the dialect of the
-    // reading, with where it has its parts: there are the identifiers, joined by dots. It takes no
+    // dialect, with where it has its parts: there are the identifiers, joined by dots. It takes no
     // memory.
     ensures version { (d : Grammar) → IsGrammar d dialect → result ≡ number.ok
         → (o : OutlineValue) × IsOutlineIn d text.now o × (out.new ≡ told o) }
@@ -173,9 +173,9 @@ pub extern "C" fn semver_parser_proved_parse_version(
     ensures accepted { (d : Grammar) → IsGrammar d dialect → (v : VersionValue)
         → IsUtf8 text.now → SpellsIn d v text.now → result ≡ number.ok }
 
-    // Errors: the reading, the bytes, the outcome of the text, and memory that ran out.
-    ensures named { (result ≡ number.no_such_reading) ⊎ IsDialect dialect }
-    ensures no_such_reading { (result ≡ number.no_such_reading) ↔ ¬ (IsDialect dialect) }
+    // Errors: the dialect, the bytes, the outcome of the text, and memory that ran out.
+    ensures named { (result ≡ number.no_such_dialect) ⊎ IsDialect dialect }
+    ensures no_such_dialect { (result ≡ number.no_such_dialect) ↔ ¬ (IsDialect dialect) }
     ensures not_utf8 { (d : Grammar) → IsGrammar d dialect
         → (result ≡ number.version_not_utf8) ↔ ¬ (IsUtf8 text.now) }
     ensures outcome { (d : Grammar) → IsGrammar d dialect → IsUtf8 text.now
@@ -185,7 +185,7 @@ pub extern "C" fn semver_parser_proved_parse_version(
     ensures unchanged { result ≢ number.ok → out.new ≡ out.old }
 {
     let Some(dialect) = dialects::dialect_of(dialect) else {
-        return numbers::NO_SUCH_READING;
+        return numbers::NO_SUCH_DIALECT;
     };
     semver_parser::laws::one_outlined_version();
     match version_text::outline(alloc, text, dialect.grammar()) {
@@ -210,7 +210,7 @@ pub extern "C" fn semver_parser_proved_parse_version(
 }
 
 // Answer: law semver_parser_c::laws::one_explanation.
-/// Where and why a text is no version in the dialect `reading`: `OK` if it is one, else the
+/// Where and why a text is no version in the dialect `dialect`: `OK` if it is one, else the
 /// number of the reason, and `place` is the byte offset of the first character that no version has
 /// there, or the length of the text if something is missing at its end. Does not allocate.
 ///
@@ -219,16 +219,16 @@ pub extern "C" fn semver_parser_proved_parse_version(
 ///
 /// # Errors
 ///
-/// `NO_SUCH_READING`, whatever the text. After it and after `OK` `place` is as it was.
+/// `NO_SUCH_DIALECT`, whatever the text. After it and after `OK` `place` is as it was.
 #[unsafe(no_mangle)]
 pub extern "C" fn semver_parser_proved_explain_version(
     text: &[u8],
     dialect: i32,
     place: &mut usize,
 ) -> i32
-    ensures numbers { IsOneOf (number.ok ∷ number.no_such_reading ∷ reason_numbers) result }
-    ensures named { (result ≡ number.no_such_reading) ⊎ IsDialect dialect }
-    ensures no_such_reading { (result ≡ number.no_such_reading) ↔ ¬ (IsDialect dialect) }
+    ensures numbers { IsOneOf (number.ok ∷ number.no_such_dialect ∷ reason_numbers) result }
+    ensures named { (result ≡ number.no_such_dialect) ⊎ IsDialect dialect }
+    ensures no_such_dialect { (result ≡ number.no_such_dialect) ↔ ¬ (IsDialect dialect) }
     ensures version { (d : Grammar) → IsGrammar d dialect
         → (result ≡ number.ok) ↔ IsVersionTextIn d text.now }
     ensures place { (d : Grammar) → IsGrammar d dialect → result ≢ number.ok
@@ -236,11 +236,11 @@ pub extern "C" fn semver_parser_proved_explain_version(
     ensures reason { (d : Grammar) → IsGrammar d dialect → result ≢ number.ok
         → (r : Reason) × IsReason d (take place.new text.now) (byte_at text.now place.new) r
         × (result ≡ reason_number r) }
-    ensures unchanged { IsOneOf (number.ok ∷ number.no_such_reading ∷ []) result
+    ensures unchanged { IsOneOf (number.ok ∷ number.no_such_dialect ∷ []) result
         → place.new ≡ place.old }
 {
     let Some(dialect) = dialects::dialect_of(dialect) else {
-        return numbers::NO_SUCH_READING;
+        return numbers::NO_SUCH_DIALECT;
     };
     match refused(text, dialect.grammar()) {
         Some(refusal) => {
@@ -252,7 +252,7 @@ pub extern "C" fn semver_parser_proved_explain_version(
 }
 
 // Answer: free, the hint (else law laws::one_range_explanation): ../replayed_cases/stdin.
-/// Where and why a text gives no range in the dialect `reading`: `OK` if it gives one, else the
+/// Where and why a text gives no range in the dialect `dialect`: `OK` if it gives one, else the
 /// number of its error. After `NOT_A_RANGE` `place` is the byte offset of the first character that
 /// no range has there, or the length of the text if something is missing at its end, and `hint` the
 /// number of what may have been meant, or 0. After `NUMBER_TOO_LARGE` `place` is that of the first
@@ -264,7 +264,7 @@ pub extern "C" fn semver_parser_proved_explain_version(
 ///
 /// # Errors
 ///
-/// `NO_SUCH_READING`, whatever the text. Then `RANGE_NOT_UTF8`, `NOT_A_RANGE` and
+/// `NO_SUCH_DIALECT`, whatever the text. Then `RANGE_NOT_UTF8`, `NOT_A_RANGE` and
 /// `NUMBER_TOO_LARGE`, and `RANGE_OUT_OF_MEMORY` in place of one of the last two. After any other
 /// answer `place` and `hint` are as they were.
 #[unsafe(no_mangle)]
@@ -275,21 +275,21 @@ pub extern "C" fn semver_parser_proved_explain_range(
     place: &mut usize,
     hint: &mut i32,
 ) -> i32
-    ensures numbers { IsOneOf (number.ok ∷ number.no_such_reading ∷ range_errors) result }
+    ensures numbers { IsOneOf (number.ok ∷ number.no_such_dialect ∷ range_errors) result }
     ensures refusals { ExplainsRange dialect text.now result }
     ensures place { (r : Dialect) → dialect ≡ dialect_number r → result ≡ number.not_a_range
         → IsPlace (BeginsAs r) text.now place.new }
     ensures limit { (r : Dialect) → dialect ≡ dialect_number r → result ≡ number.number_too_large
         → IsPlace (BeginsFitting r) text.now place.new }
     ensures hint { IsExplained result → IsOneOf hint_numbers hint.new }
-    // The hint of a number that is too large is the limit of the reading.
+    // The hint of a number that is too large is the limit of the dialect.
     ensures limit_hint { (r : Dialect) → dialect ≡ dialect_number r
         → result ≡ number.number_too_large → hint.new ≡ hint_number (Some (limit_of r)) }
     ensures unchanged { (IsExplained result → ⊥)
         → (place.new ≡ place.old) × (hint.new ≡ hint.old) }
 {
     let Some(dialect) = dialects::dialect_of(dialect) else {
-        return numbers::NO_SUCH_READING;
+        return numbers::NO_SUCH_DIALECT;
     };
     let (number, told) = range_refusals::explained(alloc, dialect, text);
     if let Some((at, what)) = told {
@@ -301,9 +301,9 @@ pub extern "C" fn semver_parser_proved_explain_range(
 
 // Answer: law semver_parser_c::laws::one_rewriting.
 /// Rewrites a range text into plain comparators, and prints them: `OK` with the printed set at the
-/// front of `out`. `reading` is the number of a reading: `CARGO` and `NPM` are the tools' own, and
+/// front of `out`. `dialect` is the number of a dialect: `CARGO` and `NPM` are the tools' own, and
 /// `CRATE_CARGO` and `CRATE_NPM` those of the crate. Where `exact` holds, the bounds are exact, as
-/// `<2.0.0-0`; else they are so by a tool's reading, and by the crate's those of the Rust crate, as
+/// `<2.0.0-0`; else they are so by a tool's dialect, and by the crate's those of the Rust crate, as
 /// `<2.0.0`.
 ///
 /// `length` becomes the length of the printed set, also if `out` is too small for it (`NO_ROOM`);
@@ -312,7 +312,7 @@ pub extern "C" fn semver_parser_proved_explain_range(
 ///
 /// # Errors
 ///
-/// `NO_SUCH_READING`, whatever the text. Then `RANGE_NOT_UTF8`, those of
+/// `NO_SUCH_DIALECT`, whatever the text. Then `RANGE_NOT_UTF8`, those of
 /// `tool_ranges::dialect::rewrite`, which are `NOT_A_RANGE`, `NUMBER_TOO_LARGE` and
 /// `RANGE_OUT_OF_MEMORY`, and `NO_ROOM`.
 #[unsafe(no_mangle)]
@@ -324,7 +324,7 @@ pub extern "C" fn semver_parser_proved_rewrite(
     out: &mut [u8],
     length: &mut usize,
 ) -> i32
-    ensures numbers { IsOneOf (number.ok ∷ number.no_room ∷ number.no_such_reading ∷ range_errors)
+    ensures numbers { IsOneOf (number.ok ∷ number.no_room ∷ number.no_such_dialect ∷ range_errors)
         result }
     // What is put into the buffer is the printed text of what the text is rewritten to.
     ensures rewritten { (result ≡ number.ok) ⊎ (result ≡ number.no_room)
@@ -332,10 +332,10 @@ pub extern "C" fn semver_parser_proved_rewrite(
         × (tree : TreeOf r) × SpellsAs r tree text.now × IsTrue (fits_as r tree)
         × Puts (set_text (set_for exact r tree)) out.old out.new length.new result }
 
-    // Errors of the reading and of the text, whatever the buffer.
+    // Errors of the dialect and of the text, whatever the buffer.
     ensures refusals { RefusesText dialect text.now result }
     ensures room_unchanged { result ≢ number.ok → out.new ≡ out.old }
-    ensures length_unchanged { IsOneOf (number.no_such_reading ∷ range_errors) result
+    ensures length_unchanged { IsOneOf (number.no_such_dialect ∷ range_errors) result
         → length.new ≡ length.old }
 {
     let set = match range_text::read(alloc, text, dialect, exact) {
@@ -377,7 +377,7 @@ pub extern "C" fn semver_parser_proved_comparators(
     out: &mut [u8],
     length: &mut usize,
 ) -> i32
-    ensures numbers { IsOneOf (number.ok ∷ number.no_room ∷ number.no_such_reading ∷ range_errors)
+    ensures numbers { IsOneOf (number.ok ∷ number.no_room ∷ number.no_such_dialect ∷ range_errors)
         result }
     // What is put into the buffers are the comparators that the text is rewritten to, in order,
     // each with the number of its range, and the texts of their pre-releases, one after the other.
@@ -404,11 +404,11 @@ pub extern "C" fn semver_parser_proved_comparators(
         → HasPreReleases out.new (take count.new comparators.new)
         (comparators_of (set_for exact r tree)) }
 
-    // Errors of the reading and of the text, whatever the buffers.
+    // Errors of the dialect and of the text, whatever the buffers.
     ensures refusals { RefusesText dialect text.now result }
     ensures rooms_unchanged { result ≢ number.ok
         → (comparators.new ≡ comparators.old) × (out.new ≡ out.old) }
-    ensures numbers_unchanged { IsOneOf (number.no_such_reading ∷ range_errors) result
+    ensures numbers_unchanged { IsOneOf (number.no_such_dialect ∷ range_errors) result
         → (count.new ≡ count.old) × (length.new ≡ length.old) }
 {
     let rewritten = match range_text::read(alloc, text, dialect, exact) {
@@ -425,7 +425,7 @@ pub extern "C" fn semver_parser_proved_comparators(
 }
 
 // Answer: law semver_parser_c::laws::one_meeting.
-/// Whether a version meets a range, by the reading and by the rule for pre-releases that numbers
+/// Whether a version meets a range, by the dialect and by the rule for pre-releases that numbers
 /// name: `OK` with the answer in `meets`, or the number of an error with `meets` as it was.
 ///
 /// It goes by what the range text means by itself, and not by comparators. By `RELEASES_ALONE` no
@@ -436,7 +436,7 @@ pub extern "C" fn semver_parser_proved_comparators(
 ///
 /// # Errors
 ///
-/// `NO_SUCH_READING`, and where there is a reading of that number `NO_SUCH_RULE`, whatever the
+/// `NO_SUCH_DIALECT`, and where there is a dialect of that number `NO_SUCH_RULE`, whatever the
 /// texts. Then the range is read: `RANGE_NOT_UTF8`, `NOT_A_RANGE` and `NUMBER_TOO_LARGE`, whatever
 /// the version; it needs no memory, so `RANGE_OUT_OF_MEMORY` never comes. Then those of
 /// `semver_parser_proved_parse_version`, where `VERSION_OUT_OF_MEMORY` is left for texts that spell
@@ -466,7 +466,7 @@ pub extern "C" fn semver_parser_proved_meets(
         → SpellsIn d v version.now → result ≡ number.ok }
     ensures unchanged { result ≢ number.ok → meets.new ≡ meets.old }
 
-    // Errors of the reading, of the rule, and of the range, whatever the version.
+    // Errors of the dialect, of the rule, and of the range, whatever the version.
     ensures refusals { RefusesRange dialect pre_releases range.now result }
 
     // Errors of the version, where the range is read.
@@ -499,7 +499,7 @@ pub extern "C" fn semver_parser_proved_meets(
 ///
 /// # Errors
 ///
-/// `NO_SUCH_READING` and `NO_SUCH_RULE`, whatever the texts, and those of the range:
+/// `NO_SUCH_DIALECT` and `NO_SUCH_RULE`, whatever the texts, and those of the range:
 /// `RANGE_NOT_UTF8`, `NOT_A_RANGE`, `NUMBER_TOO_LARGE` and `RANGE_OUT_OF_MEMORY`.
 #[unsafe(no_mangle)]
 pub extern "C" fn semver_parser_proved_meets_each(
@@ -523,7 +523,7 @@ pub extern "C" fn semver_parser_proved_meets_each(
     ensures read { result ≡ number.ok → RangeIsRead dialect pre_releases range.now result }
     ensures unchanged { result ≢ number.ok → answers.new ≡ answers.old }
 
-    // Errors of the reading, of the rule, and of the range.
+    // Errors of the dialect, of the rule, and of the range.
     ensures refusals { RefusesRange dialect pre_releases range.now result }
 {
     let count = versions.len();
@@ -536,7 +536,7 @@ pub extern "C" fn semver_parser_proved_meets_each(
 }
 
 // Answer: law semver_parser_c::laws::one_least.
-/// Puts the text of the least version that a range means into a buffer, by the reading and by the
+/// Puts the text of the least version that a range means into a buffer, by the dialect and by the
 /// rule for pre-releases that numbers name, as in `semver_parser_proved_meets`: `OK` with the text
 /// at the front of `out`. Least is it by precedence (SemVer 2.0.0, section 11), and it has no
 /// build; numbers go up to 2^64 - 1.
@@ -547,7 +547,7 @@ pub extern "C" fn semver_parser_proved_meets_each(
 ///
 /// # Errors
 ///
-/// `NO_SUCH_READING` and `NO_SUCH_RULE`, whatever the text. Then `RANGE_NOT_UTF8`, `NOT_A_RANGE`,
+/// `NO_SUCH_DIALECT` and `NO_SUCH_RULE`, whatever the text. Then `RANGE_NOT_UTF8`, `NOT_A_RANGE`,
 /// `NUMBER_TOO_LARGE` and `RANGE_OUT_OF_MEMORY`, and `NO_ROOM`.
 #[unsafe(no_mangle)]
 pub extern "C" fn semver_parser_proved_least(
@@ -569,7 +569,7 @@ pub extern "C" fn semver_parser_proved_least(
     ensures read { (result ≡ number.ok) ⊎ (result ≡ number.no_room)
         → RangeIsRead dialect pre_releases range.now result }
 
-    // Errors of the reading, of the rule, and of the range, whatever the buffer.
+    // Errors of the dialect, of the rule, and of the range, whatever the buffer.
     ensures refusals { RefusesRange dialect pre_releases range.now result }
     ensures room_unchanged { result ≢ number.ok → out.new ≡ out.old }
     ensures length_unchanged { IsOneOf named_errors result → length.new ≡ length.old }
@@ -585,7 +585,7 @@ pub extern "C" fn semver_parser_proved_least(
 }
 
 // Answer: law semver_parser_c::laws::one_comparison.
-/// Compares what an old range means with what a new one means, both by the reading and by the rule
+/// Compares what an old range means with what a new one means, both by the dialect and by the rule
 /// for pre-releases that numbers name, as in `semver_parser_proved_meets`: `OK` with three texts at
 /// the front of `out`, one after the other, and in `comparison` where each is. They are the least
 /// version that the old range means and the new one doesn't, the least that the new one means and
@@ -601,7 +601,7 @@ pub extern "C" fn semver_parser_proved_least(
 ///
 /// # Errors
 ///
-/// `NO_SUCH_READING` and `NO_SUCH_RULE`, whatever the texts. Then the errors of the old range,
+/// `NO_SUCH_DIALECT` and `NO_SUCH_RULE`, whatever the texts. Then the errors of the old range,
 /// whatever the new one is: `RANGE_NOT_UTF8`, `NOT_A_RANGE` and `NUMBER_TOO_LARGE`. Then those of
 /// the new one, whatever memory there is: `NEW_RANGE_NOT_UTF8`, `NEW_NOT_A_RANGE` and
 /// `NEW_NUMBER_TOO_LARGE`. Then `NEW_RANGE_OUT_OF_MEMORY`, wherever memory ran out, also at the old
@@ -636,7 +636,7 @@ pub extern "C" fn semver_parser_proved_compare(
         → RangeIsRead dialect pre_releases old_range.now result
         × NewRangeIsRead dialect pre_releases new_range.now result }
 
-    // Errors of the reading, of the rule, of the old range, and where that is accepted of the new
+    // Errors of the dialect, of the rule, of the old range, and where that is accepted of the new
     // one, whatever the buffer and the memory.
     ensures refusals { RefusesRange dialect pre_releases old_range.now result }
     ensures new_refusals { RefusesNewRange
@@ -667,11 +667,11 @@ pub extern "C" fn semver_parser_proved_compare(
 // Answer: law semver_parser_c::laws::one_precedence.
 /// How a version compares with another by precedence (SemVer 2.0.0, section 11): `OK` with the
 /// answer in `order`, which is -1 where it is below the other, 0 where both are equal, and 1 where
-/// it is above. Builds don't count. Both are read in the dialect `reading`.
+/// it is above. Builds don't count. Both are read in the dialect `dialect`.
 ///
 /// After an error of a text `in_other` says whether it is that of `other`, and `order` is as it
 /// was. The first text is read first, so `in_other` holds exactly where that spells a version.
-/// After `OK` and `NO_SUCH_READING` `in_other` is as it was.
+/// After `OK` and `NO_SUCH_DIALECT` `in_other` is as it was.
 ///
 /// # Errors
 ///
@@ -686,7 +686,7 @@ pub extern "C" fn semver_parser_proved_precedence(
     order: &mut i32,
     in_other: &mut bool,
 ) -> i32
-    ensures numbers { IsOneOf (number.ok ∷ number.no_such_reading ∷ version_errors) result }
+    ensures numbers { IsOneOf (number.ok ∷ number.no_such_dialect ∷ version_errors) result }
     // The result is the precedence of the versions that both texts spell.
     ensures precedence { (d : Grammar) → IsGrammar d dialect → result ≡ number.ok
         → (v w : VersionValue) → SpellsIn d v version.now → SpellsIn d w other.now
@@ -704,20 +704,20 @@ pub extern "C" fn semver_parser_proved_precedence(
         → IsUtf8 other.now → SpellsIn d w other.now → w.plain.pre ≡ []
         → result ≡ number.ok }
 
-    // An error is that of the reading, of the first text, or of the other where the first spells a
+    // An error is that of the dialect, of the first text, or of the other where the first spells a
     // version.
-    ensures named { (result ≡ number.no_such_reading) ⊎ IsDialect dialect }
-    ensures no_such_reading { (result ≡ number.no_such_reading) ↔ ¬ (IsDialect dialect) }
+    ensures named { (result ≡ number.no_such_dialect) ⊎ IsDialect dialect }
+    ensures no_such_dialect { (result ≡ number.no_such_dialect) ↔ ¬ (IsDialect dialect) }
     ensures refused { (d : Grammar) → IsGrammar d dialect → result ≢ number.ok
         → RefusesVersion d (at_fault in_other.new version.now other.now) result }
     ensures in_other { (d : Grammar) → IsGrammar d dialect → result ≢ number.ok
         → (IsTrue in_other.new ↔ (IsUtf8 version.now × IsVersionTextIn d version.now)) }
     ensures order_unchanged { result ≢ number.ok → order.new ≡ order.old }
-    ensures in_other_unchanged { IsOneOf (number.ok ∷ number.no_such_reading ∷ []) result
+    ensures in_other_unchanged { IsOneOf (number.ok ∷ number.no_such_dialect ∷ []) result
         → in_other.new ≡ in_other.old }
 {
     let Some(dialect) = dialects::dialect_of(dialect) else {
-        return numbers::NO_SUCH_READING;
+        return numbers::NO_SUCH_DIALECT;
     };
     semver_parser::laws::one_outlined_version();
     let first = match version_text::outline(alloc, version, dialect.grammar()) {
@@ -752,7 +752,7 @@ fn order_number(ordering: Ordering) -> i32
 
 // Answer: law semver_parser_c::laws::one_set.
 /// Puts the set of the versions that a range means into the buffers, as flat data, in the dialect
-/// `reading` and by the rule `pre_releases`: `OK` with its switches at the front of `made`, and the
+/// `dialect` and by the rule `pre_releases`: `OK` with its switches at the front of `made`, and the
 /// texts of its pre-releases at the front of `out`.
 ///
 /// The first switch is a head: 1, how many switches of releases there are, and how many of
@@ -786,7 +786,7 @@ pub extern "C" fn semver_parser_proved_set(
     ensures read { (result ≡ number.ok) ⊎ (result ≡ number.no_room)
         → RangeIsRead dialect pre_releases range.now result }
 
-    // Errors of the reading, of the rule, and of the range, whatever the buffers.
+    // Errors of the dialect, of the rule, and of the range, whatever the buffers.
     ensures refusals { RefusesRange dialect pre_releases range.now result }
     ensures rooms_unchanged { result ≢ number.ok
         → (made.new ≡ made.old) × (out.new ≡ out.old) }
@@ -811,11 +811,11 @@ pub extern "C" fn semver_parser_proved_set(
 // Answer: law semver_parser_c::laws::one_membership.
 /// Whether a version is in a set, which is flat data of `semver_parser_proved_set` or
 /// `semver_parser_proved_combine`: `OK` with the answer in `is_in`. The version is read in the
-/// dialect `reading`. Its build doesn't count. For a version it does not allocate.
+/// dialect `dialect`. Its build doesn't count. For a version it does not allocate.
 ///
 /// # Errors
 ///
-/// `NO_SUCH_READING`, whatever the data. Then `NOT_A_SET`, whatever the version, and then the
+/// `NO_SUCH_DIALECT`, whatever the data. Then `NOT_A_SET`, whatever the version, and then the
 /// errors of `semver_parser_proved_parse_version`. After an error `is_in` is as it was.
 #[unsafe(no_mangle)]
 pub extern "C" fn semver_parser_proved_set_has(
@@ -826,7 +826,7 @@ pub extern "C" fn semver_parser_proved_set_has(
     dialect: i32,
     is_in: &mut bool,
 ) -> i32
-    ensures numbers { IsOneOf (number.ok ∷ number.no_such_reading ∷ number.not_a_set
+    ensures numbers { IsOneOf (number.ok ∷ number.no_such_dialect ∷ number.not_a_set
         ∷ version_errors) result }
     // The result is whether the set has the version that the text spells.
     ensures has { (d : Grammar) → IsGrammar d dialect → result ≡ number.ok
@@ -838,9 +838,9 @@ pub extern "C" fn semver_parser_proved_set_has(
     ensures accepted { (d : Grammar) → IsGrammar d dialect → result ≢ number.not_a_set
         → IsUtf8 version.now → IsVersionTextIn d version.now → result ≡ number.ok }
 
-    // Errors: the reading, the data, and the version.
-    ensures named { (result ≡ number.no_such_reading) ⊎ IsDialect dialect }
-    ensures no_such_reading { (result ≡ number.no_such_reading) ↔ ¬ (IsDialect dialect) }
+    // Errors: the dialect, the data, and the version.
+    ensures named { (result ≡ number.no_such_dialect) ⊎ IsDialect dialect }
+    ensures no_such_dialect { (result ≡ number.no_such_dialect) ↔ ¬ (IsDialect dialect) }
     ensures not_a_set { IsDialect dialect
         → (result ≡ number.not_a_set) ↔ IsNoSet switches.now bytes.now }
     ensures refused { (d : Grammar) → IsGrammar d dialect → result ≢ number.ok
@@ -848,7 +848,7 @@ pub extern "C" fn semver_parser_proved_set_has(
     ensures unchanged { result ≢ number.ok → is_in.new ≡ is_in.old }
 {
     let Some(dialect) = dialects::dialect_of(dialect) else {
-        return numbers::NO_SUCH_READING;
+        return numbers::NO_SUCH_DIALECT;
     };
     let Some(set) = FlatSet::read(switches, bytes) else {
         return numbers::NOT_A_SET;

@@ -1,4 +1,4 @@
-//! Whether versions meet a range, by a reading and by the rule for pre-releases that numbers name.
+//! Whether versions meet a range, by a dialect and by the rule for pre-releases that numbers name.
 
 ghost use Rattle.std.specs.Prelude.{◌≡◌, ◌≢◌, ◌<◌, ◌≤◌, ℕ, pos, length, drop};
 ghost use Rattle.std.specs.Prelude.{slice_get, slice_index, Err, IfOk, IfErr, IfSome};
@@ -28,7 +28,7 @@ pub enum Question<'r> {
     Text(Meaning, &'r [u8]),
 }
 
-/// The question of a range text by the numbers of a reading and a rule, or the number of the error.
+/// The question of a range text by the numbers of a dialect and a rule, or the number of the error.
 /// It will be asked of so many versions.
 pub fn question_of<'r>(
     alloc: Global,

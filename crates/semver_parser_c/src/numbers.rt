@@ -41,7 +41,7 @@ pub const NEW_NUMBER_TOO_LARGE: i32 = 18;
 pub const NEW_RANGE_OUT_OF_MEMORY: i32 = 19;
 
 /// No dialect has this number.
-pub const NO_SUCH_READING: i32 = 20;
+pub const NO_SUCH_DIALECT: i32 = 20;
 /// The dialect has no such version.
 pub const NOT_A_VERSION: i32 = 21;
 

@@ -43,7 +43,7 @@ pub fn read(alloc: Global, text: &[u8], dialect: i32, exact: bool) -> Result<Ran
     ensures refused { IfErr result (λ n. IsTextRefused dialect text.now n) }
 {
     let Some(dialect) = dialects::dialect_of(dialect) else {
-        return Err(numbers::NO_SUCH_READING);
+        return Err(numbers::NO_SUCH_DIALECT);
     };
     match rewritten(alloc, text, dialect, exact) {
         Ok(set) => Ok(set),
@@ -51,7 +51,7 @@ pub fn read(alloc: Global, text: &[u8], dialect: i32, exact: bool) -> Result<Ran
     }
 }
 
-/// The set of a range text, with exact bounds or, by the crate's reading, those of the crate.
+/// The set of a range text, with exact bounds or, by the crate's dialect, those of the crate.
 fn rewritten(
     alloc: Global,
     text: &[u8],

@@ -13,7 +13,7 @@ pub fn number_of(reason: Reason) -> i32
     ensures number { result ≡ reason_number reason }
     ensures numbers { IsOneOf reason_numbers result }
     ensures wrong { result ≢ number.ok }
-    ensures named { result ≢ number.no_such_reading }
+    ensures named { result ≢ number.no_such_dialect }
 {
     match reason {
         Reason::Empty => numbers::VERSION_EMPTY,

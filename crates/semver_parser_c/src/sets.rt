@@ -24,7 +24,7 @@ use tool_ranges::meaning::{self, Meaning};
 use version_sets::VersionSet;
 
 /// The set of the versions that a range text means, and by which meaning, by the numbers of a
-/// reading and a rule, or the number of the error.
+/// dialect and a rule, or the number of the error.
 pub fn read(
     alloc: Global,
     range: &[u8],

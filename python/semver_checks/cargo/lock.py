@@ -9,7 +9,7 @@ one name by several requirements, each has to be met by one of them.
 
 from typing import Dict, Iterator, List, NamedTuple, Optional
 
-from semver_parser import Reading
+from semver_parser import Dialect
 
 from ..files import Entry, WrongShape, list_at, object_at, text_at
 from ..judging import NO_VERSION, NOT_THERE, Finding, is_met, is_version
@@ -65,7 +65,7 @@ def of_need(member: Package, need: Need, by_name: Dict[str, List[str]]) -> Itera
         return
     if need.requirement == "*" and not need.has_registry:
         return
-    verdicts = [is_met(need.requirement, version, Reading.CARGO) for version in versions]
+    verdicts = [is_met(need.requirement, version, Dialect.CARGO) for version in versions]
     if True not in verdicts:
         for version, met in zip(versions, verdicts):
             yield Finding(need.requirement, version, who, NOT_READ if met is None else "")
@@ -88,7 +88,7 @@ def findings(lock: Entry, folder: Optional[str]) -> Iterator[Finding]:
     by_name: Dict[str, List[str]] = {}
     for package in packages:
         by_name.setdefault(package.name, []).append(package.version)
-        if not is_version(package.version, Reading.CARGO):
+        if not is_version(package.version, Dialect.CARGO):
             yield Finding("", package.version, package.name, NO_VERSION)
     for manifest in manifests_at(folder):
         if manifest.name is None:

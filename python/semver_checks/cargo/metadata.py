@@ -16,7 +16,7 @@ WHAT HAS TO BE THERE. An edge has to be there for each dependency, but for
 
 from typing import Any, Dict, Iterator, List, NamedTuple, Optional, Set, Tuple
 
-from semver_parser import Reading
+from semver_parser import Dialect
 
 from ..files import Entry, WrongShape, list_at, object_at, text_at
 from ..judging import NO_VERSION, NOT_THERE, Finding, is_met, is_version
@@ -200,7 +200,7 @@ def is_asked_for(version: str, need: Need) -> Optional[bool]:
     """Whether a version is what is asked for; None if the requirement isn't read."""
     if need.requirement == "*" and not need.has_registry:
         return True
-    return is_met(need.requirement, version, Reading.CARGO)
+    return is_met(need.requirement, version, Dialect.CARGO)
 
 
 # ---- the findings
@@ -221,7 +221,7 @@ def of_need(package: Package, need: Need, is_required: bool, is_strict: bool) ->
 
 def of_version(package: Package) -> Iterator[Finding]:
     """What there is to say of a package with a version that Cargo wouldn't take."""
-    if not is_version(package.version, Reading.CARGO):
+    if not is_version(package.version, Dialect.CARGO):
         yield Finding("", package.version, package.name, NO_VERSION)
 
 

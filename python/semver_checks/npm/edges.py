@@ -17,7 +17,7 @@ is judged by what the override asks for.
 
 from typing import Iterator, List, NamedTuple, Optional
 
-from semver_parser import Reading
+from semver_parser import Dialect
 
 from ..files import Entry, objects_at, texts_at
 from ..judging import NO_VERSION, NOT_THERE, SKIPPED, Finding, is_version
@@ -88,7 +88,7 @@ def of_ask(ask: Ask, judgement: Judgement) -> Iterator[Finding]:
 
 def of_version(place: str, version: Optional[str]) -> Iterator[Finding]:
     """What there is to say of a package with a version that npm wouldn't take."""
-    if version is not None and not is_version(version, Reading.NPM):
+    if version is not None and not is_version(version, Dialect.NPM):
         yield Finding("", version, place or "the project", NO_VERSION)
 
 

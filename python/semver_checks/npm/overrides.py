@@ -9,7 +9,7 @@ from collections import deque
 from dataclasses import dataclass, field
 from typing import Dict, Iterator, List, Optional, Tuple
 
-from semver_parser import Filter, RangeError, Reading
+from semver_parser import Filter, RangeError, Dialect
 
 from ..files import Entry, WrongShape, object_at, text_at
 from ..judging import is_met
@@ -62,7 +62,7 @@ def name_and_range(key: str, where: str) -> Tuple[str, str]:
     if not name:
         raise WrongShape(f": {where} names no package")
     try:
-        Filter(within, Reading.NPM)
+        Filter(within, Dialect.NPM)
     except RangeError:
         raise WrongShape(f": {where} has no range after its name") from None
     return name, within
@@ -105,8 +105,8 @@ def is_concerned(rule: Rule, spec: str, version: Optional[str]) -> bool:
         return True
     is_other = (
         version is not None
-        and is_met(spec, version, Reading.NPM)
-        and not is_met(rule.within, version, Reading.NPM)
+        and is_met(spec, version, Dialect.NPM)
+        and not is_met(rule.within, version, Dialect.NPM)
     )
     return not is_other and may_overlap(spec, rule.within)
 

@@ -4,7 +4,7 @@ import re
 from typing import List, NamedTuple, Optional, Tuple
 from urllib.parse import unquote
 
-from semver_parser import RangeError, Reading, compare_ranges
+from semver_parser import RangeError, Dialect, compare_ranges
 
 from ..judging import NO_VERSION, SKIPPED, is_met
 
@@ -82,7 +82,7 @@ def may_overlap(spec: str, within: str) -> bool:
     """Whether two ranges have a version in common, or may have one, since one of them isn't
     read."""
     try:
-        return compare_ranges(spec, within, Reading.NPM).overlaps
+        return compare_ranges(spec, within, Dialect.NPM).overlaps
     except RangeError:
         return True
 
@@ -90,7 +90,7 @@ def may_overlap(spec: str, within: str) -> bool:
 def verdict_on(version: Optional[str], spec: str) -> str:
     """The verdict on the version of a package, if it has one, by what is asked for: `MET`, or the
     word of its line. What is at an address may have none."""
-    met = is_met(range_of(spec), version or "", Reading.NPM)
+    met = is_met(range_of(spec), version or "", Dialect.NPM)
     if met is None:
         return SKIPPED if is_no_range(spec) else NOT_READ
     if version is None:

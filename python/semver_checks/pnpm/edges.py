@@ -15,7 +15,7 @@ the version isn't what is asked for.
 import re
 from typing import Dict, Iterator, List, NamedTuple, Optional, Tuple
 
-from semver_parser import Reading
+from semver_parser import Dialect
 
 from ..files import Entry, WrongShape, object_at, objects_at, text_at, texts_at
 from ..judging import NO_VERSION, NOT_THERE, SKIPPED, Finding, is_met, is_version
@@ -75,7 +75,7 @@ def called_by(text: str) -> Optional[Tuple[str, str]]:
     if called is None or ":" in text[: called.end("version")]:
         return None
     registry, name, version = called.groups()
-    if registry not in (None, "/") and not is_version(version, Reading.NPM):
+    if registry not in (None, "/") and not is_version(version, Dialect.NPM):
         return None
     return name, version
 
@@ -84,7 +84,7 @@ def found_at(text: str, name: str, packages: Packages) -> Found:
     """What a file has for a version of a name: one, a package of another name, or an address or a
     path."""
     bare = re.split(r"[(_]", text, maxsplit=1)[0]
-    if is_version(bare, Reading.NPM):
+    if is_version(bare, Dialect.NPM):
         return Found(None, bare)
     called = called_by(text)
     return found_at_address(text, name, packages) if called is None else Found(*called)
@@ -203,7 +203,7 @@ def is_for(override: Override, ask: Ask) -> bool:
     that is asked for. The project and its workspaces may have any name, as it isn't in the file."""
     name, within = name_and_rest(override.parent)
     if name and ask.parent is not None:
-        is_within = not within or is_met(within, ask.parent[1], Reading.NPM) is not False
+        is_within = not within or is_met(within, ask.parent[1], Dialect.NPM) is not False
         if name != ask.parent[0] or not is_within:
             return False
     return not override.within or may_overlap(range_of(ask.spec), override.within)
@@ -249,7 +249,7 @@ def findings(lock: Entry) -> Iterator[Finding]:
             yield from of_ask(by_catalog(ask, catalogs), overrides)
     for key, fields, depends in packages_of(lock, packages):
         called = called_by(key)
-        if called is not None and not is_version(called[1], Reading.NPM):
+        if called is not None and not is_version(called[1], Dialect.NPM):
             yield Finding("", called[1], called[0], NO_VERSION)
         for ask in asks_of_package(key, fields, depends, packages):
             yield from of_ask(ask, overrides)

@@ -14,7 +14,7 @@ NOT IN THE FILE. Who provides a peer, the version of a workspace, and the ranges
 import re
 from typing import Dict, Iterator, List, NamedTuple, Optional, Set
 
-from semver_parser import Reading
+from semver_parser import Dialect
 
 from ..files import Entry, texts_at
 from ..judging import NO_VERSION, NOT_THERE, SKIPPED, Finding, is_version
@@ -142,7 +142,7 @@ def findings(tree: Tree, resolutions: Resolutions) -> Iterator[Finding]:
     is_berry = "__metadata" in tree
     asked = every if is_berry else asked_patterns(packages)
     for package in packages:
-        if package.version != WORKSPACE and not is_version(package.version, Reading.NPM):
+        if package.version != WORKSPACE and not is_version(package.version, Dialect.NPM):
             yield Finding("", package.version, name_of(package.patterns[0]), NO_VERSION)
         for ask in asks_for(package, asked):
             resolved = [it.spec for it in resolutions.get(ask.name, []) if is_for(it, ask)]

@@ -1,4 +1,4 @@
--- A means of proof, which no public clause cites: what a range text is to a reading, by the error
+-- A means of proof, which no public clause cites: what a range text is to a dialect, by the error
 -- that is told of it, and which numbers tell which.
 use Rattle.std.specs.Prelude.{ℤ, ◌≡◌, ◌≢◌, ◌⊎◌, ◌↔◌, ⊤, IsUtf8, List, ◌∷◌, ◌++◌}
 use Rattle.semver_parser.specs.Texts.{Text}
@@ -20,7 +20,7 @@ use Rattle.semver_parser_c.specs.Errors.{RefusesBy, RefusesNewRange, RefusesRang
 use Rattle.semver_parser_c.specs.Errors.{named_errors, new_range_errors, range_errors}
 use Rattle.semver_parser_c.specs.Errors.{range_numbers, version_errors}
 
--- the reading, and no other, has the number
+-- the dialect, and no other, has the number
 pub record IsDialectOf (dialect : Dialect) (n : ℤ) : Type 0 where
   pub named : n ≡ dialect_number dialect
   pub only : (other : Dialect) → n ≡ dialect_number other → dialect ≡ other
@@ -61,7 +61,7 @@ pub record IsRefused (dialect rule : ℤ) (text : Text) (n : ℤ) : Type 0 where
 
 -- so of a call that rewrites
 pub record IsTextRefused (dialect : ℤ) (text : Text) (n : ℤ) : Type 0 where
-  pub number : IsOneOf (number.no_such_reading ∷ range_errors) n
+  pub number : IsOneOf (number.no_such_dialect ∷ range_errors) n
   pub refusals : RefusesText dialect text n
 
 -- the numbers or the range are refused by the number, or where they aren't, the version is

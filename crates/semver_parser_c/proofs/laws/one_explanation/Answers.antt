@@ -53,7 +53,7 @@ returns c =
     let as_it_is' : IsItself m.result = search rules in
     let same : (n.result ≡ m.result) × (n.new.place ≡ m.new.place) =
     ⊎_elim
-    (λ e. let e' = q.no_such_reading.1 (p.no_such_reading.0 e) in
+    (λ e. let e' = q.no_such_dialect.1 (p.no_such_dialect.0 e) in
     (e ∙ sym e', p.unchanged (inr (inl e)) ∙ c.requires ∙ sym (q.unchanged (inr (inl e')))))
     (λ r.
     let d = grammar_of r.0 in

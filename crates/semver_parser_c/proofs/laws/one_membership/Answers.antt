@@ -14,7 +14,7 @@ use Rattle.semver_parser_c.proofs.OneAnswer.{are_one, by_dialect, by_ok, carried
 use Rattle.semver_parser_c.proofs.laws.one_membership.Goals as goal
 
 abbrev exact : List ℤ
-exact = number.no_such_reading ∷ number.not_a_set ∷ number.version_not_utf8 ∷ number.ok ∷ []
+exact = number.no_such_dialect ∷ number.not_a_set ∷ number.version_not_utf8 ∷ number.ok ∷ []
 
 -- the result beside memory is none of these
 beside_ok : (n : ℤ) → IsOneOf text_errors n → n ≢ number.ok
@@ -25,7 +25,7 @@ beside_set n one = grind arith
 
 -- what the clauses say of an answer
 record Answers (d : Grammar) (switches : List FlatSwitch) (bytes version : Text) (n : ℤ) : Type 0 where
-  named : n ≢ number.no_such_reading
+  named : n ≢ number.no_such_dialect
   no_set : (n ≡ number.not_a_set) ↔ IsNoSet switches bytes
   read : n ≡ number.ok → IsUtf8 version × IsVersionTextIn d version × ((set : SetValue) × IsFlat switches bytes set)
   accepted : n ≢ number.not_a_set → IsUtf8 version → IsVersionTextIn d version → n ≡ number.ok
@@ -62,13 +62,13 @@ returns c =
     let q = m.ensures in
     record {
       one = uncast n.result m.result (search rules) (search rules)
-          (by_dialect p.named q.no_such_reading p.no_such_reading (λ e e'. p.unchanged (λ ok. cc) ∙ c.requires
+          (by_dialect p.named q.no_such_dialect p.no_such_dialect (λ e e'. p.unchanged (λ ok. cc) ∙ c.requires
           ∙ sym (q.unchanged (λ ok. cc))) (λ d is.
           let a : Answers d c.args.switches.now c.args.bytes.now c.args.version.now n.result =
-          search (rules, p.no_such_reading.0, p.not_a_set (is.0, is.1), p.read d is, p.accepted d is, p.refused d is) in
+          search (rules, p.no_such_dialect.0, p.not_a_set (is.0, is.1), p.read d is, p.accepted d is, p.refused d is) in
           let b : Answers d c.args.switches.now c.args.bytes.now c.args.version.now m.result =
-          search (rules, q.no_such_reading.0, q.not_a_set (is.0, is.1), q.read d is, q.accepted d is, q.refused d is) in
-          are_one (number.ok ∷ number.no_such_reading ∷ number.not_a_set ∷ version_errors) exact refl refl p.numbers q.numbers
+          search (rules, q.no_such_dialect.0, q.not_a_set (is.0, is.1), q.read d is, q.accepted d is, q.refused d is) in
+          are_one (number.ok ∷ number.no_such_dialect ∷ number.not_a_set ∷ version_errors) exact refl refl p.numbers q.numbers
           (once a b) (once b a)
           (λ one one' some some'. other a b (beside_ok _ one) (beside_ok _ one') (beside_set _ one) some some')
           (λ _. by_ok n.result m.result

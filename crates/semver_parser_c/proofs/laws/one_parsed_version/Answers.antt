@@ -13,7 +13,7 @@ use Rattle.semver_parser_c.proofs.OneAnswer.{are_one, by_dialect, by_ok, carried
 use Rattle.semver_parser_c.proofs.laws.one_parsed_version.Goals as goal
 
 abbrev exact : List ℤ
-exact = number.ok ∷ number.no_such_reading ∷ number.version_not_utf8 ∷ []
+exact = number.ok ∷ number.no_such_dialect ∷ number.version_not_utf8 ∷ []
 
 -- what is read of a text
 abbrev IsRead : Grammar → Text → ReadVersion → Type 0
@@ -21,7 +21,7 @@ IsRead d text out = (o : OutlineValue) × IsOutlineIn d text o × (out ≡ told 
 
 once : (d : Grammar) {text : Text} {n m : ℤ} {out : ReadVersion} → (n ≡ number.ok → IsRead d text out)
     → (n ≡ number.version_not_utf8) ↔ ¬ (IsUtf8 text) → (m ≡ number.version_not_utf8) ↔ ¬ (IsUtf8 text)
-    → ((v : VersionValue) → IsUtf8 text → SpellsIn d v text → m ≡ number.ok) → (n ≡ number.no_such_reading → n ≡ m)
+    → ((v : VersionValue) → IsUtf8 text → SpellsIn d v text → m ≡ number.ok) → (n ≡ number.no_such_dialect → n ≡ m)
     → IsOneOf exact n → n ≡ m
 once d read u u' accepted named (inl e) =
     let (o, (v, spelled, is), _) = read e in
@@ -43,11 +43,11 @@ returns c =
     let q = m.ensures in
     record {
       one = uncast n.result m.result (search rules) (search rules)
-          (by_dialect p.named q.no_such_reading p.no_such_reading (λ e e'. p.unchanged (λ ok. cc) ∙ c.requires
+          (by_dialect p.named q.no_such_dialect p.no_such_dialect (λ e e'. p.unchanged (λ ok. cc) ∙ c.requires
           ∙ sym (q.unchanged (λ ok. cc))) (λ d is.
-          are_one (number.ok ∷ number.no_such_reading ∷ version_errors) exact refl refl p.numbers q.numbers
-          (once d (p.version d is) (p.not_utf8 d is) (q.not_utf8 d is) (q.accepted d is) (carried p.no_such_reading q.no_such_reading))
-          (once d (q.version d is) (q.not_utf8 d is) (p.not_utf8 d is) (p.accepted d is) (carried q.no_such_reading p.no_such_reading))
+          are_one (number.ok ∷ number.no_such_dialect ∷ version_errors) exact refl refl p.numbers q.numbers
+          (once d (p.version d is) (p.not_utf8 d is) (q.not_utf8 d is) (q.accepted d is) (carried p.no_such_dialect q.no_such_dialect))
+          (once d (q.version d is) (q.not_utf8 d is) (p.not_utf8 d is) (p.accepted d is) (carried q.no_such_dialect p.no_such_dialect))
           (λ _ _.
           version_once d _ (p.not_utf8 d is) (q.not_utf8 d is)
           (λ utf8 w. p.accepted d is w.0 utf8 w.1 ∙ sym (q.accepted d is w.0 utf8 w.1))

@@ -14,7 +14,7 @@ use Rattle.semver_parser_c.proofs.OneAnswer.{IsItself, are_one, by_dialect, by_o
 use Rattle.semver_parser_c.proofs.laws.one_precedence.Goals as goal
 
 abbrev exact : List ℤ
-exact = number.no_such_reading ∷ number.version_not_utf8 ∷ []
+exact = number.no_such_dialect ∷ number.version_not_utf8 ∷ []
 
 -- two versions are refused for memory alone
 for_memory : (d : Grammar) (version other : Text) {n : ℤ} (b : Bool) → RefusesVersion d (at_fault b version other) n
@@ -28,7 +28,7 @@ record Answers (d : Grammar) (version other : Text) (n : ℤ) (in_other : Bool) 
   read : n ≡ number.ok → IsVersionTextIn d version × IsVersionTextIn d other
   refused : n ≢ number.ok → RefusesVersion d (at_fault in_other version other) n
   text : n ≢ number.ok → IsTrue in_other ↔ (IsUtf8 version × IsVersionTextIn d version)
-  named : n ≢ number.no_such_reading
+  named : n ≢ number.no_such_dialect
 
 module _ {d : Grammar} {version other : Text} {n m : ℤ} {b b' : Bool} (p : Answers d version other n b)
     (q : Answers d version other m b') where
@@ -64,19 +64,19 @@ returns c =
     let q = m.ensures in
     let a : (d : Grammar) → IsGrammar d (to_z w32 (of_z w32 c.args.dialect))
     → Answers d c.args.version.now c.args.other.now n.result n.new.in_other =
-    λ d is. search (rules, p.both_utf8, p.both_read d is, p.refused d is, p.in_other d is, p.no_such_reading.0) in
+    λ d is. search (rules, p.both_utf8, p.both_read d is, p.refused d is, p.in_other d is, p.no_such_dialect.0) in
     let b : (d : Grammar) → IsGrammar d (to_z w32 (of_z w32 c.args.dialect))
     → Answers d c.args.version.now c.args.other.now m.result m.new.in_other =
-    λ d is. search (rules, q.both_utf8, q.both_read d is, q.refused d is, q.in_other d is, q.no_such_reading.0) in
-    let unnamed : n.result ≡ number.no_such_reading → m.result ≡ number.no_such_reading → n.new.in_other ≡ m.new.in_other =
+    λ d is. search (rules, q.both_utf8, q.both_read d is, q.refused d is, q.in_other d is, q.no_such_dialect.0) in
+    let unnamed : n.result ≡ number.no_such_dialect → m.result ≡ number.no_such_dialect → n.new.in_other ≡ m.new.in_other =
     λ e e'. p.in_other_unchanged (inr (inl e)) ∙ c.requires.in_other ∙ sym (q.in_other_unchanged (inr (inl e'))) in
     let as_it_is : IsItself n.result = search rules in
     let as_it_is' : IsItself m.result = search rules in
     rw (as_it_is, as_it_is') (record {
-      one = by_dialect p.named q.no_such_reading p.no_such_reading
+      one = by_dialect p.named q.no_such_dialect p.no_such_dialect
           (λ e e'. (p.order_unchanged (λ ok. cc) ∙ c.requires.order ∙ sym (q.order_unchanged (λ ok. cc)), unnamed e e'))
           (λ d is.
-          are_one (number.ok ∷ number.no_such_reading ∷ version_errors) exact refl refl p.numbers q.numbers (once (a d is) (b d is))
+          are_one (number.ok ∷ number.no_such_dialect ∷ version_errors) exact refl refl p.numbers q.numbers (once (a d is) (b d is))
           (once (b d is) (a d is)) (λ _ _. same_number (a d is) (b d is))
           (λ _. by_ok n.result m.result
           (λ ok ok'.
@@ -86,7 +86,7 @@ returns c =
           ))
           (λ no no'.
           (p.order_unchanged no ∙ c.requires.order ∙ sym (q.order_unchanged no'), same_text (a d is) (b d is) no no'))));
-      in_other = λ no no'. ⊎_elim (λ e. unnamed e (q.no_such_reading.1 (p.no_such_reading.0 e)))
+      in_other = λ no no'. ⊎_elim (λ e. unnamed e (q.no_such_dialect.1 (p.no_such_dialect.0 e)))
           (λ r. let is : IsGrammar (grammar_of r.0) (to_z w32 (of_z w32 c.args.dialect)) = (r.0, r.1, refl) in
           same_text (a (grammar_of r.0) is) (b (grammar_of r.0) is) no no') p.named;
     })

@@ -14,13 +14,13 @@ use Rattle.semver_parser_c.proofs.OneAnswer.{IsItself, are_one, by_dialect, carr
 use Rattle.semver_parser_c.proofs.laws.one_range_explanation.Goals as goal
 
 abbrev exact : List ℤ
-exact = number.no_such_reading ∷ number.range_not_utf8 ∷ number.ok ∷ []
+exact = number.no_such_dialect ∷ number.range_not_utf8 ∷ number.ok ∷ []
 
 abbrev beside : List ℤ
 beside = number.not_a_range ∷ number.number_too_large ∷ number.range_out_of_memory ∷ []
 
 module _ {r : Dialect} {text : Text} {n m : ℤ} (p : ExplainsBy r text n) (q : ExplainsBy r text m) where
-  once : n ≢ number.no_such_reading → IsOneOf exact n → n ≡ m
+  once : n ≢ number.no_such_dialect → IsOneOf exact n → n ≡ m
   once named (inl e) = absurd (named e)
   once named (inr (inl e)) = carried p.not_utf8 q.not_utf8 e
   once named (inr (inr (inl e))) = carried p.ok q.ok e
@@ -54,8 +54,8 @@ by_explained n none large other =
     (λ e'. other (neither n (not_from_Decides _ (Decides-int_eq n number.not_a_range) e)
     (not_from_Decides _ (Decides-int_eq n number.number_too_large) e'))))
 
--- what has a place has a reading
-dialect_of : {A : Type 0} {dialect : ℤ} {text : Text} {n : ℤ} → ExplainsRange dialect text n → n ≢ number.no_such_reading
+-- what has a place has a dialect
+dialect_of : {A : Type 0} {dialect : ℤ} {text : Text} {n : ℤ} → ExplainsRange dialect text n → n ≢ number.no_such_dialect
     → ((r : Dialect) → dialect ≡ dialect_number r → A) → A
 dialect_of p named by = elim p.named [ inl e ↦ absurd (named e) | inr is ↦ by is.0 is.1 ]
 
@@ -68,12 +68,12 @@ returns c =
     let as_it_is : IsItself n.result = search rules in
     let as_it_is' : IsItself m.result = search rules in
     let one : AreOne beside n.result m.result ⊤ =
-    by_dialect p.refusals.named q.refusals.no_such_reading p.refusals.no_such_reading (λ e e'. tt) (λ d is.
-    let named : n.result ≢ number.no_such_reading = λ e. p.refusals.no_such_reading.0 e (is.0, is.1) in
-    let named' : m.result ≢ number.no_such_reading = λ e. q.refusals.no_such_reading.0 e (is.0, is.1) in
+    by_dialect p.refusals.named q.refusals.no_such_dialect p.refusals.no_such_dialect (λ e e'. tt) (λ d is.
+    let named : n.result ≢ number.no_such_dialect = λ e. p.refusals.no_such_dialect.0 e (is.0, is.1) in
+    let named' : m.result ≢ number.no_such_dialect = λ e. q.refusals.no_such_dialect.0 e (is.0, is.1) in
     let a = p.refusals.range is.0 is.1 in
     let b = q.refusals.range is.0 is.1 in
-    are_one (number.ok ∷ number.no_such_reading ∷ range_errors) exact refl refl p.numbers q.numbers (once a b named) (once b a named')
+    are_one (number.ok ∷ number.no_such_dialect ∷ range_errors) exact refl refl p.numbers q.numbers (once a b named) (once b a named')
     (refused a b) (λ _ _. tt)) in
     rw (as_it_is, as_it_is') (record {
       one = one;
