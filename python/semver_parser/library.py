@@ -4,7 +4,7 @@ import ctypes
 import os
 from typing import List, Tuple
 
-FITTING = (0, 6)
+FITTING = (0, 7)
 """The major and minor number of the libraries that fit: while the major is 0, both decide."""
 
 NAME = "libsemver_parser.so." + ".".join(map(str, FITTING))

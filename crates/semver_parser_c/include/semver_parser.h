@@ -45,8 +45,8 @@
 
 /* The library's version. The second number is raised if a call changes. */
 #define SEMVER_PARSER_VERSION_MAJOR 0
-#define SEMVER_PARSER_VERSION_MINOR 6
-#define SEMVER_PARSER_VERSION_PATCH 1
+#define SEMVER_PARSER_VERSION_MINOR 7
+#define SEMVER_PARSER_VERSION_PATCH 0
 #define SEMVER_PARSER_VERSION "0.7.0"
 
 #ifdef __cplusplus
