@@ -2,7 +2,7 @@
 -- prefix that doesn't end within a character by one of a few completions, which has no more characters than what completed it.
 use Rattle.std.proofs.Common.{◌≡◌, ℕ, ◌+◌, ◌<◌, ◌≤◌, ◌⊎◌, inl, inr, cond, Bool, true, false, List, [], ◌∷◌, ◌++◌, map, length}
 use Rattle.std.proofs.Common.{refl, sym, ap, ◌∙◌, subst, arith, append-nil, append_assoc}
-use Rattle.std.specs.Prelude.{not, ◌||◌}
+use Rattle.std.specs.Prelude.{nat_le, not, ◌&&◌, ◌||◌}
 use Rattle.std.specs.Str.{IsUtf8, bytes_eq}
 use Rattle.std.proofs.lemmas.Bool.{and_parts}
 use Rattle.std.proofs.lemmas.Slice.Eq.{bytes_eq-Decides}
@@ -16,7 +16,7 @@ use Rattle.std.proofs.lemmas.List.Sums.{sum_by-append}
 use Rattle.semver_texts.specs.Texts.{Text}
 use Rattle.semver_texts.specs.ToolVersions.{characters, goes_on}
 use Rattle.semver_texts.proofs.Lists.{by_test}
-use Rattle.text_prefixes.specs.Prefixes.{AreCompletions, GoesOn}
+use Rattle.text_prefixes.specs.Prefixes.{AreCompletions, AreShort, GoesOn}
 
 -- ---- what completes a prefix
 
@@ -91,18 +91,27 @@ one_of (o ∷ os) e y =
     by_test (bytes_eq o e) (λ same. (0, omega arith, grind (arith, bytes_eq-Decides o e)))
     (λ n. Contains-append_right (o ∷ []) os e (one_of os e (rw n at y)))
 
+each_shown : (test : Text → Bool) (P : Text → Type 0) → ((e : Text) → test e ≡ true → P e)
+    → (es : List Text) → list_all test es ≡ true → AllByRecursion P es
+each_shown test P shows [] y = tt
+each_shown test P shows (e ∷ es) y =
+    let both = and_parts (test e) (list_all test es) y in (shows e both.0, each_shown test P shows es both.1)
+
 each_one : (os es : List Text) → list_all (is_one os) es ≡ true → AllByRecursion (Contains os) es
-each_one os [] y = tt
-each_one os (e ∷ es) y = let both = and_parts (is_one os e) (list_all (is_one os) es) y in (one_of os e both.0, each_one os es both.1)
+each_one os es y = each_shown (is_one os) (Contains os) (one_of os) es y
 
+-- also that these others are short
 abbrev pub are_among : List Text → List Text → Bool
-are_among others es = list_all (λ e. is_cut e || is_one others e) es
+are_among others es = list_all (λ e. nat_le (length e) 8) others && list_all (λ e. is_cut e || is_one others e) es
 
-each_among : (others es : List Text) → are_among others es ≡ true → AllByRecursion (λ e. is_cut e ≡ false → Contains others e) es
-each_among others [] y = tt
-each_among others (e ∷ es) y =
-    let both = and_parts (is_cut e || is_one others e) (are_among others es) y in
-    (λ u. one_of others e (rw u at both.0), each_among others es both.1)
+each_among : (others es : List Text) → are_among others es ≡ true
+    → AreShort others × AllByRecursion (λ e. is_cut e ≡ false → Contains others e) es
+each_among others es y =
+    let parts = and_parts (list_all (λ e. nat_le (length e) 8) others) (list_all (λ e. is_cut e || is_one others e) es) y in (
+      each_shown (λ e. nat_le (length e) 8) (λ e. length e ≤ 8) (λ e short. grind (arith, nat_tests)) others parts.0,
+      each_shown (λ e. is_cut e || is_one others e) (λ e. is_cut e ≡ false → Contains others e)
+          (λ e one u. one_of others e (rw u at one)) es parts.1,
+    )
 
 -- ---- of one language
 
@@ -126,6 +135,7 @@ module _ {Is : Text → Type 0} {least : Text} {completions : List Text} (w : Co
       → are_among others (least ∷ completions) ≡ true → AreCompletions Is others
   are_completions others ascii among = record {
     ascii = ascii;
+    short = (each_among others (least ∷ completions) among).0;
     some = let e = is_among least (0, omega arith, refl) (utf8_uncut least (w.utf8 least w.has)) in (e.0, least, e.1, e.2, w.has);
     complete = λ t rest utf8 more is. let g = goes_all t rest is in
         let e = is_among g.more g.completion (g.uncut (utf8_uncut rest more)) in (e.0, g.more, e.1, e.2, g.is);
@@ -133,7 +143,7 @@ module _ {Is : Text → Type 0} {least : Text} {completions : List Text} (w : Co
     where
       is_among : (e : Text) → Contains (least ∷ completions) e → is_cut e ≡ false → Contains others e
       is_among e in_all = All-contains (λ x. is_cut x ≡ false → Contains others x) (least ∷ completions) e
-          (All-from_recursion (λ x. is_cut x ≡ false → Contains others x) (least ∷ completions) (each_among others (least ∷ completions) among)) in_all
+          (All-from_recursion (λ x. is_cut x ≡ false → Contains others x) (least ∷ completions) (each_among others (least ∷ completions) among).1) in_all
 
   -- the same texts, said otherwise
   pub same : (Other : Text → Type 0) → ((t : Text) → Is t → Other t) → ((t : Text) → Other t → Is t) → Completes Other least completions

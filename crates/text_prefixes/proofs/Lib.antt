@@ -1,4 +1,5 @@
 pub mod Completions
+pub mod Completing
 pub mod LongestPrefixes
 pub mod Leaves
 pub mod Cores

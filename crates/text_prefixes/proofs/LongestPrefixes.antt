@@ -149,11 +149,3 @@ module _ (Is : Text → Type 0) (utf8 : (t : Text) → Is t → IsUtf8 t) (bytes
         (subst (Begins Is) (sym same) (whole.0, ascii_utf8 whole.0 whole.1, whole.2)))
         (cases_lt (length text) n);
   }
-
-  pub bytes_none : ¬ (Is text) → ¬ (Is bytes)
-  bytes_none none is =
-      ⊎_elim
-      (λ beyond. f.longest (length bytes) beyond (omega arith) (subst IsUtf8 (sym (take-length bytes)) (utf8 bytes is)))
-      (λ inside. let all : length text ≡ length bytes = omega (arith, f.within) in
-      none (subst Is (sym (f.prefix ∙ ap (λ n. take n bytes) all ∙ take-length bytes)) is))
-      (cases_lt (length text) (length bytes))

@@ -1,4 +1,5 @@
--- Prefixes of the texts of a language: the texts that some text of it begins with, and the longest such prefix of a text.
+-- Prefixes of the texts of a language: the texts that some text of it begins with, and the longest
+-- such prefix of a text.
 use Rattle.std.specs.Prelude.{ℕ, ◌<◌, ◌≤◌, ◌++◌, List, [], length, take}
 use Rattle.std.specs.List.{AllByRecursion, Any}
 use Rattle.std.specs.Str.{IsCharBoundary, IsUtf8}
@@ -16,20 +17,29 @@ BeginsWhole Is t = (rest : Text) × AllByRecursion (λ b. b < 128) rest × Is (t
 abbrev pub GoesOn : (Text → Type 0) → List Text → Text → Type 0
 GoesOn Is completions t = Any (λ completion. Is (t ++ completion)) completions
 
--- some text is of the language, and each prefix of its texts goes on with one of the completions, all of ASCII
+-- each of them has at most 8 bytes
+abbrev pub AreShort : List Text → Type 0
+AreShort completions = AllByRecursion (λ completion. length completion ≤ 8) completions
+
+-- some text is of the language, and each prefix of its texts goes on with one of the completions,
+-- all short and of ASCII
 pub record AreCompletions (Is : Text → Type 0) (completions : List Text) : Type 0 where
   pub ascii : AllByRecursion (AllByRecursion (λ b. b < 128)) completions
+  pub short : AreShort completions
   pub some : GoesOn Is completions []
-  pub complete : (t rest : Text) → IsUtf8 t → IsUtf8 rest → Is (t ++ rest) → GoesOn Is completions t
+  pub complete : (t rest : Text) → IsUtf8 t → IsUtf8 rest → Is (t ++ rest)
+      → GoesOn Is completions t
 
--- the offset, between two characters, is the end of the longest such prefix that the text begins with
+-- the offset, between two characters, is the end of the longest such prefix that the text begins
+-- with
 pub record IsLongestPrefix (Begins : Text → Type 0) (t : Text) (offset : ℕ) : Type 0 where
   pub within : offset ≤ length t
   pub boundary : IsCharBoundary t offset
   pub prefix : Begins (take offset t)
   pub no_longer : (n : ℕ) → offset < n → IsCharBoundary t n → ¬ (Begins (take n t))
 
--- the offset is the end of the longest prefix of bytes, which needn't be UTF-8, that text of ASCII makes one of the language
+-- the offset is the end of the longest prefix of bytes, which needn't be UTF-8, that text of ASCII
+-- makes one of the language
 pub record IsLongestWholePrefix (Is : Text → Type 0) (t : Text) (offset : ℕ) : Type 0 where
   pub within : offset ≤ length t
   pub prefix : BeginsWhole Is (take offset t)

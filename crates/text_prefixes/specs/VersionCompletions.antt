@@ -1,13 +1,18 @@
 -- What completes a prefix of a version.
-use Rattle.std.specs.Prelude.{codes, List, [], ◌∷◌}
+use Rattle.std.specs.Prelude.{codes, map, List, [], ◌∷◌, ◌++◌}
 use Rattle.semver_texts.specs.Texts.{Text}
 
 abbrev pub version_completions : List Text
-version_completions = codes "" ∷ codes "a" ∷ codes "0" ∷ codes ".0" ∷ codes "0.0" ∷ codes ".0.0" ∷ codes "0.0.0" ∷ []
+version_completions = codes "" ∷ codes "a" ∷ codes "0" ∷ codes ".0" ∷ codes "0.0" ∷ codes ".0.0"
+    ∷ codes "0.0.0" ∷ []
 
--- what completes one that may end within a character of white space: also the rest of it, and numbers after that
+-- the rest of a character of white space, by the bytes of it that a prefix may end before
+abbrev pub white_completions : List Text
+white_completions = (0xA0 ∷ []) ∷ (0x9A ∷ 0x80 ∷ []) ∷ (0x80 ∷ 0x80 ∷ []) ∷ (0x81 ∷ 0x9F ∷ [])
+    ∷ (0xBB ∷ 0xBF ∷ []) ∷ (0x80 ∷ []) ∷ (0x9F ∷ []) ∷ (0xBF ∷ []) ∷ []
+
+-- what completes one that may end within a character of white space: also the rest of it, alone and
+-- with numbers after that
 abbrev pub byte_completions : List Text
-byte_completions = codes "" ∷ codes "a" ∷ codes "0" ∷ codes ".0" ∷ codes "0.0" ∷ codes ".0.0" ∷ codes "0.0.0"
-    ∷ (0xA0 ∷ []) ∷ (0x9A ∷ 0x80 ∷ []) ∷ (0x80 ∷ 0x80 ∷ []) ∷ (0x81 ∷ 0x9F ∷ []) ∷ (0xBB ∷ 0xBF ∷ []) ∷ (0x80 ∷ []) ∷ (0x9F ∷ []) ∷ (0xBF ∷ [])
-    ∷ (0xA0 ∷ codes "0.0.0") ∷ (0x9A ∷ 0x80 ∷ codes "0.0.0") ∷ (0x80 ∷ 0x80 ∷ codes "0.0.0") ∷ (0x81 ∷ 0x9F ∷ codes "0.0.0")
-    ∷ (0xBB ∷ 0xBF ∷ codes "0.0.0") ∷ (0x80 ∷ codes "0.0.0") ∷ (0x9F ∷ codes "0.0.0") ∷ (0xBF ∷ codes "0.0.0") ∷ []
+byte_completions = version_completions ++ white_completions
+    ++ map (λ rest. rest ++ codes "0.0.0") white_completions

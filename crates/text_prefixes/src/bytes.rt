@@ -1,11 +1,11 @@
 //! Whether some version begins with bytes, which may end within a character.
-ghost use Rattle.std.specs.Prelude.{◌≡◌, ◌↔◌, IfOk, IsTrue, map};
+ghost use Rattle.std.specs.Prelude.{◌≡◌, ◌≤◌, ◌+◌, ◌↔◌, IsTrue, length, map};
 ghost use Rattle.text_prefixes.specs.VersionCompletions.{byte_completions};
 ghost use Rattle.text_prefixes.specs.VersionPrefixes.{IsPrefixIn};
 
+use crate::buffers::write;
 use crate::reasons::is_version;
 use semver_texts::grammar::Grammar;
-use std::alloc::{AllocError, Global};
 
 /// What completes a prefix.
 const COMPLETIONS: [&[u8]; 23] = [
@@ -34,31 +34,27 @@ const COMPLETIONS: [&[u8]; 23] = [
     b"\xBF0.0.0",
 ];
 
-/// Whether some version begins with the bytes.
-pub fn is_prefix(alloc: Global, prefix: &[u8], grammar: Grammar) -> Result<bool, AllocError>
-    ensures { IfOk result (λ found. IsTrue found ↔ IsPrefixIn grammar prefix.now) }
+/// Whether some version begins with the bytes. The buffer must have at least 8 bytes more.
+pub fn is_prefix(prefix: &[u8], grammar: Grammar, buffer: &mut [u8]) -> bool
+    requires { length prefix.now + 8 ≤ length buffer.old }
+    ensures { IsTrue result ↔ IsPrefixIn grammar prefix.now }
 {
-    goes_on(alloc, prefix, &COMPLETIONS, grammar)
+    goes_on(prefix, &COMPLETIONS, grammar, buffer)
 }
 
 /// Whether the bytes with one of the completions are a version.
-fn goes_on(
-    alloc: Global,
-    prefix: &[u8],
-    completions: &[&[u8]],
-    grammar: Grammar,
-) -> Result<bool, AllocError>
-    requires { map (λ completion. completion.now) completions.now ≡ byte_completions }
-    ensures { IfOk result (λ found. IsTrue found ↔ IsPrefixIn grammar prefix.now) }
+fn goes_on(prefix: &[u8], completions: &[&[u8]], grammar: Grammar, buffer: &mut [u8]) -> bool
+    requires completions { map (λ completion. completion.now) completions.now ≡ byte_completions }
+    requires room { length prefix.now + 8 ≤ length buffer.old }
+    ensures { IsTrue result ↔ IsPrefixIn grammar prefix.now }
 {
-    let mut buffer = Vec::with_capacity(alloc, prefix.len().saturating_add(8))?;
+    let end = prefix.len();
+    write(buffer, 0, prefix);
     for completion in completions {
-        buffer.clear();
-        buffer.extend_from_slice(prefix)?;
-        buffer.extend_from_slice(completion)?;
-        if is_version(buffer.as_slice(), grammar) {
-            return Ok(true);
+        write(buffer, end, completion);
+        if is_version(&buffer[..end + completion.len()], grammar) {
+            return true;
         }
     }
-    Ok(false)
+    false
 }

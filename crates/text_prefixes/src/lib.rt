@@ -1,8 +1,10 @@
-//! Prefixes of the texts of a language: what some text of it begins with, and the end of the longest
-//! one that a text begins with. The language says which texts are its own, and which few texts
-//! complete a prefix; there is no second grammar. Versions of each dialect are such a language.
+//! Prefixes of the texts of a language: what some text of it begins with, and the end of the
+//! longest one that a text begins with. The language says which texts are its own, and which few
+//! texts complete a prefix; there is no second grammar. Versions of each dialect are such a
+//! language. Nothing here allocates.
 #![tactic(auto)]
 
+mod buffers;
 pub mod bytes;
 pub mod longest;
 pub mod reasons;

@@ -1,11 +1,13 @@
-//! The end of the longest prefix of a text that some text of a language begins with, found by asking
-//! the language itself what a prefix could be completed with.
-ghost use Rattle.std.specs.Prelude.{◌≡◌, ◌<◌, ◌≤◌, ◌↔◌, ◌++◌, ℕ, List, IfErr, IfOk, IsTrue, length, map, take};
+//! The end of the longest prefix of a text that some text of a language begins with, found by
+//! asking the language itself what a prefix could be completed with.
+ghost use Rattle.std.specs.Prelude.{◌≡◌, ◌<◌, ◌≤◌, ◌↔◌, ◌+◌, ◌++◌, ℕ, List, IsTrue, length, map};
+ghost use Rattle.std.specs.Prelude.{take};
 ghost use Rattle.std.specs.Str.{IsCharBoundary, IsUtf8};
 ghost use Rattle.semver_texts.specs.Texts.{Text};
-ghost use Rattle.text_prefixes.specs.Prefixes.{AreCompletions, Begins, GoesOn, IsLongestPrefix, IsLongestWholePrefix};
+ghost use Rattle.text_prefixes.specs.Prefixes.{AreCompletions, AreShort, Begins, GoesOn};
+ghost use Rattle.text_prefixes.specs.Prefixes.{IsLongestPrefix, IsLongestWholePrefix};
 
-use std::alloc::{AllocError, Global};
+use crate::buffers::write;
 
 /// A language: which texts are of it, and what completes each prefix of them.
 pub trait Language {
@@ -25,38 +27,31 @@ pub trait Language {
 }
 
 /// Returns the end of the longest prefix of a text that some text of a language begins with: the
-/// length of the text if it is one itself.
+/// length of the text if it is of the language itself. With the versions of npm, `1.2.x` gives 4:
+/// `1.2.0` begins as far.
 ///
-/// It asks the language of each completion for log n prefixes of n bytes, and allocates one buffer if the
-/// text is not of the language.
-///
-/// # Errors
-///
-/// `AllocError` if the allocation of the buffer fails.
-pub fn longest_prefix<L: Language>(
-    alloc: Global,
-    language: &L,
-    text: &str,
-) -> Result<usize, AllocError>
-    requires { AreCompletions (L.is_text language.now) (L.completions language.now) }
-    ensures offset { IfOk result (λ offset. IsLongestPrefix (Begins (L.is_text language.now)) text.now offset) }
-    ensures out_of_memory { IfErr result (λ _. ¬ (L.is_text language.now text.now)) }
+/// The buffer must have at least 8 bytes more than the text; what it holds then is not specified.
+/// For a text of n bytes that is not of the language, it asks the language of each completion of
+/// log n prefixes. It does not allocate.
+pub fn longest_prefix<L: Language>(language: &L, text: &str, buffer: &mut [u8]) -> usize
+    requires completions { AreCompletions (L.is_text language.now) (L.completions language.now) }
+    requires room { length text.now + 8 ≤ length buffer.old }
+    ensures { IsLongestPrefix (Begins (L.is_text language.now)) text.now result }
 {
     if language.has(text) {
-        return Ok(text.len());
+        return text.len();
     }
-    let mut buffer = String::with_capacity(alloc, text.len().saturating_add(8))?;
-    if is_prefix(language, text, &mut buffer)? {
-        return Ok(text.len());
+    if is_prefix(language, text, buffer) {
+        return text.len();
     }
     let mut good = 0;
     let mut bad = text.len();
     loop {
         let middle = between(text, good, bad);
         if middle == good {
-            return Ok(good);
+            return good;
         }
-        if is_prefix(language, &text[..middle], &mut buffer)? {
+        if is_prefix(language, &text[..middle], buffer) {
             good = middle;
         } else {
             bad = middle;
@@ -64,18 +59,15 @@ pub fn longest_prefix<L: Language>(
     }
 }
 
-/// What [`longest_prefix`] returns of bytes that need not be UTF-8, if all texts of the language are.
-pub fn longest_prefix_of_bytes<L: Language>(
-    alloc: Global,
-    language: &L,
-    bytes: &[u8],
-) -> Result<usize, AllocError>
+/// Returns what [`longest_prefix`] does, of bytes that need not be UTF-8, if all texts of the
+/// language are.
+pub fn longest_prefix_of_bytes<L: Language>(language: &L, bytes: &[u8], buffer: &mut [u8]) -> usize
     requires completions { AreCompletions (L.is_text language.now) (L.completions language.now) }
     requires utf8 { (text : Text) → L.is_text language.now text → IsUtf8 text }
-    ensures offset { IfOk result (λ offset. IsLongestWholePrefix (L.is_text language.now) bytes.now offset) }
-    ensures out_of_memory { IfErr result (λ _. ¬ (L.is_text language.now bytes.now)) }
+    requires room { length bytes.now + 8 ≤ length buffer.old }
+    ensures { IsLongestWholePrefix (L.is_text language.now) bytes.now result }
 {
-    longest_prefix(alloc, language, text_prefix(bytes))
+    longest_prefix(language, text_prefix(bytes), buffer)
 }
 
 /// The longest prefix of the bytes that is UTF-8.
@@ -94,7 +86,7 @@ fn text_prefix(bytes: &[u8]) -> &str
     }
 }
 
-/// A offset between two characters, after one offset and before another, near to halfway between
+/// An offset between two characters, after one offset and before another, near to halfway between
 /// them; the first of the two if there is none.
 fn between(text: &str, good: usize, bad: usize) -> usize
     requires { good ≤ bad }
@@ -118,17 +110,30 @@ fn between(text: &str, good: usize, bad: usize) -> usize
 }
 
 /// Whether a prefix with one of the completions is of the language.
-fn is_prefix<L: Language>(language: &L, prefix: &str, buffer: &mut String) -> Result<bool, AllocError>
-    ensures { IfOk result (λ found. IsTrue found
-        ↔ GoesOn (L.is_text language.now) (L.completions language.now) prefix.now) }
+fn is_prefix<L: Language>(language: &L, prefix: &str, buffer: &mut [u8]) -> bool
+    requires short { AreShort (L.completions language.now) }
+    requires room { length prefix.now + 8 ≤ length buffer.old }
+    ensures { IsTrue result
+        ↔ GoesOn (L.is_text language.now) (L.completions language.now) prefix.now }
 {
+    let end = prefix.len();
+    write(buffer, 0, prefix.as_bytes());
     for completion in language.all_completions() {
-        buffer.clear();
-        buffer.push_str(prefix)?;
-        buffer.push_str(completion)?;
-        if language.has(buffer.as_str()) {
-            return Ok(true);
+        write(buffer, end, completion.as_bytes());
+        if is_text(language, &buffer[..end + completion.len()]) {
+            return true;
         }
     }
-    Ok(false)
+    false
+}
+
+/// Whether the bytes, which are UTF-8, are a text of the language.
+fn is_text<L: Language>(language: &L, bytes: &[u8]) -> bool
+    requires { IsUtf8 bytes.now }
+    ensures { IsTrue result ↔ L.is_text language.now bytes.now }
+{
+    match str::from_utf8(bytes) {
+        Ok(text) => language.has(text),
+        Err(_) => false,
+    }
 }

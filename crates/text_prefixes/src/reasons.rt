@@ -1,15 +1,16 @@
 //! Where and why a text is no version.
-ghost use Rattle.std.specs.Prelude.{◌≡◌, ◌↔◌, ◌++◌, ◌∷◌, [], IfErr, IfOk, IsTrue, MatchOption, take};
+ghost use Rattle.std.specs.Prelude.{◌≡◌, ◌<◌, ◌≤◌, ◌↔◌, ◌+◌, ◌++◌, ◌∷◌, []};
+ghost use Rattle.std.specs.Prelude.{IsTrue, MatchOption, length, take};
 ghost use Rattle.semver_texts.specs.ToolVersions.{IsVersionTextIn};
 ghost use Rattle.text_prefixes.specs.VersionPrefixes.{IsLongestVersionPrefix};
 ghost use Rattle.text_prefixes.specs.Reasons.{IsReason, IsUnlimited, byte_at, from_end, has_no_digit};
 ghost use Rattle.text_prefixes.specs.Reasons.{is_ascii_white, is_blank, is_separator, reason_by};
 
+use crate::buffers::write;
 use crate::versions::offset;
 use semver_texts::bytes::is_part_byte;
 use semver_texts::grammar::Grammar;
 use semver_versions::version::outline_in;
-use std::alloc::{AllocError, Global};
 
 /// Why a text is no version.
 #[derive(Clone, Copy, PartialEq, Eq)]
@@ -132,12 +133,14 @@ pub(crate) fn is_version(bytes: &[u8], grammar: Grammar) -> bool
 }
 
 /// Whether the prefix and one more byte are a version.
-fn takes(alloc: Global, prefix: &[u8], byte: u8, grammar: Grammar) -> Result<bool, AllocError>
-    ensures { IfOk result (λ found. IsTrue found ↔ IsVersionTextIn grammar (prefix.now ++ byte ∷ [])) }
+fn takes(prefix: &[u8], byte: u8, grammar: Grammar, buffer: &mut [u8]) -> bool
+    requires { length prefix.now < length buffer.old }
+    ensures { IsTrue result ↔ IsVersionTextIn grammar (prefix.now ++ byte ∷ []) }
 {
-    let mut buffer = Vec::from_slice(alloc, prefix)?;
-    buffer.push(byte)?;
-    Ok(is_version(buffer.as_slice(), grammar))
+    let end = prefix.len();
+    write(buffer, 0, prefix);
+    write(buffer, end, &[byte]);
+    is_version(&buffer[..end + 1], grammar)
 }
 
 /// The byte at a offset, if there is one.
@@ -152,24 +155,24 @@ fn byte_at(input: &[u8], offset: usize) -> Option<u8>
 }
 
 /// Where and why a text is no version, or none if it is one.
-pub fn refused(alloc: Global, input: &[u8], grammar: Grammar) -> Result<Option<Refusal>, AllocError>
-    requires { IsUnlimited grammar }
-    ensures version { IfOk result (λ refusal. MatchOption refusal (IsVersionTextIn grammar input.now)
-        (λ r. ¬ (IsVersionTextIn grammar input.now))) }
-    ensures offset { IfOk result (λ refusal. MatchOption refusal (Unit {0})
-        (λ r. IsLongestVersionPrefix grammar input.now r.offset)) }
-    ensures reason { IfOk result (λ refusal. MatchOption refusal (Unit {0})
-        (λ r. IsReason grammar (take r.offset input.now) (byte_at input.now r.offset) r.reason)) }
-    ensures out_of_memory { IfErr result (λ _. ¬ (IsVersionTextIn grammar input.now)) }
+pub fn refused(input: &[u8], grammar: Grammar, buffer: &mut [u8]) -> Option<Refusal>
+    requires unlimited { IsUnlimited grammar }
+    requires room { length input.now + 8 ≤ length buffer.old }
+    ensures version { MatchOption result (IsVersionTextIn grammar input.now)
+        (λ r. ¬ (IsVersionTextIn grammar input.now)) }
+    ensures offset { MatchOption result (Unit {0})
+        (λ r. IsLongestVersionPrefix grammar input.now r.offset) }
+    ensures reason { MatchOption result (Unit {0})
+        (λ r. IsReason grammar (take r.offset input.now) (byte_at input.now r.offset) r.reason) }
 {
     if is_version(input, grammar) {
-        return Ok(None);
+        return None;
     }
-    let offset = offset(alloc, input, grammar)?;
+    let offset = offset(input, grammar, buffer);
     let prefix = &input[..offset];
     let version = is_version(prefix, grammar);
-    let letter = takes(alloc, prefix, b'a', grammar)?;
-    let zero = takes(alloc, prefix, b'0', grammar)?;
+    let letter = takes(prefix, b'a', grammar, buffer);
+    let zero = takes(prefix, b'0', grammar, buffer);
     let reason = reason_by(version, letter, zero, false, prefix, byte_at(input, offset));
-    Ok(Some(Refusal { offset, reason }))
+    Some(Refusal { offset, reason })
 }

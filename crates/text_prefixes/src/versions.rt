@@ -1,12 +1,11 @@
 //! The versions of a dialect as a language, and the end of the longest prefix of a text.
-ghost use Rattle.std.specs.Prelude.{◌≡◌, ℕ, IfErr, IfOk, codes, [], ◌∷◌};
+ghost use Rattle.std.specs.Prelude.{◌≤◌, ◌+◌, length};
 ghost use Rattle.semver_texts.specs.ToolVersions.{IsVersionTextIn};
 ghost use Rattle.text_prefixes.specs.VersionPrefixes.{IsLongestVersionPrefix};
 
+use crate::longest::{Language, longest_prefix_of_bytes};
 use semver_texts::grammar::Grammar;
 use semver_versions::version::outline_in;
-use std::alloc::{AllocError, Global};
-use crate::longest::{Language, longest_prefix_of_bytes};
 
 /// What completes a prefix of a version: nothing is missing after a number or an identifier; a
 /// letter is in an identifier, and numbers before them.
@@ -36,9 +35,9 @@ impl Language for Versions {
 
 /// The end of the longest prefix of a text that some version begins with, and goes on there with a
 /// character.
-pub fn offset(alloc: Global, input: &[u8], grammar: Grammar) -> Result<usize, AllocError>
-    ensures offset { IfOk result (λ offset. IsLongestVersionPrefix grammar input.now offset) }
-    ensures out_of_memory { IfErr result (λ _. ¬ (IsVersionTextIn grammar input.now)) }
+pub fn offset(input: &[u8], grammar: Grammar, buffer: &mut [u8]) -> usize
+    requires { length input.now + 8 ≤ length buffer.old }
+    ensures { IsLongestVersionPrefix grammar input.now result }
 {
-    longest_prefix_of_bytes(alloc, &Versions { grammar }, input)
+    longest_prefix_of_bytes(&Versions { grammar }, input, buffer)
 }

@@ -1,9 +1,12 @@
-use Rattle.std.proofs.Common.{ℕ, ◌<◌, get_or, [], ◌++◌}
+use Rattle.std.proofs.Common.{◌≡◌, length, take}
 use Rattle.semver_texts.specs.ToolVersions.{IsVersionTextIn}
 use Rattle.text_prefixes.specs.VersionCompletions.{byte_completions}
+use Rattle.text_prefixes.proofs.Completing.{NoneYet}
 use Rattle.text_prefixes.proofs.bytes.goes_on.Given as goal
 
--- no completion so far makes a version
+-- the buffer begins with the prefix, and no completion so far makes a version
 abbrev pub invariant-loop-completion : goal.invariant-loop-completion
-invariant-loop-completion l =
-    (k : ℕ) → k < l.completion-index → ¬ (IsVersionTextIn l.fn.grammar (l.fn.prefix ++ get_or byte_completions k []))
+invariant-loop-completion l = record {
+  begins : take (length l.fn.prefix) l.buffer ≡ l.fn.prefix;
+  none : NoneYet (IsVersionTextIn l.fn.grammar) byte_completions l.fn.prefix l.completion-index;
+}

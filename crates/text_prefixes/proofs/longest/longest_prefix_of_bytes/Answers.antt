@@ -1,5 +1,4 @@
-use Rattle.std.proofs.lemmas.Result.{IfErr-weaker, IfOk-weaker}
-use Rattle.text_prefixes.proofs.LongestPrefixes.{IsTextPrefix, bytes_none, bytes_longest}
+use Rattle.text_prefixes.proofs.LongestPrefixes.{IsTextPrefix, bytes_longest}
 use Rattle.text_prefixes.proofs.longest.longest_prefix_of_bytes.Goals as goal
 
 pub returns : goal.returns
@@ -8,10 +7,5 @@ returns g c =
     let e = c.text_prefix.ensures in
     let prefix : IsTextPrefix c.args.bytes.now c.text_prefix.result.now =
     record { within = e.within; prefix = e.prefix; longest = e.longest; utf8 = c.text_prefix.utf8 } in
-    record {
-      offset = IfOk-weaker c.longest_prefix.result _ _
-          (bytes_longest is c.requires.utf8 c.args.bytes.now c.text_prefix.result.now prefix (g.L.Language.completions c.args.language.now)
-          c.requires.completions) c.longest_prefix.ensures.offset;
-      out_of_memory = IfErr-weaker c.longest_prefix.result _ _
-          (λ e. bytes_none is c.requires.utf8 c.args.bytes.now c.text_prefix.result.now prefix) c.longest_prefix.ensures.out_of_memory;
-    }
+    bytes_longest is c.requires.utf8 c.args.bytes.now c.text_prefix.result.now prefix (g.L.Language.completions c.args.language.now)
+    c.requires.completions c.longest_prefix.result c.longest_prefix.ensures

@@ -1,11 +1,12 @@
-use Rattle.std.proofs.lemmas.Result.{IfOk-weaker}
 use Rattle.text_prefixes.proofs.VersionPrefixes.{known}
 use Rattle.text_prefixes.proofs.versions.offset.Goals as goal
 
-pub longest_prefix_of_bytes-requires : goal.longest_prefix_of_bytes-requires
-longest_prefix_of_bytes-requires c = let w = known c.args.grammar in record { completions = w.completions; utf8 = w.utf8 }
+pub longest_prefix_of_bytes-requires-clause-completions : goal.longest_prefix_of_bytes-requires-clause-completions
+longest_prefix_of_bytes-requires-clause-completions c = (known c.args.grammar).completions
 
-pub returns-clause-offset : goal.returns-clause-offset
-returns-clause-offset c =
-    IfOk-weaker c.longest_prefix_of_bytes.result _ _
-    (λ offset w. record { within = w.within; prefix = w.prefix; no_longer = w.no_longer }) c.longest_prefix_of_bytes.ensures.offset
+pub longest_prefix_of_bytes-requires-clause-utf8 : goal.longest_prefix_of_bytes-requires-clause-utf8
+longest_prefix_of_bytes-requires-clause-utf8 c = (known c.args.grammar).utf8
+
+pub returns : goal.returns
+returns c =
+    let w = c.longest_prefix_of_bytes.ensures in record { within = w.within; prefix = w.prefix; no_longer = w.no_longer }
