@@ -1,5 +1,5 @@
 -- How the prefixes of a language are completed, and those of what is made of languages: nothing by a shortest text, and each other
--- prefix that doesn't end within a character by one of a few completions, which has no more characters than what completed it.
+-- prefix that does not end within a character by one of a few completions, which is no longer than what completed it.
 use Rattle.std.proofs.Common.{◌≡◌, ℕ, ◌+◌, ◌<◌, ◌≤◌, ◌⊎◌, inl, inr, cond, Bool, true, false, List, [], ◌∷◌, ◌++◌, map, length}
 use Rattle.std.proofs.Common.{refl, sym, ap, ◌∙◌, subst, arith, append-nil, append_assoc}
 use Rattle.std.specs.Prelude.{nat_le, not, ◌&&◌, ◌||◌}
@@ -10,7 +10,7 @@ use Rattle.std.proofs.lemmas.Bool.Decides.{nat_tests}
 use Rattle.std.proofs.lemmas.Str.{IsCharBoundary-start, IsUtf8-append, IsUtf8-from_ascii, IsUtf8-nil}
 use Rattle.std.proofs.lemmas.Str.Ascii.{IsAscii-cons, IsAscii-nil}
 use Rattle.std.specs.List.{AllByRecursion, Contains, concat, join_with_byte, list_all}
-use Rattle.std.proofs.lemmas.List.{get_or-map, length-map}
+use Rattle.std.proofs.lemmas.List.{get_or-map, length-append, length-map}
 use Rattle.std.proofs.lemmas.List.Elements.{Contains-append_left, Contains-append_right, All-contains, All-from_recursion}
 use Rattle.std.proofs.lemmas.List.Sums.{sum_by-append}
 use Rattle.semver_texts.specs.Texts.{Text}
@@ -25,23 +25,58 @@ abbrev pub is_cut : Text → Bool
 is_cut [] = false
 is_cut (b ∷ t) = goes_on b
 
-pub record IsCompleted (Is : Text → Type 0) (completions : List Text) (t rest : Text) : Type 0 where
+-- how the texts of a language are measured: in characters, if each of them is UTF-8, or in bytes
+pub data Measure : Type 0 where
+  in_characters in_bytes : Measure
+
+abbrev pub size : Measure → Text → ℕ
+size in_characters t = characters t
+size in_bytes t = length t
+
+abbrev pub IsMeasured : Measure → Text → Type 0
+IsMeasured in_characters t = IsUtf8 t
+IsMeasured in_bytes t = Unit {0}
+
+pub record IsCompletedBy (m : Measure) (Is : Text → Type 0) (completions : List Text) (t rest : Text) : Type 0 where
   pub more : Text
   pub completion : Contains completions more
   pub is : Is (t ++ more)
-  pub short : characters more ≤ characters rest
+  pub short : size m more ≤ size m rest
   pub uncut : is_cut rest ≡ false → is_cut more ≡ false
 
-pub record Completes (Is : Text → Type 0) (least : Text) (completions : List Text) : Type 0 where
+pub record CompletesBy (m : Measure) (Is : Text → Type 0) (least : Text) (completions : List Text) : Type 0 where
   pub has : Is least
-  pub utf8 : (t : Text) → Is t → IsUtf8 t
-  pub least_short : (t : Text) → Is t → characters least ≤ characters t
-  pub goes : (b : ℕ) (t rest : Text) → Is (b ∷ t ++ rest) → IsCompleted Is completions (b ∷ t) rest
+  pub utf8 : (t : Text) → Is t → IsMeasured m t
+  pub least_short : (t : Text) → Is t → size m least ≤ size m t
+  pub least_uncut : is_cut least ≡ false
+  pub goes : (b : ℕ) (t rest : Text) → Is (b ∷ t ++ rest) → IsCompletedBy m Is completions (b ∷ t) rest
+
+abbrev pub IsCompleted : (Text → Type 0) → List Text → Text → Text → Type 0
+IsCompleted = IsCompletedBy in_characters
+
+abbrev pub Completes : (Text → Type 0) → Text → List Text → Type 0
+Completes = CompletesBy in_characters
 
 -- ---- characters, where a text is cut, and completions
 
 pub characters_append : (x y : Text) → characters (x ++ y) ≡ characters x + characters y
 characters_append x y = sum_by-append (λ b. cond (not (goes_on b)) 1 0) x y
+
+pub size_append : (m : Measure) (x y : Text) → size m (x ++ y) ≡ size m x + size m y
+size_append in_characters x y = characters_append x y
+size_append in_bytes x y = length-append x y
+
+size_nothing : (m : Measure) → size m [] ≡ 0
+size_nothing in_characters = refl
+size_nothing in_bytes = refl
+
+measured_nothing : (m : Measure) → IsMeasured m []
+measured_nothing in_characters = IsUtf8-nil
+measured_nothing in_bytes = tt
+
+measured_append : (m : Measure) (x y : Text) → IsMeasured m x → IsMeasured m y → IsMeasured m (x ++ y)
+measured_append in_characters x y v w = IsUtf8-append x y v w
+measured_append in_bytes x y v w = tt
 
 abbrev CutAt : Text → Text → Text → Text → Type 0
 CutAt x y t rest = ((r : Text) × (x ≡ t ++ r) × (rest ≡ r ++ y)) ⊎ ((b : ℕ) × (m : Text) × (t ≡ x ++ (b ∷ m)) × (y ≡ b ∷ (m ++ rest)))
@@ -115,10 +150,10 @@ each_among others es y =
 
 -- ---- of one language
 
-module _ {Is : Text → Type 0} {least : Text} {completions : List Text} (w : Completes Is least completions) where
+module _ {m : Measure} {Is : Text → Type 0} {least : Text} {completions : List Text} (w : CompletesBy m Is least completions) where
   -- also of nothing
-  pub goes_all : (t rest : Text) → Is (t ++ rest) → IsCompleted Is (least ∷ completions) t rest
-  goes_all [] rest is = record { more = least; completion = (0, omega arith, refl); is = w.has; short = w.least_short rest is; uncut = λ u. utf8_uncut least (w.utf8 least w.has) }
+  pub goes_all : (t rest : Text) → Is (t ++ rest) → IsCompletedBy m Is (least ∷ completions) t rest
+  goes_all [] rest is = record { more = least; completion = (0, omega arith, refl); is = w.has; short = w.least_short rest is; uncut = λ u. w.least_uncut }
   goes_all (b ∷ t) rest is = let g = w.goes b t rest is in
       record { more = g.more; completion = Contains-append_right (least ∷ []) completions g.more g.completion; is = g.is; short = g.short; uncut = g.uncut }
 
@@ -136,7 +171,7 @@ module _ {Is : Text → Type 0} {least : Text} {completions : List Text} (w : Co
   are_completions others ascii among = record {
     ascii = ascii;
     short = (each_among others (least ∷ completions) among).0;
-    some = let e = is_among least (0, omega arith, refl) (utf8_uncut least (w.utf8 least w.has)) in (e.0, least, e.1, e.2, w.has);
+    some = let e = is_among least (0, omega arith, refl) (w.least_uncut) in (e.0, least, e.1, e.2, w.has);
     complete = λ t rest utf8 more is. let g = goes_all t rest is in
         let e = is_among g.more g.completion (g.uncut (utf8_uncut rest more)) in (e.0, g.more, e.1, e.2, g.is);
   }
@@ -145,37 +180,52 @@ module _ {Is : Text → Type 0} {least : Text} {completions : List Text} (w : Co
       is_among e in_all = All-contains (λ x. is_cut x ≡ false → Contains others x) (least ∷ completions) e
           (All-from_recursion (λ x. is_cut x ≡ false → Contains others x) (least ∷ completions) (each_among others (least ∷ completions) among).1) in_all
 
+  -- by others, which are these and more
+  pub among : (others : List Text) → list_all (is_one others) completions ≡ true → CompletesBy m Is least others
+  among others y = record {
+    has = w.has;
+    utf8 = w.utf8;
+    least_short = w.least_short;
+    least_uncut = w.least_uncut;
+    goes = λ b t rest is. let g = w.goes b t rest is in
+        let e = All-contains (Contains others) completions g.more (All-from_recursion (Contains others) completions (each_one others completions y)) in
+        record { more = g.more; completion = e g.completion; is = g.is; short = g.short; uncut = g.uncut };
+  }
+
   -- the same texts, said otherwise
-  pub same : (Other : Text → Type 0) → ((t : Text) → Is t → Other t) → ((t : Text) → Other t → Is t) → Completes Other least completions
+  pub same : (Other : Text → Type 0) → ((t : Text) → Is t → Other t) → ((t : Text) → Other t → Is t) → CompletesBy m Other least completions
   same Other to from = record {
     has = to least w.has;
     utf8 = λ t is. w.utf8 t (from t is);
     least_short = λ t is. w.least_short t (from t is);
+    least_uncut = w.least_uncut;
     goes = λ b t rest is. let g = w.goes b t rest (from (b ∷ t ++ rest) is) in
         record { more = g.more; completion = g.completion; is = to ((b ∷ t) ++ g.more) g.is; short = g.short; uncut = g.uncut };
   }
 
   -- those of no more than so many characters
-  pub limited : (n : ℕ) → characters least ≤ n → Completes (λ t. Is t × (characters t ≤ n)) least completions
+  pub limited : (n : ℕ) → size m least ≤ n → CompletesBy m (λ t. Is t × (size m t ≤ n)) least completions
   limited n small = record {
     has = (w.has, small);
     utf8 = λ t is. w.utf8 t is.0;
     least_short = λ t is. w.least_short t is.0;
+    least_uncut = w.least_uncut;
     goes = λ b t rest is. let g = w.goes b t rest is.0 in record {
       more = g.more;
       completion = g.completion;
-      is = (g.is, omega (arith, is.1, g.short, characters_append (b ∷ t) g.more, characters_append (b ∷ t) rest));
+      is = (g.is, omega (arith, is.1, g.short, size_append m (b ∷ t) g.more, size_append m (b ∷ t) rest));
       short = g.short;
       uncut = g.uncut;
     };
   }
 
   -- or nothing
-  pub optional : Completes (λ t. (t ≡ []) ⊎ Is t) [] completions
+  pub optional : CompletesBy m (λ t. (t ≡ []) ⊎ Is t) [] completions
   optional = record {
     has = inl refl;
-    utf8 = λ t is. elim is [ inl e ↦ subst IsUtf8 (sym e) IsUtf8-nil | inr i ↦ w.utf8 t i ];
-    least_short = λ t is. omega arith;
+    utf8 = λ t is. elim is [ inl e ↦ subst (IsMeasured m) (sym e) (measured_nothing m) | inr i ↦ w.utf8 t i ];
+    least_short = λ t is. omega (arith, size_nothing m);
+    least_uncut = refl;
     goes = λ b t rest is. elim is [
       | inl e ↦ absurd (cc)
       | inr i ↦ (let g = w.goes b t rest i in record { more = g.more; completion = g.completion; is = inr g.is; short = g.short; uncut = g.uncut })
@@ -183,15 +233,16 @@ module _ {Is : Text → Type 0} {least : Text} {completions : List Text} (w : Co
   }
 
 -- one or the other
-pub choice : {A B : Text → Type 0} {a b : Text} {ea eb : List Text} → Completes A a ea → Completes B b eb → characters a ≤ characters b
-    → Completes (λ t. A t ⊎ B t) a (ea ++ eb)
-choice {A} {B} {a} {b} {ea} {eb} v w less = record {
+pub choice : {m : Measure} {A B : Text → Type 0} {a b : Text} {ea eb : List Text} → CompletesBy m A a ea → CompletesBy m B b eb → size m a ≤ size m b
+    → CompletesBy m (λ t. A t ⊎ B t) a (ea ++ eb)
+choice {m} {A} {B} {a} {b} {ea} {eb} v w less = record {
   has = inl v.has;
   utf8 = λ t is. elim is [ inl i ↦ v.utf8 t i | inr i ↦ w.utf8 t i ];
   least_short = λ t is. elim is [
     | inl i ↦ v.least_short t i
     | inr i ↦ omega (arith, less, w.least_short t i)
   ];
+  least_uncut = v.least_uncut;
   goes = λ c t rest is. elim is [
     | inl i ↦ (let g = v.goes c t rest i in
         record { more = g.more; completion = Contains-append_left ea eb g.more g.completion; is = inl g.is; short = g.short; uncut = g.uncut })
@@ -201,13 +252,14 @@ choice {A} {B} {a} {b} {ea} {eb} v w less = record {
 }
 
 -- one of any number of languages
-pub any : {I : Type 0} (L : I → Text → Type 0) (least : I → Text) (completions : I → List Text) (all : List Text)
-    → ((i : I) → Completes (L i) (least i) (completions i)) → ((i : I) → list_all (is_one all) (completions i) ≡ true)
-    → (j : I) → ((i : I) → characters (least j) ≤ characters (least i)) → Completes (λ t. (i : I) × L i t) (least j) all
+pub any : {m : Measure} {I : Type 0} (L : I → Text → Type 0) (least : I → Text) (completions : I → List Text) (all : List Text)
+    → ((i : I) → CompletesBy m (L i) (least i) (completions i)) → ((i : I) → list_all (is_one all) (completions i) ≡ true)
+    → (j : I) → ((i : I) → size m (least j) ≤ size m (least i)) → CompletesBy m (λ t. (i : I) × L i t) (least j) all
 any L least completions all w among j less = record {
   has = (j, (w j).has);
   utf8 = λ t is. (w is.0).utf8 t is.1;
   least_short = λ t is. omega (arith, less is.0, (w is.0).least_short t is.1);
+  least_uncut = (w j).least_uncut;
   goes = λ b t rest is. let g = (w is.0).goes b t rest is.1 in record {
     more = g.more;
     completion = All-contains (Contains all) (completions is.0) g.more
@@ -220,20 +272,28 @@ any L least completions all w among j less = record {
 
 -- ---- one byte
 
-byte_utf8 : (b : ℕ) → b < 128 → IsUtf8 (b ∷ [])
-byte_utf8 b small = IsUtf8-from_ascii (b ∷ []) (IsAscii-cons b [] small IsAscii-nil)
+measured_byte : (m : Measure) (b : ℕ) → b < 128 → IsMeasured m (b ∷ [])
+measured_byte in_characters b small = IsUtf8-from_ascii (b ∷ []) (IsAscii-cons b [] small IsAscii-nil)
+measured_byte in_bytes b small = tt
 
-pub byte : (b : ℕ) → b < 128 → Completes (λ t. t ≡ b ∷ []) (b ∷ []) ([] ∷ [])
-byte b small = record {
+ascii_uncut : (b : ℕ) → b < 128 → goes_on b ≡ false
+ascii_uncut b small = grind (arith, nat_tests)
+
+pub byte_by : (m : Measure) (b : ℕ) → b < 128 → CompletesBy m (λ t. t ≡ b ∷ []) (b ∷ []) ([] ∷ [])
+byte_by m b small = record {
   has = refl;
-  utf8 = λ t e. subst IsUtf8 (sym e) (byte_utf8 b small);
-  least_short = λ t e. omega (arith, ap characters e);
+  utf8 = λ t e. subst (IsMeasured m) (sym e) (measured_byte m b small);
+  least_short = λ t e. omega (arith, ap (size m) e);
+  least_uncut = ascii_uncut b small;
   goes = goes;
 }
   where
-    goes : (c : ℕ) (t rest : Text) → c ∷ t ++ rest ≡ b ∷ [] → IsCompleted (λ t. t ≡ b ∷ []) ([] ∷ []) (c ∷ t) rest
-    goes c [] rest e = record { more = []; completion = (0, omega arith, refl); is = cc; short = omega arith; uncut = λ u. refl }
+    goes : (c : ℕ) (t rest : Text) → c ∷ t ++ rest ≡ b ∷ [] → IsCompletedBy m (λ t. t ≡ b ∷ []) ([] ∷ []) (c ∷ t) rest
+    goes c [] rest e = record { more = []; completion = (0, omega arith, refl); is = cc; short = omega (arith, size_nothing m); uncut = λ u. refl }
     goes c (d ∷ t) rest e = absurd (let tails : d ∷ (t ++ rest) ≡ [] = cc in cc)
+
+pub byte : (b : ℕ) → b < 128 → Completes (λ t. t ≡ b ∷ []) (b ∷ []) ([] ∷ [])
+byte = byte_by in_characters
 
 -- ---- one after another
 
@@ -247,23 +307,24 @@ pub record Seq (A B : Text → Type 0) (t : Text) : Type 0 where
 pub both : {A B : Text → Type 0} (x y : Text) → A x → B y → Seq A B (x ++ y)
 both x y a b = record { first = x; second = y; in_first = a; in_second = b; whole = refl }
 
-pub seq : {A B : Text → Type 0} {a b : Text} {ea eb : List Text} → Completes A a ea → Completes B b eb
-    → Completes (Seq A B) (a ++ b) (map (λ m. m ++ b) ea ++ eb)
-seq {A} {B} {a} {b} {ea} {eb} v w = record {
+pub seq : {m : Measure} {A B : Text → Type 0} {a b : Text} {ea eb : List Text} → CompletesBy m A a ea → CompletesBy m B b eb
+    → CompletesBy m (Seq A B) (a ++ b) (map (λ m. m ++ b) ea ++ eb)
+seq {m} {A} {B} {a} {b} {ea} {eb} v w = record {
   has = both a b v.has w.has;
-  utf8 = λ t is. subst IsUtf8 (sym is.whole)
-      (IsUtf8-append is.first is.second (v.utf8 is.first is.in_first) (w.utf8 is.second is.in_second));
+  utf8 = λ t is. subst (IsMeasured m) (sym is.whole)
+      (measured_append m is.first is.second (v.utf8 is.first is.in_first) (w.utf8 is.second is.in_second));
   least_short = λ t is. omega (
     arith,
     v.least_short is.first is.in_first,
     w.least_short is.second is.in_second,
-    characters_append a b,
-    ap characters is.whole ∙ characters_append is.first is.second,
+    size_append m a b,
+    ap (size m) is.whole ∙ size_append m is.first is.second,
   );
+  least_uncut = append_uncut a b v.least_uncut w.least_uncut;
   goes = goes;
 }
   where
-    goes : (c : ℕ) (t rest : Text) → Seq A B (c ∷ t ++ rest) → IsCompleted (Seq A B) (map (λ m. m ++ b) ea ++ eb) (c ∷ t) rest
+    goes : (c : ℕ) (t rest : Text) → Seq A B (c ∷ t ++ rest) → IsCompletedBy m (Seq A B) (map (λ m. m ++ b) ea ++ eb) (c ∷ t) rest
     goes c t rest is = elim (cut_at is.first is.second (c ∷ t) rest is.whole) [
       | inl (r, x_is, rest_is) ↦ (let g = v.goes c t r (subst A x_is is.in_first) in record {
         more = g.more ++ b;
@@ -273,10 +334,10 @@ seq {A} {B} {a} {b} {ea} {eb} v w = record {
           arith,
           g.short,
           w.least_short is.second is.in_second,
-          characters_append g.more b,
-          ap characters rest_is ∙ characters_append r is.second,
+          size_append m g.more b,
+          ap (size m) rest_is ∙ size_append m r is.second,
         );
-        uncut = λ u. append_uncut g.more b (g.uncut (cut_prefix r is.second rest rest_is u)) (utf8_uncut b (w.utf8 b w.has));
+        uncut = λ u. append_uncut g.more b (g.uncut (cut_prefix r is.second rest rest_is u)) (w.least_uncut);
       })
       | inr (d, m, t_is, y_is) ↦ (let g = w.goes d m rest (subst B y_is is.in_second) in record {
         more = g.more;
@@ -293,6 +354,64 @@ seq {A} {B} {a} {b} {ea} {eb} v w = record {
       })
     ]
 
+-- so where what the second may be depends on what the first is
+module _ {F : Type 0} (A B : F → Text → Type 0) where
+  abbrev pub Dependent : Text → Type 0
+  Dependent t = (f : F) × Seq (A f) (B f) t
+
+  module _ {m : Measure} {a b : Text} {ea eb : List Text} (v : CompletesBy m (λ t. (f : F) × A f t) a ea) (w : (f : F) → CompletesBy m (B f) b eb) where
+    dependent_goes : (c : ℕ) (t rest : Text) → Dependent (c ∷ t ++ rest) → IsCompletedBy m Dependent (map (λ x. x ++ b) ea ++ eb) (c ∷ t) rest
+    dependent_goes c t rest (f, is) = elim (cut_at is.first is.second (c ∷ t) rest is.whole) [
+      | inl (r, x_is, rest_is) ↦ (let g = v.goes c t r (f, subst (A f) x_is is.in_first) in record {
+        more = g.more ++ b;
+        completion = Contains-append_left _ eb _ (contains_mapped (λ x. x ++ b) ea g.more g.completion);
+        is = (g.is.0, record {
+          first = c ∷ t ++ g.more;
+          second = b;
+          in_first = g.is.1;
+          in_second = (w g.is.0).has;
+          whole = sym (append_assoc (c ∷ t) g.more b);
+        });
+        short = omega (
+          arith,
+          g.short,
+          (w f).least_short is.second is.in_second,
+          size_append m g.more b,
+          ap (size m) rest_is ∙ size_append m r is.second,
+        );
+        uncut = λ u. append_uncut g.more b (g.uncut (cut_prefix r is.second rest rest_is u)) (w f).least_uncut;
+      })
+      | inr (d, s, t_is, y_is) ↦ (let g = (w f).goes d s rest (subst (B f) y_is is.in_second) in record {
+        more = g.more;
+        completion = Contains-append_right (map (λ x. x ++ b) ea) eb g.more g.completion;
+        is = (f, record {
+          first = is.first;
+          second = d ∷ s ++ g.more;
+          in_first = is.in_first;
+          in_second = g.is;
+          whole = ap (λ x. x ++ g.more) t_is ∙ append_assoc is.first (d ∷ s) g.more;
+        });
+        short = g.short;
+        uncut = g.uncut;
+      })
+    ]
+
+    pub dependent : CompletesBy m Dependent (a ++ b) (map (λ x. x ++ b) ea ++ eb)
+    dependent = record {
+      has = (v.has.0, both a b v.has.1 (w v.has.0).has);
+      utf8 = λ t (f, is). subst (IsMeasured m) (sym is.whole)
+          (measured_append m is.first is.second (v.utf8 is.first (f, is.in_first)) ((w f).utf8 is.second is.in_second));
+      least_short = λ t (f, is). omega (
+        arith,
+        v.least_short is.first (f, is.in_first),
+        (w f).least_short is.second is.in_second,
+        size_append m a b,
+        ap (size m) is.whole ∙ size_append m is.first is.second,
+      );
+      least_uncut = append_uncut a b v.least_uncut (w v.has.0).least_uncut;
+      goes = dependent_goes;
+    }
+
 -- ---- any number of them, and at most so many
 
 pub record Many (P : Text → Type 0) (t : Text) : Type 0 where
@@ -304,9 +423,9 @@ pub record AtMost (n : ℕ) (P : Text → Type 0) (t : Text) : Type 0 where
   pub many : Many P t
   pub few : length many.texts ≤ n
 
-module _ {P : Text → Type 0} {least : Text} {completions : List Text} (w : Completes P least completions) where
+module _ {m : Measure} {P : Text → Type 0} {least : Text} {completions : List Text} (w : CompletesBy m P least completions) where
   many_goes : (xs : List Text) → AllByRecursion P xs → (b : ℕ) (t rest : Text) → b ∷ t ++ rest ≡ concat xs
-      → IsCompleted (AtMost (length xs) P) completions (b ∷ t) rest
+      → IsCompletedBy m (AtMost (length xs) P) completions (b ∷ t) rest
   many_goes [] all b t rest e = absurd (cc)
   many_goes (x ∷ xs) all b t rest e = elim (cut_at x (concat xs) (b ∷ t) rest e) [
     | inl (r, x_is, rest_is) ↦ (let g = w.goes b t r (subst P x_is all.0) in record {
@@ -316,7 +435,7 @@ module _ {P : Text → Type 0} {least : Text} {completions : List Text} (w : Com
         many = record { texts = (b ∷ t ++ g.more) ∷ []; each = (g.is, tt); whole = sym (append-nil (b ∷ t ++ g.more)) };
         few = omega arith;
       };
-      short = omega (arith, g.short, ap characters rest_is ∙ characters_append r (concat xs));
+      short = omega (arith, g.short, ap (size m) rest_is ∙ size_append m r (concat xs));
       uncut = λ u. g.uncut (cut_prefix r (concat xs) rest rest_is u);
     })
     | inr (c, m, t_is, y_is) ↦ (let g = many_goes xs all.1 c m rest (sym y_is) in record {
@@ -335,30 +454,32 @@ module _ {P : Text → Type 0} {least : Text} {completions : List Text} (w : Com
     })
   ]
 
-  all_utf8 : (xs : List Text) → AllByRecursion P xs → IsUtf8 (concat xs)
-  all_utf8 [] all = IsUtf8-nil
-  all_utf8 (x ∷ xs) all = IsUtf8-append x (concat xs) (w.utf8 x all.0) (all_utf8 xs all.1)
+  all_utf8 : (xs : List Text) → AllByRecursion P xs → IsMeasured m (concat xs)
+  all_utf8 [] all = (measured_nothing m)
+  all_utf8 (x ∷ xs) all = measured_append m x (concat xs) (w.utf8 x all.0) (all_utf8 xs all.1)
 
   abbrev none : Many P []
   none = record { texts = []; each = tt; whole = refl }
 
-  many_utf8 : (t : Text) → Many P t → IsUtf8 t
-  many_utf8 t is = subst IsUtf8 (sym is.whole) (all_utf8 is.texts is.each)
+  many_utf8 : (t : Text) → Many P t → IsMeasured m t
+  many_utf8 t is = subst (IsMeasured m) (sym is.whole) (all_utf8 is.texts is.each)
 
-  pub many : Completes (Many P) [] completions
+  pub many : CompletesBy m (Many P) [] completions
   many = record {
     has = none;
     utf8 = many_utf8;
-    least_short = λ t is. omega arith;
+    least_short = λ t is. omega (arith, size_nothing m);
+    least_uncut = refl;
     goes = λ b t rest is. let g = many_goes is.texts is.each b t rest is.whole in
         record { more = g.more; completion = g.completion; is = g.is.many; short = g.short; uncut = g.uncut };
   }
 
-  pub at_most : (n : ℕ) → Completes (AtMost n P) [] completions
+  pub at_most : (n : ℕ) → CompletesBy m (AtMost n P) [] completions
   at_most n = record {
     has = record { many = none; few = omega arith };
     utf8 = λ t is. many_utf8 t is.many;
-    least_short = λ t is. omega arith;
+    least_short = λ t is. omega (arith, size_nothing m);
+    least_uncut = refl;
     goes = λ b t rest is. let g = many_goes is.many.texts is.many.each b t rest is.many.whole in
         record { more = g.more; completion = g.completion; is = record { many = g.is.many; few = omega (arith, g.is.few, is.few) }; short = g.short; uncut = g.uncut };
   }
@@ -371,9 +492,9 @@ pub record Joined (between : ℕ) (P : Text → Type 0) (t : Text) : Type 0 wher
   pub each : AllByRecursion P (first ∷ others)
   pub whole : t ≡ join_with_byte between (first ∷ others)
 
-module _ (between : ℕ) (small : between < 128) {P : Text → Type 0} {least : Text} {completions : List Text} (w : Completes P least completions) where
+module _ (between : ℕ) (small : between < 128) {m : Measure} {P : Text → Type 0} {least : Text} {completions : List Text} (w : CompletesBy m P least completions) where
   -- the first of them, as far as the prefix has it
-  first_goes : (t rest : Text) → P (t ++ rest) → IsCompleted (Joined between P) (least ∷ completions) t rest
+  first_goes : (t rest : Text) → P (t ++ rest) → IsCompletedBy m (Joined between P) (least ∷ completions) t rest
   first_goes t rest is = let g = goes_all w t rest is in record {
     more = g.more;
     completion = g.completion;
@@ -383,14 +504,14 @@ module _ (between : ℕ) (small : between < 128) {P : Text → Type 0} {least : 
   }
 
   joined_goes : (x : Text) (xs : List Text) → AllByRecursion P (x ∷ xs) → (t rest : Text)
-      → t ++ rest ≡ join_with_byte between (x ∷ xs) → IsCompleted (Joined between P) (least ∷ completions) t rest
+      → t ++ rest ≡ join_with_byte between (x ∷ xs) → IsCompletedBy m (Joined between P) (least ∷ completions) t rest
   joined_goes x [] all t rest e = first_goes t rest (subst P (sym e) all.0)
   joined_goes x (y ∷ ys) all t rest e = elim (cut_at x (between ∷ join_with_byte between (y ∷ ys)) t rest e) [
     | inl (r, x_is, rest_is) ↦ (let g = first_goes t r (subst P x_is all.0) in record {
       more = g.more;
       completion = g.completion;
       is = g.is;
-      short = omega (arith, g.short, ap characters rest_is ∙ characters_append r (between ∷ join_with_byte between (y ∷ ys)));
+      short = omega (arith, g.short, ap (size m) rest_is ∙ size_append m r (between ∷ join_with_byte between (y ∷ ys)));
       uncut = λ u. g.uncut (cut_prefix r (between ∷ join_with_byte between (y ∷ ys)) rest rest_is u);
     })
     | inr (c, m, t_is, y_is) ↦ (
@@ -410,22 +531,23 @@ module _ (between : ℕ) (small : between < 128) {P : Text → Type 0} {least : 
         })
   ]
 
-  pub joined : Completes (Joined between P) least (least ∷ completions)
+  pub joined : CompletesBy m (Joined between P) least (least ∷ completions)
   joined = record {
     has = record { first = least; others = []; each = (w.has, tt); whole = refl };
-    utf8 = λ t is. subst IsUtf8 (sym is.whole) (joined_utf8 is.first is.others is.each);
-    least_short = λ t is. omega (arith, w.least_short is.first is.each.0, ap characters is.whole, first_short is.first is.others);
+    utf8 = λ t is. subst (IsMeasured m) (sym is.whole) (joined_utf8 is.first is.others is.each);
+    least_short = λ t is. omega (arith, w.least_short is.first is.each.0, ap (size m) is.whole, first_short is.first is.others);
+    least_uncut = w.least_uncut;
     goes = λ b t rest is. joined_goes is.first is.others is.each (b ∷ t) rest is.whole;
   }
     where
-      joined_utf8 : (x : Text) (xs : List Text) → AllByRecursion P (x ∷ xs) → IsUtf8 (join_with_byte between (x ∷ xs))
+      joined_utf8 : (x : Text) (xs : List Text) → AllByRecursion P (x ∷ xs) → IsMeasured m (join_with_byte between (x ∷ xs))
       joined_utf8 x [] all = w.utf8 x all.0
-      joined_utf8 x (y ∷ ys) all = IsUtf8-append x (between ∷ join_with_byte between (y ∷ ys)) (w.utf8 x all.0)
-          (IsUtf8-append (between ∷ []) (join_with_byte between (y ∷ ys)) (byte_utf8 between small) (joined_utf8 y ys all.1))
+      joined_utf8 x (y ∷ ys) all = measured_append m x (between ∷ join_with_byte between (y ∷ ys)) (w.utf8 x all.0)
+          (measured_append m (between ∷ []) (join_with_byte between (y ∷ ys)) (measured_byte m between small) (joined_utf8 y ys all.1))
 
-      first_short : (x : Text) (xs : List Text) → characters x ≤ characters (join_with_byte between (x ∷ xs))
+      first_short : (x : Text) (xs : List Text) → size m x ≤ size m (join_with_byte between (x ∷ xs))
       first_short x [] = omega arith
-      first_short x (y ∷ ys) = omega (arith, characters_append x (between ∷ join_with_byte between (y ∷ ys)))
+      first_short x (y ∷ ys) = omega (arith, size_append m x (between ∷ join_with_byte between (y ∷ ys)))
 
 -- ---- some, separated by what is of a language
 

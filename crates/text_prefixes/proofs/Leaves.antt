@@ -36,6 +36,7 @@ passing p small = record {
   has = tt;
   utf8 = passing_utf8 p small;
   least_short = λ t is. omega arith;
+  least_uncut = refl;
   goes = λ b t rest is. record {
     more = [];
     completion = (0, omega arith, refl);
@@ -52,6 +53,7 @@ some_passing p small c is_c = record {
   has = (omega arith, (is_c, tt));
   utf8 = λ t is. passing_utf8 p small t is.1;
   least_short = λ t is. some c [] (small c is_c) t is;
+  least_uncut = grind (arith, nat_tests, small c is_c);
   goes = λ b t rest is. record {
     more = [];
     completion = (0, omega arith, refl);
@@ -120,6 +122,7 @@ module _ (limit : ℕ) (some : 0 < limit) (large : limit ≤ 2 ^ 64) where
     has = zero_below;
     utf8 = number_utf8;
     least_short = least_number;
+    least_uncut = refl;
     goes = λ b t rest is. record {
       more = [];
       completion = (0, omega arith, refl);
@@ -131,10 +134,10 @@ module _ (limit : ℕ) (some : 0 < limit) (large : limit ≤ 2 ^ 64) where
 
 -- ---- an identifier of letters, digits and hyphens that passes a test, as each does with a letter more
 
-byte_apart : (x y : Text) → list_all is_part_byte (x ++ y) ≡ true → (list_all is_part_byte x ≡ true) × (list_all is_part_byte y ≡ true)
+pub byte_apart : (x y : Text) → list_all is_part_byte (x ++ y) ≡ true → (list_all is_part_byte x ≡ true) × (list_all is_part_byte y ≡ true)
 byte_apart x y e = and_parts (list_all is_part_byte x) (list_all is_part_byte y) (sym (list_all-append is_part_byte x y) ∙ e)
 
-letter_part : (x : Text) → list_all is_part_byte x ≡ true → is_part (x ++ codes "a") ≡ true
+pub letter_part : (x : Text) → list_all is_part_byte x ≡ true → is_part (x ++ codes "a") ≡ true
 letter_part [] e = refl
 letter_part (b ∷ x) e = grind (arith, letter_part x)
 
@@ -163,6 +166,7 @@ module _ (passes : Text → Bool) (with_letter : (x : Text) → passes (x ++ cod
     has = (refl, with_letter []);
     utf8 = λ t is. dotted_utf8 t (part_passes t is.0);
     least_short = λ t is. part_some t is.0;
+    least_uncut = refl;
     goes = part_goes;
   }
 
@@ -192,6 +196,7 @@ run = record {
   has = (omega arith, (refl, tt));
   utf8 = λ t is. passing_utf8 is_ascii_alphanumeric (λ b y. grind (arith, nat_tests)) t is.1;
   least_short = run_some;
+  least_uncut = refl;
   goes = λ b t rest is. record {
     more = [];
     completion = (0, omega arith, refl);
@@ -312,7 +317,7 @@ third_goes : (d : ℕ) → is_third d ≡ true → goes_on d ≡ true
 third_goes d e = grind (arith, nat_tests)
 
 pub white : Completes IsWhite (codes " ") white_completions
-white = record { has = refl; utf8 = white_utf8; least_short = white_some; goes = goes }
+white = record { has = refl; utf8 = white_utf8; least_short = white_some; least_uncut = refl; goes = goes }
   where
     lead : (b : ℕ) (t : Text) → goes_on b ≡ false → 1 ≤ characters (b ∷ t)
     lead b t first =

@@ -29,3 +29,8 @@ pub mod FittingPartials
 pub mod FittingRanges
 pub mod FittingTexts
 mod RangeErrors
+mod RangeLeaves
+mod PartialCompletions
+mod WordCompletions
+mod RangeCompletions
+mod CargoCompletions
