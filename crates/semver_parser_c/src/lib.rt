@@ -36,7 +36,8 @@ ghost use Rattle.semver_parser.specs.Precedence.{precedence};
 ghost use Rattle.semver_parser.specs.PrintedRanges.{set_text};
 ghost use Rattle.tool_ranges.specs.declared.dialect.Dialect.{Dialect};
 ghost use Rattle.tool_ranges.specs.declared.meaning.Meaning.{Meaning};
-ghost use Rattle.tool_ranges.specs.Fronts.{BeginsAs, BeginsFitting, IsPlace};
+ghost use Rattle.text_prefixes.specs.Prefixes.{IsLongestPrefix};
+ghost use Rattle.tool_ranges.specs.Prefixes.{BeginsAs, BeginsFitting};
 ghost use Rattle.tool_ranges.specs.Hints.{limit_of};
 ghost use Rattle.tool_ranges.specs.Dialects.{SpellsAs, TreeOf, grammar_of, fits_as};
 ghost use Rattle.tool_ranges.specs.Meanings.{MeansAs, meant_as};
@@ -278,9 +279,9 @@ pub extern "C" fn semver_parser_proved_explain_range(
     ensures numbers { IsOneOf (number.ok ∷ number.no_such_dialect ∷ range_errors) result }
     ensures refusals { ExplainsRange dialect text.now result }
     ensures place { (r : Dialect) → dialect ≡ dialect_number r → result ≡ number.not_a_range
-        → IsPlace (BeginsAs r) text.now place.new }
+        → IsLongestPrefix (BeginsAs r) text.now place.new }
     ensures limit { (r : Dialect) → dialect ≡ dialect_number r → result ≡ number.number_too_large
-        → IsPlace (BeginsFitting r) text.now place.new }
+        → IsLongestPrefix (BeginsFitting r) text.now place.new }
     ensures hint { IsExplained result → IsOneOf hint_numbers hint.new }
     // The hint of a number that is too large is the limit of the dialect.
     ensures limit_hint { (r : Dialect) → dialect ≡ dialect_number r

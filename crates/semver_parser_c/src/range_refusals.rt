@@ -1,7 +1,8 @@
 //! Where and why a text gives no range, by the numbers that C has for errors and hints.
 
 ghost use Rattle.std.specs.Prelude.{◌≡◌, ◌∷◌, IfSome, MatchOption, Some};
-ghost use Rattle.tool_ranges.specs.Fronts.{BeginsAs, BeginsFitting, IsPlace};
+ghost use Rattle.text_prefixes.specs.Prefixes.{IsLongestPrefix};
+ghost use Rattle.tool_ranges.specs.Prefixes.{BeginsAs, BeginsFitting};
 ghost use Rattle.tool_ranges.specs.Hints.{limit_of};
 ghost use Rattle.semver_parser_c.specs.Numbers as number;
 ghost use Rattle.semver_parser_c.specs.Errors.{IsOneOf, range_errors};
@@ -23,9 +24,9 @@ pub fn explained(alloc: Global, dialect: Dialect, text: &[u8]) -> (i32, Option<(
     ensures told { MatchOption result.1 (IsExplained result.0 → ⊥)
         (λ told. IsExplained result.0 × IsOneOf hint_numbers told.1) }
     ensures place { result.0 ≡ number.not_a_range → IfSome result.1
-        (λ told. IsPlace (BeginsAs dialect) text.now told.0) }
+        (λ told. IsLongestPrefix (BeginsAs dialect) text.now told.0) }
     ensures limit { result.0 ≡ number.number_too_large → IfSome result.1
-        (λ told. IsPlace (BeginsFitting dialect) text.now told.0) }
+        (λ told. IsLongestPrefix (BeginsFitting dialect) text.now told.0) }
     ensures limit_hint { result.0 ≡ number.number_too_large → IfSome result.1
         (λ told. told.1 ≡ hint_number (Some (limit_of dialect))) }
 {

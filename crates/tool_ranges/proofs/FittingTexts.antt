@@ -17,7 +17,7 @@ use Rattle.tool_ranges.specs.declared.dialect.Dialect.{Dialect}
 use Rattle.tool_ranges.specs.declared.dialect.Dialect.TheVariants.{Cargo, Npm, CrateCargo, CrateNpm}
 use Rattle.tool_ranges.specs.CargoMeaning.{as_read, named}
 use Rattle.tool_ranges.specs.CargoTable.{requirement_fits}
-use Rattle.tool_ranges.specs.Fronts.{BeginsFitting}
+use Rattle.tool_ranges.specs.Prefixes.{BeginsFitting}
 use Rattle.tool_ranges.specs.NpmGrammar.{may_stand}
 use Rattle.tool_ranges.specs.NpmTable.{is_safe, is_safe_simple}
 use Rattle.tool_ranges.specs.Dialects.{HasSetAs}

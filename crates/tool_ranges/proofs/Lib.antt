@@ -34,3 +34,4 @@ mod PartialCompletions
 mod WordCompletions
 mod RangeCompletions
 mod CargoCompletions
+pub mod ReadingCompletions

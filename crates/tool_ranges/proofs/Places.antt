@@ -1,30 +1,29 @@
--- The place of a range text's error: whether a text is a range text, where its fronts go on, and the longest that does.
-use Rattle.std.proofs.Common.{◌≡◌, ℕ, ◌<◌, ◌≤◌, ⊎_elim, [], ◌∷◌, ◌++◌, codes, refl, sym, rules}
-use Rattle.std.proofs.Common.{subst, append-nil, arith, length, take}
-use Rattle.std.specs.List.{Contains, slice_range}
+-- The place of a range text's error: whether a text is a range text, what completes its prefixes, and the longest that goes on.
+use Rattle.std.proofs.Common.{◌≡◌, ℕ, ◌<◌, ◌≤◌, [], ◌∷◌, ◌++◌, List, codes, refl, sym, rules}
+use Rattle.std.proofs.Common.{arith, length, take}
+use Rattle.std.specs.List.{AllByRecursion}
 use Rattle.std.specs.Str.{IsUtf8, IsCharBoundary, chars}
-use Rattle.std.proofs.Math.Seq.{take-length}
-use Rattle.std.proofs.lemmas.Bool.{cases_lt}
-use Rattle.std.proofs.lemmas.List.{take-append-drop, take-take}
-use Rattle.std.proofs.lemmas.Str.{IsCharBoundary-end, IsCharBoundary-start, IsUtf8-take}
+use Rattle.std.proofs.lemmas.List.Elements.{All-contains, All-from_recursion}
+use Rattle.std.proofs.lemmas.Str.{IsUtf8-take}
 use Rattle.semver_texts.specs.Texts.{Text}
 use Rattle.semver_texts.specs.declared.grammar.Grammar.{Grammar}
 use Rattle.semver_texts.specs.declared.grammar.Grammar.TheVariants as grammar
 use Rattle.semver_ranges.specs.RangeTree.{SpellsIn, bare, empty, one}
 use Rattle.semver_ranges.specs.declared.range_set.RangeError.{RangeError}
 use Rattle.semver_ranges.specs.declared.range_set.RangeError.TheVariants.{NotARange, NumberTooLarge, OutOfMemory}
-use Rattle.version_fronts.proofs.FrontRanges.{set_front}
+use Rattle.text_prefixes.specs.Prefixes.{AreCompletions, Begins, GoesOn, IsLongestPrefix}
+use Rattle.text_prefixes.proofs.LongestPrefixes.{ascii_utf8}
 use Rattle.tool_ranges.specs.declared.dialect.Dialect.{Dialect}
 use Rattle.tool_ranges.specs.declared.dialect.Dialect.TheVariants.{Cargo, Npm, CrateCargo, CrateNpm}
-use Rattle.tool_ranges.specs.Fronts.{BeginsAs, IsPlace}
-use Rattle.tool_ranges.proofs.CargoFronts.{requirement_front}
-use Rattle.tool_ranges.proofs.FittingTexts.{fitting_on, still_stand}
+use Rattle.tool_ranges.specs.Prefixes.{BeginsAs}
+use Rattle.tool_ranges.proofs.FittingTexts.{fitting_on}
 use Rattle.tool_ranges.proofs.RangeErrors.{HasError}
+use Rattle.tool_ranges.proofs.ReadingCompletions.{goes_on_any}
 use Rattle.tool_ranges.specs.declared.place.Wanted.{Wanted}
 use Rattle.tool_ranges.specs.declared.place.Wanted.TheVariants.{Any, Fitting}
 use Rattle.tool_ranges.specs.CargoGrammar.{SpellsRequirement}
 use Rattle.tool_ranges.specs.Dialects.{IsTextAs}
-use Rattle.tool_ranges.specs.Steps.Places.{BeginsBy, GoesOnBy, IsWanted, rests}
+use Rattle.tool_ranges.specs.Steps.Places.{IsWanted, rests}
 use Rattle.std.proofs.lemmas.Grind.{common_steps}
 
 -- ---- whether a text is what is wanted
@@ -36,42 +35,28 @@ wanted_refused Any dialect t NumberTooLarge w h = (refl, refl)
 wanted_refused Any dialect t OutOfMemory w h = absurd (w.kept refl)
 wanted_refused Fitting dialect t e w h = absurd (w.no_set h)
 
--- ---- fronts
+-- ---- prefixes
 
-begins_from : (wanted : Wanted) (dialect : Dialect) (t : Text) → GoesOnBy wanted dialect t → BeginsBy wanted dialect t
-begins_from wanted dialect t w = (w.1, w.4)
+-- some text after it makes one that is wanted
+abbrev pub BeginsBy : Wanted → Dialect → Text → Type 0
+BeginsBy wanted dialect t = (rest : Text) × IsWanted wanted dialect (t ++ rest)
 
-goes_by : (wanted : Wanted) (dialect : Dialect) (t more : Text) → Contains (rests wanted) more → IsWanted wanted dialect (t ++ more)
-    → GoesOnBy wanted dialect t
-goes_by wanted dialect t more is w = search rules
+goes_on : (wanted : Wanted) (dialect : Dialect) (t rest : Text) → IsUtf8 t → IsWanted wanted dialect (t ++ rest)
+    → GoesOn (IsWanted wanted dialect) (rests wanted) t
+goes_on Any dialect t rest utf8 is = goes_on_any dialect t rest utf8 is
+goes_on Fitting dialect t rest utf8 is =
+    let k = fitting_on dialect t utf8 (rest, is) in (k.1.0, k.0, k.1.1, k.1.2, k.2)
 
-goes_on_any : (dialect : Dialect) (t : Text) → IsUtf8 t → BeginsAs dialect t → GoesOnBy Any dialect t
-goes_on_any Cargo t utf8 (rest, (tree, spelled)) =
-    let w = requirement_front tree t rest spelled in goes_by Any Cargo t w.more w.is_rest (w.tree, w.spelled)
-goes_on_any Npm t utf8 (rest, (tree, spelled)) =
-    let w = set_front grammar.Npm tree t rest spelled.spelled in
-    goes_by Any Npm t w.more w.is_rest (
-      w.tree,
-      record { spelled = w.spelled; characters = still_stand Any t rest w.more utf8 spelled.characters w.is_rest },
-    )
-goes_on_any CrateCargo t utf8 (rest, (tree, spelled)) =
-    let w = set_front grammar.Crate tree t rest spelled in goes_by Any CrateCargo t w.more w.is_rest (w.tree, w.spelled)
-goes_on_any CrateNpm t utf8 (rest, (tree, spelled)) =
-    let w = set_front grammar.Crate tree t rest spelled in goes_by Any CrateNpm t w.more w.is_rest (w.tree, w.spelled)
+abbrev AreAscii : List Text → Type 0
+AreAscii ts = AllByRecursion (AllByRecursion (λ b. b < 128)) ts
 
-pub goes_on : (wanted : Wanted) (dialect : Dialect) (t : Text) → IsUtf8 t → BeginsBy wanted dialect t → GoesOnBy wanted dialect t
-goes_on Any dialect t utf8 w = goes_on_any dialect t utf8 w
-goes_on Fitting dialect t utf8 w = let k = fitting_on dialect t utf8 w in goes_by Fitting dialect t k.0 k.1 k.2
+ascii : (wanted : Wanted) → AreAscii (rests wanted)
+ascii Any = search rules
+ascii Fitting = search rules
 
-pub shorter_front : (wanted : Wanted) (dialect : Dialect) (x y : Text) → BeginsBy wanted dialect (x ++ y) → BeginsBy wanted dialect x
-shorter_front wanted dialect x y (rest, text) = grind (arith, common_steps)
-
-pub prefix_front : (wanted : Wanted) (dialect : Dialect) (t : Text) (m n : ℕ) → m ≤ n → BeginsBy wanted dialect (take n t)
-    → BeginsBy wanted dialect (take m t)
-prefix_front wanted dialect t m n within front =
-    subst (BeginsBy wanted dialect) (take-take m n t within)
-    (shorter_front wanted dialect _ _
-    (subst (BeginsBy wanted dialect) (sym (take-append-drop m (take n t))) front))
+short : (wanted : Wanted) → AllByRecursion (λ t. length t ≤ 8) (rests wanted)
+short Any = search rules
+short Fitting = search rules
 
 empty_range : (d : Grammar) → SpellsIn d (empty ∷ []) []
 empty_range d = search rules
@@ -106,72 +91,37 @@ nothing_begins Fitting Npm =
 nothing_begins Fitting CrateCargo = ([], (empty ∷ [], empty_range grammar.Crate, refl))
 nothing_begins Fitting CrateNpm = ([], (empty ∷ [], empty_range grammar.Crate, refl))
 
+nothing_utf8 : IsUtf8 []
+nothing_utf8 = ascii_utf8 [] tt
+
+pub completed : (wanted : Wanted) (dialect : Dialect) → AreCompletions (IsWanted wanted dialect) (rests wanted)
+completed wanted dialect = record {
+  ascii = ascii wanted;
+  short = short wanted;
+  some = let w = nothing_begins wanted dialect in goes_on wanted dialect [] w.0 nothing_utf8 w.1;
+  complete = λ t rest utf8 more is. goes_on wanted dialect t rest utf8 is;
+}
+
+pub shorter_prefix : (wanted : Wanted) (dialect : Dialect) (x y : Text) → BeginsBy wanted dialect (x ++ y) → BeginsBy wanted dialect x
+shorter_prefix wanted dialect x y (rest, text) = grind (arith, common_steps)
+
 pub text_begins : (dialect : Dialect) (t : Text) → IsTextAs dialect t → BeginsAs dialect t
 text_begins dialect t w = search rules
 
--- ---- the place
+-- ---- the longest, whatever the bytes after it are
 
-pub one_place : (Begins : Text → Type 0) (t : Text) (m n : ℕ) → IsPlace Begins t m → IsPlace Begins t n → m ≡ n
-one_place Begins t m n a b = search rules
+module _ (wanted : Wanted) (dialect : Dialect) (t : Text) (utf8 : IsUtf8 t) where
+  any_rest : (x : Text) → IsUtf8 x → BeginsBy wanted dialect x → Begins (IsWanted wanted dialect) x
+  any_rest x whole (rest, is) =
+      let g = goes_on wanted dialect x rest whole is in
+      let all = All-contains (AllByRecursion (λ b. b < 128)) (rests wanted) g.1
+      (All-from_recursion (AllByRecursion (λ b. b < 128)) (rests wanted) (ascii wanted)) (g.0, g.2, g.3) in
+      (g.1, ascii_utf8 g.1 all, g.4)
 
-module _ (wanted : Wanted) (dialect : Dialect) (t : Text) where
-  at_end : BeginsBy wanted dialect t → IsPlace (BeginsBy wanted dialect) t (length t)
-  at_end begins = record {
-    within = omega arith;
-    boundary = IsCharBoundary-end t;
-    front = subst (BeginsBy wanted dialect) (sym (take-length t)) begins;
-    no_longer = λ n longer boundary. absurd (omega (arith, boundary.0));
-  }
-
-  pub wanted_place : IsWanted wanted dialect t → IsPlace (BeginsBy wanted dialect) t (length t)
-  wanted_place is = at_end ([], subst (IsWanted wanted dialect) (sym (append-nil t)) is)
-
-  pub whole_place : GoesOnBy wanted dialect t → IsPlace (BeginsBy wanted dialect) t (length t)
-  whole_place goes = at_end (begins_from wanted dialect t goes)
-
-  pub no_whole : IsUtf8 t → ¬ (GoesOnBy wanted dialect t) → ¬ (BeginsBy wanted dialect (take (length t) t))
-  no_whole utf8 goes begins = goes (goes_on wanted dialect t utf8 (subst (BeginsBy wanted dialect) (take-length t) begins))
-
-  -- what is known of the two places between which the search goes on
-  pub record IsSearched (good bad : ℕ) : Type 0 where
-    pub below : good ≤ bad
-    pub within : bad ≤ length t
-    pub boundary : IsCharBoundary t good
-    pub begins : BeginsBy wanted dialect (take good t)
-    pub ends : ¬ (BeginsBy wanted dialect (take bad t))
-
-  pub first_searched : IsUtf8 t → ¬ (GoesOnBy wanted dialect t) → IsSearched 0 (length t)
-  first_searched utf8 ends = record {
-    below = omega arith;
-    within = omega arith;
-    boundary = IsCharBoundary-start t utf8;
-    begins = nothing_begins wanted dialect;
-    ends = no_whole utf8 ends;
-  }
-
-  -- one of them moves to a place between them
-  module _ (good bad middle : ℕ) (w : IsSearched good bad) (after : good < middle) (before : middle < bad)
-      (boundary : IsCharBoundary t middle) (front : Text) (is : front ≡ slice_range t 0 middle) where
-    taken : front ≡ take middle t
-    taken = search rules
-
-    pub bad_moved : IsUtf8 t → ¬ (GoesOnBy wanted dialect front) → IsSearched good middle
-    bad_moved utf8 ends = record {
-      below = omega arith;
-      within = omega arith;
-      boundary = w.boundary;
-      begins = w.begins;
-      ends = λ begins. ends (rw taken (goes_on wanted dialect (take middle t) (IsUtf8-take t middle utf8 boundary) begins));
-    }
-
-  pub found_place : (good bad : ℕ) → IsSearched good bad → ((k : ℕ) → good < k → k < bad → ¬ (IsCharBoundary t k))
-      → IsPlace (BeginsBy wanted dialect) t good
-  found_place good bad w none = record {
-    within = omega (arith, w.below, w.within);
+  pub longest_by : (n : ℕ) → IsLongestPrefix (Begins (IsWanted wanted dialect)) t n → IsLongestPrefix (BeginsBy wanted dialect) t n
+  longest_by n w = record {
+    within = w.within;
     boundary = w.boundary;
-    front = w.begins;
-    no_longer = λ n longer boundary front. ⊎_elim
-        (λ less. none n longer less boundary)
-        (λ more. w.ends (prefix_front wanted dialect t bad n more front))
-        (cases_lt n bad);
+    prefix = (w.prefix.0, w.prefix.2);
+    no_longer = λ k longer boundary begins. w.no_longer k longer boundary (any_rest (take k t) (IsUtf8-take t k utf8 boundary) begins);
   }

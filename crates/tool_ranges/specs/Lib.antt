@@ -8,6 +8,6 @@ pub mod NpmTable
 pub mod AllPreReleases
 pub mod Steps
 pub mod Dialects
-pub mod Fronts
+pub mod Prefixes
 pub mod Hints
 pub mod Meanings

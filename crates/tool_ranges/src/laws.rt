@@ -2,7 +2,8 @@
 
 ghost use Rattle.std.specs.Prelude.{◌≡◌, ◌++◌, ℕ, []};
 ghost use Rattle.semver_texts.specs.Texts.{Text};
-ghost use Rattle.tool_ranges.specs.Fronts.{BeginsAs, BeginsFitting, IsPlace};
+ghost use Rattle.text_prefixes.specs.Prefixes.{IsLongestPrefix};
+ghost use Rattle.tool_ranges.specs.Prefixes.{BeginsAs, BeginsFitting};
 ghost use Rattle.tool_ranges.specs.declared.dialect.Dialect.{Dialect};
 ghost use Rattle.tool_ranges.specs.Dialects.{IsTextAs, SpellsAs, TreeOf};
 
@@ -23,11 +24,11 @@ pub fn fronts_begin_fronts()
 /// A text has one place at which it stops being the front of a range text.
 pub fn one_place()
     ensures same_place { (dialect : Dialect) (t : Text) (m n : ℕ)
-        → IsPlace (BeginsAs dialect) t m → IsPlace (BeginsAs dialect) t n → m ≡ n }
+        → IsLongestPrefix (BeginsAs dialect) t m → IsLongestPrefix (BeginsAs dialect) t n → m ≡ n }
 {}
 
 /// And one after which no range text has numbers that fit.
 pub fn one_limit_place()
     ensures same_place { (dialect : Dialect) (t : Text) (m n : ℕ)
-        → IsPlace (BeginsFitting dialect) t m → IsPlace (BeginsFitting dialect) t n → m ≡ n }
+        → IsLongestPrefix (BeginsFitting dialect) t m → IsLongestPrefix (BeginsFitting dialect) t n → m ≡ n }
 {}

@@ -4,7 +4,8 @@ ghost use Rattle.std.specs.Prelude.{◌≡◌, ◌≢◌, ◌↔◌, IfErr, IfOk
 ghost use Rattle.semver_ranges.specs.declared.range_set.RangeError.TheVariants.{NotARange};
 ghost use Rattle.semver_ranges.specs.declared.range_set.RangeError.TheVariants.{NumberTooLarge};
 ghost use Rattle.semver_ranges.specs.declared.range_set.RangeError.TheVariants.{OutOfMemory};
-ghost use Rattle.tool_ranges.specs.Fronts.{BeginsAs, BeginsFitting, IsPlace};
+ghost use Rattle.text_prefixes.specs.Prefixes.{IsLongestPrefix};
+ghost use Rattle.tool_ranges.specs.Prefixes.{BeginsAs, BeginsFitting};
 ghost use Rattle.tool_ranges.specs.Hints.{limit_of};
 ghost use Rattle.tool_ranges.specs.Dialects.{HasSetAs, IsTextAs, IsTooLargeAs};
 
@@ -49,10 +50,10 @@ pub fn refused(alloc: Global, dialect: Dialect, text: &str) -> Result<Option<Ref
         refusal.error ≢ OutOfMemory)) }
     // Some range text begins with what is before the place, and none with a longer front.
     ensures place { IfOk result (λ found. IfSome found (λ refusal. refusal.error ≡ NotARange
-        → IsPlace (BeginsAs dialect) text.now refusal.place)) }
+        → IsLongestPrefix (BeginsAs dialect) text.now refusal.place)) }
     // Some text that gives a range begins with it, and none with a longer front.
     ensures limit { IfOk result (λ found. IfSome found (λ refusal. refusal.error ≡ NumberTooLarge
-        → IsPlace (BeginsFitting dialect) text.now refusal.place)) }
+        → IsLongestPrefix (BeginsFitting dialect) text.now refusal.place)) }
     // The hint of a number that is too large is the limit of the dialect.
     ensures limit_hint { IfOk result (λ found. IfSome found (λ refusal.
         refusal.error ≡ NumberTooLarge → refusal.hint ≡ Some (limit_of dialect))) }
@@ -74,9 +75,9 @@ fn explained(
     error: &RangeError,
 ) -> Result<(usize, Option<Hint>), AllocError>
     ensures place { IfOk result (λ told. error.now ≡ NotARange
-        → IsPlace (BeginsAs dialect) text.now told.0) }
+        → IsLongestPrefix (BeginsAs dialect) text.now told.0) }
     ensures limit { IfOk result (λ told. error.now ≡ NumberTooLarge
-        → IsPlace (BeginsFitting dialect) text.now told.0) }
+        → IsLongestPrefix (BeginsFitting dialect) text.now told.0) }
     ensures limit_hint { IfOk result (λ told. error.now ≡ NumberTooLarge
         → told.1 ≡ Some (limit_of dialect)) }
 {

@@ -1,7 +1,6 @@
--- A means of proof, which no public clause cites: what the front of a range text is gone on with,
--- as the search for the place of an error asks.
-use Rattle.std.specs.List.{Any}
-use Rattle.std.specs.Prelude.{◌++◌, codes, List, [], ◌∷◌}
+-- A means of proof, which no public clause cites: what completes the prefixes of range texts, as the
+-- search for the place of an error asks.
+use Rattle.std.specs.Prelude.{codes, List, [], ◌∷◌}
 use Rattle.semver_texts.specs.Texts.{Text}
 use Rattle.tool_ranges.specs.declared.place.Wanted.{Wanted}
 use Rattle.tool_ranges.specs.declared.place.Wanted.TheVariants as wanted
@@ -13,16 +12,12 @@ abbrev pub IsWanted : Wanted → Dialect → Text → Type 0
 IsWanted wanted.Any = IsTextAs
 IsWanted wanted.Fitting = HasSetAs
 
--- what a front is gone on with: nothing, a wildcard, a letter, a bar, or a space and a number
+-- what a prefix is completed with: nothing, a wildcard, a letter, a bar, a space and a wildcard, or a
+-- number
 abbrev pub rests : Wanted → List Text
-rests wanted.Any = codes "" ∷ codes "*" ∷ codes "a" ∷ codes "|" ∷ codes " 1" ∷ []
+rests wanted.Any =
+    codes "" ∷ codes "*" ∷ codes "a" ∷ codes "|" ∷ codes " *" ∷ codes "0" ∷ []
 -- also a number, a wildcard or both in the places after it, or the right side of a hyphen range
 rests wanted.Fitting = codes "" ∷ codes "*" ∷ codes "a" ∷ codes ".0" ∷ codes "0" ∷ codes ".*"
     ∷ codes "0.*" ∷ codes ".0.*" ∷ codes "|" ∷ codes " 1" ∷ codes " - 1" ∷ codes "* - 1"
     ∷ codes "a - 1" ∷ []
-
-abbrev pub BeginsBy : Wanted → Dialect → Text → Type 0
-BeginsBy wanted dialect t = (rest : Text) × IsWanted wanted dialect (t ++ rest)
-
-abbrev pub GoesOnBy : Wanted → Dialect → Text → Type 0
-GoesOnBy wanted dialect t = Any (λ rest. IsWanted wanted dialect (t ++ rest)) (rests wanted)

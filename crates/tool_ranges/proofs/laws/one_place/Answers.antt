@@ -1,6 +1,6 @@
-use Rattle.tool_ranges.specs.Fronts.{BeginsAs}
-use Rattle.tool_ranges.proofs.Places.{one_place}
+use Rattle.text_prefixes.proofs.LongestPrefixes.{one_longest}
+use Rattle.tool_ranges.specs.Prefixes.{BeginsAs}
 use Rattle.tool_ranges.proofs.laws.one_place.Goals as goal
 
 pub returns : goal.returns
-returns c = record { same_place = λ dialect. one_place (BeginsAs dialect) }
+returns c = record { same_place = λ dialect. one_longest (BeginsAs dialect) }
