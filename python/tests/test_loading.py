@@ -14,7 +14,7 @@ from pathlib import Path
 
 PACKAGE = Path(__file__).resolve().parents[1] / "semver_parser"
 VARIABLE = "SEMVER_PARSER_LIBRARY"
-NAME = "libsemver_parser.so.0.6"
+NAME = "libsemver_parser.so.0.7"
 
 
 @unittest.skipUnless(os.environ.get(VARIABLE), f"{VARIABLE} names no library")
@@ -98,13 +98,13 @@ class Loading(unittest.TestCase):
 
     def test_another_version(self) -> None:
         tells = 'const char *semver_parser_library_version(void) { return "%s"; }'
-        for version in ("0.1.0", "0.5.0", "0.7.0", "1.6.0", "0.60.0", ""):
+        for version in ("0.1.0", "0.6.0", "0.8.0", "1.7.0", "0.70.0", ""):
             path = self.make_library(f"lib{version}.so", tells % version)
             said = self.refused(SEMVER_PARSER_LIBRARY=path)
             self.assertEqual(
-                said, f"{path} has version {version}, and semver_parser needs version 0.6 of it\n"
+                said, f"{path} has version {version}, and semver_parser needs version 0.7 of it\n"
             )
-        path = self.make_library("lacking.so", tells % "0.6.7")
+        path = self.make_library("lacking.so", tells % "0.7.7")
         said = self.refused(SEMVER_PARSER_LIBRARY=path)
         self.assertEqual(said, f"{path} lacks the call semver_parser_parse_version\n")
 
