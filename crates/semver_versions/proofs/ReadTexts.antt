@@ -1,7 +1,7 @@
 -- A whole text that spells a version in a dialect is read as it, and as no other.
 use Rattle.std.proofs.Common.{codes, ◌≡◌, inl, inr, ⊎_elim, ℕ, ◌+◌, ◌<◌, ◌≤◌, ◌^◌, cond, Bool, true, false, List, [], ◌∷◌, ◌++◌, length}
 use Rattle.std.proofs.Common.{refl, ◌∙◌, arith, ap, sym, subst, append_assoc, append-nil, length-append, decimal, map, one-add}
-use Rattle.std.specs.Prelude.{◌==◌, not, Option, Some, None, slice_index}
+use Rattle.std.specs.Prelude.{◌==◌, ◌↔◌, IsTrue, is_some, not, Option, Some, None, slice_index}
 use Rattle.std.specs.Char.{is_ascii_digit}
 use Rattle.std.specs.List.{join_with_byte, list_all}
 use Rattle.std.proofs.lemmas.Bool.{eqb-true}
@@ -17,9 +17,10 @@ use Rattle.semver_texts.specs.declared.grammar.Grammar.TheVariants.{Crate, Cargo
 use Rattle.semver_texts.proofs.Lists.{Passes, all_more, passes_append, joined_pass}
 use Rattle.semver_texts.proofs.Numbers.{all_digits, canonical_decimal}
 use Rattle.semver_texts.proofs.SpelledVersions.{spelled_kept_all}
+use Rattle.semver_versions.specs.AnyLength.{IsVersionAtAnyLength, SpellsAtAnyLength}
 use Rattle.semver_versions.specs.Outlines.{OutlineValue}
-use Rattle.semver_versions.specs.Steps.Reading.{AreAround, AreIdentifiers, IsBefore, IsOutlinedAt, IsOutlinedBy, IsRead, IsShort, IsSign}
-use Rattle.semver_versions.specs.Steps.Reading.{NumbersFit, ZerosFit, around_size, hyphens_of}
+use Rattle.semver_versions.specs.Steps.Reading.{AreAround, AreIdentifiers, IsBefore, IsOutlinedAt, IsOutlinedBy, IsOutlinedFrom}
+use Rattle.semver_versions.specs.Steps.Reading.{IsRead, IsShort, IsSign, NumbersFit, ZerosFit, around_size, hyphens_of}
 use Rattle.semver_versions.proofs.CutIdentifiers.{spelled_are}
 use Rattle.semver_versions.proofs.KeptTexts.{kept_parts, kept_spelled_all}
 use Rattle.semver_versions.proofs.ReadVersions.{its_numbers, one_read}
@@ -129,7 +130,7 @@ one_sign Npm sign other rest left a b e =
     (λ also. same [] [] none.0 also.0) b)
     a
 
-one_before : (d : Grammar) (text rest left : Text) → IsBefore d text rest → IsBefore d text left → rest ≡ left
+pub one_before : (d : Grammar) (text rest left : Text) → IsBefore d text rest → IsBefore d text left → rest ≡ left
 one_before d text rest left a b =
     one_sign d a.1 b.1 rest left a.3 b.3 (same_around d a.0 b.0 _ _ a.2 b.2 (sym a.4 ∙ b.4) a.5 b.5).1
 
@@ -143,7 +144,7 @@ to_right a b c e = simp append_assoc
 
 -- what is read of it, from which the text follows
 abbrev pub IsReadOf : Grammar → VersionValue → Text → Type 0
-IsReadOf d v text = (rest : Text) × IsBefore d text rest × IsRead d v rest × IsShort d (characters text)
+IsReadOf d v text = (rest : Text) × IsBefore d text rest × IsRead d v rest
 
 module _ (d : Grammar) (each : (ts : List Text) → list_all is_part ts ≡ true → AreIdentifiers (hyphens_of d) ts)
     (zeros : (ts : List Text) → list_all has_no_leading_zero ts ≡ true → ZerosFit d ts) where
@@ -220,13 +221,13 @@ crate_before {text = text} w = (
   no_around Crate (w.core ++ w.after) (digit_begins (its_numbers (crate_read w))),
 )
 
-pub read_of : (d : Grammar) (v : VersionValue) (text : Text) → SpellsIn d v text → IsReadOf d v text
-read_of Crate v text w = (w.core ++ w.after, crate_before w, crate_read w, tt)
-read_of Cargo v text w =
+pub read_any : (d : Grammar) (v : VersionValue) (text : Text) → SpellsAtAnyLength d v text → IsReadOf d v text
+read_any Crate v text w = (w.core ++ w.after, crate_before w, crate_read w)
+read_any Cargo v text w =
     let read = subst (IsRead Cargo v) (append-nil text)
     (semver_read Cargo (λ ts h. h) (λ ts h. h) v text [] w tt (none_around Cargo)) in
-    (text, at_front Cargo text (digit_begins (its_numbers read)), read, tt)
-read_of Npm v text (w, short) =
+    (text, at_front Cargo text (digit_begins (its_numbers read)), read)
+read_any Npm v text w =
     let read = semver_read Npm (λ ts h. h) (λ ts h. h) v w.core w.after w.spells (w.major, w.minor, w.patch)
     (white_spaces w.after w.spaces_after) in
     let digit = digit_begins (its_numbers read) in (
@@ -240,13 +241,11 @@ read_of Npm v text (w, short) =
         ⊎_elim (λ e. rw e (no_around Npm (w.core ++ w.after) digit)) (λ e. rw e (no_size Npm 118 (w.core ++ w.after) refl)) w.is_sign,
       ),
       read,
-      short,
     )
 
 -- and a text that is read as it spells it
-spells_of : (d : Grammar) (v : VersionValue) (text rest : Text) → IsBefore d text rest → IsRead d v rest → IsShort d (characters text)
-    → SpellsIn d v text
-spells_of Crate v text rest at w short = record {
+pub spells_any : (d : Grammar) (v : VersionValue) (text rest : Text) → IsBefore d text rest → IsRead d v rest → SpellsAtAnyLength d v text
+spells_any Crate v text rest at w = record {
   before = at.0;
   core = core_of w;
   after = w.after;
@@ -264,28 +263,44 @@ spells_of Crate v text rest at w short = record {
   };
   whole = at.4 ∙ ap (λ t. at.0 ++ (t ++ rest)) at.3 ∙ ap (λ t. at.0 ++ t) (core_then w) ∙ sym (append_assoc at.0 (core_of w) w.after);
 }
-spells_of Cargo v text rest at w short =
+spells_any Cargo v text rest at w =
     subst (SpellsSemver v)
     (sym (at.4 ∙ (λ i. nothing_around at.0 at.2 i ++ (at.3 i ++ rest)) ∙ core_then w
     ∙ ap (λ t. core_of w ++ t) (nothing_around w.after w.around) ∙ append-nil (core_of w)))
     (semver_core w w.zeros)
-spells_of Npm v text rest at w short = (
-  record {
-    before = at.0;
-    sign = at.1;
-    core = core_of w;
-    after = w.after;
-    spaces_before = are_white_spaces at.0 at.2;
-    is_sign = ⊎_elim (λ e. inr e) (λ e. inl e.0) at.3;
-    spells = semver_core w w.zeros;
-    spaces_after = are_white_spaces w.after w.around;
-    major = w.fits.0;
-    minor = w.fits.1;
-    patch = w.fits.2;
-    whole = at.4 ∙ ap (λ t. at.0 ++ (at.1 ++ t)) (core_then w);
-  },
-  short,
-)
+spells_any Npm v text rest at w = record {
+  before = at.0;
+  sign = at.1;
+  core = core_of w;
+  after = w.after;
+  spaces_before = are_white_spaces at.0 at.2;
+  is_sign = ⊎_elim (λ e. inr e) (λ e. inl e.0) at.3;
+  spells = semver_core w w.zeros;
+  spaces_after = are_white_spaces w.after w.around;
+  major = w.fits.0;
+  minor = w.fits.1;
+  patch = w.fits.2;
+  whole = at.4 ∙ ap (λ t. at.0 ++ (at.1 ++ t)) (core_then w);
+}
+
+-- a text of a dialect is one of any length that is short
+pub any_of : (d : Grammar) (v : VersionValue) (text : Text) → SpellsIn d v text → SpellsAtAnyLength d v text
+any_of Crate v text w = w
+any_of Cargo v text w = w
+any_of Npm v text w = w.0
+
+pub short_of : (d : Grammar) (v : VersionValue) (text : Text) → SpellsIn d v text → IsShort d (characters text)
+short_of Crate v text w = tt
+short_of Cargo v text w = tt
+short_of Npm v text w = w.1
+
+in_short : (d : Grammar) (v : VersionValue) (text : Text) → IsShort d (characters text) → SpellsAtAnyLength d v text → SpellsIn d v text
+in_short Crate v text short w = w
+in_short Cargo v text short w = w
+in_short Npm v text short w = (w, short)
+
+pub read_of : (d : Grammar) (v : VersionValue) (text : Text) → SpellsIn d v text → IsReadOf d v text
+read_of d v text w = read_any d v text (any_of d v text w)
 
 -- ---- a text spells one version
 
@@ -293,19 +308,26 @@ module _ (d : Grammar) (v : VersionValue) (text rest : Text) (at : IsBefore d te
   pub read_after : IsRead d v rest
   read_after = let read = read_of d v text w in subst (IsRead d v) (one_before d text read.0 rest read.1 at) read.2
 
-pub short_of : (d : Grammar) (v : VersionValue) (text : Text) → SpellsIn d v text → IsShort d (characters text)
-short_of d v text w = (read_of d v text w).3
-
 pub one_version_in : (d : Grammar) (v u : VersionValue) (text : Text) → SpellsIn d v text → SpellsIn d u text → v ≡ u
 one_version_in d v u text a b =
     let read = read_of d v text a in one_read d v u read.0 read.2 (read_after d u text read.0 read.1 b)
 
 -- ---- its outline
 
-pub whole_outlined : (d : Grammar) (text rest : Text) (found : Option OutlineValue) → IsBefore d text rest
-    → IsShort d (characters text) → IsOutlinedAt d (before_numbers text) rest found → IsOutlinedBy d text found
-whole_outlined d text rest None at short none = λ w. none w.0 (read_after d w.0 text rest at w.1)
-whole_outlined d text rest (Some o) at short is = (is.0, spells_of d is.0 text rest at is.1 short, is.2)
+pub outlined_from : (d : Grammar) (text rest : Text) (found : Option OutlineValue) → IsBefore d text rest
+    → IsOutlinedAt d (before_numbers text) rest found → IsOutlinedFrom d text found
+outlined_from d text rest None at none = λ v other before read. none v (subst (IsRead d v) (one_before d text other rest before at) read)
+outlined_from d text rest (Some o) at is = (is.0, rest, at, is.1, is.2)
+
+pub short_outlined : (d : Grammar) (text : Text) (found : Option OutlineValue) → IsShort d (characters text)
+    → IsOutlinedFrom d text found → IsOutlinedBy d text found
+short_outlined d text None short none = λ w. let read = read_of d w.0 text w.1 in none w.0 read.0 read.1 read.2
+short_outlined d text (Some o) short is = (is.0, in_short d is.0 text short (spells_any d is.0 text is.1 is.2 is.3), is.4)
+
+pub is_version_from : (d : Grammar) (text : Text) (found : Option OutlineValue) → IsOutlinedFrom d text found
+    → IsTrue (is_some found) ↔ IsVersionAtAnyLength d text
+is_version_from d text None none = (λ y. absurd (cc), λ w. let read = read_any d w.0 text w.1 in absurd (none w.0 read.0 read.1 read.2))
+is_version_from d text (Some o) is = (λ y. (is.0, spells_any d is.0 text is.1 is.2 is.3), λ w. refl)
 
 -- ---- a text whose numbers are known
 

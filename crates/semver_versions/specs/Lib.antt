@@ -1,2 +1,3 @@
+pub mod AnyLength
 pub mod Outlines
 pub mod Steps

@@ -13,8 +13,9 @@ ghost use Rattle.semver_texts.specs.Texts.{Text, BeginsWithNumbers, cut_at_dots}
 ghost use Rattle.semver_texts.specs.ToolVersions.{characters};
 ghost use Rattle.semver_texts.specs.declared.grammar.Grammar.TheVariants.{Npm};
 ghost use Rattle.semver_versions.specs.Steps.Reading.{AreAround, AreParts, IsBefore, IsOutlinedAt};
-ghost use Rattle.semver_versions.specs.Steps.Reading.{IsOutlinedBy, IsShort, NumbersFit, ZerosFit};
-ghost use Rattle.semver_versions.specs.Steps.Reading.{around_size, hyphens_of};
+ghost use Rattle.semver_versions.specs.Steps.Reading.{IsOutlinedBy, IsOutlinedFrom, IsShort};
+ghost use Rattle.semver_versions.specs.Steps.Reading.{NumbersFit, ZerosFit, around_size};
+ghost use Rattle.semver_versions.specs.Steps.Reading.{hyphens_of};
 
 use crate::outlines::{Outline, with_parts};
 use semver_texts::decimals::{begins_with_digit, numbers_at_digit};
@@ -266,6 +267,14 @@ pub(crate) fn outline(input: &[u8], grammar: Grammar) -> Option<Outline<'_>>
     if !is_short(0, input, grammar) {
         return None;
     }
+    outline_at_any_length(input, grammar)
+}
+
+/// The outline of the version that the bytes spell, if they spell one, whatever their length.
+#[inline(always)]
+pub(crate) fn outline_at_any_length(input: &[u8], grammar: Grammar) -> Option<Outline<'_>>
+    ensures { IsOutlinedFrom grammar input.now result }
+{
     let at = at_digit(input, grammar)?;
     let (major, minor, patch, rest) = numbers_at_digit(at)?;
     after_numbers(major, minor, patch, input.len() - rest.len(), rest, grammar)

@@ -7,12 +7,13 @@
 //! 18446744073709551615. An identifier is one or more runs of ASCII letters and digits joined by
 //! single hyphens; there is no limit on runs, identifiers or the length of a text.
 ghost use Rattle.std.specs.Prelude.{◌≡◌, ◌↔◌, ◌<◌, ◌⊎◌, ◌+◌, ◌^◌, [], length, Some, None};
-ghost use Rattle.std.specs.Prelude.{IfOk, IfErr, IfSome, option_map};
+ghost use Rattle.std.specs.Prelude.{IfOk, IfErr, IfSome, IsTrue, option_map};
 ghost use Rattle.semver_texts.specs.Texts.{Text, BeginsWithNumbers};
 ghost use Rattle.semver_texts.specs.Versions.{VersionValue};
 ghost use Rattle.semver_texts.specs.VersionViews.{version_value};
 ghost use Rattle.semver_texts.specs.VersionGrammar.{SpellsVersion, IsVersionText};
 ghost use Rattle.semver_texts.specs.ToolVersions.{IsVersionTextIn, SpellsIn};
+ghost use Rattle.semver_versions.specs.AnyLength.{IsVersionAtAnyLength};
 ghost use Rattle.semver_versions.specs.Outlines.{IsOutlineIn, IsOutlineOf};
 ghost use Rattle.semver_versions.specs.Outlines.{OutlineValue, StandsAt, version_of};
 
@@ -137,6 +138,18 @@ pub fn outline_in(input: &[u8], grammar: Grammar) -> Option<Outline<'_>>
         × StandsAt o.build_offset o.build input.now) }
 {
     reader::outline(input, grammar)
+}
+
+// Answer: equation.
+/// Returns whether the bytes spell a version in a dialect, whatever their length: only npm has a
+/// limit, 256 characters. For `1.2.3` after 300 spaces this is true by npm's dialect, although
+/// [`outline_in`] returns `None`.
+///
+/// The bytes need not be UTF-8, and it does not allocate.
+pub fn is_version_at_any_length(input: &[u8], grammar: Grammar) -> bool
+    ensures { IsTrue result ↔ IsVersionAtAnyLength grammar input.now }
+{
+    reader::outline_at_any_length(input, grammar).is_some()
 }
 
 // Answer: free, beside its conditions (law one_outline_of_numbers): must-fail/major_is_zero.edit.

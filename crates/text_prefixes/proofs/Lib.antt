@@ -5,3 +5,4 @@ pub mod Leaves
 pub mod Cores
 pub mod VersionPrefixes
 pub mod AnyLength
+pub mod VersionLaws

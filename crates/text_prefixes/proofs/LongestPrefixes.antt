@@ -7,7 +7,8 @@ use Rattle.std.proofs.Math.Seq.{take-append_seam, take-length}
 use Rattle.std.proofs.lemmas.Bool.{cases_lt}
 use Rattle.std.proofs.lemmas.List.{take-append-drop, take-take}
 use Rattle.std.proofs.lemmas.List.Elements.{All-contains, All-from_recursion}
-use Rattle.std.proofs.lemmas.Str.{IsCharBoundary-at_seam, IsCharBoundary-end, IsCharBoundary-from_take, IsCharBoundary-start, IsUtf8-append, IsUtf8-drop, IsUtf8-nil, IsUtf8-take}
+use Rattle.std.proofs.lemmas.Str.{IsCharBoundary-at_seam, IsCharBoundary-end, IsCharBoundary-from_take, IsCharBoundary-start}
+use Rattle.std.proofs.lemmas.Str.{IsUtf8-append, IsUtf8-drop, IsUtf8-nil, IsUtf8-take}
 use Rattle.std.proofs.lemmas.Str.{IsUtf8-from_ascii}
 use Rattle.std.proofs.lemmas.Str.Ascii.{IsAscii-from_all}
 use Rattle.semver_texts.specs.Texts.{Text}
@@ -103,7 +104,8 @@ module _ (Is : Text → Type 0) (completions : List Text) (t : Text) (w : AreCom
       boundary = s.boundary;
       end = boundary;
       begins = s.begins;
-      ends = λ begins. ends (subst (GoesOn Is completions) (sym taken) (goes_from (take middle t) (IsUtf8-take t middle utf8 boundary) begins));
+      ends = λ begins. ends (subst (GoesOn Is completions) (sym taken)
+          (goes_from (take middle t) (IsUtf8-take t middle utf8 boundary) begins));
     }
 
   pub found_longest : IsUtf8 t → (good bad : ℕ) → IsSearched Is t good bad
@@ -135,7 +137,8 @@ module _ (Is : Text → Type 0) (utf8 : (t : Text) → Is t → IsUtf8 t) (bytes
   prefix_of : (n : ℕ) → n ≤ length text → take n text ≡ take n bytes
   prefix_of n within = ap (take n) f.prefix ∙ take-take n (length text) bytes within
 
-  pub bytes_longest : (completions : List Text) → AreCompletions Is completions → (offset : ℕ) → IsLongestPrefix (Begins Is) text offset → IsLongestWholePrefix Is bytes offset
+  pub bytes_longest : (completions : List Text) → AreCompletions Is completions → (offset : ℕ)
+      → IsLongestPrefix (Begins Is) text offset → IsLongestWholePrefix Is bytes offset
   bytes_longest completions w offset p = record {
     within = omega (arith, f.within, p.within);
     prefix = subst (BeginsWhole Is) (prefix_of offset p.within) (whole_from Is completions text w (take offset text)

@@ -1,10 +1,11 @@
 -- Prefixes of versions, by dialect.
-use Rattle.std.proofs.Common.{◌≡◌, ℕ, ◌^◌, ◌<◌, ◌≤◌, ◌⊎◌, true, List, [], ◌∷◌, ◌++◌, Bool, map, codes, decimal, rules, refl, sym, ap, ◌∙◌, append_assoc, arith}
+use Rattle.std.proofs.Common.{◌≡◌, ℕ, ◌^◌, ◌<◌, ◌≤◌, ◌⊎◌, true, List, [], ◌∷◌, ◌++◌, Bool, map, codes, decimal, rules}
+use Rattle.std.proofs.Common.{refl, sym, ap, ◌∙◌, append_assoc, arith}
 use Rattle.std.specs.List.{AllByRecursion, AllZip, join_with_byte, list_all}
 use Rattle.std.specs.Str.{IsUtf8}
 use Rattle.std.proofs.lemmas.Bool.{and_parts, and_from}
 use Rattle.semver_texts.specs.Texts.{Text, has_no_leading_zero, is_part, is_space, marked}
-use Rattle.semver_texts.specs.ToolVersions.{AreWhiteSpaces, IsVersionTextIn, SpellsSemver, characters, is_white_space}
+use Rattle.semver_texts.specs.ToolVersions.{AreWhiteSpaces, IsVersionTextIn, SpellsSemver, is_white_space}
 use Rattle.semver_texts.specs.VersionGrammar.{IsIdentifierText, SpellsIdentifier}
 use Rattle.semver_texts.specs.Versions.{VersionValue, numbers}
 use Rattle.semver_texts.specs.declared.grammar.Grammar.{Grammar}
@@ -12,17 +13,34 @@ use Rattle.semver_texts.specs.declared.grammar.Grammar.TheVariants.{Crate, Cargo
 use Rattle.semver_versions.proofs.CutIdentifiers.{spelled_are}
 use Rattle.semver_versions.proofs.KeptTexts.{all_kept, each_passes, identifiers_are_parts, kept_parts, kept_spelled_all}
 use Rattle.semver_versions.specs.Outlines.{identifier_of}
-use Rattle.text_prefixes.proofs.Completions.{Completes, Many, Seq, are_completions, both, bytes_go_on, byte, limited, many, optional, same, seq}
+use Rattle.semver_versions.specs.AnyLength.{IsVersionAtAnyLength}
+use Rattle.text_prefixes.proofs.Completions.{Completes, Many, Seq, are_among, are_completions, both, byte, bytes_go_on, is_one, limited}
+use Rattle.text_prefixes.proofs.Completions.{many, optional, same, seq}
 use Rattle.text_prefixes.specs.Prefixes.{AreCompletions, GoesOn}
 use Rattle.text_prefixes.proofs.Cores.{IsThree, three}
-use Rattle.text_prefixes.proofs.Leaves.{IsBuild, IsPartWith, IsPre, IsBelow, IsWhite, Passing, build, number, identifier, passing, pre, space_small, white}
+use Rattle.text_prefixes.proofs.Leaves.{IsBuild, IsPartWith, IsPre, IsBelow, IsWhite, Passing, build, number, identifier}
+use Rattle.text_prefixes.proofs.Leaves.{passing, pre, space_small, white}
 use Rattle.text_prefixes.specs.VersionCompletions.{byte_completions, version_completions}
+use Rattle.text_prefixes.specs.VersionPrefixes.{IsVersionOf}
+use Rattle.text_prefixes.specs.declared.bytes.Length.{Length}
+use Rattle.text_prefixes.specs.declared.bytes.Length.TheVariants.{Allowed, Any}
+use Rattle.std.specs.Prelude.{◌↔◌}
 
 -- the completions of the versions, which are all UTF-8
 pub record IsKnown (d : Grammar) : Type 0 where
   pub completions : AreCompletions (IsVersionTextIn d) version_completions
   pub utf8 : (t : Text) → IsVersionTextIn d t → IsUtf8 t
-  pub bytes : (t rest : Text) → IsVersionTextIn d (t ++ rest) → GoesOn (IsVersionTextIn d) byte_completions t
+  pub bytes : (len : Length) (t rest : Text) → IsVersionOf len d (t ++ rest) → GoesOn (IsVersionOf len d) byte_completions t
+
+-- of a dialect without a limit of the length
+unlimited : {least : Text} {es : List Text} (d : Grammar) → Completes (IsVersionTextIn d) least es
+    → ((len : Length) (t : Text) → IsVersionOf len d t ↔ IsVersionTextIn d t)
+    → are_among version_completions (least ∷ es) ≡ true → list_all (is_one byte_completions) (least ∷ es) ≡ true → IsKnown d
+unlimited {least} {es} d w each ascii all = record {
+  completions = are_completions w version_completions (search rules) ascii;
+  utf8 = w.utf8;
+  bytes = λ len. bytes_go_on (same w (IsVersionOf len d) (λ t. (each len t).1) (λ t. (each len t).0)) byte_completions all;
+}
 
 -- ---- identifiers, each of which passes
 
@@ -54,11 +72,13 @@ record IsSemverBelow (limit : ℕ) (t : Text) : Type 0 where
 in_decimals : (limit : ℕ) (P Q : Text → Type 0) (t : Text) (w : IsThree (IsBelow limit) P Q t)
     → t ≡ join_with_byte 46 (map decimal (w.a_is.0 ∷ w.b_is.0 ∷ w.c_is.0 ∷ [])) ++ (marked (45 ∷ []) w.pre ++ marked (43 ∷ []) w.build)
 in_decimals limit P Q t w =
-    w.whole ∙ (λ i. join_with_byte 46 (w.a_is.2 i ∷ w.b_is.2 i ∷ w.c_is.2 i ∷ []) ++ (marked (45 ∷ []) w.pre ++ marked (43 ∷ []) w.build))
+    w.whole
+    ∙ (λ i. join_with_byte 46 (w.a_is.2 i ∷ w.b_is.2 i ∷ w.c_is.2 i ∷ []) ++ (marked (45 ∷ []) w.pre ++ marked (43 ∷ []) w.build))
 
 semver_prefixes : (limit : ℕ) → 0 < limit → limit ≤ 2 ^ 64 → Completes (IsSemverBelow limit) (codes "0.0.0") (codes ".0.0" ∷ codes "0.0"
     ∷ codes ".0" ∷ codes "0" ∷ [] ∷ codes "a" ∷ codes "a" ∷ [] ∷ codes "a" ∷ codes "a" ∷ codes "a" ∷ [] ∷ codes "a" ∷ [])
-semver_prefixes limit some large = same (three (IsBelow limit) IsPre IsBuild (number limit some large) pre build) (IsSemverBelow limit) to from
+semver_prefixes limit some large = same (three (IsBelow limit) IsPre IsBuild (number limit some large) pre build) (IsSemverBelow limit)
+    to from
   where
     to : (t : Text) → IsThree (IsBelow limit) IsPre IsBuild t → IsSemverBelow limit t
     to t w =
@@ -104,7 +124,11 @@ cargo =
     let semver = semver_prefixes (2 ^ 64) (omega arith) (omega arith) in
     let all = same semver (IsVersionTextIn Cargo) (λ t w. (w.v, w.spells))
     (λ t w. record { v = w.0; spells = w.1; major = w.1.major; minor = w.1.minor; patch = w.1.patch }) in
-    record { completions = are_completions all version_completions (search rules) refl; utf8 = all.utf8; bytes = bytes_go_on all byte_completions refl }
+    unlimited Cargo all same_length refl refl
+  where
+    same_length : (len : Length) (t : Text) → IsVersionOf len Cargo t ↔ IsVersionTextIn Cargo t
+    same_length Allowed t = (λ w. w, λ w. w)
+    same_length Any t = (λ w. w, λ w. w)
 
 -- ---- npm's
 
@@ -118,50 +142,56 @@ whites_from t w = record { each = w.texts; are = are w.texts w.each; whole = w.w
     are [] all = refl
     are (t ∷ ts) all = and_from _ _ all.0 (are ts all.1)
 
+whites_to : (t : Text) → AreWhiteSpaces t → Many IsWhite t
+whites_to t w = record { texts = w.each; each = each_passes is_white_space w.each w.are; whole = w.whole }
+
 npm : IsKnown Npm
 npm =
     let semver = semver_prefixes (2 ^ 53) (omega arith) (omega arith) in
     let any_length = seq (many white) (seq (optional (byte 118 (omega arith))) (seq semver (many white))) in
-    let all = same (limited any_length 256 (omega arith)) (IsVersionTextIn Npm) to from in
-    record { completions = are_completions all version_completions (search rules) refl; utf8 = all.utf8; bytes = bytes_go_on all byte_completions refl }
+    let all = same any_length (IsVersionAtAnyLength Npm) to from in
+    let short = same (limited all 256 (omega arith)) (IsVersionTextIn Npm)
+    (λ t w. (w.0.0, (w.0.1, w.1))) (λ t w. ((w.0, w.1.0), w.1.1)) in
+    record {
+      completions = are_completions short version_completions (search rules) refl;
+      utf8 = short.utf8;
+      bytes = λ len. elim len
+          as (λ len. (t rest : Text) → IsVersionOf len Npm (t ++ rest) → GoesOn (IsVersionOf len Npm) byte_completions t) [
+            | Allowed ↦ bytes_go_on short byte_completions refl
+            | Any ↦ bytes_go_on all byte_completions refl
+          ];
+    }
   where
-    to : (t : Text) → NpmText t × (characters t ≤ 256) → IsVersionTextIn Npm t
-    to t (w, short) =
+    to : (t : Text) → NpmText t → IsVersionAtAnyLength Npm t
+    to t w =
         let sign = w.in_second in
         let semver = sign.in_second in (
           semver.in_first.v,
-          (
-            record {
-              before = w.first;
-              sign = sign.first;
-              core = semver.first;
-              after = semver.second;
-              spaces_before = whites_from w.first w.in_first;
-              is_sign = sign.in_first;
-              spells = semver.in_first.spells;
-              spaces_after = whites_from semver.second semver.in_second;
-              major = semver.in_first.major;
-              minor = semver.in_first.minor;
-              patch = semver.in_first.patch;
-              whole = w.whole ∙ ap (λ x. w.first ++ x) (sign.whole ∙ ap (λ x. sign.first ++ x) semver.whole);
-            },
-            short,
-          ),
+          record {
+            before = w.first;
+            sign = sign.first;
+            core = semver.first;
+            after = semver.second;
+            spaces_before = whites_from w.first w.in_first;
+            is_sign = sign.in_first;
+            spells = semver.in_first.spells;
+            spaces_after = whites_from semver.second semver.in_second;
+            major = semver.in_first.major;
+            minor = semver.in_first.minor;
+            patch = semver.in_first.patch;
+            whole = w.whole ∙ ap (λ x. w.first ++ x) (sign.whole ∙ ap (λ x. sign.first ++ x) semver.whole);
+          },
         )
 
-    from : (t : Text) → IsVersionTextIn Npm t → NpmText t × (characters t ≤ 256)
-    from t (v, (w, short)) = (
-      record {
-        first = w.before;
-        second = w.sign ++ (w.core ++ w.after);
-        in_first = record { texts = w.spaces_before.each; each = each_passes is_white_space w.spaces_before.each w.spaces_before.are; whole = w.spaces_before.whole };
-        in_second = both w.sign (w.core ++ w.after) w.is_sign (both w.core w.after
-            (record { v = v; spells = w.spells; major = w.major; minor = w.minor; patch = w.patch })
-            (record { texts = w.spaces_after.each; each = each_passes is_white_space w.spaces_after.each w.spaces_after.are; whole = w.spaces_after.whole }));
-        whole = w.whole;
-      },
-      short,
-    )
+    from : (t : Text) → IsVersionAtAnyLength Npm t → NpmText t
+    from t (v, w) = record {
+      first = w.before;
+      second = w.sign ++ (w.core ++ w.after);
+      in_first = whites_to w.before w.spaces_before;
+      in_second = both w.sign (w.core ++ w.after) w.is_sign (both w.core w.after
+          (record { v = v; spells = w.spells; major = w.major; minor = w.minor; patch = w.patch }) (whites_to w.after w.spaces_after));
+      whole = w.whole;
+    }
 
 -- ---- the crate's
 
@@ -171,10 +201,15 @@ CrateCore = IsThree (IsBelow (2 ^ 64)) IsIdentifierText IsIdentifierText
 crate : IsKnown Crate
 crate =
     let spaces = passing is_space space_small in
-    let numbered = three (IsBelow (2 ^ 64)) IsIdentifierText IsIdentifierText (number (2 ^ 64) (omega arith) (omega arith)) identifier identifier in
+    let numbered = three (IsBelow (2 ^ 64)) IsIdentifierText IsIdentifierText
+    (number (2 ^ 64) (omega arith) (omega arith)) identifier identifier in
     let all = same (seq spaces (seq numbered spaces)) (IsVersionTextIn Crate) to from in
-    record { completions = are_completions all version_completions (search rules) refl; utf8 = all.utf8; bytes = bytes_go_on all byte_completions refl }
+    unlimited Crate all same_length refl refl
   where
+    same_length : (len : Length) (t : Text) → IsVersionOf len Crate t ↔ IsVersionTextIn Crate t
+    same_length Allowed t = (λ w. w, λ w. w)
+    same_length Any t = (λ w. w, λ w. w)
+
     to : (t : Text) → Seq (Passing is_space) (Seq CrateCore (Passing is_space)) t → IsVersionTextIn Crate t
     to t w =
         let c = w.in_second.in_first in (
@@ -223,7 +258,8 @@ crate =
             c_is = (v.plain.patch, s.patch, refl);
             pre_each = spelled_are v.plain.pre s.pre.texts s.pre.each;
             build_each = spelled_are v.build s.build.texts s.build.each;
-            whole = s.spelled ∙ append_assoc _ s.pre_text s.build_text ∙ (λ i. join_with_byte 46 (map decimal (numbers v.plain)) ++ (s.pre.joined i ++ s.build.joined i));
+            whole = s.spelled ∙ append_assoc _ s.pre_text s.build_text
+                ∙ (λ i. join_with_byte 46 (map decimal (numbers v.plain)) ++ (s.pre.joined i ++ s.build.joined i));
           }) w.spaces_after;
           whole = w.whole ∙ append_assoc w.before w.core w.after;
         }

@@ -8,10 +8,9 @@ use Rattle.std.specs.Char.{is_ascii_digit}
 use Rattle.std.specs.Int.{is_in_range}
 use Rattle.std.specs.List.{list_all}
 use Rattle.semver_texts.specs.Texts.{Text, is_part_byte}
-use Rattle.semver_texts.specs.Versions.{VersionValue}
 use Rattle.semver_texts.specs.declared.grammar.Grammar.{Grammar}
-use Rattle.semver_texts.specs.declared.grammar.Grammar.TheVariants.{Crate, Cargo, Npm}
-use Rattle.text_prefixes.specs.VersionPrefixes.{IsPrefixIn, SpellsAtAnyLength}
+use Rattle.semver_versions.specs.AnyLength.{IsVersionAtAnyLength}
+use Rattle.text_prefixes.specs.VersionPrefixes.{IsPrefixIn}
 use Rattle.text_prefixes.specs.declared.reasons.Reason.{Reason}
 use Rattle.text_prefixes.specs.declared.reasons.Reason.TheVariants.{Empty, NotThreeNumbers}
 use Rattle.text_prefixes.specs.declared.reasons.Reason.TheVariants.{LeadingZero, EmptyIdentifier}
@@ -22,7 +21,7 @@ use Rattle.text_prefixes.specs.declared.reasons.Reason.TheVariants.{TooLong, Tex
 
 -- the prefix and these bytes are a version, whatever its length
 abbrev pub Completes : Grammar → Text → Text → Type 0
-Completes grammar prefix more = (v : VersionValue) × SpellsAtAnyLength grammar v (prefix ++ more)
+Completes grammar prefix more = IsVersionAtAnyLength grammar (prefix ++ more)
 
 -- some version begins so, but each is longer than the dialect allows
 abbrev pub IsTooLong : Grammar → Text → Type 0
@@ -95,9 +94,3 @@ pub record IsReason (grammar : Grammar) (prefix : Text) (next : Option ℕ) (rea
     pub takes_zero : IsTrue zero ↔ Completes grammar prefix (codes "0")
     pub is_too_long : IsTrue too_long ↔ IsTooLong grammar (prefix ++ byte_text next)
     pub is : reason ≡ reason_by version letter zero too_long prefix next
-
--- the dialects without a limit of the length
-abbrev pub IsUnlimited : Grammar → Type 0
-IsUnlimited Crate = Unit {0}
-IsUnlimited Cargo = Unit {0}
-IsUnlimited Npm = ⊥

@@ -2,11 +2,16 @@
 use Rattle.std.specs.Prelude.{◌<◌, ◌≤◌, ℕ, ◌++◌, length, take}
 use Rattle.std.specs.List.{AllByRecursion}
 use Rattle.semver_texts.specs.Texts.{Text}
-use Rattle.semver_texts.specs.ToolVersions.{IsVersionTextIn, SpellsNpmAtAnyLength, SpellsSemver}
-use Rattle.semver_texts.specs.VersionGrammar.{SpellsVersion}
-use Rattle.semver_texts.specs.Versions.{VersionValue}
+use Rattle.semver_texts.specs.ToolVersions.{IsVersionTextIn}
 use Rattle.semver_texts.specs.declared.grammar.Grammar.{Grammar}
-use Rattle.semver_texts.specs.declared.grammar.Grammar.TheVariants.{Crate, Cargo, Npm}
+use Rattle.semver_versions.specs.AnyLength.{IsVersionAtAnyLength}
+use Rattle.text_prefixes.specs.declared.bytes.Length.{Length}
+use Rattle.text_prefixes.specs.declared.bytes.Length.TheVariants.{Allowed, Any}
+
+-- the text is a version of a dialect, as long as the dialect allows or of any length
+abbrev pub IsVersionOf : Length → Grammar → Text → Type 0
+IsVersionOf Allowed grammar text = IsVersionTextIn grammar text
+IsVersionOf Any grammar text = IsVersionAtAnyLength grammar text
 
 -- some text after it makes a version
 abbrev pub IsPrefixIn : Grammar → Text → Type 0
@@ -22,9 +27,3 @@ pub record IsLongestVersionPrefix (grammar : Grammar) (text : Text) (offset : �
   pub within : offset ≤ length text
   pub prefix : IsWholePrefixIn grammar (take offset text)
   pub no_longer : (n : ℕ) → offset < n → n ≤ length text → ¬ (IsWholePrefixIn grammar (take n text))
-
--- the text spells the version in a dialect, whatever its length
-abbrev pub SpellsAtAnyLength : Grammar → VersionValue → Text → Type 0
-SpellsAtAnyLength Crate v text = SpellsVersion v text
-SpellsAtAnyLength Cargo v text = SpellsSemver v text
-SpellsAtAnyLength Npm v text = SpellsNpmAtAnyLength v text

@@ -6,6 +6,7 @@
 
 mod buffers;
 pub mod bytes;
+pub mod laws;
 pub mod longest;
 pub mod reasons;
 pub mod versions;

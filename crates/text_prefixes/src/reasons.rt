@@ -2,33 +2,52 @@
 ghost use Rattle.std.specs.Prelude.{◌≡◌, ◌<◌, ◌≤◌, ◌↔◌, ◌+◌, ◌++◌, ◌∷◌, []};
 ghost use Rattle.std.specs.Prelude.{IsTrue, MatchOption, length, take};
 ghost use Rattle.semver_texts.specs.ToolVersions.{IsVersionTextIn};
+ghost use Rattle.semver_versions.specs.AnyLength.{IsVersionAtAnyLength};
 ghost use Rattle.text_prefixes.specs.VersionPrefixes.{IsLongestVersionPrefix};
-ghost use Rattle.text_prefixes.specs.Reasons.{IsReason, IsUnlimited, byte_at, from_end, has_no_digit};
-ghost use Rattle.text_prefixes.specs.Reasons.{is_ascii_white, is_blank, is_separator, reason_by};
+ghost use Rattle.text_prefixes.specs.Reasons.{IsReason, IsTooLong, byte_at, byte_text, from_end};
+ghost use Rattle.text_prefixes.specs.Reasons.{has_no_digit, is_ascii_white, is_blank};
+ghost use Rattle.text_prefixes.specs.Reasons.{is_separator, reason_by};
 
 use crate::buffers::write;
+use crate::bytes::{Length, begins, is_version};
 use crate::versions::offset;
 use semver_texts::bytes::is_part_byte;
 use semver_texts::grammar::Grammar;
-use semver_versions::version::outline_in;
+
+/// A version of npm has at most so many characters; the other dialects have no limit.
+const CHARACTERS: usize = 256;
 
 /// Why a text is no version.
 #[derive(Clone, Copy, PartialEq, Eq)]
 pub enum Reason {
+    /// The text is empty, or only white space that the dialect takes before a version.
     Empty,
+    /// One of the three numbers is missing: `1.2`, `1..3`, `1.2-rc`.
     NotThreeNumbers,
+    /// A number, or a pre-release identifier of digits only, has a leading zero: `01.2.3`,
+    /// `1.2.3-01`.
     LeadingZero,
+    /// An identifier is empty: `1.2.3-`, `1.2.3-a..b`. In the crate's dialect also what is before
+    /// or after a hyphen: `1.2.3--a`.
     EmptyIdentifier,
+    /// No version has this character there: `1.x`, `vv1.2.3`.
     UnexpectedCharacter,
+    /// A number is too large.
     TooLarge,
+    /// Each version that begins so is longer than npm's 256 characters.
     TooLong,
+    /// Text follows a version and white space: `1.2.3 x`. In Cargo's dialect also the white space
+    /// itself, and in the crate's a vertical tab or a form feed.
     TextAfter,
 }
 
 /// Where and why a text is no version.
 #[derive(Clone, Copy)]
 pub struct Refusal {
+    /// The byte offset of the first character that no version has there, or the length of the text
+    /// if something is missing at its end.
     pub offset: usize,
+    /// Why.
     pub reason: Reason,
 }
 
@@ -125,25 +144,30 @@ fn reason_by(
     }
 }
 
-/// Whether the bytes are a version.
-pub(crate) fn is_version(bytes: &[u8], grammar: Grammar) -> bool
-    ensures { IsTrue result ↔ IsVersionTextIn grammar bytes.now }
-{
-    outline_in(bytes, grammar).is_some()
-}
-
-/// Whether the prefix and one more byte are a version.
+/// Whether the prefix and one more byte are a version of any length.
 fn takes(prefix: &[u8], byte: u8, grammar: Grammar, buffer: &mut [u8]) -> bool
     requires { length prefix.now < length buffer.old }
-    ensures { IsTrue result ↔ IsVersionTextIn grammar (prefix.now ++ byte ∷ []) }
+    ensures { IsTrue result ↔ IsVersionAtAnyLength grammar (prefix.now ++ byte ∷ []) }
 {
     let end = prefix.len();
     write(buffer, 0, prefix);
     write(buffer, end, &[byte]);
-    is_version(&buffer[..end + 1], grammar)
+    is_version(&buffer[..end + 1], Length::Any, grammar)
 }
 
-/// The byte at a offset, if there is one.
+/// Whether some version begins with the bytes, but each is longer than the dialect allows. For
+/// speed, of a short text the answer is known.
+fn is_too_long(text: &[u8], grammar: Grammar, buffer: &mut [u8]) -> bool
+    requires { length text.now + 8 ≤ length buffer.old }
+    ensures { IsTrue result ↔ IsTooLong grammar text.now }
+{
+    if text.len() + 8 <= CHARACTERS {
+        return false;
+    }
+    begins(text, Length::Any, grammar, buffer) && !begins(text, Length::Allowed, grammar, buffer)
+}
+
+/// The byte at an offset, if there is one.
 fn byte_at(input: &[u8], offset: usize) -> Option<u8>
     ensures { result ≡ byte_at input.now offset }
 {
@@ -154,10 +178,33 @@ fn byte_at(input: &[u8], offset: usize) -> Option<u8>
     }
 }
 
-/// Where and why a text is no version, or none if it is one.
+/// The bytes up to an offset, and the one at it, if there is one.
+fn with_next(input: &[u8], offset: usize) -> &[u8]
+    requires { offset ≤ length input.now }
+    ensures within { length result.now ≤ length input.now }
+    ensures bytes { result.now ≡ take offset input.now ++ byte_text (byte_at input.now offset) }
+{
+    if offset < input.len() {
+        &input[..offset + 1]
+    } else {
+        input
+    }
+}
+
+// Answer: law text_prefixes::laws::one_refused.
+/// Returns where and why a text is not a version, or `None` if it is one.
+///
+/// The buffer must have at least 8 bytes more than the text; what it holds then is not specified.
+/// It does not allocate.
+///
+/// ```text
+/// refused(b"1.2.03", Grammar::Cargo, buffer)    // at 5: LeadingZero
+/// refused(b"1.2", Grammar::Npm, buffer)         // at 3: NotThreeNumbers
+/// refused(b"1.2.3 x", Grammar::Npm, buffer)     // at 6: TextAfter
+/// refused(b" v1.2.3", Grammar::Npm, buffer)     // None
+/// ```
 pub fn refused(input: &[u8], grammar: Grammar, buffer: &mut [u8]) -> Option<Refusal>
-    requires unlimited { IsUnlimited grammar }
-    requires room { length input.now + 8 ≤ length buffer.old }
+    requires { length input.now + 8 ≤ length buffer.old }
     ensures version { MatchOption result (IsVersionTextIn grammar input.now)
         (λ r. ¬ (IsVersionTextIn grammar input.now)) }
     ensures offset { MatchOption result (Unit {0})
@@ -165,14 +212,31 @@ pub fn refused(input: &[u8], grammar: Grammar, buffer: &mut [u8]) -> Option<Refu
     ensures reason { MatchOption result (Unit {0})
         (λ r. IsReason grammar (take r.offset input.now) (byte_at input.now r.offset) r.reason) }
 {
-    if is_version(input, grammar) {
+    if is_version(input, Length::Allowed, grammar) {
         return None;
     }
     let offset = offset(input, grammar, buffer);
+    let reason = reason_at(input, offset, grammar, buffer);
+    Some(Refusal { offset, reason })
+}
+
+/// The reason at an offset, up to which some version begins with the text.
+fn reason_at(input: &[u8], offset: usize, grammar: Grammar, buffer: &mut [u8]) -> Reason
+    requires within { offset ≤ length input.now }
+    requires room { length input.now + 8 ≤ length buffer.old }
+    ensures { IsReason grammar (take offset input.now) (byte_at input.now offset) result }
+{
     let prefix = &input[..offset];
-    let version = is_version(prefix, grammar);
+    let version = is_version(prefix, Length::Any, grammar);
     let letter = takes(prefix, b'a', grammar, buffer);
     let zero = takes(prefix, b'0', grammar, buffer);
-    let reason = reason_by(version, letter, zero, false, prefix, byte_at(input, offset));
-    Some(Refusal { offset, reason })
+    let too_long = is_too_long(with_next(input, offset), grammar, buffer);
+    reason_by(
+        version,
+        letter,
+        zero,
+        too_long,
+        prefix,
+        byte_at(input, offset),
+    )
 }

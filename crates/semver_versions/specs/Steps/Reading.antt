@@ -8,7 +8,8 @@ use Rattle.std.specs.Prelude.{decimal, Option, Some, None}
 use Rattle.std.specs.List.{AllByRecursion, AllZip, concat, join_with_byte, list_all}
 use Rattle.semver_texts.specs.Texts.{Text, cut_at_dots, has_no_leading_zero, is_part, is_space}
 use Rattle.semver_texts.specs.Texts.{marked}
-use Rattle.semver_texts.specs.ToolVersions.{IsKeptAs, IsVersionTextIn, is_white_space}
+use Rattle.semver_texts.specs.ToolVersions.{IsKeptAs, IsVersionTextIn, before_numbers}
+use Rattle.semver_texts.specs.ToolVersions.{is_white_space}
 use Rattle.semver_texts.specs.VersionGrammar.{IsIdentifierText}
 use Rattle.semver_texts.specs.Versions.{VersionValue, numbers}
 use Rattle.semver_texts.specs.declared.grammar.Grammar.{Grammar}
@@ -137,6 +138,15 @@ abbrev pub IsOutlinedAt : Grammar → ℕ → Text → Option OutlineValue → T
 IsOutlinedAt grammar before text None = (v : VersionValue) → ¬ (IsRead grammar v text)
 IsOutlinedAt grammar before text (Some o) =
     (v : VersionValue) × IsRead grammar v text × (o ≡ outline_after before v)
+
+-- the outline of a version that is read so after what is before it, whatever the length of the
+-- text, or none where there is none
+abbrev pub IsOutlinedFrom : Grammar → Text → Option OutlineValue → Type 0
+IsOutlinedFrom grammar text None =
+    (v : VersionValue) (rest : Text) → IsBefore grammar text rest → ¬ (IsRead grammar v rest)
+IsOutlinedFrom grammar text (Some o) = (v : VersionValue) × (rest : Text)
+    × IsBefore grammar text rest × IsRead grammar v rest
+    × (o ≡ outline_after (before_numbers text) v)
 
 -- the outline of a version that the text spells, or none where it spells none
 abbrev pub IsOutlinedBy : Grammar → Text → Option OutlineValue → Type 0

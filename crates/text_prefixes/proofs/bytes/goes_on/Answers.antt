@@ -1,13 +1,13 @@
 use Rattle.std.proofs.Common.{◌∙◌, arith, refl, rules, subst, sym}
-use Rattle.semver_texts.specs.ToolVersions.{IsVersionTextIn}
 use Rattle.text_prefixes.specs.VersionCompletions.{byte_completions}
+use Rattle.text_prefixes.specs.VersionPrefixes.{IsVersionOf}
 use Rattle.text_prefixes.proofs.Completing.{none_left, none_more, room_at}
 use Rattle.text_prefixes.proofs.VersionPrefixes.{known}
 use Rattle.text_prefixes.proofs.bytes.goes_on.Goals as goal
 
 pub write-requires-in-loop-completion : goal.write-requires-in-loop-completion
 write-requires-in-loop-completion c =
-    room_at (IsVersionTextIn c.args.grammar) byte_completions c.args.prefix.now c.args.completions.now (λ r. r.now)
+    room_at (IsVersionOf c.args.len c.args.grammar) byte_completions c.args.prefix.now c.args.completions.now (λ r. r.now)
     c.requires.completions (search rules) c.loop-completion.completion-index _ c.loop-completion-test.true _ (omega arith)
 
 pub loop-completion-preserved : goal.loop-completion-preserved
@@ -15,21 +15,21 @@ loop-completion-preserved c =
     let text = rw c.loop-completion.invariant.begins at c.write-in-loop-completion.ensures.written in
     record {
       begins = c.write-in-loop-completion.ensures.before ∙ c.loop-completion.invariant.begins;
-      none = none_more (IsVersionTextIn c.args.grammar) byte_completions c.args.prefix.now c.args.completions.now (λ r. r.now)
+      none = none_more (IsVersionOf c.args.len c.args.grammar) byte_completions c.args.prefix.now c.args.completions.now (λ r. r.now)
           c.requires.completions c.loop-completion.completion-index _ c.loop-completion-test.true
-          (λ is. let h = c.is_version.ensures.1 (subst (IsVersionTextIn c.args.grammar) (sym text) is) in cc)
+          (λ is. let h = c.is_version.ensures.1 (subst (IsVersionOf c.args.len c.args.grammar) (sym text) is) in cc)
           c.loop-completion.invariant.none;
     }
 
 pub returns-then-is_version : goal.returns-then-is_version
 returns-then-is_version c =
     let text = rw c.loop-completion.invariant.begins at c.write-in-loop-completion.ensures.written in
-    (λ yes. (_, subst (IsVersionTextIn c.args.grammar) text (c.is_version.ensures.0 c.if-is_version.true)), λ prefix. refl)
+    (λ yes. (_, subst (IsVersionOf c.args.len c.args.grammar) text (c.is_version.ensures.0 c.if-is_version.true)), λ prefix. refl)
 
 pub returns : goal.returns
 returns c = (
   λ h. cc,
-  λ prefix. absurd (none_left (IsVersionTextIn c.args.grammar) byte_completions c.args.prefix.now c.args.completions.now (λ r. r.now)
+  λ prefix. absurd (none_left (IsVersionOf c.args.len c.args.grammar) byte_completions c.args.prefix.now c.args.completions.now (λ r. r.now)
       c.requires.completions c.loop-completion.completion-index c.loop-completion-test.false c.loop-completion.invariant.none
-      ((known c.args.grammar).bytes c.args.prefix.now prefix.0 prefix.1)),
+      ((known c.args.grammar).bytes c.args.len c.args.prefix.now prefix.0 prefix.1)),
 )

@@ -1,6 +1,6 @@
 use Rattle.std.proofs.Common.{◌≡◌, length, take}
-use Rattle.semver_texts.specs.ToolVersions.{IsVersionTextIn}
 use Rattle.text_prefixes.specs.VersionCompletions.{byte_completions}
+use Rattle.text_prefixes.specs.VersionPrefixes.{IsVersionOf}
 use Rattle.text_prefixes.proofs.Completing.{NoneYet}
 use Rattle.text_prefixes.proofs.bytes.goes_on.Given as goal
 
@@ -8,5 +8,5 @@ use Rattle.text_prefixes.proofs.bytes.goes_on.Given as goal
 abbrev pub invariant-loop-completion : goal.invariant-loop-completion
 invariant-loop-completion l = record {
   begins : take (length l.fn.prefix) l.buffer ≡ l.fn.prefix;
-  none : NoneYet (IsVersionTextIn l.fn.grammar) byte_completions l.fn.prefix l.completion-index;
+  none : NoneYet (IsVersionOf l.fn.len l.fn.grammar) byte_completions l.fn.prefix l.completion-index;
 }

@@ -1,0 +1,51 @@
+//! Laws over the definitions: each is the contract of a function that does nothing, or that makes a
+//! call twice.
+ghost use Rattle.std.specs.Prelude.{◌≡◌, ◌≤◌, ◌+◌, ◌++◌, ℕ, [], Option, length};
+ghost use Rattle.semver_texts.specs.Texts.{Text};
+ghost use Rattle.semver_texts.specs.ToolVersions.{IsVersionTextIn};
+ghost use Rattle.semver_texts.specs.declared.grammar.Grammar.{Grammar};
+ghost use Rattle.text_prefixes.specs.VersionPrefixes.{IsLongestVersionPrefix, IsPrefixIn};
+ghost use Rattle.text_prefixes.specs.VersionPrefixes.{IsWholePrefixIn};
+ghost use Rattle.text_prefixes.specs.Reasons.{IsReason};
+ghost use Rattle.text_prefixes.specs.declared.reasons.Reason.{Reason};
+
+use crate::reasons::{Refusal, refused};
+use semver_texts::grammar::Grammar;
+
+/// What begins a prefix is one, so is nothing, and so is each version.
+pub fn prefixes_begin_prefixes()
+    ensures shorter { (grammar : Grammar) (text more : Text) → IsPrefixIn grammar (text ++ more)
+        → IsPrefixIn grammar text }
+    ensures empty { (grammar : Grammar) → IsWholePrefixIn grammar [] }
+    ensures whole { (grammar : Grammar) (text : Text) → IsVersionTextIn grammar text
+        → IsWholePrefixIn grammar text }
+{}
+
+/// A text has one longest prefix.
+pub fn one_longest_prefix()
+    ensures same_offset { (grammar : Grammar) (text : Text) (m n : ℕ)
+        → IsLongestVersionPrefix grammar text m → IsLongestVersionPrefix grammar text n → m ≡ n }
+{}
+
+/// A prefix and what follows it have one reason.
+pub fn one_reason()
+    ensures same_reason { (grammar : Grammar) (prefix : Text) (next : Option ℕ) (x y : Reason)
+        → IsReason grammar prefix next x → IsReason grammar prefix next y → x ≡ y }
+{}
+
+/// `refused` has one answer, whatever the buffer holds.
+pub fn one_refused(
+    input: &[u8],
+    grammar: Grammar,
+    buffer: &mut [u8],
+    other: &mut [u8],
+) -> (Option<Refusal>, Option<Refusal>)
+    requires room { length input.now + 8 ≤ length buffer.old }
+    requires other_room { length input.now + 8 ≤ length other.old }
+    ensures one { result.0 ≡ result.1 }
+{
+    (
+        refused(input, grammar, buffer),
+        refused(input, grammar, other),
+    )
+}
