@@ -1,5 +1,6 @@
 //! Whether some version begins with bytes, which may end within a character.
-ghost use Rattle.std.specs.Prelude.{◌≡◌, ◌≤◌, ◌+◌, ◌++◌, ◌↔◌, IsTrue, length, map};
+ghost use Rattle.std.specs.Prelude.{◌≡◌, ◌≤◌, ◌+◌, ◌-◌, ◌++◌, ◌↔◌, IsTrue, length, map};
+ghost use Rattle.std.specs.Prelude.{take};
 ghost use Rattle.semver_texts.specs.Texts.{Text};
 ghost use Rattle.text_prefixes.specs.VersionCompletions.{byte_completions};
 ghost use Rattle.text_prefixes.specs.VersionPrefixes.{IsPrefixIn, IsVersionOf};
@@ -44,16 +45,22 @@ pub(crate) enum Length {
     Any,
 }
 
-/// Returns whether some version begins with the bytes, which may end within a character: `1.2.`
-/// and byte 0xC2 alone begin versions of npm, and `1.x` begins none.
+/// Returns whether some version begins with these bytes but for the last 8, which are room for
+/// completions. The prefix may end within a character: `1.2.` and byte 0xC2 alone begin versions of
+/// npm, and `1.x` begins none.
 ///
-/// The buffer must have at least 8 bytes more than the prefix; what it holds then is not
-/// specified. It does not allocate.
-pub fn is_prefix(prefix: &[u8], grammar: Grammar, buffer: &mut [u8]) -> bool
-    requires { length prefix.now + 8 ≤ length buffer.old }
-    ensures { IsTrue result ↔ IsPrefixIn grammar prefix.now }
+/// All bytes are afterwards as they were. It does not allocate.
+pub fn is_prefix(bytes: &mut [u8], grammar: Grammar) -> bool
+    requires { 8 ≤ length bytes.old }
+    ensures found { IsTrue result ↔ IsPrefixIn grammar (take (length bytes.old - 8) bytes.old) }
+    ensures same { bytes.new ≡ bytes.old }
 {
-    begins(prefix, Length::Allowed, grammar, buffer)
+    let end = bytes.len() - 8;
+    let mut saved = [0; 8];
+    saved.copy_from_slice(&bytes[end..]);
+    let found = goes_on(bytes, end, &COMPLETIONS, Length::Allowed, grammar);
+    bytes[end..].copy_from_slice(&saved);
+    found
 }
 
 /// Whether some version of such a length begins with the bytes.
@@ -61,23 +68,24 @@ pub(crate) fn begins(prefix: &[u8], len: Length, grammar: Grammar, buffer: &mut 
     requires { length prefix.now + 8 ≤ length buffer.old }
     ensures { IsTrue result ↔ (more : Text) × IsVersionOf len grammar (prefix.now ++ more) }
 {
-    goes_on(prefix, &COMPLETIONS, len, grammar, buffer)
+    write(buffer, 0, prefix);
+    goes_on(buffer, prefix.len(), &COMPLETIONS, len, grammar)
 }
 
-/// Whether the bytes with one of the completions are a version of such a length.
+/// Whether the bytes up to an offset and one of the completions are a version of such a length.
 fn goes_on(
-    prefix: &[u8],
+    buffer: &mut [u8],
+    end: usize,
     completions: &[&[u8]],
     len: Length,
     grammar: Grammar,
-    buffer: &mut [u8],
 ) -> bool
     requires completions { map (λ completion. completion.now) completions.now ≡ byte_completions }
-    requires room { length prefix.now + 8 ≤ length buffer.old }
-    ensures { IsTrue result ↔ (more : Text) × IsVersionOf len grammar (prefix.now ++ more) }
+    requires room { end + 8 ≤ length buffer.old }
+    ensures found { IsTrue result
+        ↔ (more : Text) × IsVersionOf len grammar (take end buffer.old ++ more) }
+    ensures prefix { take end buffer.new ≡ take end buffer.old }
 {
-    let end = prefix.len();
-    write(buffer, 0, prefix);
     for completion in completions {
         write(buffer, end, completion);
         if is_version(&buffer[..end + completion.len()], len, grammar) {

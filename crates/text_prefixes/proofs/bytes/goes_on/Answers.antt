@@ -1,35 +1,39 @@
-use Rattle.std.proofs.Common.{◌∙◌, arith, refl, rules, subst, sym}
+use Rattle.std.proofs.Common.{◌∙◌, arith, refl, rules, subst, sym, take}
 use Rattle.text_prefixes.specs.VersionCompletions.{byte_completions}
 use Rattle.text_prefixes.specs.VersionPrefixes.{IsVersionOf}
 use Rattle.text_prefixes.proofs.Completing.{none_left, none_more, room_at}
 use Rattle.text_prefixes.proofs.VersionPrefixes.{known}
 use Rattle.text_prefixes.proofs.bytes.goes_on.Goals as goal
 
-pub write-requires-in-loop-completion : goal.write-requires-in-loop-completion
-write-requires-in-loop-completion c =
-    room_at (IsVersionOf c.args.len c.args.grammar) byte_completions c.args.prefix.now c.args.completions.now (λ r. r.now)
-    c.requires.completions (search rules) c.loop-completion.completion-index _ c.loop-completion-test.true _ (omega arith)
+pub write-requires : goal.write-requires
+write-requires c =
+    room_at byte_completions c.args.completions.now (λ r. r.now) c.requires.completions (search rules)
+    c.loop-completion.completion-index _ c.loop-completion-test.true c.args.end _ (omega arith)
 
 pub loop-completion-preserved : goal.loop-completion-preserved
 loop-completion-preserved c =
-    let text = rw c.loop-completion.invariant.begins at c.write-in-loop-completion.ensures.written in
+    let text = rw c.loop-completion.invariant.begins at c.write.ensures.written in
     record {
-      begins = c.write-in-loop-completion.ensures.before ∙ c.loop-completion.invariant.begins;
-      none = none_more (IsVersionOf c.args.len c.args.grammar) byte_completions c.args.prefix.now c.args.completions.now (λ r. r.now)
-          c.requires.completions c.loop-completion.completion-index _ c.loop-completion-test.true
+      begins = c.write.ensures.before ∙ c.loop-completion.invariant.begins;
+      none = none_more (IsVersionOf c.args.len c.args.grammar) byte_completions (take c.args.end c.args.buffer.now) c.args.completions.now
+          (λ r. r.now) c.requires.completions c.loop-completion.completion-index _ c.loop-completion-test.true
           (λ is. let h = c.is_version.ensures.1 (subst (IsVersionOf c.args.len c.args.grammar) (sym text) is) in cc)
           c.loop-completion.invariant.none;
     }
 
 pub returns-then-is_version : goal.returns-then-is_version
 returns-then-is_version c =
-    let text = rw c.loop-completion.invariant.begins at c.write-in-loop-completion.ensures.written in
-    (λ yes. (_, subst (IsVersionOf c.args.len c.args.grammar) text (c.is_version.ensures.0 c.if-is_version.true)), λ prefix. refl)
+    let text = rw c.loop-completion.invariant.begins at c.write.ensures.written in
+    record {
+      found = (λ yes. (_, subst (IsVersionOf c.args.len c.args.grammar) text (c.is_version.ensures.0 c.if-is_version.true)), λ goes. refl);
+      prefix = c.write.ensures.before ∙ c.loop-completion.invariant.begins;
+    }
 
-pub returns : goal.returns
-returns c = (
-  λ h. cc,
-  λ prefix. absurd (none_left (IsVersionOf c.args.len c.args.grammar) byte_completions c.args.prefix.now c.args.completions.now (λ r. r.now)
-      c.requires.completions c.loop-completion.completion-index c.loop-completion-test.false c.loop-completion.invariant.none
-      ((known c.args.grammar).bytes c.args.len c.args.prefix.now prefix.0 prefix.1)),
-)
+pub returns-clause-found : goal.returns-clause-found
+returns-clause-found c =
+    let prefix = take c.args.end c.args.buffer.now in (
+      λ h. cc,
+      λ goes. absurd (none_left (IsVersionOf c.args.len c.args.grammar) byte_completions prefix c.args.completions.now (λ r. r.now)
+          c.requires.completions c.loop-completion.completion-index c.loop-completion-test.false c.loop-completion.invariant.none
+          ((known c.args.grammar).bytes c.args.len prefix goes.0 goes.1)),
+    )

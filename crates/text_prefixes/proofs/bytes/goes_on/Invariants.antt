@@ -1,12 +1,12 @@
-use Rattle.std.proofs.Common.{◌≡◌, length, take}
+use Rattle.std.proofs.Common.{◌≡◌, take}
 use Rattle.text_prefixes.specs.VersionCompletions.{byte_completions}
 use Rattle.text_prefixes.specs.VersionPrefixes.{IsVersionOf}
 use Rattle.text_prefixes.proofs.Completing.{NoneYet}
 use Rattle.text_prefixes.proofs.bytes.goes_on.Given as goal
 
--- the buffer begins with the prefix, and no completion so far makes a version
+-- the prefix is as it was, and no completion so far makes a version
 abbrev pub invariant-loop-completion : goal.invariant-loop-completion
 invariant-loop-completion l = record {
-  begins : take (length l.fn.prefix) l.buffer ≡ l.fn.prefix;
-  none : NoneYet (IsVersionOf l.fn.len l.fn.grammar) byte_completions l.fn.prefix l.completion-index;
+  begins : take l.fn.end l.buffer ≡ take l.fn.end l.fn.buffer;
+  none : NoneYet (IsVersionOf l.fn.len l.fn.grammar) byte_completions (take l.fn.end l.fn.buffer) l.completion-index;
 }

@@ -7,9 +7,9 @@ use Rattle.text_prefixes.proofs.longest.is_prefix.Goals as goal
 pub write-requires-in-loop-completion : goal.write-requires-in-loop-completion
 write-requires-in-loop-completion g c =
     let l = g.L.Language in
-    rw c.as_bytes-in-loop-completion.ensures.value (room_at (l.is_text c.args.language.now) (l.completions c.args.language.now)
-    c.args.prefix.now c.all_completions-completion-items.result.now (λ r. r.now) c.all_completions-completion-items.ensures
-    c.requires.short c.loop-completion.completion-index _ c.loop-completion-test.true _ (omega arith))
+    rw c.as_bytes-in-loop-completion.ensures.value (room_at (l.completions c.args.language.now)
+    c.all_completions-completion-items.result.now (λ r. r.now) c.all_completions-completion-items.ensures
+    c.requires.short c.loop-completion.completion-index _ c.loop-completion-test.true _ _ (omega arith))
 
 pub is_text-requires : goal.is_text-requires
 is_text-requires g c =
