@@ -156,7 +156,10 @@ def _index(text: Text, place: int) -> int:
 def _explained(error: VersionError, dialect: int) -> VersionError:
     """The error, with where and why its text is no version in the dialect of a number."""
     text_bytes, place = encoded(error.text), ctypes.c_size_t()
-    answer = LIBRARY.semver_parser_explain_version(text_bytes, len(text_bytes), dialect, place)
+    buffer = ctypes.create_string_buffer(len(text_bytes) + 8)
+    answer = LIBRARY.semver_parser_explain_version(
+        text_bytes, len(text_bytes), dialect, buffer, len(buffer), place
+    )
     error.reason, error.place = _REASONS.get(answer), _index(error.text, place.value)
     return error
 

@@ -135,7 +135,7 @@ def _declare(library: ctypes.CDLL, path: str) -> None:
     made = [ctypes.POINTER(Switch), size, counted, *out]
     calls = {
         "parse_version": [*text, number, ctypes.POINTER(ReadVersion)],
-        "explain_version": [*text, number, counted],
+        "explain_version": [*text, number, *out],
         "explain_range": [*text, number, counted, ctypes.POINTER(number)],
         "comparators": [*text, number, flag, *rooms],
         "meets": [*text, number, number, *text, ctypes.POINTER(flag)],

@@ -75,7 +75,18 @@ int32_t read_version(const text *of, int32_t dialect, semver_parser_version *out
 static int32_t explain_version_at(
     const uint8_t *bytes, const text *of, int32_t dialect, size_t *place) {
     *place = SIZE_MAX;
-    int32_t answer = semver_parser_explain_version(bytes, of->length, dialect, place);
+    size_t room = of->length + 8;
+    uint8_t *buffer = (uint8_t *)block(room);
+    memset(buffer, FILL, room);
+    int32_t answer =
+        semver_parser_explain_version(bytes, of->length, dialect, buffer, room - 1, place);
+    if (answer == SEMVER_PARSER_NO_ROOM) {
+        require(*place == SIZE_MAX && is_filled(buffer, FILL, room), "a buffer at an error", of);
+        answer = semver_parser_explain_version(bytes, of->length, dialect, buffer, room, place);
+    } else {
+        require(is_filled(buffer, FILL, room), "a buffer that isn't needed", of);
+    }
+    free(buffer);
     if (answer == SEMVER_PARSER_OK || answer == SEMVER_PARSER_NO_SUCH_DIALECT) {
         require(*place == SIZE_MAX, "a place where none is", of);
     } else {

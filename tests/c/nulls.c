@@ -35,8 +35,9 @@ static int32_t read_text(void) {
 }
 
 static int32_t explain_text(void) {
+    uint8_t buffer[13];
     size_t place;
-    return semver_parser_explain_version(NULL, 5, dialect, &place);
+    return semver_parser_explain_version(NULL, 5, dialect, buffer, sizeof buffer, &place);
 }
 
 static int32_t explain_range_text(void) {

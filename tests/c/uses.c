@@ -109,9 +109,11 @@ static int use_least(void) {
 }
 
 static int use_explaining(void) {
+    uint8_t buffer[14];
     size_t place = 0;
     int32_t hint = 0;
-    if (semver_parser_explain_version(bytes_of("1.2.03"), 6, SEMVER_PARSER_CARGO, &place)
+    if (semver_parser_explain_version(
+            bytes_of("1.2.03"), 6, SEMVER_PARSER_CARGO, buffer, sizeof buffer, &place)
             != SEMVER_PARSER_VERSION_LEADING_ZERO
         || place != 5) {
         return 1;

@@ -12,6 +12,7 @@ mod NotedLines
 mod Sorting
 mod TakenPieces
 mod SkippedFronts
+mod Rooms
 mod Looks
 mod SkippedLines
 mod Endings

@@ -1,10 +1,10 @@
 -- The sizes at which it is looked whether a line is skipped, and what the looks before a size say.
 use Rattle.std.proofs.Common.{◌≡◌, ◌∙◌, ◌++◌, ◌<◌, ◌≤◌, ◌+◌, ◌*◌, ◌^◌, List, ◌⊎◌, ℕ, Bool, ap, sym, subst, inl, inr, arith, rules}
-use Rattle.std.proofs.Common.{drop, length, take}
+use Rattle.std.proofs.Common.{drop, length, length-take, take}
 use Rattle.std.proofs.Math.Nat.{pow-le-pow_right}
 use Rattle.std.proofs.lemmas.Bool.{cases_lt}
 use Rattle.std.proofs.lemmas.Grind.{pow_more}
-use Rattle.std.proofs.lemmas.List.{take-append-drop, take-append-le}
+use Rattle.std.proofs.lemmas.List.{take-append-drop, take-append-le, take-take}
 use Rattle.semver_parser.specs.Texts.{Text}
 use Rattle.semver_parser.specs.declared.version.Grammar.{Grammar}
 use Rattle.release_filter.specs.Skipping.{IsLeft, IsLookedAt, MayHaveVersion, MayUpTo, ShowsNone}
@@ -55,6 +55,17 @@ module _ (grammar : Grammar) (prefixes : List Text) (at_front : Bool) where
       by_order : (size < n) ⊎ (n ≤ size) → May (take size line)
       by_order (inl below) = may size looked below
       by_order (inr after) = by_next (cases_lt n size) after
+
+  -- a look that shows it
+  pub shows_at : (line : Text) (n : ℕ) → n ≤ length line → IsLookedAt n → Upto line n → ¬ (May (take n line))
+      → ShowsNone grammar prefixes at_front (take n line)
+  shows_at line n within at may none =
+      let long : n ≡ length (take n line) = omega (arith, length-take n line) in record {
+        looked_at = subst IsLookedAt long at;
+        none = none;
+        fewest = λ size looked less.
+            subst May (sym (take-take size n line (omega (arith, long, less)))) (may size looked (omega (arith, long, less)));
+      }
 
   -- the bytes that show that the line has no version are left
   pub left_front : (line seen left : Text) (size : ℕ) → seen ≡ line → left ≡ take size seen

@@ -5,7 +5,7 @@ use Rattle.std.specs.Prelude.{is_some}
 use Rattle.std.proofs.lemmas.List.{append_cancel_left}
 use Rattle.semver_parser.specs.Texts.{Text}
 use Rattle.semver_parser.specs.declared.version.Grammar.{Grammar}
-use Rattle.version_fronts.specs.Fronts.{IsFrontIn}
+use Rattle.text_prefixes.specs.VersionPrefixes.{IsPrefixIn}
 use Rattle.release_filter.specs.Skipping.{BeginsAfter}
 use Rattle.std.proofs.lemmas.Grind.{common_steps}
 
@@ -14,7 +14,7 @@ not_longer front text next more e =
     absurd (omega (arith, ap length e, length-append (front ++ next ∷ more) text, length-append front (next ∷ more)))
 
 -- a text that is the prefix and more
-pub begins_some : (grammar : Grammar) (prefix front text : Text) (b : Bool) → front ≡ prefix ++ text → (IsTrue b ↔ IsFrontIn grammar text)
+pub begins_some : (grammar : Grammar) (prefix front text : Text) (b : Bool) → front ≡ prefix ++ text → (IsTrue b ↔ IsPrefixIn grammar text)
     → (IsTrue b ↔ BeginsAfter grammar prefix front)
 begins_some grammar prefix front text b is both = grind (arith, append_cancel_left, not_longer)
 

@@ -1,11 +1,11 @@
 -- Lines that are skipped: none has a version, and what is counted of one shows in its first bytes.
-use Rattle.std.proofs.Common.{◌≡◌, ◌∙◌, ◌++◌, ◌∷◌, ◌<◌, ◌≤◌, ◌+◌, ◌-◌, [], List, ◌⊎◌, ℕ, Bool, true, false, refl, rules}
+use Rattle.std.proofs.Common.{◌≡◌, ◌∙◌, ◌++◌, ◌∷◌, ◌<◌, ◌≤◌, ◌+◌, [], List, ◌⊎◌, ℕ, Bool, true, false, refl, rules}
 use Rattle.std.proofs.Common.{sym, subst, ap, inl, inr}
-use Rattle.std.proofs.Common.{append_assoc, append-nil, arith, drop, length, length-append, take}
-use Rattle.std.specs.Io.BufRead.{ends_with_byte, strip_last}
+use Rattle.std.proofs.Common.{append_assoc, append-nil, arith, length, length-append, take}
+use Rattle.std.specs.Io.BufRead.{strip_last}
 use Rattle.std.proofs.lemmas.Bool.{cases_lt}
 use Rattle.std.proofs.Math.Seq.{take-append_seam}
-use Rattle.std.proofs.lemmas.List.{take-append-drop, take-append-le}
+use Rattle.std.proofs.lemmas.List.{take-append-le}
 use Rattle.semver_parser.specs.Texts.{Text, is_empty}
 use Rattle.semver_parser.specs.Versions.{VersionValue}
 use Rattle.semver_parser.specs.ToolVersions.{SpellsIn}
@@ -15,19 +15,14 @@ use Rattle.release_filter.specs.Filters.{FilterValue}
 use Rattle.release_filter.specs.LineTexts.{after_mark, line_text}
 use Rattle.release_filter.specs.Skipping.{BeginsAfter, BeginsAfterOne, IsLeft, MayHaveVersion, MayUpTo, ShowsNone}
 use Rattle.release_filter.specs.Verdicts.{HasNoVersion, HasVersion, IsVerdictOn, Verdict, asked, dropped, empty, invalid, kept}
-use Rattle.semver_texts.proofs.Lists.{by_test}
 use Rattle.release_filter.proofs.Looks.{looked_least, may_longer}
 use Rattle.release_filter.proofs.NumberedLines.{strip_after}
 use Rattle.release_filter.proofs.Passing.{not_both}
+use Rattle.release_filter.proofs.Rooms.{after_text}
 use Rattle.release_filter.proofs.TakenPieces.{NoEnd, no_end_marked}
 use Rattle.std.proofs.lemmas.Grind.{common_steps}
 
 -- ---- the text of a line, and a front of it
-
-strip_front : (byte : ℕ) (xs : Text) → (end : Text) × (xs ≡ strip_last byte xs ++ end)
-strip_front byte xs =
-    by_test (ends_with_byte byte xs) (λ y. (drop (length xs - 1) xs, rw y (sym (take-append-drop _ xs))))
-    (λ n. ([], rw n (sym (append-nil xs))))
 
 text_front : (front more : Text) → NoEnd front → (rest : Text) × (line_text (front ++ more) ≡ strip_last 13 front ++ rest)
 text_front front [] none = search rules
@@ -37,7 +32,7 @@ text_front front (x ∷ xs) none = by_rest _ (ap (strip_last 13) (strip_after 10
         → (r : Text) × (line_text (front ++ x ∷ xs) ≡ strip_last 13 front ++ r)
     by_rest [] e = grind (arith, common_steps)
     by_rest (y ∷ ys) e =
-        let end = strip_front 13 front in (
+        let end = after_text 13 front in (
           end.0 ++ strip_last 13 (y ∷ ys),
           e ∙ strip_after 13 front _ (omega arith) ∙ ap (λ l. l ++ strip_last 13 (y ∷ ys)) end.1
               ∙ append_assoc _ end.0 _,

@@ -1,18 +1,22 @@
 -- Lines that are skipped: bytes that begin them show that they have no version.
-use Rattle.std.specs.Prelude.{◌≡◌, ◌≢◌, ◌⊎◌, ◌<◌, ◌*◌, ◌^◌, ℕ, Bool, List, [], ◌∷◌, ◌++◌, All}
+use Rattle.std.specs.Prelude.{◌≡◌, ◌≢◌, ◌⊎◌, ◌<◌, ◌-◌, ◌*◌, ◌^◌, ℕ, Bool, List, [], ◌∷◌, ◌++◌, All}
 use Rattle.std.specs.Prelude.{IsTrue, length, take}
 use Rattle.std.specs.Io.BufRead.{strip_last}
 use Rattle.semver_parser.specs.Texts.{Text}
 use Rattle.semver_parser.specs.declared.version.Grammar.{Grammar}
-use Rattle.version_fronts.specs.Fronts.{IsFrontIn}
+use Rattle.text_prefixes.specs.VersionPrefixes.{IsPrefixIn}
 use Rattle.release_filter.specs.LineTexts.{after_mark}
 use Rattle.release_filter.specs.Verdicts.{asked}
+
+-- bytes but for the last 8, which are room for what completes a version
+abbrev pub without_room : Text → Text
+without_room bytes = take (length bytes - 8) bytes
 
 -- the text is the prefix and then begins a version of the dialect; or the prefix begins with it,
 -- and goes on
 abbrev pub BeginsAfter : Grammar → Text → Text → Type 0
 BeginsAfter grammar prefix front =
-    ((text : Text) × (front ≡ prefix ++ text) × IsFrontIn grammar text)
+    ((text : Text) × (front ≡ prefix ++ text) × IsPrefixIn grammar text)
     ⊎ ((next : ℕ) × (more : Text) × (prefix ≡ front ++ next ∷ more))
 
 -- so it is with one of the prefixes

@@ -306,10 +306,8 @@ impl Lines {
         if rest.is_empty() {
             return Ok(());
         }
-        let seen = self.unended.len();
-        self.unended.extend_from_slice(rest)?;
-        let unended = self.unended.as_slice();
-        if let Some(size) = self.chosen.shown_end(self.at_front, seen, unended) {
+        let shown = self.chosen.hold(self.at_front, &mut self.unended, rest)?;
+        if let Some(size) = shown {
             self.unended.truncate(size);
             self.is_skipped = true;
         }

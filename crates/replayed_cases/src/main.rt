@@ -9,11 +9,11 @@
 
 mod checksum;
 mod filtering;
-mod fronts;
 mod lexing;
 mod modes;
 mod parsing;
 mod places;
+mod prefixes;
 mod ranges;
 mod reporting;
 mod sets;
@@ -98,9 +98,9 @@ fn answer<W: Write>(
         "read" => versions::write_read(alloc, text, out),
         "version-as-cargo" => versions::write_read_in(alloc, text, Grammar::Cargo, out),
         "version-as-npm" => versions::write_read_in(alloc, text, Grammar::Npm, out),
-        "refused-as-crate" => fronts::write_refused(text, Grammar::Crate, out),
-        "refused-as-cargo" => fronts::write_refused(text, Grammar::Cargo, out),
-        "refused-as-npm" => fronts::write_refused(text, Grammar::Npm, out),
+        "refused-as-crate" => prefixes::write_refused(alloc, text, Grammar::Crate, out),
+        "refused-as-cargo" => prefixes::write_refused(alloc, text, Grammar::Cargo, out),
+        "refused-as-npm" => prefixes::write_refused(alloc, text, Grammar::Npm, out),
         "outline" => versions::write_outline(text, out),
         "version-text" => versions::write_printed(alloc, text, out),
         "error-text" => versions::write_error_text(alloc, text, out),

@@ -50,9 +50,10 @@ int32_t semver_parser_parse_version(
 }
 
 int32_t semver_parser_explain_version(
-    const uint8_t *text, size_t text_length, int32_t dialect, size_t *place) {
+    const uint8_t *text, size_t text_length, int32_t dialect, uint8_t *buffer, size_t room,
+    size_t *place) {
     return semver_parser_proved_explain_version(
-        text_at(text, text_length), text_length, dialect, place);
+        text_at(text, text_length), text_length, dialect, room_at(buffer, room), room, place);
 }
 
 int32_t semver_parser_explain_range(

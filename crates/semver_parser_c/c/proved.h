@@ -13,7 +13,8 @@ int32_t semver_parser_proved_parse_version(
     const uint8_t *text, size_t text_length, int32_t dialect, semver_parser_version *out);
 
 int32_t semver_parser_proved_explain_version(
-    const uint8_t *text, size_t text_length, int32_t dialect, size_t *place);
+    const uint8_t *text, size_t text_length, int32_t dialect, uint8_t *buffer, size_t room,
+    size_t *place);
 
 int32_t semver_parser_proved_explain_range(
     const uint8_t *text, size_t text_length, int32_t dialect, size_t *place, int32_t *hint);

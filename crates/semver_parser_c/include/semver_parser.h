@@ -23,8 +23,8 @@
  *   _UNEXPECTED_TOKEN, _UNEXPECTED_CHAR or _MORE_INPUT;
  * - out of memory (SEMVER_PARSER_RANGE_OUT_OF_MEMORY, _VERSION_OUT_OF_MEMORY,
  *   _NEW_RANGE_OUT_OF_MEMORY): in place of a success, of one of the last four, or as said below.
- * - SEMVER_PARSER_NO_ROOM if a buffer is too small: then the lengths say what is needed, and the
- *   buffers are unchanged. So a call with capacity 0 asks for the length.
+ * - SEMVER_PARSER_NO_ROOM if a buffer is too small: then the lengths, if there are any, say what
+ *   is needed, and the buffers are unchanged. So a call with capacity 0 asks for the length.
  *
  * MEMORY. Nothing is kept between calls or must be freed. Allocations are by `malloc`. Making a set
  * of a range (_set, _least, _compare, and _meets_each of 4 versions or more) takes up to 290 bytes
@@ -248,9 +248,11 @@ int32_t semver_parser_parse_version(const uint8_t *text, size_t text_length, int
 /* Returns SEMVER_PARSER_OK exactly for a version, and otherwise the reason, one of
  * SEMVER_PARSER_VERSION_EMPTY to _VERSION_TEXT_AFTER. Then `place` is the offset of the first
  * character that no version has there, or `text_length`: `1.2.03` gives _VERSION_LEADING_ZERO and
- * 5. The bytes need not be UTF-8. Does not allocate. */
+ * 5. The bytes need not be UTF-8. Does not allocate: `buffer` is for the function's own use, and
+ * must have room for `text_length` + 8 bytes, or the answer for such a text is
+ * SEMVER_PARSER_NO_ROOM. */
 int32_t semver_parser_explain_version(const uint8_t *text, size_t text_length, int32_t dialect,
-                                      size_t *place);
+                                      uint8_t *buffer, size_t room, size_t *place);
 
 /* Returns SEMVER_PARSER_OK exactly for a range. After _NOT_A_RANGE `place` is the first
  * character that no range has there, after _NUMBER_TOO_LARGE where no numbers fit any more, or

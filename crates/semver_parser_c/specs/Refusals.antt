@@ -1,10 +1,10 @@
 -- Why a text is no version, by numbers.
 use Rattle.std.specs.Prelude.{ℤ, List, [], ◌∷◌}
-use Rattle.version_fronts.specs.declared.reasons.Reason.{Reason}
-use Rattle.version_fronts.specs.declared.reasons.Reason.TheVariants.{Empty, NotThreeNumbers}
-use Rattle.version_fronts.specs.declared.reasons.Reason.TheVariants.{LeadingZero, EmptyIdentifier}
-use Rattle.version_fronts.specs.declared.reasons.Reason.TheVariants.{UnexpectedCharacter, TooLarge}
-use Rattle.version_fronts.specs.declared.reasons.Reason.TheVariants.{TooLong, TextAfter}
+use Rattle.text_prefixes.specs.declared.reasons.Reason.{Reason}
+use Rattle.text_prefixes.specs.declared.reasons.Reason.TheVariants.{Empty, NotThreeNumbers}
+use Rattle.text_prefixes.specs.declared.reasons.Reason.TheVariants.{LeadingZero, EmptyIdentifier}
+use Rattle.text_prefixes.specs.declared.reasons.Reason.TheVariants.{UnexpectedCharacter, TooLarge}
+use Rattle.text_prefixes.specs.declared.reasons.Reason.TheVariants.{TooLong, TextAfter}
 use Rattle.semver_parser_c.specs.Numbers as number
 
 -- the number of a reason

@@ -19,8 +19,8 @@ use crate::{
 };
 use semver_parser::laws::one_version_in;
 use std::alloc::Global;
+use text_prefixes::laws::{one_longest_prefix, one_reason};
 use tool_ranges::laws::{one_limit_place, one_place};
-use version_fronts::laws::{one_longest_front, one_reason};
 use version_sets::FlatSwitch;
 use version_sets::laws::{one_flat, one_set as one_normal_set};
 
@@ -41,20 +41,24 @@ pub fn one_parsed_version(
     (number, other)
 }
 
-/// A text is a version, or no version at one place and for one reason.
+/// A text is a version, or no version at one place and for one reason, or the buffers are too
+/// small. What these hold doesn't matter.
 pub fn one_explanation(
     text: &[u8],
     dialect: i32,
+    buffer: &mut [u8],
+    other_buffer: &mut [u8],
     place: &mut usize,
     other_place: &mut usize,
 ) -> (i32, i32)
-    requires { place.old ≡ other_place.old }
+    requires room { length buffer.old ≡ length other_buffer.old }
+    requires place { place.old ≡ other_place.old }
     ensures one { (result.0 ≡ result.1) × (place.new ≡ other_place.new) }
 {
-    one_longest_front();
+    one_longest_prefix();
     one_reason();
-    let first = semver_parser_proved_explain_version(text, dialect, place);
-    let second = semver_parser_proved_explain_version(text, dialect, other_place);
+    let first = semver_parser_proved_explain_version(text, dialect, buffer, place);
+    let second = semver_parser_proved_explain_version(text, dialect, other_buffer, other_place);
     (first, second)
 }
 

@@ -24,8 +24,8 @@ mod set_operations;
 mod sets;
 mod version_text;
 
-ghost use Rattle.std.specs.Prelude.{◌≡◌, ◌≢◌, ◌⊎◌, ◌↔◌, ◌<◌, ◌≤◌, ℕ, [], ◌∷◌, ◌++◌, IsTrue};
-ghost use Rattle.std.specs.Prelude.{IfSome, IsUtf8, Option, drop, length, slice_get};
+ghost use Rattle.std.specs.Prelude.{◌≡◌, ◌≢◌, ◌⊎◌, ◌↔◌, ◌+◌, ◌<◌, ◌≤◌, ℕ, [], ◌∷◌, ◌++◌};
+ghost use Rattle.std.specs.Prelude.{IfSome, IsTrue, IsUtf8, Option, drop, length, slice_get};
 ghost use Rattle.std.specs.Prelude.{slice_index, take, true};
 ghost use Rattle.semver_parser.specs.Versions.{VersionValue};
 ghost use Rattle.semver_parser.specs.declared.version.Version.{Version};
@@ -34,6 +34,9 @@ ghost use Rattle.semver_parser.specs.declared.version.Grammar.{Grammar};
 ghost use Rattle.semver_parser.specs.Outlines.{OutlineValue, IsOutlineIn, dotted_text};
 ghost use Rattle.semver_parser.specs.Precedence.{precedence};
 ghost use Rattle.semver_parser.specs.PrintedRanges.{set_text};
+ghost use Rattle.text_prefixes.specs.Reasons.{IsReason, byte_at};
+ghost use Rattle.text_prefixes.specs.VersionPrefixes.{IsLongestVersionPrefix};
+ghost use Rattle.text_prefixes.specs.declared.reasons.Reason.{Reason};
 ghost use Rattle.tool_ranges.specs.declared.dialect.Dialect.{Dialect};
 ghost use Rattle.tool_ranges.specs.declared.meaning.Meaning.{Meaning};
 ghost use Rattle.text_prefixes.specs.Prefixes.{IsLongestPrefix};
@@ -64,18 +67,16 @@ ghost use Rattle.semver_parser_c.specs.FlatSets.{AreSets, IsMadeOf, IsNoSet, IsO
 ghost use Rattle.semver_parser_c.specs.FlatSets.{IsNonEmptySet, IsWithin, PutsSet};
 ghost use Rattle.semver_parser_c.specs.FlatSets.{kind_text, operation_number};
 ghost use Rattle.semver_parser_c.specs.declared.set_operations.Operation.{Operation};
-ghost use Rattle.version_fronts.specs.Fronts.{IsLongestFront};
-ghost use Rattle.version_fronts.specs.Reasons.{IsReason, byte_at};
-ghost use Rattle.version_fronts.specs.declared.reasons.Reason.{Reason};
 ghost use Rattle.version_sets.specs.Comparisons.{TellsLeast};
 ghost use Rattle.version_sets.specs.Flat.{IsFlat, IsPrintable};
 ghost use Rattle.version_sets.specs.VersionSets.{IsIn, IsNormal, SetValue};
 ghost use Rattle.version_sets.specs.VersionSets.{has as has_version};
 ghost use Rattle.version_sets.specs.declared.comparison.Comparison.{Comparison};
 
+use semver_parser::version::outline_in;
 use std::alloc::Global;
 use std::cmp::Ordering;
-use version_fronts::reasons::refused;
+use text_prefixes::reasons::refused;
 use version_sets::{FlatSet, FlatSwitch};
 
 /// Where a part of a text is: `length` bytes from `offset` on. Both are 0 where there is no such
@@ -218,34 +219,49 @@ pub extern "C" fn semver_parser_proved_parse_version(
 /// `1.2.03` gives `VERSION_LEADING_ZERO` and 5, and `1.2` gives `VERSION_NOT_THREE_NUMBERS` and 3.
 /// Bytes that are no UTF-8 have their place and reason too.
 ///
+/// `buffer` is written to while the text is examined: it must have at least 8 bytes more than the
+/// text. What it holds after a reason is not specified.
+///
 /// # Errors
 ///
-/// `NO_SUCH_DIALECT`, whatever the text. After it and after `OK` `place` is as it was.
+/// `NO_SUCH_DIALECT`, whatever the text; then `NO_ROOM` if the text is no version and the buffer is
+/// too small. After these and after `OK` `place` and `buffer` are as they were.
 #[unsafe(no_mangle)]
 pub extern "C" fn semver_parser_proved_explain_version(
     text: &[u8],
     dialect: i32,
+    buffer: &mut [u8],
     place: &mut usize,
 ) -> i32
-    ensures numbers { IsOneOf (number.ok ∷ number.no_such_dialect ∷ reason_numbers) result }
+    ensures numbers { IsOneOf (number.ok ∷ number.no_such_dialect ∷ number.no_room
+        ∷ reason_numbers) result }
     ensures named { (result ≡ number.no_such_dialect) ⊎ IsDialect dialect }
     ensures no_such_dialect { (result ≡ number.no_such_dialect) ↔ ¬ (IsDialect dialect) }
     ensures version { (d : Grammar) → IsGrammar d dialect
         → (result ≡ number.ok) ↔ IsVersionTextIn d text.now }
+    ensures no_room { (d : Grammar) → IsGrammar d dialect → (result ≡ number.no_room)
+        ↔ ((length buffer.old < length text.now + 8) × ¬ (IsVersionTextIn d text.now)) }
     ensures place { (d : Grammar) → IsGrammar d dialect → result ≢ number.ok
-        → IsLongestFront d text.now place.new }
+        → result ≢ number.no_room → IsLongestVersionPrefix d text.now place.new }
     ensures reason { (d : Grammar) → IsGrammar d dialect → result ≢ number.ok
-        → (r : Reason) × IsReason d (take place.new text.now) (byte_at text.now place.new) r
+        → result ≢ number.no_room → (r : Reason) × IsReason d (take place.new text.now) (byte_at text.now place.new) r
         × (result ≡ reason_number r) }
-    ensures unchanged { IsOneOf (number.ok ∷ number.no_such_dialect ∷ []) result
-        → place.new ≡ place.old }
+    ensures unchanged { IsOneOf (number.ok ∷ number.no_such_dialect ∷ number.no_room ∷ []) result
+        → (place.new ≡ place.old) × (buffer.new ≡ buffer.old) }
 {
     let Some(dialect) = dialects::dialect_of(dialect) else {
         return numbers::NO_SUCH_DIALECT;
     };
-    match refused(text, dialect.grammar()) {
+    let grammar = dialect.grammar();
+    if outline_in(text, grammar).is_some() {
+        return numbers::OK;
+    }
+    if buffer.len() < text.len() + 8 {
+        return numbers::NO_ROOM;
+    }
+    match refused(text, grammar, buffer) {
         Some(refusal) => {
-            *place = refusal.place;
+            *place = refusal.offset;
             refusals::number_of(refusal.reason)
         }
         None => numbers::OK,

@@ -6,7 +6,7 @@ ghost use Rattle.semver_parser_c.specs.Errors.{IsOneOf};
 ghost use Rattle.semver_parser_c.specs.Refusals.{reason_number, reason_numbers};
 
 use crate::numbers;
-use version_fronts::reasons::Reason;
+use text_prefixes::reasons::Reason;
 
 /// The number of a reason.
 pub fn number_of(reason: Reason) -> i32
@@ -14,6 +14,7 @@ pub fn number_of(reason: Reason) -> i32
     ensures numbers { IsOneOf reason_numbers result }
     ensures wrong { result ≢ number.ok }
     ensures named { result ≢ number.no_such_dialect }
+    ensures told { result ≢ number.no_room }
 {
     match reason {
         Reason::Empty => numbers::VERSION_EMPTY,

@@ -4,11 +4,13 @@ ghost use Rattle.std.specs.Prelude.{◌≡◌, ◌≤◌, ◌+◌, ◌++◌, ℕ
 ghost use Rattle.semver_texts.specs.Texts.{Text};
 ghost use Rattle.semver_texts.specs.ToolVersions.{IsVersionTextIn};
 ghost use Rattle.semver_texts.specs.declared.grammar.Grammar.{Grammar};
+ghost use Rattle.text_prefixes.specs.Prefixes.{AreCompletions};
 ghost use Rattle.text_prefixes.specs.VersionPrefixes.{IsLongestVersionPrefix, IsPrefixIn};
 ghost use Rattle.text_prefixes.specs.VersionPrefixes.{IsWholePrefixIn};
 ghost use Rattle.text_prefixes.specs.Reasons.{IsReason};
 ghost use Rattle.text_prefixes.specs.declared.reasons.Reason.{Reason};
 
+use crate::longest::{Language, longest_prefix};
 use crate::reasons::{Refusal, refused};
 use semver_texts::grammar::Grammar;
 
@@ -26,6 +28,23 @@ pub fn one_longest_prefix()
     ensures same_offset { (grammar : Grammar) (text : Text) (m n : ℕ)
         → IsLongestVersionPrefix grammar text m → IsLongestVersionPrefix grammar text n → m ≡ n }
 {}
+
+/// `longest_prefix` has one answer, whatever the buffer holds.
+pub fn one_offset<L: Language>(
+    language: &L,
+    text: &str,
+    buffer: &mut [u8],
+    other: &mut [u8],
+) -> (usize, usize)
+    requires completions { AreCompletions (L.is_text language.now) (L.completions language.now) }
+    requires room { length text.now + 8 ≤ length buffer.old }
+    requires other_room { length text.now + 8 ≤ length other.old }
+    ensures one { result.0 ≡ result.1 }
+{
+    let first = longest_prefix(language, text, buffer);
+    let second = longest_prefix(language, text, other);
+    (first, second)
+}
 
 /// A prefix and what follows it have one reason.
 pub fn one_reason()

@@ -9,4 +9,4 @@ pub mod bytes;
 pub mod laws;
 pub mod longest;
 pub mod reasons;
-pub mod versions;
+mod versions;

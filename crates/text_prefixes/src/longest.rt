@@ -26,6 +26,7 @@ pub trait Language {
         ensures { map (λ completion. completion.now) result.now ≡ completions self.now };
 }
 
+// Answer: law text_prefixes::laws::one_offset.
 /// Returns the end of the longest prefix of a text that some text of a language begins with: the
 /// length of the text if it is of the language itself. With the versions of npm, `1.2.x` gives 4:
 /// `1.2.0` begins as far.
@@ -61,7 +62,7 @@ pub fn longest_prefix<L: Language>(language: &L, text: &str, buffer: &mut [u8]) 
 
 /// Returns what [`longest_prefix`] does, of bytes that need not be UTF-8, if all texts of the
 /// language are.
-pub fn longest_prefix_of_bytes<L: Language>(language: &L, bytes: &[u8], buffer: &mut [u8]) -> usize
+pub(crate) fn longest_prefix_of_bytes<L: Language>(language: &L, bytes: &[u8], buffer: &mut [u8]) -> usize
     requires completions { AreCompletions (L.is_text language.now) (L.completions language.now) }
     requires utf8 { (text : Text) → L.is_text language.now text → IsUtf8 text }
     requires room { length bytes.now + 8 ≤ length buffer.old }

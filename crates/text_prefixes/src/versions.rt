@@ -35,7 +35,7 @@ impl Language for Versions {
 
 /// The end of the longest prefix of a text that some version begins with, and goes on there with a
 /// character.
-pub fn offset(input: &[u8], grammar: Grammar, buffer: &mut [u8]) -> usize
+pub(crate) fn offset(input: &[u8], grammar: Grammar, buffer: &mut [u8]) -> usize
     requires { length input.now + 8 ≤ length buffer.old }
     ensures { IsLongestVersionPrefix grammar input.now result }
 {

@@ -10,12 +10,11 @@ pub returns-in-Some-clause-takes : goal.returns-in-Some-clause-takes
 returns-in-Some-clause-takes c =
     let s = c.self.inside in
     let value = view s in
-    let new = c.truncate.new.self.items in
-    let slice = c.as_slice-unended.ensures.value in
-    let cut = c.truncate.ensures.items ∙ ap (take c.in-Some.size) (sym slice) in (
+    let new = c.truncate.new.self.items in (
       λ i. record (c.self.view_is i) { unended = new },
       rw (← c.self.view_is) (left_front s.chosen.filter.grammar value.prefixes s.at_front (s.unended.items ++ c.args.rest.now)
-          c.as_slice-unended.result.now new c.in-Some.size (slice ∙ c.in_ok-extend_from_slice.ensures.items) cut c.in-Some.ensures.some),
+          c.hold.new.unended.items new c.in-Some.size c.in_ok-shown.ensures.held c.truncate.ensures.items
+          (rw c.in-Some.is at c.in_ok-shown.ensures.shown)),
     )
 
 pub invariant_of-self-in-Some : goal.invariant_of-self-in-Some
@@ -23,11 +22,10 @@ invariant_of-self-in-Some c =
     let s = c.self.inside in
     let prefixes = (view s).prefixes in
     let grammar = s.chosen.filter.grammar in
-    let whole = c.as_slice-unended.ensures.value ∙ c.in_ok-extend_from_slice.ensures.items in
-    let cut = c.truncate.ensures.items ∙ ap (take c.in-Some.size) (sym c.as_slice-unended.ensures.value) in
-    let shows = subst (ShowsNone grammar prefixes s.at_front) (sym cut) c.in-Some.ensures.some in
+    let cut = c.truncate.ensures.items in
+    let shows = subst (ShowsNone grammar prefixes s.at_front) (sym cut) (rw c.in-Some.is at c.in_ok-shown.ensures.shown) in
     record {
-      no_end = All-same (λ b. b ≢ 10) _ _ (cut ∙ ap (take c.in-Some.size) whole)
+      no_end = All-same (λ b. b ≢ 10) _ _ (cut ∙ ap (take c.in-Some.size) c.in_ok-shown.ensures.held)
           (All-take (λ b. b ≢ 10) c.in-Some.size _ (All-append (λ b. b ≢ 10) _ _ c.self.invariant.no_end c.requires));
       may = shows.fewest;
       skipped = λ _. shows;

@@ -1,16 +1,23 @@
 //! Texts that are no versions: where and why.
 
 use semver_parser::version::Grammar;
+use std::alloc::Global;
 use std::io;
 use std::io::Write;
-use version_fronts::reasons::{Reason, refused};
+use text_prefixes::reasons::{Reason, refused};
 
 /// Writes where and why the text is no version, or that it is one.
-pub fn write_refused<W: Write>(text: &str, grammar: Grammar, out: &mut W) -> io::Result<()> {
-    match refused(text.as_bytes(), grammar) {
+pub fn write_refused<W: Write>(
+    alloc: Global,
+    text: &str,
+    grammar: Grammar,
+    out: &mut W,
+) -> io::Result<()> {
+    let mut buffer = vec![in alloc; 0; text.len().saturating_add(8)]?;
+    match refused(text.as_bytes(), grammar, &mut buffer) {
         None => out.write_all(b"a version"),
         Some(refusal) => {
-            write!(out, "{}: ", refusal.place)?;
+            write!(out, "{}: ", refusal.offset)?;
             out.write_all(words(refusal.reason).as_bytes())
         }
     }
