@@ -1,7 +1,7 @@
 """Why a text is refused: the errors of versions and of ranges, as exceptions."""
 
 import ctypes
-from typing import ClassVar, Dict, Optional, Union
+from typing import ClassVar, Dict, Optional, Tuple, Union
 
 from .library import LIBRARY
 
@@ -31,12 +31,13 @@ class _TextError(ValueError):
 
     _NUMBERS: ClassVar[Dict[str, int]] = {}
 
-    def __init__(self, name: str, text: Text, place: Union[str, int, None]) -> None:
-        super().__init__(*((name, text) if place is None else (name, text, place)))
+    def __init__(self, name: str, text: Text, which: Union[str, int, None]) -> None:
+        super().__init__(*((name, text) if which is None else (name, text, which)))
         self.name = name
         self.text = text
+        self._dialect: Optional[int] = None
 
-    def _place(self) -> str:
+    def _which(self) -> str:
         """Which of several texts it is."""
         return ""
 
@@ -50,7 +51,7 @@ class _TextError(ValueError):
         shown = repr(self.text)
         if len(shown) > _LONGEST_SHOWN:
             shown = f"{shown[:_LONGEST_SHOWN]}.. (of length {len(self.text)})"
-        return f"{self.sentence}{self._place()}: {shown}"
+        return f"{self.sentence}{self._which()}: {shown}"
 
 
 class VersionError(_TextError):
@@ -67,11 +68,11 @@ class VersionError(_TextError):
     - `unexpected-char`: a character comes that begins no token, as `/`.
     - `more-input`: a version is followed by something else, as in `1.2.3 a`.
 
-    `place` is where in the text it stops being one: the index of the first character that no
+    `offset` is where in the text it stops being one: the index of the first character that no
     version has there, or the text's length if something is missing at its end. `reason` is one of
     `empty`, `not-three-numbers`, `leading-zero`, `empty-identifier`, `unexpected-character`,
-    `too-large`, `too-long` and `text-after`. docs/GRAMMAR.md says when each is given. Both are None
-    in an error that isn't raised by a call of this package.
+    `too-large`, `too-long` and `text-after`. docs/GRAMMAR.md says when each is given. Both are found
+    when they are asked for, and None in an error that isn't raised by a call of this package.
     """
 
     _NUMBERS = {
@@ -86,11 +87,19 @@ class VersionError(_TextError):
     def __init__(self, name: str, text: Text, index: Optional[int] = None) -> None:
         super().__init__(name, text, index)
         self.index = index
-        self.place: Optional[int] = None
-        self.reason: Optional[str] = None
 
-    def _place(self) -> str:
+    def _which(self) -> str:
         return "" if self.index is None else f", at index {self.index}"
+
+    @property
+    def offset(self) -> Optional[int]:
+        """Where the text stops being a version."""
+        return None if self._dialect is None else _explained(self.text, self._dialect)[0]
+
+    @property
+    def reason(self) -> Optional[str]:
+        """Why it does."""
+        return None if self._dialect is None else _explained(self.text, self._dialect)[1]
 
 
 class RangeError(_TextError):
@@ -102,11 +111,12 @@ class RangeError(_TextError):
     - `number-too-large`: it is, and a number that it states, or a bound that is raised by one, is
       above 2**64 - 1, or by npm's dialect above 2**53 - 1.
 
-    `place` is where in the text it stops being a range: the index of the first character that no
-    range has there; of a number that is too large, that of the first after which no range has
-    numbers that fit. It is the text's length if only what is missing at the end is wrong. `hint`
-    says what may have been meant, or which limit there is, if there is something to say. Both are
-    None where the text isn't UTF-8, and in an error that isn't raised by a call of this package.
+    `offset` is where in the text it stops being a range: the index of the first character that no
+    range has there, or the text's length if something is missing at its end; of a number that is
+    too large, where the term ends that states it or has a raised bound above the limit. `hint` says
+    what may have been meant, or which limit there is, if there is something to say. Both are found
+    when they are asked for, and None where the text isn't UTF-8, and in an error that isn't raised
+    by a call of this package.
     """
 
     _NUMBERS = {"not-utf8": 10, "not-a-range": 11, "number-too-large": 12}
@@ -114,19 +124,28 @@ class RangeError(_TextError):
     def __init__(self, name: str, text: Text, which: Optional[str] = None) -> None:
         super().__init__(name, text, which)
         self.which = which
-        self.place: Optional[int] = None
-        self.hint: Optional[str] = None
 
-    def _place(self) -> str:
+    def _which(self) -> str:
         return "" if self.which is None else f", in the {self.which} range"
 
+    @property
+    def offset(self) -> Optional[int]:
+        """Where the text stops being a range."""
+        return None if self._dialect is None else _explained_range(self, self._dialect)[0]
+
+    @property
+    def hint(self) -> Optional[str]:
+        """What may have been meant."""
+        return None if self._dialect is None else _explained_range(self, self._dialect)[1]
+
     def __str__(self) -> str:
-        return super().__str__() + ("" if self.hint is None else f" ({self.hint})")
+        hint = self.hint
+        return super().__str__() + ("" if hint is None else f" ({hint})")
 
     def of(self, which: str) -> "RangeError":
         """The error of the old or the new range of two."""
         error = RangeError(self.name, self.text, which)
-        error.place, error.hint = self.place, self.hint
+        error._dialect = self._dialect
         return error
 
 
@@ -146,35 +165,33 @@ _REASONS = {
 }
 
 
-def _index(text: Text, place: int) -> int:
-    """The index in a text of the character at a place in its bytes."""
+def _index(text: Text, offset: int) -> int:
+    """The index in a text of the character at an offset in its bytes."""
     if isinstance(text, bytes):
-        return place
-    return len(encoded(text)[:place].decode("utf-8", "surrogatepass"))
+        return offset
+    return len(encoded(text)[:offset].decode("utf-8", "surrogatepass"))
 
 
-def _explained(error: VersionError, dialect: int) -> VersionError:
-    """The error, with where and why its text is no version in the dialect of a number."""
-    text_bytes, place = encoded(error.text), ctypes.c_size_t()
+def _explained(text: Text, dialect: int) -> Tuple[int, Optional[str]]:
+    """Where and why a text is no version in the dialect of a number."""
+    text_bytes, offset = encoded(text), ctypes.c_size_t()
     buffer = ctypes.create_string_buffer(len(text_bytes) + 8)
     answer = LIBRARY.semver_parser_explain_version(
-        text_bytes, len(text_bytes), dialect, buffer, len(buffer), place
+        text_bytes, len(text_bytes), dialect, buffer, len(buffer), offset
     )
-    error.reason, error.place = _REASONS.get(answer), _index(error.text, place.value)
-    return error
+    return _index(text, offset.value), _REASONS.get(answer)
 
 
-def _explained_range(error: RangeError, dialect: int) -> RangeError:
-    """The error, with where and why its text gives no range in the dialect of a number."""
-    text_bytes, place, hint = encoded(error.text), ctypes.c_size_t(), ctypes.c_int32()
-    answer = LIBRARY.semver_parser_explain_range(text_bytes, len(text_bytes), dialect, place, hint)
+def _explained_range(error: RangeError, dialect: int) -> Tuple[Optional[int], Optional[str]]:
+    """Where the text of an error gives no range in the dialect of a number, and the hint."""
+    text_bytes, offset, hint = encoded(error.text), ctypes.c_size_t(), ctypes.c_int32()
+    answer = LIBRARY.semver_parser_explain_range(text_bytes, len(text_bytes), dialect, offset, hint)
     if answer == RANGE_OUT_OF_MEMORY:
         raise MemoryError
-    if _RANGE_ERRORS.get(answer) == error.name != "not-utf8":
-        error.place = _index(error.text, place.value)
-        if hint.value:
-            error.hint = LIBRARY.semver_parser_fault_text(hint.value).decode("utf-8")
-    return error
+    if _RANGE_ERRORS.get(answer) != error.name or error.name == "not-utf8":
+        return None, None
+    said = LIBRARY.semver_parser_fault_text(hint.value).decode("utf-8") if hint.value else None
+    return _index(error.text, offset.value), said
 
 
 def raise_error(
@@ -190,10 +207,12 @@ def raise_error(
         return
     if answer in _VERSION_ERRORS:
         error = VersionError(_VERSION_ERRORS[answer], version, index)
-        raise error if dialect is None else _explained(error, dialect)
+        error._dialect = dialect
+        raise error
     if answer in _RANGE_ERRORS:
         of_range = RangeError(_RANGE_ERRORS[answer], range)
-        raise of_range if dialect is None else _explained_range(of_range, dialect)
+        of_range._dialect = dialect
+        raise of_range
     if answer in (VERSION_OUT_OF_MEMORY, RANGE_OUT_OF_MEMORY, NEW_RANGE_OUT_OF_MEMORY):
         raise MemoryError
     raise AssertionError(f"the library answered {answer}")

@@ -123,7 +123,7 @@ class ByReading(unittest.TestCase):
         ):
             with self.subTest(text=text), self.assertRaises(VersionError) as caught:
                 parse_version(text, dialect)
-            self.assertEqual((caught.exception.place, caught.exception.reason), (place, reason))
+            self.assertEqual((caught.exception.offset, caught.exception.reason), (place, reason))
 
     def test_sizes(self) -> None:
         many = ".".join(["a", "1"] * 50_000)
@@ -384,22 +384,22 @@ class Errors(unittest.TestCase):
         for text, place in (("\u3000>\u3000v\u2070", 4), ("\u3000>\u3000v\u2070".encode(), 8)):
             with self.assertRaises(RangeError) as caught:
                 parse_range(text, Dialect.NPM)
-            self.assertEqual((caught.exception.place, caught.exception.hint), (place, None))
+            self.assertEqual((caught.exception.offset, caught.exception.hint), (place, None))
         for call in (least, VersionSet, lambda it: Filter(it).kept(["1.2.3"])):
             with self.assertRaises(RangeError) as caught:
                 call("1.2 || 3")
-            self.assertEqual(caught.exception.place, 4)
+            self.assertEqual(caught.exception.offset, 4)
             self.assertEqual(caught.exception.hint, "Cargo takes no ||; npm does")
         with self.assertRaises(RangeError) as caught:
             parse_range(b"1.2\xff")
-        self.assertEqual((caught.exception.place, caught.exception.hint), (None, None))
+        self.assertEqual((caught.exception.offset, caught.exception.hint), (None, None))
         with self.assertRaises(RangeError) as caught:
             meets("1 2", "1.2.3")
-        self.assertEqual(caught.exception.place, 2)
+        self.assertEqual(caught.exception.offset, 2)
         with self.assertRaises(RangeError) as caught:
             compare_ranges("1", "1 2")
         again = pickle.loads(pickle.dumps(caught.exception))
-        self.assertEqual((again.which, again.place, again.hint), ("new", 2, caught.exception.hint))
+        self.assertEqual((again.which, again.offset, again.hint), ("new", 2, caught.exception.hint))
 
     def test_not_utf8(self) -> None:
         for text in (b"1.2.3\xff", b"\x80", "1.2.3\ud800", "\udcff", "\ud83d\ude00"):

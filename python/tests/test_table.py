@@ -113,9 +113,9 @@ class Tools(unittest.TestCase):
             parse_version(text, dialect)
             answered = "a version"
         except VersionError as error:
-            assert error.place is not None and error.reason is not None
+            assert error.offset is not None and error.reason is not None
             words = _REASONS.get(error.reason, error.reason.replace("-", " "))
-            answered = f"{len(text[: error.place].encode())}: {words}"
+            answered = f"{len(text[: error.offset].encode())}: {words}"
         self.assertEqual(answered, wanted)
 
     def check_no_range(self, text: str, dialect: Dialect, wanted: str) -> None:
@@ -124,9 +124,9 @@ class Tools(unittest.TestCase):
             parse_range(text, dialect)
             answered = "a range"
         except RangeError as error:
-            assert error.place is not None
+            assert error.offset is not None
             words = "" if error.hint is None else f", {_HINTS[error.hint]}"
-            place = len(text[: error.place].encode())
+            place = len(text[: error.offset].encode())
             answered = f"{place}: {error.name.replace('-', ' ')}{words}"
         self.assertEqual(answered, wanted)
 

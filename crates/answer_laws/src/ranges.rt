@@ -63,7 +63,7 @@ pub fn one_npm_rewrite(alloc: Global, range: &str) -> Answers
     (npm::rewrite(alloc, range), npm::rewrite(alloc, range))
 }
 
-/// `reading::rewrite` has one answer.
+/// `dialect::rewrite` has one answer.
 pub fn one_rewrite(alloc: Global, dialect: Dialect, range: &str) -> Answers
     ensures one { AreOne RangeError.OutOfMemory set_of result.0 result.1 }
 {

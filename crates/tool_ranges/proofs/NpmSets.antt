@@ -1,4 +1,4 @@
--- What the comparators of npm's reading mean, with pre-releases, is what its text means.
+-- What the comparators of npm's dialect mean, with pre-releases, is what its text means.
 use Rattle.std.proofs.Common.{◌≡◌, ℕ, ◌+◌, ◌<◌, Bool, true, false, not, ◌&&◌, ◌||◌, ◌==◌, nat_eq, List, [], ◌∷◌, ◌++◌, rules}
 use Rattle.std.proofs.Common.{length, map, take, drop, get_or, set, refl, sym, ap, ◌∙◌, arith}
 use Rattle.std.proofs.Math.Bool.{and-true}

@@ -7,7 +7,7 @@ ghost use Rattle.tool_ranges.specs.Prefixes.{BeginsAs, BeginsFitting};
 ghost use Rattle.tool_ranges.specs.declared.dialect.Dialect.{Dialect};
 ghost use Rattle.tool_ranges.specs.Dialects.{IsTextAs, SpellsAs, TreeOf};
 
-/// By each reading no range text has two trees.
+/// In no dialect a range text has two trees.
 pub fn one_tree()
     ensures same_tree { (dialect : Dialect) (tree other : TreeOf dialect) (t : Text)
         → SpellsAs dialect tree t → SpellsAs dialect other t → tree ≡ other }
