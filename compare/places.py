@@ -18,6 +18,10 @@ CALLS = {
     "npm": ("rewritten-as-npm", "not-a-range"),
     "crate-npm": ("npm-exact", "not a range"),
 }
+LIMITS = {"cargo": 2**64 - 1, "npm": 2**53 - 1, "crate-npm": 2**64 - 1}
+# What is between two terms. Before and after a hyphen they have no operator: they are `>=` and `<=`.
+HYPHEN = "  - "
+BETWEEN = {"cargo": (",", "  , "), "npm": (" ", "\u00a0|| ", HYPHEN), "crate-npm": ("  ", "||", HYPHEN)}
 AT_THE_END = re.compile(r"at the end(: .*)?$")
 AT_A_BYTE = re.compile(r"at byte (\d+)(: .*)?$")
 
@@ -37,6 +41,41 @@ def ranges(cases, dialect, of):
     return [text for text, answer in zip(of, answered) if answer != f"-: {refusal}"]
 
 
+def refusals(cases, dialect, of):
+    """What is answered of each of the texts."""
+    call = CALLS[dialect][0]
+    ran = subprocess.run([cases], input="".join(f"-\t{call}\t{text}\n" for text in of), capture_output=True, text=True, check=True)
+    return dict(zip(of, ran.stdout.split("\n")))
+
+
+def pairs(dialect):
+    """Two terms each: the text, where each of them ends, and how each is written by itself."""
+    most = LIMITS[dialect]
+    words = [word for n in (1, most, most + 1) for word in (f"{n}", f"{n}.2", f"1.{n}", f"1.2.{n}", f"{n}.x", f"{n}.0.0-a.1+b")] + ["x", "*"]
+    terms = [sign + word for sign in ("", "=", "<= ", ">", "~", "^ ") for word in words]
+    for between in BETWEEN[dialect]:
+        of = words if between == HYPHEN else terms
+        for first, second in product(of, of):
+            text = first + between + second
+            alone = (f">={first}", f"<={second}") if between == HYPHEN else (first, second)
+            yield text, (len(first), len(text)), alone
+
+
+def too_large(cases, program, pool):
+    """Numbers that are too large. By itself a term of Cargo's that is a wildcard is read."""
+    for dialect in CALLS:
+        made = list(pairs(dialect))
+        alone = refusals(cases, dialect, sorted({term for _, _, both in made for term in both}))
+        whole = refusals(cases, dialect, [text for text, _, _ in made])
+        asked = [(text, ends, both) for text, ends, both in made if "too" in whole[text]]
+        places = pool.starmap(named, [(program, dialect, text) for text, _, _ in asked], chunksize=100)
+        for (text, ends, both), place in zip(asked, places):
+            end = next(end for end, term in zip(ends, both) if "too" in alone[term])
+            if place != end:
+                sys.exit(f"differ: {text!r} as {dialect}: {end}, the program names {place}")
+        print(f"{len(asked)} texts as {dialect} with a number that is too large: no difference")
+
+
 def named(program, dialect, text):
     """The place that the program names, or None where it reads the text."""
     ran = subprocess.run([program, "--as", dialect, "--", text, "1"], capture_output=True, text=True)
@@ -51,20 +90,22 @@ def named(program, dialect, text):
 
 def main(cases, program, length):
     for dialect in CALLS:
-        fronts, read = set(), set()
+        prefixes, read = set(), set()
         for longest in range(length + 3):
             for text in ranges(cases, dialect, texts(longest)):
                 read.add(text)
-                fronts.update(text[:end] for end in range(length + 1))
+                prefixes.update(text[:end] for end in range(length + 1))
         asked = [text for shorter in range(length + 1) for text in texts(shorter)]
         with Pool() as pool:
             places = pool.starmap(named, [(program, dialect, text) for text in asked], chunksize=100)
         for text, place in zip(asked, places):
-            longest = max((end for end in range(len(text) + 1) if text[:end] in fronts), default=0)
+            longest = max((end for end in range(len(text) + 1) if text[:end] in prefixes), default=0)
             if place != (None if text in read else longest):
                 sys.exit(f"differ: {text!r} as {dialect}: byte {longest}, the program names {place}")
         refused = sum(place is not None for place in places)
         print(f"{len(asked)} texts as {dialect}, {refused} of them no range: no difference")
+    with Pool() as pool:
+        too_large(cases, program, pool)
 
 
 main(sys.argv[1], sys.argv[2], int(sys.argv[3]))

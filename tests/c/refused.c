@@ -401,7 +401,7 @@ static void takes_by_dialect(void) {
     explanation_takes("^1.2", 0, SEMVER_PARSER_OK);
     explanation_takes("\xFF", 0, SEMVER_PARSER_RANGE_NOT_UTF8);
     explanation_takes("^1.2.3-rc |", 1, SEMVER_PARSER_NOT_A_RANGE);
-    explanation_takes("<=18446744073709551615", 1, SEMVER_PARSER_NUMBER_TOO_LARGE);
+    explanation_takes("<=18446744073709551615", 0, SEMVER_PARSER_NUMBER_TOO_LARGE);
     meeting_takes("1.2.3", "1.2.3", 0, SEMVER_PARSER_OK, true);
     meeting_takes("1.2.3", "1.2.3-rc", 0, SEMVER_PARSER_OK, false);
     meeting_takes("1.2.3", "1.2.3-rc.1/", is_of_tool() ? 0 : 2,

@@ -4,7 +4,8 @@ use Rattle.semver_texts.specs.Texts.{Text}
 use Rattle.semver_parser.specs.declared.RangeError.{RangeError}
 use Rattle.semver_parser.specs.declared.RangeError.TheVariants.{NotARange, NumberTooLarge, OutOfMemory}
 use Rattle.text_prefixes.specs.Prefixes.{IsLongestPrefix}
-use Rattle.tool_ranges.specs.Prefixes.{BeginsAs, BeginsFitting}
+use Rattle.tool_ranges.specs.Prefixes.{BeginsAs}
+use Rattle.tool_ranges.specs.TooLarge.{IsLimitOffset}
 use Rattle.tool_ranges.specs.Dialects.{HasSetAs, IsTextAs, IsTooLargeAs}
 use Rattle.tool_ranges.specs.declared.dialect.Dialect.{Dialect}
 use Rattle.tool_ranges.specs.declared.refusals.Refusal.{Refusal}
@@ -17,11 +18,11 @@ pub record Says (dialect : Dialect) (t : Text) (found : Option Refusal) : Type 0
   pub too_large : IfSome found (λ r. (r.error ≡ NumberTooLarge) ↔ IsTooLargeAs dialect t)
   pub no_memory : IfSome found (λ r. r.error ≢ OutOfMemory)
   pub place : IfSome found (λ r. r.error ≡ NotARange → IsLongestPrefix (BeginsAs dialect) t r.place)
-  pub limit : IfSome found (λ r. r.error ≡ NumberTooLarge → IsLongestPrefix (BeginsFitting dialect) t r.place)
+  pub limit : IfSome found (λ r. r.error ≡ NumberTooLarge → IsLimitOffset dialect t r.place)
 
 module _ (dialect : Dialect) (t : Text)
     (one_place : (m n : ℕ) → IsLongestPrefix (BeginsAs dialect) t m → IsLongestPrefix (BeginsAs dialect) t n → m ≡ n)
-    (one_limit : (m n : ℕ) → IsLongestPrefix (BeginsFitting dialect) t m → IsLongestPrefix (BeginsFitting dialect) t n → m ≡ n) where
+    (one_limit : (m n : ℕ) → IsLimitOffset dialect t m → IsLimitOffset dialect t n → m ≡ n) where
   by_error : (e : RangeError) (r s : Refusal) → r.error ≡ e → Says dialect t (Some r) → Says dialect t (Some s)
       → seen_refusal r ≡ seen_refusal s
   by_error NotARange r s is a b =

@@ -255,9 +255,10 @@ int32_t semver_parser_explain_version(const uint8_t *text, size_t text_length, i
                                       uint8_t *buffer, size_t room, size_t *place);
 
 /* Returns SEMVER_PARSER_OK exactly for a range. After _NOT_A_RANGE `place` is the first
- * character that no range has there, after _NUMBER_TOO_LARGE where no numbers fit any more, or
- * `text_length`: `1 || 2` by SEMVER_PARSER_CARGO gives 2 and _HINT_CARGO_BARS. Only these two
- * allocate; _RANGE_OUT_OF_MEMORY may replace them. */
+ * character that no range has there, or `text_length`: `1 || 2` by SEMVER_PARSER_CARGO gives 2
+ * and _HINT_CARGO_BARS. After _NUMBER_TOO_LARGE it is the end of the first term that states a
+ * number, or has a raised bound, above the limit. Only _NOT_A_RANGE allocates;
+ * _RANGE_OUT_OF_MEMORY may replace it. */
 int32_t semver_parser_explain_range(const uint8_t *text, size_t text_length, int32_t dialect,
                                     size_t *place, int32_t *hint);
 

@@ -40,7 +40,8 @@ ghost use Rattle.text_prefixes.specs.declared.reasons.Reason.{Reason};
 ghost use Rattle.tool_ranges.specs.declared.dialect.Dialect.{Dialect};
 ghost use Rattle.tool_ranges.specs.declared.meaning.Meaning.{Meaning};
 ghost use Rattle.text_prefixes.specs.Prefixes.{IsLongestPrefix};
-ghost use Rattle.tool_ranges.specs.Prefixes.{BeginsAs, BeginsFitting};
+ghost use Rattle.tool_ranges.specs.Prefixes.{BeginsAs};
+ghost use Rattle.tool_ranges.specs.TooLarge.{IsLimitOffset};
 ghost use Rattle.tool_ranges.specs.Hints.{limit_of};
 ghost use Rattle.tool_ranges.specs.Dialects.{SpellsAs, TreeOf, grammar_of, fits_as};
 ghost use Rattle.tool_ranges.specs.Meanings.{MeansAs, meant_as};
@@ -272,10 +273,9 @@ pub extern "C" fn semver_parser_proved_explain_version(
 /// Where and why a text gives no range in the dialect `dialect`: `OK` if it gives one, else the
 /// number of its error. After `NOT_A_RANGE` `place` is the byte offset of the first character that
 /// no range has there, or the length of the text if something is missing at its end, and `hint` the
-/// number of what may have been meant, or 0. After `NUMBER_TOO_LARGE` `place` is that of the first
-/// character after which no range has numbers that fit, or the length of the text if only what
-/// follows could make it fit, as of `<=18446744073709551615` by `CRATE_NPM`, and `hint` the number
-/// of the limit.
+/// number of what may have been meant, or 0. After `NUMBER_TOO_LARGE` `place` is the end of the
+/// first term that states a number, or has a raised bound, above the limit of the dialect, as 21 in
+/// `=18446744073709551616 || 1`, and `hint` the number of the limit.
 ///
 /// `1 || 2` by `CARGO` gives `NOT_A_RANGE`, 2 and `HINT_CARGO_BARS`.
 ///
@@ -297,7 +297,7 @@ pub extern "C" fn semver_parser_proved_explain_range(
     ensures place { (r : Dialect) → dialect ≡ dialect_number r → result ≡ number.not_a_range
         → IsLongestPrefix (BeginsAs r) text.now place.new }
     ensures limit { (r : Dialect) → dialect ≡ dialect_number r → result ≡ number.number_too_large
-        → IsLongestPrefix (BeginsFitting r) text.now place.new }
+        → IsLimitOffset r text.now place.new }
     ensures hint { IsExplained result → IsOneOf hint_numbers hint.new }
     // The hint of a number that is too large is the limit of the dialect.
     ensures limit_hint { (r : Dialect) → dialect ≡ dialect_number r

@@ -2,7 +2,8 @@
 
 ghost use Rattle.std.specs.Prelude.{◌≡◌, ◌∷◌, IfSome, MatchOption, Some};
 ghost use Rattle.text_prefixes.specs.Prefixes.{IsLongestPrefix};
-ghost use Rattle.tool_ranges.specs.Prefixes.{BeginsAs, BeginsFitting};
+ghost use Rattle.tool_ranges.specs.Prefixes.{BeginsAs};
+ghost use Rattle.tool_ranges.specs.TooLarge.{IsLimitOffset};
 ghost use Rattle.tool_ranges.specs.Hints.{limit_of};
 ghost use Rattle.semver_parser_c.specs.Numbers as number;
 ghost use Rattle.semver_parser_c.specs.Errors.{IsOneOf, range_errors};
@@ -26,7 +27,7 @@ pub fn explained(alloc: Global, dialect: Dialect, text: &[u8]) -> (i32, Option<(
     ensures place { result.0 ≡ number.not_a_range → IfSome result.1
         (λ told. IsLongestPrefix (BeginsAs dialect) text.now told.0) }
     ensures limit { result.0 ≡ number.number_too_large → IfSome result.1
-        (λ told. IsLongestPrefix (BeginsFitting dialect) text.now told.0) }
+        (λ told. IsLimitOffset dialect text.now told.0) }
     ensures limit_hint { result.0 ≡ number.number_too_large → IfSome result.1
         (λ told. told.1 ≡ hint_number (Some (limit_of dialect))) }
 {

@@ -29,7 +29,7 @@ use Rattle.tool_ranges.proofs.ToolRows.{npm_table}
 use Rattle.std.proofs.Common.{rules}
 
 -- the table by which the terms fit
-table_of : (terms : Terms) → (written : Simple → List PlainComparator) × IsTable (term_fits terms) written
+pub table_of : (terms : Terms) → (written : Simple → List PlainComparator) × IsTable (term_fits terms) written
 table_of Npm = (written_in mode.Npm, npm_table)
 table_of NpmAll = (written_in mode.Npm, npm_table)
 table_of (Crate compat) = (written_simple lowest_pre_release compat, port_table lowest_pre_release compat)

@@ -6,12 +6,12 @@ use Rattle.std.specs.Str.Parse.{digits_value}
 use Rattle.std.specs.List.{AllByRecursion, concat, list_all, list_any}
 use Rattle.std.proofs.lemmas.Bool.{and_parts, and_from, or_right}
 use Rattle.std.proofs.lemmas.Bool.Decides.{nat_tests}
-use Rattle.semver_texts.specs.Texts.{Text, has_no_leading_zero, is_empty, is_number, is_part, marked}
+use Rattle.semver_texts.specs.Texts.{Text, has_no_leading_zero, is_empty, is_number, marked}
 use Rattle.semver_texts.specs.declared.grammar.Grammar.TheVariants.{Cargo}
 use Rattle.semver_texts.proofs.Lists.{by_test}
 use Rattle.semver_ranges.specs.Partials.{stated, states_nothing}
 use Rattle.semver_ranges.specs.RangeTree.{Form, bare, equal, less, at_most, greater, at_least, tilde, caret, is_bare, AreBlanks}
-use Rattle.semver_ranges.specs.RangeTree.{PartialTree, one, two, three, Simple, SpellsPartial, components, is_component, is_wildcard, qualifier}
+use Rattle.semver_ranges.specs.RangeTree.{PartialTree, one, two, three, Simple, SpellsPartial, is_component, is_wildcard}
 use Rattle.text_prefixes.proofs.Completions.{CompletesBy, AtMost, Seq, among, both, byte_by, choice, in_bytes, optional, same, seq}
 use Rattle.text_prefixes.proofs.Completions as prefixes
 use Rattle.text_prefixes.proofs.Cores.{Marked, marked_from, marked_to}
@@ -96,22 +96,24 @@ numbers_from : (t : Text) → Numbers t → IsStatedText t
 numbers_from t w = elim (cases IsNumber IsNumber IsNumber Marks t w) [
   | inl o ↦ (one t, (spelled_one t (of_number t o.is), rw (not_wild t o.is) refl, some_stated t [] o.is))
   | inr v ↦ elim v [
-    | inl o ↦ (two o.a o.b, (
-      subst (SpellsPartial (two o.a o.b)) (sym o.whole) (spelled_two o.a o.b (of_number o.a o.in_a) (of_number o.b o.in_b)),
-      rw (not_wild o.a o.in_a, not_wild o.b o.in_b) refl,
-      some_stated o.a (o.b ∷ []) o.in_a,
-    ))
+    | inl o ↦ (
+      two o.a o.b,
+      (
+        subst (SpellsPartial (two o.a o.b)) (sym o.whole) (spelled_two o.a o.b (of_number o.a o.in_a) (of_number o.b o.in_b)),
+        rw (not_wild o.a o.in_a, not_wild o.b o.in_b) refl,
+        some_stated o.a (o.b ∷ []) o.in_a,
+      ),
+    )
     | inr o ↦ (
         let pre = marked_from 45 IsPre o.in_m.first o.in_m.in_first in
         let build = marked_from 43 IsBuild o.in_m.second o.in_m.in_second in
         let pre_parts = parts_from has_no_leading_zero pre.texts pre.each in
-        let build_parts = parts_from (λ t. true) build.texts build.each in
-        (
+        let build_parts = parts_from (λ t. true) build.texts build.each in (
           three o.a o.b o.c pre.texts build.texts,
           (
             subst (SpellsPartial (three o.a o.b o.c pre.texts build.texts)) (sym o.whole)
-            (spelled_three o.a o.b o.c o.m pre.texts build.texts (of_number o.a o.in_a) (of_number o.b o.in_b) (of_number o.c o.in_c)
-            pre_parts.0 build_parts.0 (o.in_m.whole ∙ (λ i. pre.whole i ++ build.whole i))),
+                (spelled_three o.a o.b o.c o.m pre.texts build.texts (of_number o.a o.in_a) (of_number o.b o.in_b) (of_number o.c o.in_c)
+                pre_parts.0 build_parts.0 (o.in_m.whole ∙ (λ i. pre.whole i ++ build.whole i))),
             rw (not_wild o.a o.in_a, not_wild o.b o.in_b, not_wild o.c o.in_c, pre_parts.1) (and_from _ _ (or_right _ _ refl) refl),
             some_stated o.a (o.b ∷ o.c ∷ []) o.in_a,
           ),
@@ -123,17 +125,23 @@ patch_from : (t : Text) → WildPatch t → IsStatedText t
 patch_from t w = elim (cases IsNumber IsNumber IsWild IsNothing t w) [
   | inl o ↦ (one t, (spelled_one t (of_number t o.is), rw (not_wild t o.is) refl, some_stated t [] o.is))
   | inr v ↦ elim v [
-    | inl o ↦ (two o.a o.b, (
-      subst (SpellsPartial (two o.a o.b)) (sym o.whole) (spelled_two o.a o.b (of_number o.a o.in_a) (of_number o.b o.in_b)),
-      rw (not_wild o.a o.in_a, not_wild o.b o.in_b) refl,
-      some_stated o.a (o.b ∷ []) o.in_a,
-    ))
-    | inr o ↦ (three o.a o.b o.c [] [], (
-      subst (SpellsPartial (three o.a o.b o.c [] [])) (sym o.whole)
-          (spelled_three o.a o.b o.c o.m [] [] (of_number o.a o.in_a) (of_number o.b o.in_b) (of_wild o.c o.in_c) refl refl o.in_m),
-      rw (not_wild o.a o.in_a, not_wild o.b o.in_b, o.in_c) refl,
-      some_stated o.a (o.b ∷ o.c ∷ []) o.in_a,
-    ))
+    | inl o ↦ (
+      two o.a o.b,
+      (
+        subst (SpellsPartial (two o.a o.b)) (sym o.whole) (spelled_two o.a o.b (of_number o.a o.in_a) (of_number o.b o.in_b)),
+        rw (not_wild o.a o.in_a, not_wild o.b o.in_b) refl,
+        some_stated o.a (o.b ∷ []) o.in_a,
+      ),
+    )
+    | inr o ↦ (
+      three o.a o.b o.c [] [],
+      (
+        subst (SpellsPartial (three o.a o.b o.c [] [])) (sym o.whole)
+            (spelled_three o.a o.b o.c o.m [] [] (of_number o.a o.in_a) (of_number o.b o.in_b) (of_wild o.c o.in_c) refl refl o.in_m),
+        rw (not_wild o.a o.in_a, not_wild o.b o.in_b, o.in_c) refl,
+        some_stated o.a (o.b ∷ o.c ∷ []) o.in_a,
+      ),
+    )
   ]
 ]
 
@@ -141,17 +149,23 @@ minor_from : (t : Text) → WildMinor t → IsStatedText t
 minor_from t w = elim (cases IsNumber IsWild IsWild IsNothing t w) [
   | inl o ↦ (one t, (spelled_one t (of_number t o.is), rw (not_wild t o.is) refl, some_stated t [] o.is))
   | inr v ↦ elim v [
-    | inl o ↦ (two o.a o.b, (
-      subst (SpellsPartial (two o.a o.b)) (sym o.whole) (spelled_two o.a o.b (of_number o.a o.in_a) (of_wild o.b o.in_b)),
-      rw (not_wild o.a o.in_a, o.in_b) refl,
-      some_stated o.a (o.b ∷ []) o.in_a,
-    ))
-    | inr o ↦ (three o.a o.b o.c [] [], (
-      subst (SpellsPartial (three o.a o.b o.c [] [])) (sym o.whole)
-          (spelled_three o.a o.b o.c o.m [] [] (of_number o.a o.in_a) (of_wild o.b o.in_b) (of_wild o.c o.in_c) refl refl o.in_m),
-      rw (not_wild o.a o.in_a, o.in_b, o.in_c) refl,
-      some_stated o.a (o.b ∷ o.c ∷ []) o.in_a,
-    ))
+    | inl o ↦ (
+      two o.a o.b,
+      (
+        subst (SpellsPartial (two o.a o.b)) (sym o.whole) (spelled_two o.a o.b (of_number o.a o.in_a) (of_wild o.b o.in_b)),
+        rw (not_wild o.a o.in_a, o.in_b) refl,
+        some_stated o.a (o.b ∷ []) o.in_a,
+      ),
+    )
+    | inr o ↦ (
+      three o.a o.b o.c [] [],
+      (
+        subst (SpellsPartial (three o.a o.b o.c [] [])) (sym o.whole)
+            (spelled_three o.a o.b o.c o.m [] [] (of_number o.a o.in_a) (of_wild o.b o.in_b) (of_wild o.c o.in_c) refl refl o.in_m),
+        rw (not_wild o.a o.in_a, o.in_b, o.in_c) refl,
+        some_stated o.a (o.b ∷ o.c ∷ []) o.in_a,
+      ),
+    )
   ]
 ]
 
@@ -281,18 +295,18 @@ comparator_from t w =
     let s : Simple = record { form = signed.in_first.0; partial = p.0 } in (
       s,
       record {
-          before = w.first;
-          gap = gap.first;
-          word = word.first;
-          after = word.second;
-          before_is = w.in_first;
-          gap_is = gap.in_first;
-          after_is = word.in_second;
-          partial = p.1.0;
-          is_read = stated_read s p.1.1 p.1.2;
-          text = w.whole ∙ ap (λ x. w.first ++ x) (signed.whole ∙ (λ i. signed.in_first.1 i ++ (gap.whole
-              ∙ ap (λ x. gap.first ++ x) word.whole) i));
-        },
+        before = w.first;
+        gap = gap.first;
+        word = word.first;
+        after = word.second;
+        before_is = w.in_first;
+        gap_is = gap.in_first;
+        after_is = word.in_second;
+        partial = p.1.0;
+        is_read = stated_read s p.1.1 p.1.2;
+        text = w.whole ∙ ap (λ x. w.first ++ x) (signed.whole ∙ (λ i. signed.in_first.1 i ++ (gap.whole
+            ∙ ap (λ x. gap.first ++ x) word.whole) i));
+      },
       p.1.2,
     )
 
@@ -322,17 +336,17 @@ every_from : (t : Text) → Every t → IsEvery t
 every_from t w = let wild = w.in_second in (
   record { form = bare; partial = one wild.first },
   record {
-      before = w.first;
-      gap = [];
-      word = wild.first;
-      after = wild.second;
-      before_is = w.in_first;
-      gap_is = refl;
-      after_is = wild.in_second;
-      partial = spelled_one wild.first (of_wild wild.first wild.in_first);
-      is_read = rw (wild.in_first) refl;
-      text = w.whole ∙ ap (λ x. w.first ++ x) wild.whole;
-    },
+    before = w.first;
+    gap = [];
+    word = wild.first;
+    after = wild.second;
+    before_is = w.in_first;
+    gap_is = refl;
+    after_is = wild.in_second;
+    partial = spelled_one wild.first (of_wild wild.first wild.in_first);
+    is_read = rw (wild.in_first) refl;
+    text = w.whole ∙ ap (λ x. w.first ++ x) wild.whole;
+  },
   none_stated wild.first [] ∙ wild.in_first,
 )
 

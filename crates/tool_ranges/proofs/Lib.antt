@@ -3,7 +3,6 @@ mod FoundComparators
 mod RequirementSteps
 mod RequirementLaws
 mod RequirementPrinted
-pub mod CargoFronts
 mod ReadMeanings
 mod ReadRows
 mod PreReleaseMeanings
@@ -24,11 +23,8 @@ mod AskedRanges
 mod AskedRequirements
 pub mod ReadingLaws
 mod Places
-pub mod FittingSimples
-pub mod FittingPartials
-pub mod FittingRanges
-pub mod FittingTexts
 mod RangeErrors
+mod TooLargeTerms
 mod RangeLeaves
 mod PartialCompletions
 mod WordCompletions

@@ -1,10 +1,10 @@
 -- How the prefixes of partials are completed: one to three components of three languages, and after three what may follow them.
 use Rattle.std.proofs.Common.{◌≡◌, ℕ, ◌⊎◌, inl, inr, true, List, [], ◌∷◌, ◌++◌, codes, refl, sym, ap, ◌∙◌, arith, append-nil, append_assoc, subst}
 use Rattle.std.proofs.lemmas.Bool.{and_parts, and_from}
-use Rattle.std.specs.List.{AllByRecursion, join_with_byte, list_all}
+use Rattle.std.specs.List.{list_all}
 use Rattle.std.specs.Prelude.{◌&&◌}
 use Rattle.semver_texts.specs.Texts.{Text, is_part, marked}
-use Rattle.semver_ranges.specs.RangeTree.{PartialTree, one, two, three, SpellsPartial, is_component}
+use Rattle.semver_ranges.specs.RangeTree.{one, two, three, SpellsPartial, is_component}
 use Rattle.text_prefixes.proofs.Completions.{CompletesBy, Joined, Seq, both, byte_by, in_bytes, joined, optional, seq}
 
 -- identifiers after their mark

@@ -7,11 +7,10 @@ use Rattle.std.proofs.lemmas.Bool.{and_parts, eqb-true}
 use Rattle.std.proofs.lemmas.Bool.Decides.{nat_tests}
 use Rattle.semver_texts.specs.Texts.{Text}
 use Rattle.semver_texts.specs.declared.grammar.Grammar.{Grammar}
-use Rattle.semver_texts.specs.declared.grammar.Grammar.TheVariants.{Crate, Cargo, Npm}
 use Rattle.semver_ranges.specs.RangeTree.{Form, bare, equal, less, at_most, greater, at_least, tilde, caret, Simple, RangeTree, empty, hyphen, simples}
 use Rattle.semver_ranges.specs.RangeTree.{PartialTree, SetTree, Role, after_form, after_hyphen, AreBlanks, AreSomeBlanks, SpellsForm, SpellsIn}
 use Rattle.semver_ranges.specs.RangeTree.{SpellsPadded, SpellsRange, SpellsSimple, SpellsSimples, SpellsWord}
-use Rattle.text_prefixes.proofs.Completions.{CompletesBy, Dependent, Separated, Seq, among, both, byte_by, choice, dependent, in_bytes}
+use Rattle.text_prefixes.proofs.Completions.{CompletesBy, Separated, Seq, among, both, byte_by, choice, dependent, in_bytes}
 use Rattle.text_prefixes.proofs.Completions.{many, optional, same, seq}
 use Rattle.text_prefixes.proofs.Leaves.{either}
 use Rattle.tool_ranges.proofs.RangeLeaves.{blanks, blanks_append, closed, some_blanks}

@@ -1,6 +1,6 @@
 -- How the prefixes of the words of range texts, as the crate and as npm read them, are completed.
-use Rattle.std.proofs.Common.{◌≡◌, ℕ, ◌+◌, ◌<◌, ◌≤◌, ◌⊎◌, inl, inr, Bool, true, false, List, [], ◌∷◌, ◌++◌, codes, length, refl, sym, ap, ◌∙◌, arith}
-use Rattle.std.proofs.Common.{append-nil, append_assoc, cond, eqb, length-append, subst}
+use Rattle.std.proofs.Common.{◌≡◌, ℕ, ◌+◌, ◌≤◌, ◌⊎◌, inl, inr, Bool, true, false, List, [], ◌∷◌, ◌++◌, codes, length, refl, sym, ap, ◌∙◌, arith}
+use Rattle.std.proofs.Common.{append-nil, cond, eqb, length-append, subst}
 use Rattle.std.specs.Prelude.{◌&&◌, ◌||◌, ◌==◌, not, nat_le, if◌then◌else◌}
 use Rattle.std.specs.Char.{is_ascii_digit}
 use Rattle.std.specs.List.{AllByRecursion, list_all}
@@ -14,15 +14,15 @@ use Rattle.semver_texts.specs.declared.grammar.Grammar.{Grammar}
 use Rattle.semver_texts.specs.declared.grammar.Grammar.TheVariants.{Crate, Npm}
 use Rattle.semver_texts.proofs.Lists.{by_test}
 use Rattle.semver_ranges.specs.NpmLengths.{is_short_number, is_short_pre, is_short_build, is_short_version, leading_digits}
-use Rattle.semver_ranges.specs.RangeTree.{Form, bare, tilde, caret, PartialTree, one, two, three, Role, after_form, after_hyphen, SpellsPartial}
-use Rattle.semver_ranges.specs.RangeTree.{SpellsWord, components, has_short_parts, has_short_version, is_component, is_taken_whole, is_wildcard}
+use Rattle.semver_ranges.specs.RangeTree.{bare, tilde, caret, PartialTree, one, two, three, Role, after_form, after_hyphen, SpellsPartial}
+use Rattle.semver_ranges.specs.RangeTree.{SpellsWord, has_short_parts, has_short_version, is_component, is_taken_whole, is_wildcard}
 use Rattle.semver_ranges.specs.RangeTree.{is_word_of_npm, numbers_and_pre}
-use Rattle.text_prefixes.proofs.Completions.{CompletesBy, Joined, Seq, among, any, both, byte_by, in_bytes, limited, optional, same, seq}
+use Rattle.text_prefixes.proofs.Completions.{CompletesBy, Seq, among, any, both, byte_by, in_bytes, limited, optional, same, seq}
 use Rattle.text_prefixes.proofs.Cores.{Marked, marked_from, marked_to}
 use Rattle.text_prefixes.proofs.Leaves.{IsBuild, IsPartWith}
 use Rattle.text_prefixes.proofs.VersionPrefixes.{all_true, parts_from, parts_to}
 use Rattle.tool_ranges.proofs.RangeLeaves.{closed, component_prefix, part, some_component, wildcard_prefix}
-use Rattle.tool_ranges.proofs.PartialCompletions.{Mark, Partial, IsOne, IsTwo, IsThree, build_mark, cases, components_of_three, one_text, partial}
+use Rattle.tool_ranges.proofs.PartialCompletions.{Mark, Partial, IsThree, build_mark, cases, components_of_three, one_text, partial}
 use Rattle.tool_ranges.proofs.PartialCompletions.{pre_mark, spelled_one, spelled_two, spelled_three, three_is, three_text, two_text}
 
 abbrev pub IsWord : Grammar → Role → Text → Type 0
@@ -58,8 +58,8 @@ crate_from t w = elim (cases IsComponent IsComponent IsComponent Marks t w) [
         let build = marked_from 43 IsBuild o.in_m.second o.in_m.in_second in (
           three o.a o.b o.c pre.texts build.texts,
           subst (SpellsPartial (three o.a o.b o.c pre.texts build.texts)) (sym o.whole)
-          (spelled_three o.a o.b o.c o.m pre.texts build.texts o.in_a o.in_b o.in_c (parts_from (λ t. true) pre.texts pre.each).0
-          (parts_from (λ t. true) build.texts build.each).0 (o.in_m.whole ∙ (λ i. pre.whole i ++ build.whole i))),
+              (spelled_three o.a o.b o.c o.m pre.texts build.texts o.in_a o.in_b o.in_c (parts_from (λ t. true) pre.texts pre.each).0
+              (parts_from (λ t. true) build.texts build.each).0 (o.in_m.whole ∙ (λ i. pre.whole i ++ build.whole i))),
         ))
   ]
 ]
@@ -200,13 +200,16 @@ marks_to [] build q all others short = marked_to 43 NpmBuild build others
 marks_to (x ∷ xs) build q all others short = inr (record {
   first = marked (45 ∷ []) (x ∷ xs);
   second = marked (43 ∷ []) build;
-  in_first = (record {
-    first = codes "-";
-    second = _;
-    in_first = refl;
-    in_second = record { first = x; others = xs; each = all; whole = refl };
-    whole = refl;
-  }, short);
+  in_first = (
+    record {
+      first = codes "-";
+      second = _;
+      in_first = refl;
+      in_second = record { first = x; others = xs; each = all; whole = refl };
+      whole = refl;
+    },
+    short,
+  );
   in_second = marked_to 43 NpmBuild build others;
   whole = refl;
 })
@@ -407,7 +410,7 @@ module _ (role : Role) where
               back,
               v_is,
               subst (SpellsPartial (three o.a o.b o.c marks.pre marks.build)) (sym o.whole)
-              (spelled_three o.a o.b o.c o.m marks.pre marks.build o.in_a.0 o.in_b.0 o.in_c.0 pre.0 build.0 marks.whole),
+                  (spelled_three o.a o.b o.c o.m marks.pre marks.build o.in_a.0 o.in_b.0 o.in_c.0 pre.0 build.0 marks.whole),
               and_from _ _ passes.0 (and_from _ _ parts (short_three o.a o.b o.c marks.pre marks.build (length t) short)),
               whole,
             ),
@@ -417,14 +420,17 @@ module _ (role : Role) where
     word_from t (s, less) = elim (cases (InPlace i.a) (InPlace i.b) (InPlace i.c) (NpmMarks i.k i.q) s.second s.in_second) [
       | inl o ↦ (one s.second, (s.first, s.second, s.in_first, spelled_one s.second o.is.0, rw (o.is.1) refl, s.whole))
       | inr w ↦ elim w [
-        | inl o ↦ (two o.a o.b, (
-          s.first,
-          s.second,
-          s.in_first,
-          subst (SpellsPartial (two o.a o.b)) (sym o.whole) (spelled_two o.a o.b o.in_a.0 o.in_b.0),
-          rw (o.in_a.1, o.in_b.1) refl,
-          s.whole,
-        ))
+        | inl o ↦ (
+          two o.a o.b,
+          (
+            s.first,
+            s.second,
+            s.in_first,
+            subst (SpellsPartial (two o.a o.b)) (sym o.whole) (spelled_two o.a o.b o.in_a.0 o.in_b.0),
+            rw (o.in_a.1, o.in_b.1) refl,
+            s.whole,
+          ),
+        )
         | inr o ↦ three_word t s.first s.second s.in_first s.whole less o
       ]
     ]

@@ -9,5 +9,6 @@ pub mod AllPreReleases
 pub mod Steps
 pub mod Dialects
 pub mod Prefixes
+pub mod TooLarge
 pub mod Hints
 pub mod Meanings

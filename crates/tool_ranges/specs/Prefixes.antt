@@ -2,11 +2,8 @@
 use Rattle.std.specs.Prelude.{◌++◌}
 use Rattle.semver_texts.specs.Texts.{Text}
 use Rattle.tool_ranges.specs.declared.dialect.Dialect.{Dialect}
-use Rattle.tool_ranges.specs.Dialects.{HasSetAs, IsTextAs}
+use Rattle.tool_ranges.specs.Dialects.{IsTextAs}
 
--- some text after it makes a range text, or one that has a set
+-- some text after it makes a range text
 abbrev pub BeginsAs : Dialect → Text → Type 0
 BeginsAs dialect t = (rest : Text) × IsTextAs dialect (t ++ rest)
-
-abbrev pub BeginsFitting : Dialect → Text → Type 0
-BeginsFitting dialect t = (rest : Text) × HasSetAs dialect (t ++ rest)

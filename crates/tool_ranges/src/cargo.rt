@@ -24,6 +24,7 @@ ghost use Rattle.semver_ranges.specs.Steps.CursorViews.{IsSimpleOf};
 ghost use Rattle.tool_ranges.specs.Steps.CargoPreReleases.{counting_one, judging, judging_one};
 
 mod asking;
+mod fitting;
 mod grammar;
 mod judging;
 mod pre_releases;
@@ -31,6 +32,7 @@ mod reading;
 
 use crate::rows::{self, Cell};
 pub(crate) use asking::{ask, ask_with_all};
+pub(crate) use fitting::fitting;
 use grammar::read_comparator;
 use judging::{JudgedVersions, push_judging};
 pub use reading::read;

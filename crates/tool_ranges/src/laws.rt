@@ -3,9 +3,10 @@
 ghost use Rattle.std.specs.Prelude.{◌≡◌, ◌++◌, ℕ, []};
 ghost use Rattle.semver_texts.specs.Texts.{Text};
 ghost use Rattle.text_prefixes.specs.Prefixes.{IsLongestPrefix};
-ghost use Rattle.tool_ranges.specs.Prefixes.{BeginsAs, BeginsFitting};
+ghost use Rattle.tool_ranges.specs.Prefixes.{BeginsAs};
 ghost use Rattle.tool_ranges.specs.declared.dialect.Dialect.{Dialect};
 ghost use Rattle.tool_ranges.specs.Dialects.{IsTextAs, SpellsAs, TreeOf};
+ghost use Rattle.tool_ranges.specs.TooLarge.{IsLimitOffset};
 
 /// In no dialect a range text has two trees.
 pub fn one_tree()
@@ -24,11 +25,12 @@ pub fn fronts_begin_fronts()
 /// A text has one place at which it stops being the front of a range text.
 pub fn one_place()
     ensures same_place { (dialect : Dialect) (t : Text) (m n : ℕ)
-        → IsLongestPrefix (BeginsAs dialect) t m → IsLongestPrefix (BeginsAs dialect) t n → m ≡ n }
+        → IsLongestPrefix (BeginsAs dialect) t m → IsLongestPrefix (BeginsAs dialect) t n
+        → m ≡ n }
 {}
 
-/// And one after which no range text has numbers that fit.
+/// And one end of the first term that does not fit.
 pub fn one_limit_place()
     ensures same_place { (dialect : Dialect) (t : Text) (m n : ℕ)
-        → IsLongestPrefix (BeginsFitting dialect) t m → IsLongestPrefix (BeginsFitting dialect) t n → m ≡ n }
+        → IsLimitOffset dialect t m → IsLimitOffset dialect t n → m ≡ n }
 {}

@@ -7,6 +7,7 @@ pub mod cargo;
 mod ending;
 pub mod hints;
 pub mod laws;
+mod limit;
 pub mod meaning;
 pub mod npm;
 pub mod place;

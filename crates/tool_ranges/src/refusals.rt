@@ -5,12 +5,14 @@ ghost use Rattle.semver_ranges.specs.declared.range_set.RangeError.TheVariants.{
 ghost use Rattle.semver_ranges.specs.declared.range_set.RangeError.TheVariants.{NumberTooLarge};
 ghost use Rattle.semver_ranges.specs.declared.range_set.RangeError.TheVariants.{OutOfMemory};
 ghost use Rattle.text_prefixes.specs.Prefixes.{IsLongestPrefix};
-ghost use Rattle.tool_ranges.specs.Prefixes.{BeginsAs, BeginsFitting};
+ghost use Rattle.tool_ranges.specs.Prefixes.{BeginsAs};
 ghost use Rattle.tool_ranges.specs.Hints.{limit_of};
-ghost use Rattle.tool_ranges.specs.Dialects.{HasSetAs, IsTextAs, IsTooLargeAs};
+ghost use Rattle.tool_ranges.specs.Dialects.{HasSetAs, IsTextAs, IsTooLargeAs, SpellsAs, TreeOf};
+ghost use Rattle.tool_ranges.specs.TooLarge.{IsLimitOffset, limit_offset};
 
 use crate::hints::{self, Hint};
-use crate::place::{check, error_place, limit_place};
+use crate::limit::limit_offset;
+use crate::place::{check, error_place};
 use crate::dialect::Dialect;
 use semver_ranges::RangeError;
 use std::alloc::{AllocError, Global};
@@ -20,11 +22,10 @@ use std::alloc::{AllocError, Global};
 pub struct Refusal {
     /// `NotARange` or `NumberTooLarge`.
     pub error: RangeError,
-    /// The byte offset of the first character that no range of the dialect has there, or the length
-    /// of the text if something is missing at its end. Of a number that is too large it is that of
-    /// the first character after which no range has numbers that fit, or the length of the text if
-    /// only what follows could make it fit, as of `<=18446744073709551615` by the crate's in npm's
-    /// mode.
+    /// The byte offset of the first character that no range of the dialect has there, or the
+    /// length of the text if something is missing at its end. Of a number that is too large it is
+    /// the end of the first term that states a number, or has a raised bound, above the limit of
+    /// the dialect: 21 in `=18446744073709551616 || 1`.
     pub place: usize,
     /// What may have been meant, or of a number that is too large the limit of the dialect.
     pub hint: Option<Hint>,
@@ -37,8 +38,8 @@ pub struct Refusal {
 ///
 /// # Errors
 ///
-/// `AllocError` if an allocation fails. It allocates only if the text gives no range, and then one
-/// buffer of about its length.
+/// `AllocError` if an allocation fails. It allocates only if the text is no range text, and then
+/// one buffer of about its length.
 pub fn refused(alloc: Global, dialect: Dialect, text: &str) -> Result<Option<Refusal>, AllocError>
     // Nothing is refused of a text that gives a range.
     ensures range { IfOk result (λ found. (found ≡ None) ↔ HasSetAs dialect text.now) }
@@ -48,12 +49,12 @@ pub fn refused(alloc: Global, dialect: Dialect, text: &str) -> Result<Option<Ref
         (refusal.error ≡ NumberTooLarge) ↔ IsTooLargeAs dialect text.now)) }
     ensures no_memory { IfOk result (λ found. IfSome found (λ refusal.
         refusal.error ≢ OutOfMemory)) }
-    // Some range text begins with what is before the place, and none with a longer front.
+    // Some range text begins with what is before the place, and none with a longer prefix.
     ensures place { IfOk result (λ found. IfSome found (λ refusal. refusal.error ≡ NotARange
         → IsLongestPrefix (BeginsAs dialect) text.now refusal.place)) }
-    // Some text that gives a range begins with it, and none with a longer front.
+    // It is the end of the first term that does not fit.
     ensures limit { IfOk result (λ found. IfSome found (λ refusal. refusal.error ≡ NumberTooLarge
-        → IsLongestPrefix (BeginsFitting dialect) text.now refusal.place)) }
+        → IsLimitOffset dialect text.now refusal.place)) }
     // The hint of a number that is too large is the limit of the dialect.
     ensures limit_hint { IfOk result (λ found. IfSome found (λ refusal.
         refusal.error ≡ NumberTooLarge → refusal.hint ≡ Some (limit_of dialect))) }
@@ -76,14 +77,14 @@ fn explained(
 ) -> Result<(usize, Option<Hint>), AllocError>
     ensures place { IfOk result (λ told. error.now ≡ NotARange
         → IsLongestPrefix (BeginsAs dialect) text.now told.0) }
-    ensures limit { IfOk result (λ told. error.now ≡ NumberTooLarge
-        → IsLongestPrefix (BeginsFitting dialect) text.now told.0) }
+    ensures limit { IfOk result (λ told. error.now ≡ NumberTooLarge → (tree : TreeOf dialect)
+        → SpellsAs dialect tree text.now → told.0 ≡ limit_offset dialect tree text.now) }
     ensures limit_hint { IfOk result (λ told. error.now ≡ NumberTooLarge
         → told.1 ≡ Some (limit_of dialect)) }
 {
     match error {
         RangeError::NumberTooLarge => {
-            let place = limit_place(alloc, dialect, text)?;
+            let place = limit_offset(dialect, text);
             Ok((place, Some(hints::limit(dialect))))
         }
         _ => {

@@ -2,13 +2,14 @@
 //! allocates.
 
 ghost use Rattle.std.specs.Prelude.{◌≡◌, ◌≢◌, true, Err, IfOk, MatchResult};
-ghost use Rattle.std.specs.List.{list_any};
-ghost use Rattle.semver_ranges.specs.RangeTree.{Simple as SimpleTree, SetTree, Spells};
+ghost use Rattle.std.specs.List.{flat_map, list_any, prefix_len};
+ghost use Rattle.semver_ranges.specs.RangeTree.{Simple as SimpleTree, SetTree, Spells, SpellsIn};
 ghost use Rattle.semver_ranges.specs.Steps.CursorViews.{IsSimpleOf};
 ghost use Rattle.semver_ranges.specs.RangeTexts.{RefusesExactly};
 ghost use Rattle.tool_ranges.specs.Steps.Asking.{Refuses, Says, asked_of, begun, ended, taken};
 ghost use Rattle.tool_ranges.specs.Steps.Asking.{grammar_of, lower_of, range_met};
 ghost use Rattle.tool_ranges.specs.Steps.Asking.{term_fits, term_met};
+ghost use Rattle.tool_ranges.specs.TooLarge.{stating, terms_of};
 
 use crate::asked::Asked;
 use crate::asking::{asks_nothing, meets_all, meets_crate, meets_npm};
@@ -190,4 +191,31 @@ pub(crate) fn ask_crate(
         Ok(tally) => Ok(tally.met),
         Err(refusal) => Err(refusal),
     }
+}
+
+/// How many terms of a range text that state a number, from the left, fit.
+pub(crate) fn fitting(text: &[u8], terms: Terms) -> u128
+    ensures { (tree : SetTree) → SpellsIn (grammar_of terms) tree text.now
+        → result ≡ prefix_len (term_fits terms) (stating (flat_map terms_of tree)) }
+{
+    let grammar = terms.grammar();
+    let mut events = Events::new(text, grammar, terms.lower());
+    let mut fitting = 0;
+    while let Some(event) = events.next_in(grammar) {
+        let Ok(event) = event else {
+            return fitting;
+        };
+        match event {
+            Event::Simple(simple) => {
+                if !simple.partial.states_nothing() {
+                    if !fits(terms, &simple) {
+                        return fitting;
+                    }
+                    fitting += 1;
+                }
+            }
+            Event::NextRange => {}
+        }
+    }
+    fitting
 }

@@ -1,6 +1,5 @@
-use Rattle.text_prefixes.proofs.LongestPrefixes.{one_longest}
-use Rattle.tool_ranges.specs.Prefixes.{BeginsFitting}
+use Rattle.tool_ranges.proofs.Places.{one_limit}
 use Rattle.tool_ranges.proofs.laws.one_limit_place.Goals as goal
 
 pub returns : goal.returns
-returns c = record { same_place = λ dialect. one_longest (BeginsFitting dialect) }
+returns c = record { same_place = one_limit }

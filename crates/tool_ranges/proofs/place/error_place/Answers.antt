@@ -1,8 +1,17 @@
-use Rattle.std.proofs.lemmas.Result.{IfOk-weaker}
-use Rattle.tool_ranges.specs.declared.place.Wanted.TheVariants.{Any}
-use Rattle.tool_ranges.proofs.Places.{longest_by}
+use Rattle.text_prefixes.proofs.LongestPrefixes.{whole_text_longest}
+use Rattle.tool_ranges.specs.Dialects.{IsTextAs}
+use Rattle.tool_ranges.specs.Steps.Places.{range_completions}
+use Rattle.tool_ranges.proofs.Places.{completed, longest_as}
 use Rattle.tool_ranges.proofs.place.error_place.Goals as goal
 
+pub returns-then-is_range-clause-place : goal.returns-then-is_range-clause-place
+returns-then-is_range-clause-place c =
+    longest_as c.args.dialect c.args.text.now c.utf8.text _
+    (whole_text_longest (IsTextAs c.args.dialect) range_completions c.args.text.now (completed c.args.dialect)
+    (c.is_range.ensures.0 c.if-is_range.true))
+
+pub longest_prefix-requires-clause-completions : goal.longest_prefix-requires-clause-completions
+longest_prefix-requires-clause-completions c = completed c.args.dialect
+
 pub returns-clause-place : goal.returns-clause-place
-returns-clause-place c =
-    IfOk-weaker c.longest.result _ _ (longest_by Any c.args.dialect c.args.text.now c.utf8.text) c.longest.ensures.place
+returns-clause-place c = longest_as c.args.dialect c.args.text.now c.utf8.text c.longest_prefix.result c.longest_prefix.ensures

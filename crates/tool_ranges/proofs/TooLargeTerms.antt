@@ -1,0 +1,181 @@
+-- Which terms of a range text fit, from the left, as the loops over its events and comparators count them; and where a word ends.
+use Rattle.std.proofs.Common.{◌≡◌, ℕ, zero, suc, ◌+◌, ◌≤◌, Bool, true, false, List, [], ◌∷◌, ◌++◌, Option, Some, None, length, refl, sym, ap, ◌∙◌, arith}
+use Rattle.std.specs.List.{flat_map, prefix_len}
+use Rattle.std.proofs.lemmas.List.Splits.{length-slice_split}
+use Rattle.semver_texts.specs.Texts.{Text}
+use Rattle.semver_texts.proofs.Lists.{by_test}
+use Rattle.semver_ranges.specs.declared.partial.LowerBounds.{LowerBounds}
+use Rattle.semver_texts.specs.declared.grammar.Grammar.{Grammar}
+use Rattle.semver_ranges.specs.declared.events.Event.TheVariants as event
+use Rattle.semver_ranges.specs.declared.events.Events.{Events}
+use Rattle.semver_ranges.specs.Steps.CursorViews.{HasLeft, IsFirst}
+use Rattle.semver_ranges.specs.Partials.{states_nothing}
+use Rattle.semver_ranges.specs.RangeTree.{PartialTree, RangeTree, Simple, SetTree, SpellsIn, empty, hyphen, simples}
+use Rattle.semver_ranges.specs.RewritingTable.{PlainComparator}
+use Rattle.semver_ranges.specs.Terms.{left_side, right_side}
+use Rattle.semver_ranges.specs.Steps.PartialViews.{begun_as}
+use Rattle.semver_ranges.specs.Steps.RangeEvents.{Event, one_simple, next_range, put, in_front, yielded, events, events_of, set_events, wildcard}
+use Rattle.semver_ranges.proofs.ReadingComplete.{tree_read}
+use Rattle.semver_ranges.proofs.Tables.{IsTable, begun_stated}
+use Rattle.tool_ranges.specs.Steps.Asking.{grammar_of, lower_of, term_fits}
+use Rattle.tool_ranges.specs.declared.tally.Terms.{Terms}
+use Rattle.tool_ranges.specs.TooLarge.{end_of_word, is_separator, states_number, stating, terms_of, words}
+use Rattle.tool_ranges.proofs.AskedEvents.{table_of}
+
+-- ---- how many of some terms fit, of those that state a number
+
+abbrev pub fitting : (Simple → Bool) → List Simple → ℕ
+fitting p ss = prefix_len p (stating ss)
+
+module _ (p : Simple → Bool) (s : Simple) (ss : List Simple) where
+  pub fitting_nothing : states_nothing s.partial ≡ true → fitting p (s ∷ ss) ≡ fitting p ss
+  fitting_nothing y = rw y refl
+
+  pub fitting_more : states_nothing s.partial ≡ false → p s ≡ true → fitting p (s ∷ ss) ≡ 1 + fitting p ss
+  fitting_more n y = rw (n, y) refl
+
+  pub fitting_end : states_nothing s.partial ≡ false → p s ≡ false → fitting p (s ∷ ss) ≡ 0
+  fitting_end n y = rw (n, y) refl
+
+-- those of the events
+abbrev in_events : List Event → List Simple
+in_events [] = []
+in_events (one_simple s ∷ es) = s ∷ in_events es
+in_events (next_range ∷ es) = in_events es
+
+-- with k that were counted before; nothing if the text is none
+abbrev pub counted : (Simple → Bool) → ℕ → Option (List Event) → Option ℕ
+counted p k None = None
+counted p k (Some es) = Some (k + fitting p (in_events es))
+
+-- two bars that come first
+pub bars_first : (d : Grammar) (o : Option (List Event)) (cursor : Events) → IsFirst d o event.NextRange cursor
+    → (left : Option (List Event)) × HasLeft d cursor left × (o ≡ put next_range left)
+bars_first d o cursor (one_simple s, left, is, has, e) = absurd is
+bars_first d o cursor (next_range, left, is, has, e) = (left, has, e)
+
+module _ (p : Simple → Bool) (whole : Option ℕ) (k : ℕ) (o left : Option (List Event)) (so_far : whole ≡ counted p k o) where
+  pub count_bars : o ≡ put next_range left → whole ≡ counted p k left
+  count_bars e = so_far ∙ ap (counted p k) e ∙ bars left
+    where
+      bars : (left : Option (List Event)) → counted p k (put next_range left) ≡ counted p k left
+      bars None = refl
+      bars (Some es) = refl
+
+  module _ (s : Simple) (first : o ≡ put (one_simple s) left) where
+    pub count_nothing : states_nothing s.partial ≡ true → whole ≡ counted p k left
+    count_nothing y = so_far ∙ ap (counted p k) first ∙ same left
+      where
+        same : (left : Option (List Event)) → counted p k (put (one_simple s) left) ≡ counted p k left
+        same None = refl
+        same (Some es) = ap (λ n. Some (k + n)) (fitting_nothing p s (in_events es) y)
+
+    pub count_more : states_nothing s.partial ≡ false → p s ≡ true → whole ≡ counted p (k + 1) left
+    count_more n y = so_far ∙ ap (counted p k) first ∙ more left
+      where
+        more : (left : Option (List Event)) → counted p k (put (one_simple s) left) ≡ counted p (k + 1) left
+        more None = refl
+        more (Some es) = let e = fitting_more p s (in_events es) n y in ap Some (omega (arith, e))
+
+    pub count_end : states_nothing s.partial ≡ false → p s ≡ false → (n : ℕ) → whole ≡ Some n → n ≡ k
+    count_end none y n is = end left (sym is ∙ so_far ∙ ap (counted p k) first)
+      where
+        end : (left : Option (List Event)) → Some n ≡ counted p k (put (one_simple s) left) → n ≡ k
+        end None e = cc
+        end (Some es) e = let h = fitting_end p s (in_events es) none y in let same : n ≡ k + fitting p (s ∷ in_events es) = cc in omega (arith, same, h)
+
+  pub count_all : o ≡ Some [] → (n : ℕ) → whole ≡ Some n → n ≡ k
+  count_all e n is = let same : Some n ≡ Some (k + 0) = sym is ∙ so_far ∙ ap (counted p k) e in let h : n ≡ k + 0 = cc in omega (arith, h)
+
+  pub count_none : o ≡ None → (n : ℕ) → whole ≡ Some n → n ≡ k
+  count_none e n is = absurd (let same : Some n ≡ None = sym is ∙ so_far ∙ ap (counted p k) e in cc)
+
+-- ---- the terms of a tree and of its events
+
+module _ (p : Simple → Bool) where
+  same_more : (s s' : Simple) (xs ys : List Simple) → states_nothing s.partial ≡ states_nothing s'.partial → p s ≡ p s'
+      → fitting p xs ≡ fitting p ys → fitting p (s ∷ xs) ≡ fitting p (s' ∷ ys)
+  same_more s s' xs ys none same e = by_test (states_nothing s'.partial)
+      (λ y. fitting_nothing p s xs (none ∙ y) ∙ e ∙ sym (fitting_nothing p s' ys y))
+      (λ n. by_test (p s')
+      (λ y. fitting_more p s xs (none ∙ n) (same ∙ y) ∙ ap (λ k. 1 + k) e ∙ sym (fitting_more p s' ys n y))
+      (λ m. fitting_end p s xs (none ∙ n) (same ∙ m) ∙ sym (fitting_end p s' ys n m)))
+
+  all_more : (ss xs ys : List Simple) → fitting p xs ≡ fitting p ys → fitting p (ss ++ xs) ≡ fitting p (ss ++ ys)
+  all_more [] xs ys e = e
+  all_more (s ∷ ss) xs ys e = same_more s s (ss ++ xs) (ss ++ ys) refl refl (all_more ss xs ys e)
+
+  in_front_of : (ss : List Simple) (es : List Event) → in_events (in_front ss es) ≡ ss ++ in_events es
+  in_front_of [] es = refl
+  in_front_of (s ∷ ss) es = ap (λ xs. s ∷ xs) (in_front_of ss es)
+
+  module _ {written : Simple → List PlainComparator} (table : IsTable p written) (lower : LowerBounds) where
+    nothing_begun : (l : PartialTree) → states_nothing (begun_as lower l) ≡ states_nothing l
+    nothing_begun l = rw (begun_stated lower l) refl
+
+    left_alone : (l r : PartialTree) → states_nothing r ≡ true → yielded lower (hyphen l r) ≡ left_side (begun_as lower l) ∷ []
+    left_alone l r y = rw y refl
+
+    right_alone : (l r : PartialTree) → states_nothing r ≡ false → states_nothing l ≡ true → yielded lower (hyphen l r) ≡ right_side r ∷ []
+    right_alone l r n y = rw (n, y) refl
+
+    both_sides : (l r : PartialTree) → states_nothing r ≡ false → states_nothing l ≡ false
+        → yielded lower (hyphen l r) ≡ left_side (begun_as lower l) ∷ right_side r ∷ []
+    both_sides l r n m = rw (n, m) refl
+
+    range_terms : (r : RangeTree) (xs ys : List Simple) → fitting p xs ≡ fitting p ys → fitting p (yielded lower r ++ xs) ≡ fitting p (terms_of r ++ ys)
+    range_terms empty xs ys e = fitting_nothing p wildcard xs refl ∙ e
+    range_terms (hyphen l r) xs ys e = by_test (states_nothing r)
+        (λ y. ap (λ zs. fitting p (zs ++ xs)) (left_alone l r y)
+        ∙ same_more (left_side (begun_as lower l)) (left_side l) xs (right_side r ∷ ys) (nothing_begun l) (table.begun lower l)
+        (e ∙ sym (fitting_nothing p (right_side r) ys y)))
+        (λ n. by_test (states_nothing l)
+        (λ y. ap (λ zs. fitting p (zs ++ xs)) (right_alone l r n y)
+        ∙ same_more (right_side r) (right_side r) xs ys refl refl e
+        ∙ sym (fitting_nothing p (left_side l) (right_side r ∷ ys) y))
+        (λ m. ap (λ zs. fitting p (zs ++ xs)) (both_sides l r n m)
+        ∙ same_more (left_side (begun_as lower l)) (left_side l) (right_side r ∷ xs) (right_side r ∷ ys) (nothing_begun l)
+        (table.begun lower l) (same_more (right_side r) (right_side r) xs ys refl refl e)))
+    range_terms (simples first others) xs ys e = all_more (first ∷ others) xs ys e
+
+    tree_terms : (tree : SetTree) → fitting p (in_events (events_of lower tree)) ≡ fitting p (flat_map terms_of tree)
+    tree_terms [] = refl
+    tree_terms (r ∷ []) = ap (fitting p) (in_front_of (yielded lower r) []) ∙ range_terms r [] [] refl
+    tree_terms (r ∷ next ∷ others) = ap (fitting p) (in_front_of (yielded lower r) (next_range ∷ events_of lower (next ∷ others)))
+        ∙ range_terms r (in_events (events_of lower (next ∷ others))) (flat_map terms_of (next ∷ others)) (tree_terms (next ∷ others))
+
+pub text_terms : (terms : Terms) (tree : SetTree) (t : Text) → SpellsIn (grammar_of terms) tree t
+    → counted (term_fits terms) 0 (events (grammar_of terms) (lower_of terms) t) ≡ Some (fitting (term_fits terms) (flat_map terms_of tree))
+text_terms terms tree t spelled =
+    let table = table_of terms in
+    let is = tree_read (grammar_of terms) tree t spelled in
+    let same = tree_terms (term_fits terms) table.1 (lower_of terms) tree in
+    ap (λ o. counted (term_fits terms) 0 (set_events (lower_of terms) o)) is ∙ ap Some (omega (arith, same))
+
+-- ---- words
+
+module _ (w : Text) (ws : List Text) (some : 1 ≤ length ws) where
+  pub other_word : (n : ℕ) → states_number w ≡ false → end_of_word n (w ∷ ws) ≡ length w + 1 + end_of_word n ws
+  other_word n e = by_list ws some n
+    where
+      by_list : (ws : List Text) → 1 ≤ length ws → (n : ℕ) → end_of_word n (w ∷ ws) ≡ length w + 1 + end_of_word n ws
+      by_list [] some n = absurd (omega (arith, some))
+      by_list (x ∷ xs) some zero = rw e (omega arith)
+      by_list (x ∷ xs) some (suc n) = rw e (omega arith)
+
+  pub last_word : states_number w ≡ true → end_of_word 0 (w ∷ ws) ≡ length w
+  last_word e = by_list ws some
+    where
+      by_list : (ws : List Text) → 1 ≤ length ws → end_of_word 0 (w ∷ ws) ≡ length w
+      by_list [] some = refl
+      by_list (x ∷ xs) some = rw e refl
+
+  pub next_word : (n : ℕ) → states_number w ≡ true → end_of_word (n + 1) (w ∷ ws) ≡ length w + 1 + end_of_word n ws
+  next_word n e = by_list ws some
+    where
+      by_list : (ws : List Text) → 1 ≤ length ws → end_of_word (n + 1) (w ∷ ws) ≡ length w + 1 + end_of_word n ws
+      by_list [] some = absurd (omega (arith, some))
+      by_list (x ∷ xs) some = let next : n + 1 ≡ suc n = omega arith in rw next (rw e (omega arith))
+
+pub some_words : (t : Text) → 1 ≤ length (words t)
+some_words t = omega (arith, length-slice_split is_separator t)
