@@ -9,6 +9,3 @@ pub mod FrontTexts
 pub mod FrontEnds
 pub mod ReasonFacts
 pub mod LongestFronts
-pub mod FrontPartials
-pub mod FrontWords
-pub mod FrontRanges
