@@ -1,2 +1,0 @@
-pub mod Reasoning
-pub mod Scanning
