@@ -1,3 +1,4 @@
+-- serves: answer_laws::filters::one_new
 -- Two answers of a filter are one.
 use Rattle.std.proofs.Common.{IfSome, ◌≡◌, ◌↔◌, ◌++◌, ◌∷◌, [], List, Bool, refl, sym, ap, ◌∙◌, subst, Option, Some, None, option_map}
 use Rattle.std.proofs.Common.{true≢false}

@@ -1,3 +1,4 @@
+-- serves: answer_laws::sets::one_least
 -- There is one least version.
 use Rattle.std.proofs.Common.{IfSome, ◌≡◌, ◌≢◌, ◌↔◌, [], refl, sym, ap, ◌∙◌, Option, Some, None, option_map}
 use Rattle.std.specs.Cmp.{IsTotalOrder}

@@ -1,3 +1,4 @@
+-- serves: answer_laws::ranges::one_refusal
 -- A range text has one error, at one place.
 use Rattle.std.proofs.Common.{◌≡◌, ◌≢◌, ◌↔◌, ◌∙◌, ℕ, Option, Some, None, IfSome, option_map, refl, sym, ap}
 use Rattle.semver_texts.specs.Texts.{Text}

@@ -1,3 +1,4 @@
+-- serves: answer_laws::sets::one_of_text
 -- Two answers that are sets with the same versions are one.
 use Rattle.std.proofs.Common.{IfOk, ◌≡◌, [], sym, ◌∙◌, Bool, Result, alloc_error}
 use Rattle.std.specs.declared.alloc.AllocError.{AllocError}

@@ -1,3 +1,4 @@
+-- serves: release_filter::lines::Lines::push, stops
 -- What one line does to the state, and what the line that no line feed ends does.
 use Rattle.std.proofs.Common.{◌≡◌, ◌∙◌, ◌⊎◌, ◌++◌, ◌∷◌, [], List, Bool, true, false, not, refl, sym, ap, subst, inl, inr, IsTrue}
 use Rattle.std.proofs.Common.{append-nil, length, ◌==◌, arith, rules}

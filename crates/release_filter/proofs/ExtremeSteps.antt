@@ -1,3 +1,4 @@
+-- serves: release_filter::filter::Filter::greatest, greatest
 -- The greatest so far by an order of a list that is gone through: what one more item does.
 use Rattle.std.proofs.Common.{IfSome, rules, MatchOption, Option, Some, None, ◌↔◌, ◌≡◌, ◌≢◌, List, [], ◌∷◌, ◌++◌, refl, sym, ap, subst}
 use Rattle.std.proofs.Common.{◌∙◌, append_assoc, arith}

@@ -1,3 +1,4 @@
+-- serves: release_filter::kept::Filter::kept
 -- What holding a kept line does, and what is appended at the end of a text.
 use Rattle.std.proofs.Common.{◌≡◌, ◌∙◌, ◌⊎◌, ◌↔◌, ◌++◌, ◌∷◌, [], List, ℕ, Bool, true, false, refl, sym, ap, inl, inr}
 use Rattle.std.proofs.Common.{Option, Some, None, MatchOption, Vec, Global, Bor, append-nil, drop, length, map}

@@ -1,3 +1,4 @@
+-- serves: release_filter::laws::one_outcome
 -- What is held of kept lines: of none, of some and of more, and that it is one thing.
 use Rattle.std.proofs.Common.{◌≡◌, ◌≢◌, ◌∙◌, ◌++◌, ◌∷◌, [], List, refl, sym, ap, arith, rules}
 use Rattle.std.proofs.Common.{append_assoc, append-nil, Option, Some, None, Less, Greater}

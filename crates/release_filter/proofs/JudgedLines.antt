@@ -1,3 +1,4 @@
+-- serves: release_filter::laws::pieces_do_not_matter
 -- What a line is, prefix by prefix.
 use Rattle.std.proofs.Common.{◌≡◌, ◌∙◌, ◌++◌, ◌∷◌, ◌≤◌, ◌<◌, ◌-◌, [], List, ℕ, Bool, true, false, cond, refl, ap₂, inl, inr}
 use Rattle.std.proofs.Common.{String, Global, string_bytes, length, get_or, take, drop, Option, map, arith, rules}

@@ -1,3 +1,4 @@
+-- serves: release_filter::kept::Filter::kept, out_of_memory
 -- Versions that pass, put before others and kept, some at a time.
 use Rattle.std.proofs.Common.{◌≡◌, ℕ, zero, suc, ◌+◌, ◌<◌, ◌≤◌, Bool, true, false, List, [], ◌∷◌, ◌++◌, map, filter, take, drop, set}
 use Rattle.std.proofs.Common.{length, get_or}

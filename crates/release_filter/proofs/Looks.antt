@@ -1,3 +1,4 @@
+-- serves: release_filter::laws::pieces_do_not_matter
 -- The sizes at which it is looked whether a line is skipped, and what the looks before a size say.
 use Rattle.std.proofs.Common.{◌≡◌, ◌∙◌, ◌++◌, ◌<◌, ◌≤◌, ◌+◌, ◌*◌, ◌^◌, List, ◌⊎◌, ℕ, Bool, ap, sym, subst, inl, inr, arith, rules}
 use Rattle.std.proofs.Common.{drop, length, length-take, take}

@@ -1,3 +1,4 @@
+-- serves: release_filter::lines::Lines::finish
 -- What is counted of a line that has no version.
 use Rattle.std.proofs.Common.{◌≡◌, ◌∙◌, ◌==◌, [], ◌∷◌, ℕ, Bool, true, false, refl, sym, ap, arith}
 use Rattle.std.proofs.Common.{Vec, Global, length, min, take, rules}

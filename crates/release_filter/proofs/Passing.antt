@@ -1,3 +1,4 @@
+-- serves: release_filter::filter::Filter::new
 -- What passes a filter, and what is said of a text by it.
 use Rattle.std.proofs.Common.{◌≡◌, ◌<◌, ◌==◌, ◌∷◌, arith, length, ℕ, List, [], Option, Some, None, IfErr, Result, Ok, Err}
 use Rattle.std.proofs.Common.{◌↔◌, Bool, true, false, refl, rules}

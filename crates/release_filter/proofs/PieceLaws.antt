@@ -1,3 +1,4 @@
+-- serves: release_filter::laws::one_outcome
 -- That a piece of a text does one thing, and what all of a text does.
 use Rattle.std.proofs.Common.{◌≡◌, ◌≢◌, ◌∙◌, ◌++◌, ◌∷◌, ◌<◌, ◌≤◌, ◌-◌, ◌&&◌, ◌==◌, [], List, ◌⊎◌, ℕ, Bool, true, false, refl, sym, subst}
 use Rattle.std.proofs.Common.{inl, inr, rules}

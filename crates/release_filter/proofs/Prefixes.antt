@@ -1,3 +1,4 @@
+-- serves: release_filter::lines::Lines::finish
 -- What is after a prefix.
 use Rattle.std.proofs.Common.{Bor, ◌+◌, Option, Some, None, MatchOption, ◌≡◌, ℕ, ◌++◌, arith}
 use Rattle.std.proofs.Common.{true, false, List, take, drop, length, eqb}

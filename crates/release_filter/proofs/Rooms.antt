@@ -1,3 +1,4 @@
+-- serves: release_filter::laws::pieces_do_not_matter
 -- Bytes with room after them, and parts of them.
 use Rattle.std.proofs.Common.{◌≡◌, ◌∙◌, ◌++◌, ◌≤◌, ◌+◌, ◌-◌, [], ◌∷◌, ℕ, Bool, true, false, ap, arith, drop, length, refl, sym, take}
 use Rattle.std.proofs.Common.{append_assoc, append-nil, length-append, length-take}

@@ -1,3 +1,4 @@
+-- serves: release_filter::lines::Lines::push
 -- Whether a text begins a prefix and a version after it.
 use Rattle.std.proofs.Common.{◌≡◌, ◌++◌, ◌∷◌, [], List, ℕ, Bool, ap, inr, arith, rules}
 use Rattle.std.proofs.Common.{Bor, IsTrue, MatchOption, Option, Some, None, length, length-append, ◌↔◌}

@@ -1,3 +1,4 @@
+-- serves: release_filter::laws::pieces_do_not_matter
 -- Lines that are skipped: none has a version, and what is counted of one shows in its first bytes.
 use Rattle.std.proofs.Common.{◌≡◌, ◌∙◌, ◌++◌, ◌∷◌, ◌<◌, ◌≤◌, ◌+◌, [], List, ◌⊎◌, ℕ, Bool, true, false, refl, rules}
 use Rattle.std.proofs.Common.{sym, subst, ap, inl, inr}

@@ -1,3 +1,4 @@
+-- serves: release_filter::laws::pieces_do_not_matter
 -- What pieces do of which a line is skipped: what the whole text does.
 use Rattle.std.proofs.Common.{◌≡◌, ◌≢◌, ◌∙◌, ◌++◌, ◌∷◌, ◌≤◌, ◌&&◌, [], List, refl, sym, subst, ap, ap₂, inl, inr, rules}
 use Rattle.std.proofs.Common.{append_assoc, append-nil, arith, length, length-append, map}

@@ -1,3 +1,4 @@
+-- serves: release_filter::laws::one_finish
 -- That what `sort_by` did with held lines is their stable sort.
 use Rattle.std.proofs.Common.{◌≡◌, ◌∙◌, ◌⊎◌, ◌<◌, ◌∷◌, [], List, Bool, true, false, not, refl, sym, ap, ap₂, subst, inl, inr, arith}
 use Rattle.std.proofs.Common.{Bor, IsPermutation, Less, Equal, Greater, filter, get_or, length}

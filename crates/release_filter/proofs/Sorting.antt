@@ -1,3 +1,4 @@
+-- serves: release_filter::laws::one_outcome
 -- That lines have one stable sort by precedence.
 use Rattle.std.proofs.Common.{◌≡◌, ◌≢◌, ◌∙◌, ◌∷◌, [], List, suc, Bool, true, false, cond, refl, sym, ap, ap₂, arith}
 use Rattle.std.proofs.Common.{filter, Less, Equal, Greater}

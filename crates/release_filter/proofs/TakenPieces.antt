@@ -1,3 +1,4 @@
+-- serves: release_filter::lines::Lines::push, stops
 -- What a piece of a text does, line by line.
 use Rattle.std.proofs.Common.{◌≡◌, ◌≢◌, ◌∙◌, ◌++◌, ◌∷◌, ◌≤◌, ◌+◌, ◌-◌, ◌&&◌, [], List, ℕ, Bool, true, false, refl, sym, subst, arith}
 use Rattle.std.proofs.Common.{length, take, drop, ap, append_assoc, append-nil, All, cond}

@@ -1,3 +1,4 @@
+-- serves: release_filter::filter::Filter::greatest, greatest
 -- Tests of all or some of a list, and what tests keep of one.
 use Rattle.std.proofs.Common.{rules, ◌≤◌, arith, ◌≡◌, ℕ, ◌+◌, ◌<◌, Bool, List, [], ◌∷◌}
 use Rattle.std.proofs.Common.{◌++◌, refl, map, filter, take, length, get_or}

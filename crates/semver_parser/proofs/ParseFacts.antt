@@ -1,3 +1,4 @@
+-- serves: semver_parser::version::parse
 -- What a call of `parse` answers, from the outcome of the text.
 use Rattle.std.proofs.Common.{◌≡◌, ℕ, List, [], ◌∷◌, Some, None, Option, Result, Ok, Err, sym, refl, ap, subst, inl, inr, IsUtf8, IfOk}
 use Rattle.std.proofs.Common.{◌↔◌}

@@ -1,3 +1,4 @@
+-- serves: semver_parser::report::run
 -- What the report writes, from what its lines show.
 use Rattle.std.proofs.Common.{◌≡◌, Bool, true, false, List, ℕ, Option, Result, Ok, Err, IfOk, IsTrue, codes, refl}
 use Rattle.std.specs.Prelude.{◌||◌}

@@ -1,3 +1,4 @@
+-- serves: semver_parser::laws::row_facts, leading_zero
 -- Examples that show what the definitions say. The table of cases has what the calls answer.
 use Rattle.std.proofs.Common.{◌≡◌, List, [], ◌∷◌, length, Some, Err, refl, sym, arith, inl}
 use Rattle.std.specs.Prelude.{codes}

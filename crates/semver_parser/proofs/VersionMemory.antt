@@ -1,3 +1,4 @@
+-- serves: semver_parser::version::parse
 -- A text that spells a version with identifiers has tokens that hold a run of one, so reading it may run out of memory.
 use Rattle.std.proofs.Common.{◌≡◌, ℕ, ◌<◌, ◌+◌, Bool, true, false, arith, List, [], ◌∷◌, length, map, Some}
 use Rattle.std.proofs.Common.{refl, subst, inl, inr, ⊎_elim, ◌⊎◌, decimal}

@@ -1,3 +1,4 @@
+-- serves: semver_parser::laws::one_outcome
 -- A text that spells a version has the tokens of one, and they spell that version.
 use Rattle.std.proofs.Common.{◌≡◌, ℕ, ◌+◌, ◌<◌, ◌^◌, true, false, List, [], ◌∷◌, ◌++◌, length, take, drop, Some, sym, refl}
 use Rattle.std.proofs.Common.{ap, ◌∙◌, subst, inl, arith, append_assoc, append-nil, length-append, length-drop, decimal}

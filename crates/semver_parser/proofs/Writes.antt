@@ -1,3 +1,4 @@
+-- serves: semver_parser::writing::write_whole
 -- Steps of a loop that writes what is left of a slice, and what writes in a row did.
 use Rattle.std.proofs.Common.{◌≡◌, ℕ, ◌-◌, List, Option, Result, Ok, Err, ◌++◌, length, take, drop, ap, sym, ◌∙◌, append_assoc}
 use Rattle.std.proofs.Common.{take-append-drop}

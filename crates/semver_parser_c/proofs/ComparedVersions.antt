@@ -1,3 +1,4 @@
+-- serves: semver_parser_c::semver_parser_proved_least, least
 -- What is compared of two sets is compared of what the texts themselves mean.
 use Rattle.std.proofs.Common.{◌≡◌, ◌↔◌, ℕ, Option, Some, None, arith, refl, length, ◌<◌}
 use Rattle.std.proofs.Common.{length-append}

@@ -1,3 +1,4 @@
+-- serves: semver_parser_c::semver_parser_proved_explain_range, refusals
 -- Why a text gives no range, by the numbers of the dialect and of the error.
 use Rattle.std.proofs.Common.{◌≡◌, ℤ, ◌∷◌, arith, inr, subst}
 use Rattle.semver_parser.specs.Texts.{Text}

@@ -1,3 +1,4 @@
+-- serves: semver_parser_c::semver_parser_proved_parse_version, version
 -- The grammar of the dialect of a number, and what a text has in a dialect.
 use Rattle.std.proofs.Common.{◌≡◌, ◌∙◌, ◌<◌, ℤ, Ok, Err, ap, inl, inr, length, refl, sym}
 use Rattle.semver_parser.specs.Texts.{Text}

@@ -1,3 +1,4 @@
+-- serves: semver_parser_c::semver_parser_proved_least
 -- The least version of a set, as it is answered.
 use Rattle.std.proofs.Common.{arith, refl, ◌≡◌, ◌≢◌, ◌↔◌, [], Option, None, Some, IfOk, IfErr, Result, Ok, Err}
 use Rattle.std.specs.Prelude.{IfSome}

@@ -1,3 +1,4 @@
+-- serves: semver_parser_c::semver_parser_proved_comparators, pre_releases
 -- Steps of listing comparators one by one, and that the listed places have the pre-releases.
 use Rattle.std.proofs.Common.{◌≡◌, ℕ, ℤ, List, [], ◌∷◌, ◌++◌, ◌+◌, ◌<◌, length, take, drop, get_or, map, add-one, sym, ◌∙◌, arith, refl}
 use Rattle.std.proofs.Common.{append_assoc, length-append}

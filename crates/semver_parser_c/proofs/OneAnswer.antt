@@ -1,3 +1,4 @@
+-- serves: semver_parser_c::laws::one_parsed_version
 -- What the clauses of a call say of two answers, they say of one.
 use Rattle.std.proofs.Common.{◌≡◌, ◌≢◌, ◌⊎◌, ◌↔◌, ◌∙◌, ◌++◌, ℤ, Bool, true, false, List, [], ◌∷◌, arith, refl, sym, ap, ⊎_elim, inl, inr}
 use Rattle.std.proofs.Common.{to_z, of_z, w32}

@@ -1,3 +1,4 @@
+-- serves: semver_parser_c::laws::one_least
 -- The least of some versions is one, and so are its text and the place of that.
 use Rattle.std.proofs.Common.{◌≡◌, ◌≢◌, ◌∙◌, ◌++◌, ℕ, Option, Some, None, ap, ap₂, arith, length, refl, sym}
 use Rattle.std.specs.declared.cmp.Ordering.{Ordering}

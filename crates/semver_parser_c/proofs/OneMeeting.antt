@@ -1,3 +1,4 @@
+-- serves: semver_parser_c::semver_parser_proved_meets
 -- What is refused of a range that is asked of a version, and of the version.
 use Rattle.std.proofs.Common.{◌≢◌, ◌++◌, ℤ, arith}
 use Rattle.std.specs.Prelude.{IsUtf8}

@@ -1,3 +1,4 @@
+-- serves: semver_parser_c::laws::one_rewriting
 -- What is put into one buffer is there in one way.
 use Rattle.std.proofs.Common.{◌≡◌, ◌≢◌, ◌⊎◌, ◌++◌, ℕ, ℤ, true, List, [], ◌∷◌, arith, ⊎_elim, inl}
 use Rattle.semver_parser_c.specs.Numbers as number

@@ -1,3 +1,4 @@
+-- serves: semver_parser_c::laws::one_rewriting
 -- A text is rewritten to one set.
 use Rattle.std.proofs.Common.{◌≡◌, ◌∙◌, ℤ, Bool, List, ◌∷◌, arith, ap, subst, sym}
 use Rattle.semver_parser.specs.Texts.{Text}

@@ -1,3 +1,4 @@
+-- serves: semver_parser_c::laws::one_set
 -- One set of a range, and one of flat data.
 use Rattle.std.proofs.Common.{◌≡◌, ◌⊎◌, ◌↔◌, ◌∙◌, ℤ, List, [], ◌∷◌, Bool, true, false, arith, sym, inl, inr, refl, subst, ⊎_elim}
 use Rattle.semver_parser.specs.Texts.{Text}

@@ -1,3 +1,4 @@
+-- serves: semver_parser_c::semver_parser_proved_precedence
 -- The errors of version texts, and the pre-releases of versions.
 use Rattle.std.proofs.Common.{◌≡◌, ◌≢◌, ℕ, List, [], ◌∷◌, Err, arith, length, ◌<◌}
 use Rattle.semver_parser.specs.Texts.{Text}

@@ -1,3 +1,4 @@
+-- serves: semver_parser_c::laws::one_meeting
 -- What is told of a range text by a number.
 use Rattle.std.proofs.Common.{◌≡◌, ◌≢◌, ◌⊎◌, ℤ, [], ◌∷◌, ◌++◌, rules, arith, inl, inr, refl}
 use Rattle.std.specs.Prelude.{⊤, Err, IsUtf8}

@@ -1,3 +1,4 @@
+-- serves: semver_parser_c::semver_parser_proved_parse_version
 -- A version text of any dialect is UTF-8.
 use Rattle.std.proofs.Common.{◌≡◌, ◌⊎◌, ℕ, ◌^◌, ◌<◌, Bool, true, List, [], ◌∷◌, ◌++◌, codes, decimal, map, refl, sym, subst}
 use Rattle.std.proofs.Common.{arith, ⊎_elim, append_assoc, ◌∙◌, inl, inr}

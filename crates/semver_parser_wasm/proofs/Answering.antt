@@ -1,3 +1,4 @@
+-- serves: semver_parser_wasm::laws::one_meets
 -- The answer of a range that is read, and of one that is refused; and that there is one answer.
 use Rattle.std.proofs.Common.{◌≡◌, ◌≢◌, ◌∙◌, ap, sym, refl, ℤ, Bool, IsUtf8, Ok, Err, inl, inr, if◌then◌else◌}
 use Rattle.semver_parser.specs.Texts.{Text}

@@ -1,3 +1,4 @@
+-- serves: semver_ranges::range_set::RangeSet::parse, refusals
 -- What an answer by the reader says in the words of trees and texts.
 use Rattle.std.proofs.Common.{List, ◌≡◌, ◌⊎◌, true, [], refl, sym, ap, ◌∙◌, subst, inl, inr, IsTrue, Result, Ok, Err, Some, None}
 use Rattle.std.proofs.lemmas.Bool.{both_ways}

@@ -1,3 +1,4 @@
+-- serves: semver_ranges::laws::meanings_agree, exact
 -- A version agrees past zeros exactly if it agrees up to the place that a caret raises.
 use Rattle.std.proofs.Common.{arith}
 use Rattle.std.proofs.Common.{◌≡◌, ℕ, nat_eq, List, [], ◌∷◌, take, refl}

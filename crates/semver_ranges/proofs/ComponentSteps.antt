@@ -1,3 +1,4 @@
+-- serves: semver_ranges::grammar::read_components
 -- Components, as they are read byte by byte.
 use Rattle.std.proofs.Common.{add-one}
 use Rattle.std.proofs.Common.{◌≡◌, ℕ, ◌+◌, ◌-◌, ◌*◌, ◌<◌, ◌≤◌, true, false, ◌==◌, [], ◌∷◌, length, get_or, take, drop}

@@ -1,3 +1,4 @@
+-- serves: semver_ranges::grammar::read_components
 -- The reader's steps, as the cursor takes them.
 use Rattle.std.proofs.Common.{arith}
 use Rattle.std.proofs.Common.{◌≡◌, false, List, [], ◌∷◌, Some, None, refl}

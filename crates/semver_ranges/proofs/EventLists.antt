@@ -1,3 +1,4 @@
+-- serves: semver_ranges::range_set::RangeSet::parse
 -- The events of a range set: they fit as it does, and tell its ranges.
 use Rattle.std.proofs.Common.{◌≡◌, Bool, ◌&&◌, List, [], ◌∷◌, refl, sym, arith}
 use Rattle.std.specs.List.{list_all, flat_map}

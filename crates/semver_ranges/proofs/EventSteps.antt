@@ -1,3 +1,4 @@
+-- serves: semver_ranges::events::Events::new, all
 -- The events of a text, one after the other.
 use Rattle.std.proofs.Common.{◌≡◌, ◌<◌, Bool, true, false, List, [], ◌∷◌, Option, Some, None, length, refl, sym, ap, ◌∙◌, arith}
 use Rattle.semver_texts.specs.declared.grammar.Grammar.{Grammar}

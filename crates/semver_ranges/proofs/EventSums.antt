@@ -1,3 +1,4 @@
+-- serves: semver_ranges::range_set::RangeSet::parse
 -- What the loops over the events of a text keep, and what they answer of its tree.
 use Rattle.std.proofs.Common.{◌≡◌, Bool, true, false, ◌&&◌, List, [], ◌∷◌, ◌++◌, Option, Some, None, refl, sym, ap, ◌∙◌, arith}
 use Rattle.std.proofs.Common.{append-nil, append_assoc, Result, Ok, Err}

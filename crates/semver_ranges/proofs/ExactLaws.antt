@@ -1,3 +1,4 @@
+-- serves: semver_ranges::laws::exact_bounds_mean_the_text, exact
 -- What comparators with exact bounds mean, and what is below such a bound.
 use Rattle.std.proofs.Common.{arith}
 use Rattle.std.proofs.lemmas.Bool.Decides.{nat_tests}

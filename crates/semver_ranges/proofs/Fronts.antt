@@ -1,3 +1,4 @@
+-- serves: semver_ranges::grammar::after_blanks
 -- The longest front of a text whose bytes pass, as a loop over its places finds it.
 use Rattle.std.proofs.Common.{add-one}
 use Rattle.std.proofs.lemmas.List.{drop_more}

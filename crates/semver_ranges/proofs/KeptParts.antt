@@ -1,3 +1,4 @@
+-- serves: semver_ranges::partial::Partial::as_comparator
 -- Numbers and parts, as `parse` of a `u64` reads them.
 use Rattle.std.proofs.lemmas.Bool.Decides.{nat_tests}
 use Rattle.semver_texts.proofs.Lists.{by_test}

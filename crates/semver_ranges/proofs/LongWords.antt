@@ -1,3 +1,4 @@
+-- serves: semver_ranges::events::Events::next_in
 -- Words that are too long to npm: what their bytes say of their numbers and identifiers, and that no word of up to 250 bytes is one.
 use Rattle.std.proofs.Common.{◌≡◌, ℕ, ◌+◌, ◌-◌, ◌≤◌, Bool, true, false, ◌&&◌, ◌||◌, not, List, [], ◌∷◌, ◌++◌, codes, length, take}
 use Rattle.std.proofs.Common.{refl, sym, ap, ◌∙◌}

@@ -1,3 +1,4 @@
+-- serves: semver_ranges::laws::meanings_agree, exact
 -- What comparators mean, but for the pre-releases of raised bounds.
 use Rattle.std.proofs.Common.{◌≡◌, true, false, [], refl, sym, ap, ◌∙◌, IsTrue, Option, Some, None}
 use Rattle.std.proofs.Math.Bool.{or-false}

@@ -1,3 +1,4 @@
+-- serves: semver_ranges::range_set::RangeSet::parse
 -- A text that is one simple.
 use Rattle.std.proofs.Common.{◌≡◌, true, List, [], ◌∷◌, length, Some, refl, arith, append-nil}
 use Rattle.semver_texts.specs.declared.grammar.Grammar.TheVariants.{Crate}

@@ -1,3 +1,4 @@
+-- serves: semver_ranges::grammar::read_components
 -- Parts and dots at the front of a text, byte by byte.
 use Rattle.std.proofs.Common.{◌≡◌, ℕ, Bool, true, Some, None, [], ◌∷◌, take, drop, refl}
 use Rattle.std.proofs.Common.{arith, one-add}

@@ -1,3 +1,4 @@
+-- serves: semver_ranges::laws::printed_sets_read_back
 -- Printed sets read back, and the result is printable.
 use Rattle.std.proofs.Common.{◌≡◌, ℕ, zero, suc, ◌<◌, Bool, true, false, not, List, [], ◌∷◌, ◌++◌}
 use Rattle.std.proofs.Common.{map, codes, refl, sym, None, All, append_assoc, append-nil, decimal, get_or, arith}

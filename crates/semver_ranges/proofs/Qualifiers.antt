@@ -1,3 +1,4 @@
+-- serves: semver_ranges::grammar::read_components
 -- Whether a pre-release or a build is after three components.
 use Rattle.std.proofs.lemmas.Bool.Decides.{nat_tests}
 use Rattle.std.proofs.Common.{arith}

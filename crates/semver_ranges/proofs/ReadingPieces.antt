@@ -1,3 +1,4 @@
+-- serves: semver_ranges::events::Events::new, short
 -- What the reader finds at the front of a text is there: components, parts, partials, operators and simples.
 use Rattle.std.proofs.Common.{◌≡◌, ℕ, Bool, true, false, ◌&&◌, ◌||◌, ◌==◌, ◌⊎◌, List, [], ◌∷◌, ◌++◌, codes, refl, sym, ap, ◌∙◌, inl}
 use Rattle.std.proofs.Common.{arith, inr, Option, Some, None, append_assoc, ◌-◌, length, length-append, subst}

@@ -1,3 +1,4 @@
+-- serves: semver_ranges::events::Events::new, short
 -- How the reader's counted loops go on, without the count; and that what is left of a text is shorter.
 use Rattle.std.proofs.Common.{◌≡◌, ℕ, zero, suc, ◌<◌, ◌≤◌, Bool, true, false, List, [], ◌∷◌, length, refl}
 use Rattle.std.proofs.Common.{ap, Option, Some, None, arith, length-append}

@@ -1,3 +1,4 @@
+-- serves: semver_ranges::laws::meanings_agree, exact
 -- Each row of the table means what its form means, but for pre-releases of its raised bound; with an exact bound, without exception.
 use Rattle.std.proofs.lemmas.Bool.Decides.{nat_tests}
 use Rattle.std.proofs.Common.{◌≡◌, ℕ, zero, suc, Bool, true, false, not, ◌&&◌, ◌||◌, ◌==◌, nat_eq, if◌then◌else◌, List, [], ◌∷◌}

@@ -1,3 +1,4 @@
+-- serves: semver_ranges::laws::meanings_agree, exact
 -- From simples to ranges and sets: however raised bounds are written, and whatever is asked of a comparator and of a term.
 use Rattle.std.proofs.Common.{arith}
 use Rattle.std.proofs.Common.{◌≡◌, Bool, List, [], ◌∷◌, map, refl}

@@ -1,3 +1,4 @@
+-- serves: semver_ranges::laws::stated_pre_releases_mean_the_text, exact
 -- With exact bounds, comparators tell the rule that npm and Cargo's semver have for pre-releases.
 use Rattle.std.proofs.Common.{arith}
 use Rattle.std.proofs.lemmas.Bool.Decides.{nat_tests}

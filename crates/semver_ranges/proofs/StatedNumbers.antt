@@ -1,3 +1,4 @@
+-- serves: semver_ranges::partial::Partial::new
 -- What a partial states, by its components.
 use Rattle.std.proofs.Common.{arith}
 use Rattle.std.proofs.Common.{◌≡◌, ℕ, Bool, true, false, ◌&&◌, ◌==◌, List, [], ◌∷◌, length, map, refl, sym, ap, ◌∙◌, Option}

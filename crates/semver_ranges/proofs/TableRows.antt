@@ -1,3 +1,4 @@
+-- serves: semver_ranges::rewriting::rewritten
 -- The comparators of a simple that was read, by the columns of the table.
 use Rattle.std.proofs.Common.{arith}
 use Rattle.std.proofs.Common.{◌≡◌, true, false, ◌&&◌, List, [], refl, sym, ap, ◌∙◌}

@@ -1,3 +1,4 @@
+-- serves: semver_ranges::laws::stated_pre_releases_mean_the_text, exact
 -- What every table of simples says of a side that states nothing.
 use Rattle.std.proofs.Common.{◌≡◌, ℕ, true, List, [], ◌∷◌, Bool, refl}
 use Rattle.semver_ranges.specs.declared.range.Compat.{Compat}

@@ -1,3 +1,4 @@
+-- serves: semver_ranges::laws::one_tree
 -- Each written piece, before a text that ends it, is read back: components, parts, partials, operators and simples.
 use Rattle.std.proofs.Common.{◌≡◌, ℕ, Bool, true, false, not, ◌||◌, ◌==◌, List, [], ◌∷◌, ◌++◌, codes, refl, ap, ◌∙◌, inl, inr}
 use Rattle.std.proofs.Common.{Some, All, append_assoc, append-nil, arith, ◌-◌, length, subst, sym}

@@ -1,3 +1,4 @@
+-- serves: semver_texts::precedence::cmp_precedence
 -- The derived order of identifiers is that of precedence.
 use Rattle.std.proofs.Common.{rules, ◌≡◌, ◌==◌, false, length, List, [], ◌∷◌, refl, ap, ◌∙◌, map}
 use Rattle.std.specs.Ordering.{ordering_then}

@@ -1,3 +1,4 @@
+-- serves: semver_texts::dotted::text_of_parts
 -- Parts joined by dots, as they are read byte by byte.
 use Rattle.std.proofs.Common.{◌≡◌, ℕ, ◌+◌, ◌<◌, Bool, true, false, length, get_or, drop, refl, sym, ap, ◌∙◌, arith, ◌∷◌, ◌++◌}
 use Rattle.std.proofs.Common.{subst, append-nil, append_assoc}

@@ -1,3 +1,4 @@
+-- serves: semver_texts::printing::write_part
 -- Steps of a loop that writes the items of a list one after the other.
 use Rattle.std.proofs.Common.{◌≡◌, ℕ, ◌+◌, ◌<◌, ◌≤◌, List, [], ◌∷◌, ◌++◌, length, get_or, take, eqb, false, refl, sym, ap, ◌∙◌, take_all}
 use Rattle.std.proofs.Common.{append_assoc, append-nil, codes}

@@ -1,3 +1,4 @@
+-- serves: semver_texts::dotted::have_no_leading_zeros
 -- Parts and dots at the front of a text, byte by byte, where each hyphen may stand.
 use Rattle.std.proofs.Common.{◌≡◌, ℕ, Bool, true, false, ◌&&◌, List, [], ◌∷◌, take, refl, arith, one-add, if◌then◌else◌}
 use Rattle.std.specs.Prelude.{◌==◌, ◌||◌}

@@ -1,3 +1,4 @@
+-- serves: semver_texts::laws::semver_texts_are_npms
 -- Version texts by the dialects: those of SemVer 2.0.0 beside npm's and the crate's.
 use Rattle.std.proofs.Common.{◌≡◌, ℕ, ◌^◌, ◌<◌, ◌≤◌, Bool, true, List, [], ◌∷◌, ◌++◌, length, map, codes, decimal}
 use Rattle.std.proofs.Common.{refl, sym, ap, ◌∙◌, subst, inl, append_assoc, append-nil, arith}

@@ -1,3 +1,4 @@
+-- serves: semver_tokens::parser::Parser::identifier, answer
 -- The shape of an identifier, token by token, and that each identifier that is read has a value.
 use Rattle.std.proofs.Common.{◌≡◌, ℕ, ◌^◌, ◌<◌, Bool, true, false, List, [], ◌∷◌, ◌++◌, length, map, Some, None, Option, Ok}
 use Rattle.std.proofs.Common.{Err, sym, refl, ap, ◌∙◌, arith, append-nil, cond, decimal}

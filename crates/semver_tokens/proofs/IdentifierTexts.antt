@@ -1,3 +1,4 @@
+-- serves: semver_tokens::parser::Parser::identifier, answer
 -- The text that an identifier's tokens spell is the longest front of letters, digits and hyphens.
 use Rattle.std.proofs.Common.{◌≡◌, ℕ, ◌+◌, ◌<◌, Bool, true, false, eqb, ◌||◌, List, [], ◌∷◌, ◌++◌, length, None, Some, Option, Result}
 use Rattle.std.proofs.Common.{Ok, Err, sym, refl, ap, subst, ◌∙◌, ◌⊎◌, inl, inr, arith, append_assoc}

@@ -1,3 +1,4 @@
+-- serves: semver_tokens::lexer::count_tokens, end
 -- What a call of `next` says of the state before it and the state after it.
 use Rattle.std.proofs.Common.{◌≡◌, ℕ, List, [], ◌∷◌, Some, None, Option, Result, Ok, Err, sym, refl, ap, ◌∙◌}
 use Rattle.std.specs.Iterator.{YieldsFirstBy}

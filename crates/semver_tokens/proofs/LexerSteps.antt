@@ -1,3 +1,4 @@
+-- serves: semver_tokens::lexer::Lexer::new
 -- What a lexer has left, one item on.
 use Rattle.std.proofs.Common.{◌≡◌, ℕ, ◌+◌, ◌≤◌, Bool, true, false, List, [], ◌∷◌, length, drop, sym, refl, ap, inl, arith, length-drop}
 use Rattle.std.proofs.Common.{Some, None, Ok}

@@ -1,3 +1,4 @@
+-- serves: semver_tokens::parser::Parser::identifier, answer
 -- Reading a shape token by token: the tokens taken so far lead to a state, and a token that leads on is taken.
 use Rattle.std.proofs.Common.{◌≡◌, ℕ, ◌<◌, ◌≤◌, Bool, true, false, List, [], ◌∷◌, ◌++◌, length, Some, None, Option, Result, Ok, Err, take}
 use Rattle.std.proofs.Common.{sym, refl, ap, ◌∙◌, ◌⊎◌, inl, inr, ⊎_elim, arith, append-nil, append_assoc, length-append}

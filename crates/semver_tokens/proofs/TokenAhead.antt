@@ -1,3 +1,4 @@
+-- serves: semver_tokens::parser::Parser::new, bad_start
 -- One token ahead of a lexer.
 use Rattle.std.proofs.Common.{◌≡◌, ℕ, List, [], ◌∷◌, ◌++◌, length, Some, None, Option, Result, Ok, Err, sym, refl, ap, ◌∙◌, ◌⊎◌, inl}
 use Rattle.std.proofs.Common.{inr, IsUtf8, ◌<◌, arith, append_assoc}

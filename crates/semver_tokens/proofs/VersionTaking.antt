@@ -1,3 +1,4 @@
+-- serves: semver_tokens::parser::Parser::version, answer
 -- Taking a version token by token: each step goes on, or is a way in which reading ends.
 use Rattle.std.proofs.Common.{◌≡◌, ℕ, ◌<◌, Bool, true, false, List, [], ◌∷◌, ◌++◌, length, Some, None, Option, Ok, Err, sym}
 use Rattle.std.proofs.Common.{refl, ap, ◌∙◌, ◌⊎◌, inl, inr, ⊎_elim, ◌↔◌, arith, append_assoc, append-nil, length-append, decimal, map}

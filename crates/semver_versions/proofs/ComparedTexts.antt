@@ -1,3 +1,4 @@
+-- serves: semver_versions::outlines::Outline::cmp_precedence
 -- Identifiers that still stand in a text, compared with others one by one.
 use Rattle.std.proofs.lemmas.Bool.Decides.{nat_tests}
 use Rattle.std.proofs.Common.{◌≡◌, ℕ, ◌+◌, ◌<◌, ◌≤◌, List, [], ◌∷◌, length, drop, get_or, map, sym, ap, ◌∙◌, subst, arith, true}

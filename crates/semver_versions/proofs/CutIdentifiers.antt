@@ -1,3 +1,4 @@
+-- serves: semver_versions::laws::one_version_in
 -- Identifiers as they are found byte by byte, and as they are cut at dots.
 use Rattle.std.proofs.Common.{◌≡◌, ℕ, ◌<◌, Bool, true, false, List, [], ◌∷◌, ◌++◌, length, take, drop}
 use Rattle.std.proofs.Common.{sym, refl, ap, ◌∙◌, subst, arith, append_assoc, append-nil, length-append, one-add, decimal}

@@ -1,3 +1,4 @@
+-- serves: semver_versions::laws::one_outlined_version
 -- The outline of a text in a dialect: which version it is of, and where its parts are.
 use Rattle.std.proofs.Common.{codes, ◌≡◌, ℕ, true, false, List, [], ◌∷◌, ◌++◌, length, take, refl, ◌∙◌, suc, arith, ap, sym}
 use Rattle.std.proofs.Common.{subst, append_assoc, append-nil, length-append}

@@ -1,3 +1,4 @@
+-- serves: semver_versions::laws::one_version
 -- What a text that spells a version of the crate begins with and goes on with; it spells no other.
 use Rattle.std.proofs.Common.{◌≡◌, ℕ, Bool, true, false, List, [], ◌∷◌, ◌++◌, sym, ◌∙◌, subst, append_assoc, append-nil}
 use Rattle.std.specs.Prelude.{slice_index}

@@ -1,3 +1,4 @@
+-- serves: semver_versions::laws::one_version
 -- A version in parts: its numbers, the identifiers after their marks, and what may be after it.
 use Rattle.std.proofs.Common.{◌≡◌, ℕ, ◌+◌, ◌≤◌, true, false, [], ◌∷◌, ◌++◌, length, map, arith, ap, sym, refl, ◌∙◌}
 use Rattle.std.proofs.Common.{subst, length-append, codes, decimal}

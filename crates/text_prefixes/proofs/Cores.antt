@@ -1,3 +1,4 @@
+-- serves: text_prefixes::bytes::is_prefix
 -- Prefixes of three numbers or wildcards, a pre-release and a build.
 use Rattle.std.proofs.Common.{◌≡◌, ℕ, ◌⊎◌, inl, inr, List, [], ◌∷◌, ◌++◌, map, codes}
 use Rattle.std.proofs.Common.{refl, sym, ◌∙◌, subst, append_assoc, arith}

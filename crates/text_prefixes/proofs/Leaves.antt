@@ -1,3 +1,4 @@
+-- serves: text_prefixes::bytes::is_prefix
 -- How the prefixes of numbers, of identifiers and of white space are completed.
 use Rattle.std.proofs.Common.{◌≡◌, ℕ, zero, suc, ◌+◌, ◌-◌, ◌<◌, ◌≤◌, ◌^◌, ◌⊎◌, inl, inr, Bool, true, false, List, [], ◌∷◌, ◌++◌, codes, length, decimal}
 use Rattle.std.proofs.Common.{ap, refl, sym, ◌∙◌, subst, arith, append-nil, length-append, ⊎_elim}

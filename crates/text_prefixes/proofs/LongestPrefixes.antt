@@ -1,3 +1,4 @@
+-- serves: text_prefixes::laws::one_offset
 -- The longest prefix of a text, as the search finds it.
 use Rattle.std.proofs.Common.{◌≡◌, ℕ, ◌<◌, ◌≤◌, ⊎_elim, [], ◌++◌, List, ap, refl, sym, ◌∙◌, rules}
 use Rattle.std.proofs.Common.{subst, append-nil, append_assoc, arith, length, length-take, take, drop}

@@ -1,3 +1,4 @@
+-- serves: text_prefixes::laws::prefixes_begin_prefixes
 -- What begins versions, where they end and why: each once.
 use Rattle.std.proofs.Common.{◌≡◌, ℕ, ◌++◌, ◌∙◌, [], ⊎_elim, Bool, true, false, ap, append-nil, append_assoc, refl, subst, sym, take}
 use Rattle.std.specs.Prelude.{◌↔◌, IsTrue, MatchOption, Option, Some, None}

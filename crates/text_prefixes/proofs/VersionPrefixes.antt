@@ -1,3 +1,4 @@
+-- serves: text_prefixes::bytes::is_prefix
 -- Prefixes of versions, by dialect.
 use Rattle.std.proofs.Common.{◌≡◌, ℕ, ◌^◌, ◌<◌, ◌≤◌, ◌⊎◌, true, List, [], ◌∷◌, ◌++◌, Bool, map, codes, decimal, rules}
 use Rattle.std.proofs.Common.{refl, sym, ap, ◌∙◌, append_assoc, arith}

@@ -1,3 +1,4 @@
+-- serves: tool_ranges::meaning::read
 -- Where each pre-release within the bounds counts, the comparators of a text mean what it means.
 use Rattle.std.proofs.Common.{◌≡◌, ℕ, Bool, true, false, ◌&&◌, ◌==◌, if◌then◌else◌, List, [], ◌∷◌, length, refl, sym, ◌∙◌}
 use Rattle.std.proofs.Math.Bool.{and-true, and-false, or-false}

@@ -1,3 +1,4 @@
+-- serves: tool_ranges::meaning::meets
 -- What the crate's reader finds of a text says what a call refuses of it, and which trees it has.
 use Rattle.std.proofs.Common.{◌≡◌, true, false, Some, None, refl, sym, ap, ◌∙◌, arith}
 use Rattle.std.proofs.lemmas.Bool.{both_ways}

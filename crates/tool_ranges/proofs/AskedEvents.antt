@@ -1,3 +1,4 @@
+-- serves: tool_ranges::meaning::meets
 -- What is known of a text of ranges as its events come.
 use Rattle.std.proofs.Common.{◌≡◌, Bool, true, false, ◌&&◌, ◌||◌, if◌then◌else◌, List, [], ◌∷◌, Option, Some, None, refl, sym, ap, ◌∙◌}
 use Rattle.std.proofs.Math.Bool.{and-true, and-false, or-false}

@@ -1,3 +1,4 @@
+-- serves: tool_ranges::meaning::meets, meaning
 -- What a call that asks a range of one version answers, by its meaning.
 use Rattle.std.proofs.Common.{◌≡◌, Bool, true, ◌&&◌, refl, rules}
 use Rattle.std.specs.Prelude.{Result, Ok, Err, IfOk}

@@ -1,3 +1,4 @@
+-- serves: tool_ranges::meaning::meets
 -- What the simples that a range is yielded as say of a version is what its terms say.
 use Rattle.std.proofs.Common.{◌≡◌, Bool, true, false, ◌&&◌, ◌||◌, if◌then◌else◌, [], ◌∷◌, refl, sym, ap, ◌∙◌, rules}
 use Rattle.std.proofs.Math.Bool.{and-true}

@@ -1,3 +1,4 @@
+-- serves: tool_ranges::meaning::meets
 -- What is known of a requirement as its comparators are read, and what it says of a version.
 use Rattle.std.proofs.Common.{◌≡◌, ℕ, ◌+◌, ◌<◌, Bool, true, false, ◌&&◌, ◌||◌, List, [], ◌∷◌, ◌++◌, Some, None, refl, sym, ap, ◌∙◌, arith}
 use Rattle.std.proofs.Math.Bool.{and-true, or-false}

@@ -1,3 +1,4 @@
+-- serves: tool_ranges::npm::rewrite
 -- What the reader finds of a range text of npm says what a call refuses and answers.
 use Rattle.std.proofs.Common.{◌≡◌, true, refl, ap, ◌∙◌, Some, None, arith}
 use Rattle.std.proofs.lemmas.Bool.{both_ways}

@@ -1,3 +1,4 @@
+-- serves: tool_ranges::npm::rewrite
 -- The comparators of a range text mean what it means to npm, where `>=0.0.0` asks nothing; on releases they do as they are.
 use Rattle.std.proofs.Common.{◌≡◌, ℕ, ◌+◌, Bool, true, false, ◌&&◌, ◌||◌, ◌==◌, if◌then◌else◌, List, [], ◌∷◌, length, rules}
 use Rattle.std.proofs.Common.{refl, sym, ap, ◌∙◌, arith}

@@ -1,3 +1,4 @@
+-- serves: tool_ranges::npm::reading::read, refusals
 -- What the comparators of npm's dialect mean, with pre-releases, is what its text means.
 use Rattle.std.proofs.Common.{◌≡◌, ℕ, ◌+◌, ◌<◌, Bool, true, false, not, ◌&&◌, ◌||◌, ◌==◌, nat_eq, List, [], ◌∷◌, ◌++◌, rules}
 use Rattle.std.proofs.Common.{length, map, take, drop, get_or, set, refl, sym, ap, ◌∙◌, arith}

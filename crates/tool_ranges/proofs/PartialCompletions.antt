@@ -1,3 +1,4 @@
+-- serves: tool_ranges::laws::fronts_begin_fronts
 -- How the prefixes of partials are completed: one to three components of three languages, and after three what may follow them.
 use Rattle.std.proofs.Common.{◌≡◌, ℕ, ◌⊎◌, inl, inr, true, List, [], ◌∷◌, ◌++◌, codes, refl, sym, ap, ◌∙◌, arith, append-nil, append_assoc, subst}
 use Rattle.std.proofs.lemmas.Bool.{and_parts, and_from}

@@ -1,3 +1,4 @@
+-- serves: tool_ranges::laws::fronts_begin_fronts
 -- The place of a range text's error: whether a text is a range text, and what completes its prefixes.
 use Rattle.std.proofs.Common.{◌≡◌, ℕ, ◌<◌, ◌≤◌, [], ◌∷◌, ◌++◌, List, codes, refl, sym, rules}
 use Rattle.std.proofs.Common.{arith, length, take}

@@ -1,3 +1,4 @@
+-- serves: answer_laws::sets::meets_as_the_set
 -- On pre-releases the comparators that judge them mean what the requirement means, and the ranges of those that count are met by these.
 use Rattle.std.proofs.Common.{◌≡◌, ℕ, ◌^◌, ◌<◌, ◌≤◌, Bool, true, false, not, ◌&&◌, ◌||◌, ◌==◌, nat_eq, if◌then◌else◌}
 use Rattle.std.proofs.Common.{List, [], ◌∷◌, length, map, refl, sym, ap, ◌∙◌, inl, inr, arith}

@@ -1,3 +1,4 @@
+-- serves: tool_ranges::cargo::rewrite
 -- The comparators that judge pre-releases, of a simple that was read, and the range of those that count beside it.
 use Rattle.std.proofs.Common.{◌≡◌, ℕ, true, ◌&&◌, if◌then◌else◌, List, [], ◌∷◌, length, refl, ◌∙◌, ◌⊎◌, inl, inr, rules}
 use Rattle.semver_ranges.specs.declared.grammar.Simple as read

@@ -1,3 +1,4 @@
+-- serves: tool_ranges::cargo::rewrite
 -- What a tool's texts are rewritten to has printable identifiers, also where pre-releases are judged.
 use Rattle.std.proofs.Common.{arith, ◌≡◌, ℕ, Bool, true, false, not, ◌&&◌, List, [], ◌∷◌, ◌++◌, map, refl, sym, ap, ◌∙◌}
 use Rattle.std.proofs.lemmas.Bool.{and_parts, and_from}

@@ -1,3 +1,4 @@
+-- serves: tool_ranges::cargo::rewrite
 -- On releases the comparators of a requirement mean what it means.
 use Rattle.std.proofs.Common.{◌≡◌, ℕ, zero, suc, ◌+◌, Bool, true, false, not, ◌&&◌, ◌||◌, ◌==◌, nat_eq, if◌then◌else◌, List, [], ◌∷◌}
 use Rattle.std.proofs.Common.{length}

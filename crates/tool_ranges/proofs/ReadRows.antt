@@ -1,3 +1,4 @@
+-- serves: tool_ranges::meaning::meets, meaning
 -- The cell of a simple that was read: where it is `>` of one or two numbers, below every pre-release, and else.
 use Rattle.std.proofs.Common.{◌≡◌, ℕ, Bool, true, false, ◌&&◌, [], ◌∷◌, List, length, refl, sym, ap, ◌∙◌, None, arith, rules}
 use Rattle.std.specs.Prelude.{Result, Ok, Err, IfOk}

@@ -1,3 +1,4 @@
+-- serves: answer_laws::sets::meets_as_the_set
 -- The releases that meet what a requirement is rewritten to, and the pre-releases that count and are judged so, are what it means.
 use Rattle.std.proofs.Common.{◌≡◌, ℕ, ◌==◌, Bool, true, false, not, ◌&&◌, ◌||◌, List, [], ◌∷◌, length, map, refl, sym, ap, ◌∙◌, rules}
 use Rattle.std.specs.Prelude.{Result, Err}

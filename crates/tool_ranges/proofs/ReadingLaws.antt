@@ -1,3 +1,4 @@
+-- serves: tool_ranges::laws::one_tree
 -- Whatever the dialect is: a text has one tree, and what is refused isn't by the result.
 use Rattle.std.proofs.Common.{◌≡◌, Ok, arith, rules}
 use Rattle.semver_texts.specs.Texts.{Text}

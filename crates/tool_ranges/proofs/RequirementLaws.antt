@@ -1,3 +1,4 @@
+-- serves: tool_ranges::cargo::rewrite
 -- What is said of a requirement's text: it has one tree, and what a call refuses of it.
 use Rattle.std.proofs.Common.{◌≡◌, true, false, List, [], ◌∷◌, refl, ap, ◌∙◌, rules}
 use Rattle.std.proofs.Common.{Some, None, sym, append-nil, arith}

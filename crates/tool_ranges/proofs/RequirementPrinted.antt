@@ -1,3 +1,4 @@
+-- serves: tool_ranges::cargo::rewrite, reads_back
 -- What a requirement is rewritten to is printable, and reads back.
 use Rattle.std.proofs.Common.{◌≡◌, true, false, List, [], ◌∷◌, ◌++◌, refl, arith}
 use Rattle.std.proofs.lemmas.Bool.{and_parts}

@@ -1,3 +1,4 @@
+-- serves: version_sets::version_set::VersionSet::has_each, each
 -- Answers that are written one after the other, and what two switches leave in.
 use Rattle.std.proofs.Common.{◌≡◌, ℕ, ◌<◌, ◌≤◌, ◌==◌, Bool, true, not, ◌&&◌, List, [], ◌∷◌, map, take, set, length}
 use Rattle.std.proofs.Common.{get_or}

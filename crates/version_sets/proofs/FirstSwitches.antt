@@ -1,3 +1,4 @@
+-- serves: version_sets::comparing::VersionSet::is_empty
 -- The first switch of a kind is in the set, and none of its kind that is in the set is below it.
 use Rattle.std.proofs.Common.{arith, ◌≡◌, ◌≢◌, ◌↔◌, Bool, true, false, ◌&&◌, cond, List, [], ◌∷◌, refl, Ordering, is_lt}
 use Rattle.std.proofs.Common.{sym, ap, ◌∙◌, subst, true≢false, Less, Option, Some, None, map, Bor}

@@ -1,3 +1,4 @@
+-- serves: version_sets::flat_reading::FlatSet::read
 -- Flat switches and the versions that they are of: each is made of the other.
 use Rattle.std.proofs.Common.{◌≡◌, ◌==◌, ℕ, ◌+◌, ◌-◌, ◌<◌, ◌≤◌, true, ◌&&◌, List, [], ◌∷◌, ◌++◌, length, map, take, drop}
 use Rattle.std.proofs.Common.{refl, sym, ap, ◌∙◌, arith, append_assoc, length-append, Ordering, Less, Equal, Greater, is_lt, ◌^◌}

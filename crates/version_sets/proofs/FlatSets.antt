@@ -1,3 +1,4 @@
+-- serves: version_sets::flat_reading::FlatSet::read
 -- Flat data and sets in the normal form: the data of a set is read as that set, and no other data is read.
 use Rattle.std.proofs.Common.{◌≡◌, ℕ, zero, suc, ◌-◌, ◌^◌, ◌+◌, ◌<◌, Bool, true, false, List, [], ◌∷◌, ◌++◌, length, map, take, drop}
 use Rattle.std.proofs.Common.{get_or, length-append, refl, sym, ap, ◌∙◌, subst, arith, true≢false}

@@ -1,3 +1,4 @@
+-- serves: version_sets::flat_reading::FlatSet::read
 -- The text of a pre-release, and the identifiers that it is read back as.
 use Rattle.std.proofs.Common.{◌≡◌, ◌^◌, true, ◌&&◌, List, [], ◌∷◌, map, refl, sym, ap, ◌∙◌, arith}
 use Rattle.std.proofs.Common.{Ordering, Less, Equal, Greater}

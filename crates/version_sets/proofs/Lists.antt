@@ -1,3 +1,4 @@
+-- serves: version_sets::comparing::VersionSet::is_empty
 -- Lists by their length and by their halves, and the result of one.
 use Rattle.std.proofs.Common.{◌≡◌, ◌==◌, ◌||◌, ◌&&◌, ◌<◌, ℕ, Bool, true, false, get_or, List, [], ◌∷◌, map, length, refl, sym}
 use Rattle.std.proofs.Common.{ap, subst, arith, IfOk, IfErr, Result, Ok, Err}

@@ -1,3 +1,4 @@
+-- serves: version_sets::version_set::VersionSet::has_outline
 -- What an outline tells of the version that was read.
 use Rattle.std.proofs.Common.{◌≡◌, ◌↔◌, ℕ, ◌+◌, ◌<◌, ◌≤◌, Bool, true, false, not, List, [], ◌∷◌, length, get_or, refl, sym, ap, ◌∙◌, map}
 use Rattle.std.proofs.Common.{true≢false}

@@ -1,3 +1,4 @@
+-- serves: version_sets::texts::compare_pre_releases
 -- The identifiers of two pre-releases that are still texts, beside each other.
 use Rattle.std.proofs.Common.{◌≡◌, ℕ, suc, zero, ◌+◌, ◌-◌, ◌*◌, ◌^◌, ◌<◌, ◌≤◌, true, false, ◌&&◌, List, [], ◌∷◌, length, take, get_or}
 use Rattle.std.proofs.Common.{refl, subst, arith}

@@ -1,3 +1,4 @@
+-- serves: version_sets::reading::VersionSet::of_text, printable
 -- Comparators whose text reads back to them have printable identifiers.
 use Rattle.std.proofs.Common.{◌≡◌, true, List, [], ◌∷◌, All, refl, ◌∙◌, ◌&&◌, ap}
 use Rattle.std.proofs.lemmas.List.Elements.{All-head, All-tail}

@@ -1,3 +1,4 @@
+-- serves: version_sets::version_set::VersionSet::has
 -- Where pre-releases begin and end can be read back from its text, if the comparators can.
 use Rattle.std.proofs.Common.{arith, ◌≡◌, ◌<◌, ℕ, zero, suc, Bool, true, false, ◌&&◌, List, [], ◌∷◌, get_or, length, map}
 use Rattle.std.proofs.Common.{refl, sym, ap, ◌∙◌}

@@ -1,3 +1,4 @@
+-- serves: version_sets::set_ranges::VersionSet::release_ranges
 -- When the identifiers of one pre-release are those of another with the number 0 after them.
 use Rattle.std.proofs.Common.{arith, ◌≡◌, Bool, false, ◌&&◌, List, [], ◌∷◌, ◌++◌, map, refl, sym, ap, ◌∙◌}
 use Rattle.std.proofs.Common.{Ordering, Less, Greater, is_eq}

@@ -1,3 +1,4 @@
+-- serves: version_sets::comparing::VersionSet::is_within
 -- Sets with the same versions have the same switches.
 use Rattle.std.proofs.Common.{arith, ◌≡◌, ◌↔◌, Bool, true, not, ◌&&◌, sym}
 use Rattle.std.proofs.lemmas.Bool.{and_parts}

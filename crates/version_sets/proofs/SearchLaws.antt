@@ -1,3 +1,4 @@
+-- serves: version_sets::version_set::VersionSet::has
 -- A binary search among switches finds how many are at or below a place, and so whether it is in the set.
 use Rattle.std.proofs.Common.{◌&&◌, ◌≡◌, ℕ, zero, suc, ◌≤◌, ◌<◌, ◌%◌, Bool, true, false, not, nat_eq, List, [], ◌∷◌}
 use Rattle.std.proofs.Common.{map, length, get_or, refl, sym, ap, ◌∙◌}

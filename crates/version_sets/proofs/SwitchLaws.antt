@@ -1,3 +1,4 @@
+-- serves: version_sets::comparing::VersionSet::is_empty
 -- Lists of switches: what is below the first is not in the set, and lists that switch alike are one.
 use Rattle.std.proofs.Common.{arith, ◌≡◌, Bool, true, false, not, List, [], ◌∷◌, refl, sym, ap, ap₂, ◌∙◌, subst, true≢false}
 use Rattle.std.specs.List.{AllByRecursion}
