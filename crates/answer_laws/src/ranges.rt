@@ -7,9 +7,9 @@ ghost use Rattle.answer_laws.specs.SeenTexts.{seen_refusal};
 
 use semver_parser::{Compat, RangeError, RangeSet};
 use std::alloc::{AllocError, Global};
+use tool_ranges::dialect::{self, Dialect};
 use tool_ranges::laws::{one_limit_place, one_place};
 use tool_ranges::place::error_place;
-use tool_ranges::dialect::{self, Dialect};
 use tool_ranges::refusals::{Refusal, refused};
 use tool_ranges::{cargo, npm};
 

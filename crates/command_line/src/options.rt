@@ -12,8 +12,8 @@ ghost use Rattle.command_line.specs.Options.{as_option_of, meant, name_of, no_op
 use crate::error::ArgumentError;
 use std::alloc::Global;
 use std::marker::Model;
-use tool_ranges::meaning::Meaning;
 use tool_ranges::dialect::Dialect;
+use tool_ranges::meaning::Meaning;
 use version_sets::PreReleases;
 
 /// What the options say that were taken so far: the dialect, and which pre-releases count.

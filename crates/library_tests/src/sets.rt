@@ -18,7 +18,12 @@ const TEXTS: [(&str, PreReleases, &str, bool); 24] = [
     ("^1.2.3-beta.4", PreReleases::Included, "2.0.0-alpha", false),
     (">=1.2.3 <1.2.4-rc", PreReleases::Default, "1.2.4-a", true),
     ("=2.0.1-a || >=2.0.0", PreReleases::Default, "2.0.1-a", true),
-    ("=2.0.1-a || >=2.0.0", PreReleases::Default, "2.0.1-b", false),
+    (
+        "=2.0.1-a || >=2.0.0",
+        PreReleases::Default,
+        "2.0.1-b",
+        false,
+    ),
     ("1.2.3-a - 2", PreReleases::Default, "1.2.3-b", true),
     ("1.2.3-a - 2", PreReleases::Default, "2.0.0-b", false),
     (">1.2.3-a", PreReleases::Included, "1.2.3-a", false),

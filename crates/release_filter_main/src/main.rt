@@ -12,8 +12,8 @@ use semver_parser::RangeError;
 use semver_parser::writing::write_whole;
 use std::io::{self, ErrorKind, Read, Write};
 use std::process::ExitCode;
-use tool_ranges::meaning::{self, Meaning};
 use tool_ranges::dialect::Dialect;
+use tool_ranges::meaning::{self, Meaning};
 
 /// The program.
 const PROGRAM: Program = Program {

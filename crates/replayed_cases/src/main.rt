@@ -37,14 +37,17 @@ const CARGO: Meaning = Meaning {
     dialect: Dialect::Cargo,
     pre_releases: PreReleases::Default,
 };
+
 const CARGO_INCLUDED: Meaning = Meaning {
     dialect: Dialect::Cargo,
     pre_releases: PreReleases::Included,
 };
+
 const NPM: Meaning = Meaning {
     dialect: Dialect::Npm,
     pre_releases: PreReleases::Default,
 };
+
 const NPM_INCLUDED: Meaning = Meaning {
     dialect: Dialect::Npm,
     pre_releases: PreReleases::Included,
@@ -126,9 +129,7 @@ fn answer<W: Write>(
         "rewritten-as-npm" => tools::write_rewritten(alloc, Dialect::Npm, text, out),
         "meant-as-cargo" => tools::write_meant(alloc, CARGO, text, steps, out),
         "meant-as-npm" => tools::write_meant(alloc, NPM, text, steps, out),
-        "meant-with-all-as-cargo" => {
-            tools::write_meant(alloc, CARGO_INCLUDED, text, steps, out)
-        }
+        "meant-with-all-as-cargo" => { tools::write_meant(alloc, CARGO_INCLUDED, text, steps, out) }
         "meant-with-all-as-npm" => tools::write_meant(alloc, NPM_INCLUDED, text, steps, out),
         _ => modes::write_answer(alloc, call, text, steps, out),
     }

@@ -3,8 +3,8 @@
 use std::alloc::Global;
 use std::io;
 use std::io::Write;
-use tool_ranges::hints::Hint;
 use tool_ranges::dialect::Dialect;
+use tool_ranges::hints::Hint;
 use tool_ranges::refusals::refused;
 
 /// Writes where and why the text gives no range, and the hint, if there is one; or that it gives

@@ -5,8 +5,8 @@ use semver_parser::{RangeError, version};
 use std::alloc::Global;
 use std::io;
 use std::io::Write;
-use tool_ranges::meaning::{self, Meaning};
 use tool_ranges::dialect::{self, Dialect};
+use tool_ranges::meaning::{self, Meaning};
 
 /// Writes what a text of a dialect is rewritten to, or the word of its error.
 pub fn write_rewritten<W: Write>(

@@ -12,13 +12,13 @@
 mod asking;
 mod comparators;
 mod compared;
+mod dialects;
 mod flat_sets;
 pub mod laws;
 mod meeting;
 mod numbers;
 mod range_refusals;
 mod range_text;
-mod dialects;
 mod refusals;
 mod set_operations;
 mod sets;

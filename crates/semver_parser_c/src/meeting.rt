@@ -12,7 +12,7 @@ ghost use Rattle.semver_parser_c.specs.Steps.Questions.{IsFilterOf, IsQuestion, 
 ghost use Rattle.semver_parser_c.specs.Steps.Questions.{IsVerdict};
 ghost use Rattle.semver_parser_c.specs.Steps.TextErrors.{IsReadable, IsRefused, Stands};
 
-use crate::{asking, numbers, range_text, dialects, sets, version_text};
+use crate::{asking, dialects, numbers, range_text, sets, version_text};
 use release_filter::{Filter, Judged};
 use semver_parser::{laws, version};
 use std::alloc::Global;

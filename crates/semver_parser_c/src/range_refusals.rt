@@ -13,8 +13,8 @@ ghost use Rattle.semver_parser_c.specs.RangeRefusals.{hint_numbers};
 use crate::numbers;
 use semver_parser::RangeError;
 use std::alloc::Global;
-use tool_ranges::hints::Hint;
 use tool_ranges::dialect::Dialect;
+use tool_ranges::hints::Hint;
 use tool_ranges::refusals::refused;
 
 /// Whether a text gives a range by a dialect, or why not, by numbers, and then the place and the

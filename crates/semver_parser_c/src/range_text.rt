@@ -15,7 +15,7 @@ ghost use Rattle.semver_parser_c.specs.Printing.{Puts, PutsBoth};
 ghost use Rattle.semver_parser_c.specs.Steps.TextErrors.{HasError, IsReadable, IsTextRefused};
 ghost use Rattle.semver_parser_c.specs.Steps.TextErrors.{IsTold, Stands, text_error_of};
 
-use crate::{numbers, dialects};
+use crate::{dialects, numbers};
 use semver_parser::{Compat, RangeError, RangeSet};
 use std::alloc::Global;
 use tool_ranges::dialect::{self, Dialect};

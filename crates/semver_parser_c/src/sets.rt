@@ -17,7 +17,7 @@ ghost use Rattle.semver_parser_c.specs.Steps.TextErrors.{IsReadable, IsRefused, 
 ghost use Rattle.semver_parser_c.specs.Steps.TextErrors.{TellsBoth};
 
 use crate::range_text::{self, TextError};
-use crate::{numbers, dialects};
+use crate::{dialects, numbers};
 use semver_parser::version::Version;
 use std::alloc::{AllocError, Global};
 use tool_ranges::meaning::{self, Meaning};

@@ -17,8 +17,8 @@ use crate::grammar::{
 };
 use crate::partial::{LowerBounds, Partial};
 use crate::range_set::RangeError;
-use semver_texts::grammar::Grammar;
 use semver_texts::dotted::strip_mark;
+use semver_texts::grammar::Grammar;
 
 /// What is next in a range text.
 #[derive(Clone, Copy)]

@@ -28,8 +28,8 @@ ghost use Rattle.semver_ranges.specs.Steps.NpmLimits.{IsBefore};
 use crate::limits::is_short_word;
 use crate::partial::{Component, Components, Partial};
 use semver_texts::decimals;
-use semver_texts::grammar::Grammar;
 use semver_texts::dotted::{Hyphens, have_no_leading_zeros, marked_part, strip_mark};
+use semver_texts::grammar::Grammar;
 
 /// A word of so many bytes is never too long to npm.
 const SHORT: usize = 250;

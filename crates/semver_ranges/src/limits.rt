@@ -15,8 +15,8 @@ ghost use Rattle.semver_texts.specs.declared.grammar.Grammar.TheVariants as gram
 
 use crate::grammar::{Form, Role, after_v, read_components};
 use crate::partial::{Component, Components};
-use semver_texts::grammar::Grammar;
 use semver_texts::dotted::split_at_dot;
+use semver_texts::grammar::Grammar;
 
 /// How many characters the version of a comparator may have: node-semver's `MAX_LENGTH`.
 const VERSION: usize = 256;

@@ -5,8 +5,8 @@
 
 pub mod bytes;
 pub mod decimals;
-pub mod grammar;
 pub mod dotted;
+pub mod grammar;
 pub mod laws;
 pub mod precedence;
 pub mod printing;

@@ -19,8 +19,8 @@ ghost use Rattle.semver_versions.specs.Steps.Reading.{hyphens_of};
 
 use crate::outlines::{Outline, with_parts};
 use semver_texts::decimals::{begins_with_digit, numbers_at_digit};
-use semver_texts::grammar::Grammar;
 use semver_texts::dotted::{Hyphens, have_no_leading_zeros, marked_part, strip_mark};
+use semver_texts::grammar::Grammar;
 
 /// No number of a version of npm is above this, the greatest that JavaScript has exactly.
 const GREATEST: u64 = 9_007_199_254_740_991;

@@ -366,13 +366,16 @@ module _ {F : Type 0} (A B : F → Text → Type 0) where
       | inl (r, x_is, rest_is) ↦ (let g = v.goes c t r (f, subst (A f) x_is is.in_first) in record {
         more = g.more ++ b;
         completion = Contains-append_left _ eb _ (contains_mapped (λ x. x ++ b) ea g.more g.completion);
-        is = (g.is.0, record {
-          first = c ∷ t ++ g.more;
-          second = b;
-          in_first = g.is.1;
-          in_second = (w g.is.0).has;
-          whole = sym (append_assoc (c ∷ t) g.more b);
-        });
+        is = (
+          g.is.0,
+          record {
+            first = c ∷ t ++ g.more;
+            second = b;
+            in_first = g.is.1;
+            in_second = (w g.is.0).has;
+            whole = sym (append_assoc (c ∷ t) g.more b);
+          },
+        );
         short = omega (
           arith,
           g.short,
@@ -385,13 +388,16 @@ module _ {F : Type 0} (A B : F → Text → Type 0) where
       | inr (d, s, t_is, y_is) ↦ (let g = (w f).goes d s rest (subst (B f) y_is is.in_second) in record {
         more = g.more;
         completion = Contains-append_right (map (λ x. x ++ b) ea) eb g.more g.completion;
-        is = (f, record {
-          first = is.first;
-          second = d ∷ s ++ g.more;
-          in_first = is.in_first;
-          in_second = g.is;
-          whole = ap (λ x. x ++ g.more) t_is ∙ append_assoc is.first (d ∷ s) g.more;
-        });
+        is = (
+          f,
+          record {
+            first = is.first;
+            second = d ∷ s ++ g.more;
+            in_first = is.in_first;
+            in_second = g.is;
+            whole = ap (λ x. x ++ g.more) t_is ∙ append_assoc is.first (d ∷ s) g.more;
+          },
+        );
         short = g.short;
         uncut = g.uncut;
       })

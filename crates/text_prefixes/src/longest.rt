@@ -62,7 +62,11 @@ pub fn longest_prefix<L: Language>(language: &L, text: &str, buffer: &mut [u8]) 
 
 /// Returns what [`longest_prefix`] does, of bytes that need not be UTF-8, if all texts of the
 /// language are.
-pub(crate) fn longest_prefix_of_bytes<L: Language>(language: &L, bytes: &[u8], buffer: &mut [u8]) -> usize
+pub(crate) fn longest_prefix_of_bytes<L: Language>(
+    language: &L,
+    bytes: &[u8],
+    buffer: &mut [u8],
+) -> usize
     requires completions { AreCompletions (L.is_text language.now) (L.completions language.now) }
     requires utf8 { (text : Text) → L.is_text language.now text → IsUtf8 text }
     requires room { length bytes.now + 8 ≤ length buffer.old }

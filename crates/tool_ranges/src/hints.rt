@@ -3,8 +3,8 @@
 ghost use Rattle.std.specs.Prelude.{◌≡◌};
 ghost use Rattle.tool_ranges.specs.Hints.{limit_of};
 
-use crate::ending::Ending;
 use crate::dialect::Dialect;
+use crate::ending::Ending;
 
 /// What may have been meant where a text stops being a range: what another dialect takes there, or
 /// which rule of the dialect is broken.
@@ -44,7 +44,9 @@ pub(crate) fn hint_at(dialect: Dialect, text: &str, place: usize) -> Option<Hint
     let front = text.as_bytes().get(..place)?;
     let next = text.as_bytes().get(place).copied();
     let ending = Ending::of(front);
-    if !matches!(dialect, Dialect::CrateCargo | Dialect::CrateNpm) && ending.has_leading_zero(front, next) {
+    if !matches!(dialect, Dialect::CrateCargo | Dialect::CrateNpm)
+        && ending.has_leading_zero(front, next)
+    {
         return Some(Hint::LeadingZero);
     }
     match (dialect, next?) {

@@ -4,6 +4,7 @@
 mod asked;
 mod asking;
 pub mod cargo;
+pub mod dialect;
 mod ending;
 pub mod hints;
 pub mod laws;
@@ -11,7 +12,6 @@ mod limit;
 pub mod meaning;
 pub mod npm;
 pub mod place;
-pub mod dialect;
 pub mod refusals;
 mod rows;
 mod tally;

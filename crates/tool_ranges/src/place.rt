@@ -7,8 +7,8 @@ ghost use Rattle.text_prefixes.specs.Prefixes.{IsLongestPrefix};
 ghost use Rattle.tool_ranges.specs.Dialects.{IsTextAs, RefusesAs};
 ghost use Rattle.tool_ranges.specs.Prefixes.{BeginsAs};
 
-use crate::meaning::{self, Meaning};
 use crate::dialect::Dialect;
+use crate::meaning::{self, Meaning};
 use semver_ranges::RangeError;
 use std::alloc::{AllocError, Global};
 use text_prefixes::longest::{Language, longest_prefix};

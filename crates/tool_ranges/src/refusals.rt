@@ -10,10 +10,10 @@ ghost use Rattle.tool_ranges.specs.Hints.{limit_of};
 ghost use Rattle.tool_ranges.specs.Dialects.{HasSetAs, IsTextAs, IsTooLargeAs, SpellsAs, TreeOf};
 ghost use Rattle.tool_ranges.specs.TooLarge.{IsLimitOffset, limit_offset};
 
+use crate::dialect::Dialect;
 use crate::hints::{self, Hint};
 use crate::limit::limit_offset;
 use crate::place::{check, error_place};
-use crate::dialect::Dialect;
 use semver_ranges::RangeError;
 use std::alloc::{AllocError, Global};
 

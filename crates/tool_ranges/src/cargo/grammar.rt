@@ -14,8 +14,8 @@ ghost use Rattle.tool_ranges.specs.Steps.CargoReading.{begins_with_tilde_greater
 
 use semver_ranges::grammar::{Form, Simple, after_blanks, read_components, read_operator};
 use semver_ranges::partial::{Component, Components, Partial};
-use semver_texts::grammar::Grammar;
 use semver_texts::dotted::have_no_leading_zeros;
+use semver_texts::grammar::Grammar;
 
 /// The comparator at the front of a text, up to a comma or the end, and what follows the comma. One
 /// without operator is answered as `^`, or with a wildcard as `=`.
