@@ -242,11 +242,13 @@ stated_completions = codes "" ∷ codes "*" ∷ codes "a" ∷ codes "0" ∷ []
 
 stated_partial : CompletesBy in_bytes IsStatedText (codes "0") stated_completions
 stated_partial =
-    let marks = seq (optional (pre_mark (part has_no_leading_zero refl (λ x c rest e. rw (no_digits x) refl)))) (optional (build_mark build)) in
+    let pre = pre_mark (part has_no_leading_zero refl (λ x c rest e. rw (no_digits x) refl)) in
+    let marks = seq (optional pre) (optional (build_mark build)) in
     let numbers = partial number number number marks in
     let patch = partial number number wild nothing in
     let minor = partial number wild wild nothing in
-    among (same (choice numbers (choice patch minor (omega arith)) (omega arith)) IsStatedText stated_from stated_to) stated_completions refl
+    let all = choice numbers (choice patch minor (omega arith)) (omega arith) in
+    among (same all IsStatedText stated_from stated_to) stated_completions refl
 
 -- ---- signs
 
@@ -317,7 +319,8 @@ comparator_to t (s, w, some) = record {
   second = sign s.form ++ (w.gap ++ (w.word ++ w.after));
   in_first = w.before_is;
   in_second = both (sign s.form) _ (s.form, refl) (both w.gap _ w.gap_is (both w.word w.after
-      (s.partial, (w.partial, (and_parts (is_partial_of_cargo s.partial) (is_every s || not (states_nothing s.partial)) w.is_read).0, some)) w.after_is));
+      (s.partial, (w.partial, (and_parts (is_partial_of_cargo s.partial)
+          (is_every s || not (states_nothing s.partial)) w.is_read).0, some)) w.after_is));
   whole = w.text;
 }
 
@@ -406,7 +409,8 @@ record AreStated (t : Text) (n : ℕ) : Type 0 where
   stated : some_states_nothing (first ∷ others) ≡ false
   few : length others ≡ n
 
-all_from : (x : Text) → IsStatedComparator x → (xs : List Text) → AllByRecursion Next xs → (t : Text) → t ≡ x ++ concat xs → AreStated t (length xs)
+all_from : (x : Text) → IsStatedComparator x → (xs : List Text) → AllByRecursion Next xs → (t : Text) → t ≡ x ++ concat xs
+    → AreStated t (length xs)
 all_from x (s, w, n) [] all t e = record {
   first = s;
   others = [];
@@ -487,7 +491,13 @@ requirement_to t (s ∷ [], w) =
     by_test (states_nothing s.partial)
     (λ y. inl (s, w.comparators, y))
     (λ n. inr (let all = all_to s [] t w.comparators (rw n refl) in
-    record { first = all.first; second = all.second; in_first = all.in_first; in_second = no_more 0 31 Next all.second (omega arith) all.in_second; whole = all.whole }))
+    record {
+      first = all.first;
+      second = all.second;
+      in_first = all.in_first;
+      in_second = no_more 0 31 Next all.second (omega arith) all.in_second;
+      whole = all.whole;
+    }))
 requirement_to t (s ∷ r ∷ rs, w) =
     inr (let all = all_to s (r ∷ rs) t w.comparators (not_true (some_states_nothing (s ∷ r ∷ rs)) w.alone) in record {
       first = all.first;

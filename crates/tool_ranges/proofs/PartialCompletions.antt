@@ -1,6 +1,7 @@
 -- serves: tool_ranges::laws::fronts_begin_fronts
 -- How the prefixes of partials are completed: one to three components of three languages, and after three what may follow them.
-use Rattle.std.proofs.Common.{◌≡◌, ℕ, ◌⊎◌, inl, inr, true, List, [], ◌∷◌, ◌++◌, codes, refl, sym, ap, ◌∙◌, arith, append-nil, append_assoc, subst}
+use Rattle.std.proofs.Common.{◌≡◌, ℕ, ◌⊎◌, inl, inr, true, List, [], ◌∷◌, ◌++◌, codes, refl, sym, ap, ◌∙◌, arith, append-nil}
+use Rattle.std.proofs.Common.{append_assoc, subst}
 use Rattle.std.proofs.lemmas.Bool.{and_parts, and_from}
 use Rattle.std.specs.List.{list_all}
 use Rattle.std.specs.Prelude.{◌&&◌}
@@ -85,7 +86,8 @@ module _ (A B C M : Text → Type 0) where
   one_text a is = subst Partial (append-nil a) (both a [] is (inl refl))
 
   pub two_text : (a b : Text) → A a → B b → Partial (a ++ (46 ∷ b))
-  two_text a b is next = subst (λ x. Partial (a ++ (46 ∷ x))) (append-nil b) (both a _ is (inr (both (codes ".") _ refl (both b [] next (inl refl)))))
+  two_text a b is next = subst (λ x. Partial (a ++ (46 ∷ x))) (append-nil b) (both a _ is (inr (both (codes ".") _ refl
+      (both b [] next (inl refl)))))
 
   pub three_text : (a b c m : Text) → A a → B b → C c → M m → Partial (a ++ (46 ∷ (b ++ (46 ∷ (c ++ m)))))
   three_text a b c m is next last marks =

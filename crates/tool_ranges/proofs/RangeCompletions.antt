@@ -8,8 +8,10 @@ use Rattle.std.proofs.lemmas.Bool.{and_parts, eqb-true}
 use Rattle.std.proofs.lemmas.Bool.Decides.{nat_tests}
 use Rattle.semver_texts.specs.Texts.{Text}
 use Rattle.semver_texts.specs.declared.grammar.Grammar.{Grammar}
-use Rattle.semver_ranges.specs.RangeTree.{Form, bare, equal, less, at_most, greater, at_least, tilde, caret, Simple, RangeTree, empty, hyphen, simples}
-use Rattle.semver_ranges.specs.RangeTree.{PartialTree, SetTree, Role, after_form, after_hyphen, AreBlanks, AreSomeBlanks, SpellsForm, SpellsIn}
+use Rattle.semver_ranges.specs.RangeTree.{Form, bare, equal, less, at_most, greater, at_least, tilde, caret, Simple, RangeTree, empty}
+use Rattle.semver_ranges.specs.RangeTree.{hyphen, simples}
+use Rattle.semver_ranges.specs.RangeTree.{PartialTree, SetTree, Role, after_form, after_hyphen, AreBlanks, AreSomeBlanks, SpellsForm}
+use Rattle.semver_ranges.specs.RangeTree.{SpellsIn}
 use Rattle.semver_ranges.specs.RangeTree.{SpellsPadded, SpellsRange, SpellsSimple, SpellsSimples, SpellsWord}
 use Rattle.text_prefixes.proofs.Completions.{CompletesBy, Separated, Seq, among, both, byte_by, choice, dependent, in_bytes}
 use Rattle.text_prefixes.proofs.Completions.{many, optional, same, seq}
@@ -311,9 +313,11 @@ module _ (d : Grammar) where
         let hyphens = seq (byte_by in_bytes 45 (omega arith)) (seq spaces (words after_hyphen)) in
         let begun = seq (words (after_form bare)) (optional (seq spaces (optional hyphens))) in
         let all_simples = seq simple (many (seq spaces simple)) in
-        let padded = same (seq (blanks d) (seq (optional (choice all_simples begun (omega arith))) (blanks d))) IsPaddedText padded_from padded_to in
+        let inner = optional (choice all_simples begun (omega arith)) in
+        let padded = same (seq (blanks d) (seq inner (blanks d))) IsPaddedText padded_from padded_to in
         let set = same (seq padded (many (seq bars padded))) IsSetText
-        (λ t w. let s = set_from w.first w.in_first w.in_second.texts w.in_second.each t (w.whole ∙ ap (λ x. w.first ++ x) w.in_second.whole) in
+        (λ t w. let s = set_from w.first w.in_first w.in_second.texts w.in_second.each t (w.whole
+            ∙ ap (λ x. w.first ++ x) w.in_second.whole) in
         (s.0 ∷ s.1, s.2)) to in
         among set set_completions refl
       where

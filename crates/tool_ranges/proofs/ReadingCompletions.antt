@@ -31,7 +31,8 @@ all_stand = (refl, (refl, (refl, (refl, (refl, (refl, tt))))))
 
 still_stand : (t rest more : Text) → IsUtf8 t → Stands (t ++ rest) → Contains range_completions more → Stands (t ++ more)
 still_stand t rest more utf8 h is =
-    let here = and_parts (list_all may_stand (chars t)) (list_all may_stand (chars rest)) (rw (chars-append t rest utf8, list_all-append) at h) in
+    let here = and_parts (list_all may_stand (chars t)) (list_all may_stand (chars rest)) (rw
+    (chars-append t rest utf8, list_all-append) at h) in
     let stands = All-contains Stands range_completions more (All-from_recursion Stands range_completions all_stand) is in
     rw (chars-append t more utf8, list_all-append) (and_from (list_all may_stand (chars t)) (list_all may_stand (chars more)) here.0 stands)
 

@@ -1,6 +1,7 @@
 -- serves: tool_ranges::refusals::refused
 -- Which terms of a range text fit, from the left, as the loops over its events and comparators count them; and where a word ends.
-use Rattle.std.proofs.Common.{◌≡◌, ℕ, zero, suc, ◌+◌, ◌≤◌, Bool, true, false, List, [], ◌∷◌, ◌++◌, Option, Some, None, length, refl, sym, ap, ◌∙◌, arith}
+use Rattle.std.proofs.Common.{◌≡◌, ℕ, zero, suc, ◌+◌, ◌≤◌, Bool, true, false, List, [], ◌∷◌, ◌++◌, Option, Some, None, length, refl, sym}
+use Rattle.std.proofs.Common.{ap, ◌∙◌, arith}
 use Rattle.std.specs.List.{flat_map, prefix_len}
 use Rattle.std.proofs.lemmas.List.Splits.{length-slice_split}
 use Rattle.semver_texts.specs.Texts.{Text}
@@ -15,7 +16,8 @@ use Rattle.semver_ranges.specs.RangeTree.{PartialTree, RangeTree, Simple, SetTre
 use Rattle.semver_ranges.specs.RewritingTable.{PlainComparator}
 use Rattle.semver_ranges.specs.Terms.{left_side, right_side}
 use Rattle.semver_ranges.specs.Steps.PartialViews.{begun_as}
-use Rattle.semver_ranges.specs.Steps.RangeEvents.{Event, one_simple, next_range, put, in_front, yielded, events, events_of, set_events, wildcard}
+use Rattle.semver_ranges.specs.Steps.RangeEvents.{Event, one_simple, next_range, put, in_front, yielded, events, events_of, set_events}
+use Rattle.semver_ranges.specs.Steps.RangeEvents.{wildcard}
 use Rattle.semver_ranges.proofs.ReadingComplete.{tree_read}
 use Rattle.semver_ranges.proofs.Tables.{IsTable, begun_stated}
 use Rattle.tool_ranges.specs.Steps.Asking.{grammar_of, lower_of, term_fits}
@@ -83,7 +85,9 @@ module _ (p : Simple → Bool) (whole : Option ℕ) (k : ℕ) (o left : Option (
       where
         end : (left : Option (List Event)) → Some n ≡ counted p k (put (one_simple s) left) → n ≡ k
         end None e = cc
-        end (Some es) e = let h = fitting_end p s (in_events es) none y in let same : n ≡ k + fitting p (s ∷ in_events es) = cc in omega (arith, same, h)
+        end (Some es) e =
+            let h = fitting_end p s (in_events es) none y in
+            let same : n ≡ k + fitting p (s ∷ in_events es) = cc in omega (arith, same, h)
 
   pub count_all : o ≡ Some [] → (n : ℕ) → whole ≡ Some n → n ≡ k
   count_all e n is = let same : Some n ≡ Some (k + 0) = sym is ∙ so_far ∙ ap (counted p k) e in let h : n ≡ k + 0 = cc in omega (arith, h)
@@ -124,7 +128,8 @@ module _ (p : Simple → Bool) where
         → yielded lower (hyphen l r) ≡ left_side (begun_as lower l) ∷ right_side r ∷ []
     both_sides l r n m = rw (n, m) refl
 
-    range_terms : (r : RangeTree) (xs ys : List Simple) → fitting p xs ≡ fitting p ys → fitting p (yielded lower r ++ xs) ≡ fitting p (terms_of r ++ ys)
+    range_terms : (r : RangeTree) (xs ys : List Simple) → fitting p xs ≡ fitting p ys
+        → fitting p (yielded lower r ++ xs) ≡ fitting p (terms_of r ++ ys)
     range_terms empty xs ys e = fitting_nothing p wildcard xs refl ∙ e
     range_terms (hyphen l r) xs ys e = by_test (states_nothing r)
         (λ y. ap (λ zs. fitting p (zs ++ xs)) (left_alone l r y)

@@ -1,6 +1,7 @@
 -- serves: tool_ranges::laws::fronts_begin_fronts
 -- How the prefixes of the words of range texts, as the crate and as npm read them, are completed.
-use Rattle.std.proofs.Common.{◌≡◌, ℕ, ◌+◌, ◌≤◌, ◌⊎◌, inl, inr, Bool, true, false, List, [], ◌∷◌, ◌++◌, codes, length, refl, sym, ap, ◌∙◌, arith}
+use Rattle.std.proofs.Common.{◌≡◌, ℕ, ◌+◌, ◌≤◌, ◌⊎◌, inl, inr, Bool, true, false, List, [], ◌∷◌, ◌++◌, codes, length, refl, sym, ap, ◌∙◌}
+use Rattle.std.proofs.Common.{arith}
 use Rattle.std.proofs.Common.{append-nil, cond, eqb, length-append, subst}
 use Rattle.std.specs.Prelude.{◌&&◌, ◌||◌, ◌==◌, not, nat_le, if◌then◌else◌}
 use Rattle.std.specs.Char.{is_ascii_digit}
@@ -67,7 +68,8 @@ crate_from t w = elim (cases IsComponent IsComponent IsComponent Marks t w) [
 
 crate_to : (t : Text) → (p : PartialTree) × SpellsPartial p t → CratePartial t
 crate_to t (one a, (e, parts, text)) =
-    subst CratePartial (sym (text ∙ append-nil a)) (one_text IsComponent IsComponent IsComponent Marks a (and_parts (is_component a) true e).0)
+    subst CratePartial (sym (text ∙ append-nil a)) (one_text IsComponent IsComponent IsComponent Marks a (and_parts
+        (is_component a) true e).0)
 crate_to t (two a b, (e, parts, text)) =
     let first = and_parts (is_component a) (is_component b && true) e in
     subst CratePartial (sym (text ∙ append-nil (a ++ (46 ∷ b))))
@@ -174,7 +176,8 @@ marks_from true q t (inl e) = record {
 marks_from true q t (inr w) =
     let all = w.in_first.0.in_second in
     let build = marked_from 43 NpmBuild w.second w.in_second in
-    let pre : w.first ≡ marked (45 ∷ []) (all.first ∷ all.others) = w.in_first.0.whole ∙ (λ i. w.in_first.0.in_first i ++ all.whole i) in record {
+    let pre : w.first ≡ marked (45 ∷ []) (all.first ∷ all.others) = w.in_first.0.whole
+    ∙ (λ i. w.in_first.0.in_first i ++ all.whole i) in record {
       pre = all.first ∷ all.others;
       build = build.texts;
       pre_each = all.each;
@@ -224,7 +227,8 @@ is_whole (after_form caret) k = false
 is_whole (after_form _) k = true
 is_whole after_hyphen k = not k
 
-taken : (role : Role) (a b c : Text) (pre build : List Text) → is_taken_whole role (three a b c pre build) ≡ is_whole role (not (is_empty pre))
+taken : (role : Role) (a b c : Text) (pre build : List Text)
+    → is_taken_whole role (three a b c pre build) ≡ is_whole role (not (is_empty pre))
 taken (after_form bare) a b c pre build = refl
 taken (after_form _) a b c pre build = refl
 taken after_hyphen a b c [] build = refl
@@ -289,7 +293,8 @@ not_wild c t keeps e = by_test (is_wildcard c) (λ y. absurd (let h = keeps y in
 size_of : (a b c pre : Text) → length ((a ++ (46 ∷ (b ++ (46 ∷ c)))) ++ pre) ≡ (length a + (length b + length c) + 2) + length pre
 size_of a b c pre = simp (length-append) (omega arith)
 
-each_passes : (ts : List Text) → list_all is_npm_pre ts ≡ true → (list_all has_no_leading_zero ts ≡ true) × (list_all is_short_pre ts ≡ true)
+each_passes : (ts : List Text) → list_all is_npm_pre ts ≡ true
+    → (list_all has_no_leading_zero ts ≡ true) × (list_all is_short_pre ts ≡ true)
 each_passes [] e = (refl, refl)
 each_passes (t ∷ ts) e =
     let first = and_parts (is_npm_pre t) (list_all is_npm_pre ts) e in
@@ -351,7 +356,8 @@ module _ (role : Role) where
       → has_short_version role (three a b c pre build) n ≡ true
   short_three a b c pre build n h = by_test (not (is_wildcard a || (is_wildcard b || is_wildcard c)))
       (λ y. let none = none_wild (is_wildcard a) (is_wildcard b) (is_wildcard c) y in
-      rw y (rw (taken role a b c pre build) (short_by (is_whole role (not (is_empty pre))) n (length (numbers_and_pre (three a b c pre build)))
+      rw y (rw (taken role a b c pre build) (short_by (is_whole role (not (is_empty pre))) n (length (numbers_and_pre
+          (three a b c pre build)))
       (subst (IsShort role (not (is_empty pre)) n) (sym (size_of a b c (marked (45 ∷ []) pre))) (h none.0 none.1 none.2)))))
       (λ m. rw m refl)
 
@@ -360,7 +366,8 @@ module _ (role : Role) where
       → IsShort role (not (is_empty pre)) n ((length a + (length b + length c) + 2) + length (marked (45 ∷ []) pre))
   three_short a b c pre build n h x y z =
       let e = no_wild (is_wildcard a) (is_wildcard b) (is_wildcard c) x y z in
-      let short : is_short_version (if is_taken_whole role (three a b c pre build) then n else length (numbers_and_pre (three a b c pre build))) ≡ true
+      let short : is_short_version (if is_taken_whole role (three a b c pre build) then n
+      else length (numbers_and_pre (three a b c pre build))) ≡ true
       = rw e at h in
       subst (IsShort role (not (is_empty pre)) n) (size_of a b c (marked (45 ∷ []) pre))
       (by_short (is_whole role (not (is_empty pre))) n (length (numbers_and_pre (three a b c pre build)))
@@ -389,11 +396,13 @@ module _ (role : Role) where
           let none = marks.alone y n in
           let size : length back ≡ length (o.a ++ (46 ∷ (o.b ++ (46 ∷ (o.c ++ []))))) =
           ap length (o.whole ∙ ap (λ x. o.a ++ (46 ∷ (o.b ++ (46 ∷ (o.c ++ x))))) none) in
-          let sum : length (o.a ++ (46 ∷ (o.b ++ (46 ∷ (o.c ++ []))))) ≡ length o.a + (length o.b + length o.c) + 2 = simp (length-append, append-nil) (omega arith) in
+          let sum : length (o.a ++ (46 ∷ (o.b ++ (46 ∷ (o.c ++ []))))) ≡ length o.a + (length o.b + length o.c) + 2 =
+          simp (length-append, append-nil) (omega arith) in
           omega (arith, ap length whole ∙ length-append v back, v_short v v_is, size, sum)
 
       short : is_wildcard o.a ≡ false → is_wildcard o.b ≡ false → is_wildcard o.c ≡ false
-          → IsShort role (not (is_empty marks.pre)) (length t) ((length o.a + (length o.b + length o.c) + 2) + length (marked (45 ∷ []) marks.pre))
+          → IsShort role (not (is_empty marks.pre)) (length t) ((length o.a + (length o.b + length o.c) + 2) + length (marked
+              (45 ∷ []) marks.pre))
       short x y z = stays role i.k (not (is_empty marks.pre)) i.n (length t) (length i.a + (length i.b + length i.c) + 2)
           (length o.a + (length o.b + length o.c) + 2) i.q (length (marked (45 ∷ []) marks.pre)) less
           (omega (arith, o.in_a.2, o.in_b.2, o.in_c.2)) (within_extra marks.pre i.q marks.short) i.q_some marks.has alone_short
@@ -404,7 +413,8 @@ module _ (role : Role) where
           let pre = parts_from is_npm_pre marks.pre marks.pre_each in
           let build = parts_from is_short_build marks.build marks.build_each in
           let passes = each_passes marks.pre pre.1 in
-          let parts : has_short_parts (three o.a o.b o.c marks.pre marks.build) ≡ true = rw (o.in_a.1, o.in_b.1, o.in_c.1, passes.1, build.1) refl in (
+          let parts : has_short_parts (three o.a o.b o.c marks.pre marks.build) ≡ true =
+          rw (o.in_a.1, o.in_b.1, o.in_c.1, passes.1, build.1) refl in (
             three o.a o.b o.c marks.pre marks.build,
             (
               v,
@@ -518,8 +528,10 @@ module _ (role : Role) where
     three_to a b c pre build spelled is =
         let e = components_of_three a b c spelled.0 in
         let first = and_parts (list_all has_no_leading_zero pre) _ is in
-        let others = and_parts (has_short_parts (three a b c pre build)) (has_short_version role (three a b c pre build) (length t)) first.1 in
-        let parts = and_parts (list_all is_short_number (a ∷ b ∷ c ∷ [])) (list_all is_short_pre pre && list_all is_short_build build) others.0 in
+        let others = and_parts (has_short_parts (three a b c pre build)) (has_short_version role (three a b c pre build)
+        (length t)) first.1 in
+        let parts = and_parts (list_all is_short_number (a ∷ b ∷ c ∷ []))
+        (list_all is_short_pre pre && list_all is_short_build build) others.0 in
         let marks = and_parts (list_all is_short_pre pre) (list_all is_short_build build) parts.1 in
         let short_a = and_parts (is_short_number a) (is_short_number b && (is_short_number c && true)) parts.0 in
         let short_b = and_parts (is_short_number b) (is_short_number c && true) short_a.1 in

@@ -59,7 +59,8 @@ loop-event-preserved c =
     let so_far = c.loop-event.invariant in
     let gives : NextGives (grammar_of c.args.terms) c.loop-event.events (Some c.in-Some.event) c.next_in.new.self =
     search rules in
-    let bars = bars_first (grammar_of c.args.terms) so_far.0 c.next_in.new.self (rw (c.in-Ok.is, c.in-NextRange.is) at (gives.0 so_far.0 so_far.1)) in (
+    let bars = bars_first (grammar_of c.args.terms) so_far.0 c.next_in.new.self (rw (c.in-Ok.is, c.in-NextRange.is) at
+    (gives.0 so_far.0 so_far.1)) in (
       bars.0,
       bars.1,
       count_bars (term_fits c.args.terms) _ c.loop-event.fitting so_far.0 bars.0 so_far.2 bars.2,

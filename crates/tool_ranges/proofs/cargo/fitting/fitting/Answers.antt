@@ -38,7 +38,8 @@ returns-in_default-after c = λ tree spelled.
     let s = found.0 in
     let p = term_fits_as Cargo in
     let states = states_kind s.partial c.in-Some.simple.partial found.2.1 ∙ sym c.states_nothing.ensures in
-    let last = at_last c.args.text.now seen.0 c.loop.rest.now s seen.1 (found.1 ∙ ap (λ b. Some (s, after_comma b)) c.in_default-after.is) in
+    let last = at_last c.args.text.now seen.0 c.loop.rest.now s seen.1 (found.1
+    ∙ ap (λ b. Some (s, after_comma b)) c.in_default-after.is) in
     let whole : fitting p tree ≡ c.loop.fitting + fitting p (s ∷ []) = ap (fitting p) (last.1 tree spelled.comparators) ∙ seen.4 (s ∷ []) in
     elim c.if-not-states_nothing.branch [
       | then-not-states_nothing+else-not-fits w ↦ (
@@ -68,13 +69,15 @@ loop-preserved c =
             at,
             count_more seen.0 s c.loop.counter seen.2,
             omega (arith, seen.3, w.fitting-is),
-            λ left. let more = fitting_more p s left (states ∙ w.if-not-states_nothing.true) fits in let all = whole left in omega (arith, all, more, w.fitting-is),
+            λ left. let more = fitting_more p s left (states ∙ w.if-not-states_nothing.true) fits in
+            let all = whole left in omega (arith, all, more, w.fitting-is),
           ))
       | else-not-states_nothing w ↦ (
         seen.0 ++ s ∷ [],
         at,
         count_more seen.0 s c.loop.counter seen.2,
         omega (arith, seen.3, w.fitting-is),
-        λ left. let more = fitting_nothing p s left (states ∙ w.if-not-states_nothing.false) in let all = whole left in omega (arith, all, more, w.fitting-is),
+        λ left. let more = fitting_nothing p s left (states ∙ w.if-not-states_nothing.false) in
+        let all = whole left in omega (arith, all, more, w.fitting-is),
       )
     ]
