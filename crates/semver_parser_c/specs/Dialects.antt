@@ -37,7 +37,8 @@ IsRule n = (rule : PreReleases) × (n ≡ rule_number rule)
 
 -- the numbers of a dialect and of a rule name a meaning
 abbrev pub IsNamed : Meaning → ℤ → ℤ → Type 0
-IsNamed meaning n rule = (n ≡ dialect_number meaning.dialect) × (rule ≡ rule_number meaning.pre_releases)
+IsNamed meaning n rule =
+    (n ≡ dialect_number meaning.dialect) × (rule ≡ rule_number meaning.pre_releases)
 
 -- they name some meaning
 abbrev pub IsMeaning : ℤ → ℤ → Type 0

@@ -245,8 +245,8 @@ pub extern "C" fn semver_parser_proved_explain_version(
     ensures place { (d : Grammar) → IsGrammar d dialect → result ≢ number.ok
         → result ≢ number.no_room → IsLongestVersionPrefix d text.now place.new }
     ensures reason { (d : Grammar) → IsGrammar d dialect → result ≢ number.ok
-        → result ≢ number.no_room → (r : Reason) × IsReason d (take place.new text.now) (byte_at text.now place.new) r
-        × (result ≡ reason_number r) }
+        → result ≢ number.no_room → (r : Reason) × IsReason d (take place.new text.now)
+        (byte_at text.now place.new) r × (result ≡ reason_number r) }
     ensures unchanged { IsOneOf (number.ok ∷ number.no_such_dialect ∷ number.no_room ∷ []) result
         → (place.new ≡ place.old) × (buffer.new ≡ buffer.old) }
 {

@@ -154,12 +154,25 @@ each_among others es y =
 module _ {m : Measure} {Is : Text → Type 0} {least : Text} {completions : List Text} (w : CompletesBy m Is least completions) where
   -- also of nothing
   pub goes_all : (t rest : Text) → Is (t ++ rest) → IsCompletedBy m Is (least ∷ completions) t rest
-  goes_all [] rest is = record { more = least; completion = (0, omega arith, refl); is = w.has; short = w.least_short rest is; uncut = λ u. w.least_uncut }
+  goes_all [] rest is = record {
+    more = least;
+    completion = (0, omega arith, refl);
+    is = w.has;
+    short = w.least_short rest is;
+    uncut = λ u. w.least_uncut;
+  }
   goes_all (b ∷ t) rest is = let g = w.goes b t rest is in
-      record { more = g.more; completion = Contains-append_right (least ∷ []) completions g.more g.completion; is = g.is; short = g.short; uncut = g.uncut }
+      record {
+        more = g.more;
+        completion = Contains-append_right (least ∷ []) completions g.more g.completion;
+        is = g.is;
+        short = g.short;
+        uncut = g.uncut;
+      }
 
   -- of any bytes
-  pub bytes_go_on : (others : List Text) → list_all (is_one others) (least ∷ completions) ≡ true → (t rest : Text) → Is (t ++ rest) → GoesOn Is others t
+  pub bytes_go_on : (others : List Text) → list_all (is_one others) (least ∷ completions) ≡ true → (t rest : Text) → Is (t ++ rest)
+      → GoesOn Is others t
   bytes_go_on others among t rest is =
       let g = goes_all t rest is in
       let e = All-contains (Contains others) (least ∷ completions) g.more
@@ -179,7 +192,8 @@ module _ {m : Measure} {Is : Text → Type 0} {least : Text} {completions : List
     where
       is_among : (e : Text) → Contains (least ∷ completions) e → is_cut e ≡ false → Contains others e
       is_among e in_all = All-contains (λ x. is_cut x ≡ false → Contains others x) (least ∷ completions) e
-          (All-from_recursion (λ x. is_cut x ≡ false → Contains others x) (least ∷ completions) (each_among others (least ∷ completions) among).1) in_all
+          (All-from_recursion (λ x. is_cut x ≡ false
+          → Contains others x) (least ∷ completions) (each_among others (least ∷ completions) among).1) in_all
 
   -- by others, which are these and more
   pub among : (others : List Text) → list_all (is_one others) completions ≡ true → CompletesBy m Is least others
@@ -189,7 +203,8 @@ module _ {m : Measure} {Is : Text → Type 0} {least : Text} {completions : List
     least_short = w.least_short;
     least_uncut = w.least_uncut;
     goes = λ b t rest is. let g = w.goes b t rest is in
-        let e = All-contains (Contains others) completions g.more (All-from_recursion (Contains others) completions (each_one others completions y)) in
+        let e = All-contains (Contains others) completions g.more (All-from_recursion (Contains others) completions
+        (each_one others completions y)) in
         record { more = g.more; completion = e g.completion; is = g.is; short = g.short; uncut = g.uncut };
   }
 
@@ -229,12 +244,19 @@ module _ {m : Measure} {Is : Text → Type 0} {least : Text} {completions : List
     least_uncut = refl;
     goes = λ b t rest is. elim is [
       | inl e ↦ absurd (cc)
-      | inr i ↦ (let g = w.goes b t rest i in record { more = g.more; completion = g.completion; is = inr g.is; short = g.short; uncut = g.uncut })
+      | inr i ↦ (let g = w.goes b t rest i in record {
+        more = g.more;
+        completion = g.completion;
+        is = inr g.is;
+        short = g.short;
+        uncut = g.uncut;
+      })
     ];
   }
 
 -- one or the other
-pub choice : {m : Measure} {A B : Text → Type 0} {a b : Text} {ea eb : List Text} → CompletesBy m A a ea → CompletesBy m B b eb → size m a ≤ size m b
+pub choice : {m : Measure} {A B : Text → Type 0} {a b : Text} {ea eb : List Text} → CompletesBy m A a ea → CompletesBy m B b eb
+    → size m a ≤ size m b
     → CompletesBy m (λ t. A t ⊎ B t) a (ea ++ eb)
 choice {m} {A} {B} {a} {b} {ea} {eb} v w less = record {
   has = inl v.has;
@@ -246,9 +268,21 @@ choice {m} {A} {B} {a} {b} {ea} {eb} v w less = record {
   least_uncut = v.least_uncut;
   goes = λ c t rest is. elim is [
     | inl i ↦ (let g = v.goes c t rest i in
-        record { more = g.more; completion = Contains-append_left ea eb g.more g.completion; is = inl g.is; short = g.short; uncut = g.uncut })
+        record {
+          more = g.more;
+          completion = Contains-append_left ea eb g.more g.completion;
+          is = inl g.is;
+          short = g.short;
+          uncut = g.uncut;
+        })
     | inr i ↦ (let g = w.goes c t rest i in
-        record { more = g.more; completion = Contains-append_right ea eb g.more g.completion; is = inr g.is; short = g.short; uncut = g.uncut })
+        record {
+          more = g.more;
+          completion = Contains-append_right ea eb g.more g.completion;
+          is = inr g.is;
+          short = g.short;
+          uncut = g.uncut;
+        })
   ];
 }
 
@@ -290,7 +324,13 @@ byte_by m b small = record {
 }
   where
     goes : (c : ℕ) (t rest : Text) → c ∷ t ++ rest ≡ b ∷ [] → IsCompletedBy m (λ t. t ≡ b ∷ []) ([] ∷ []) (c ∷ t) rest
-    goes c [] rest e = record { more = []; completion = (0, omega arith, refl); is = cc; short = omega (arith, size_nothing m); uncut = λ u. refl }
+    goes c [] rest e = record {
+      more = [];
+      completion = (0, omega arith, refl);
+      is = cc;
+      short = omega (arith, size_nothing m);
+      uncut = λ u. refl;
+    }
     goes c (d ∷ t) rest e = absurd (let tails : d ∷ (t ++ rest) ≡ [] = cc in cc)
 
 pub byte : (b : ℕ) → b < 128 → Completes (λ t. t ≡ b ∷ []) (b ∷ []) ([] ∷ [])
@@ -330,7 +370,13 @@ seq {m} {A} {B} {a} {b} {ea} {eb} v w = record {
       | inl (r, x_is, rest_is) ↦ (let g = v.goes c t r (subst A x_is is.in_first) in record {
         more = g.more ++ b;
         completion = Contains-append_left _ eb _ (contains_mapped (λ m. m ++ b) ea g.more g.completion);
-        is = record { first = c ∷ t ++ g.more; second = b; in_first = g.is; in_second = w.has; whole = sym (append_assoc (c ∷ t) g.more b) };
+        is = record {
+          first = c ∷ t ++ g.more;
+          second = b;
+          in_first = g.is;
+          in_second = w.has;
+          whole = sym (append_assoc (c ∷ t) g.more b);
+        };
         short = omega (
           arith,
           g.short,
@@ -360,8 +406,10 @@ module _ {F : Type 0} (A B : F → Text → Type 0) where
   abbrev pub Dependent : Text → Type 0
   Dependent t = (f : F) × Seq (A f) (B f) t
 
-  module _ {m : Measure} {a b : Text} {ea eb : List Text} (v : CompletesBy m (λ t. (f : F) × A f t) a ea) (w : (f : F) → CompletesBy m (B f) b eb) where
-    dependent_goes : (c : ℕ) (t rest : Text) → Dependent (c ∷ t ++ rest) → IsCompletedBy m Dependent (map (λ x. x ++ b) ea ++ eb) (c ∷ t) rest
+  module _ {m : Measure} {a b : Text} {ea eb : List Text} (v : CompletesBy m (λ t. (f : F) × A f t) a ea) (w : (f : F)
+      → CompletesBy m (B f) b eb) where
+    dependent_goes : (c : ℕ) (t rest : Text) → Dependent (c ∷ t ++ rest)
+        → IsCompletedBy m Dependent (map (λ x. x ++ b) ea ++ eb) (c ∷ t) rest
     dependent_goes c t rest (f, is) = elim (cut_at is.first is.second (c ∷ t) rest is.whole) [
       | inl (r, x_is, rest_is) ↦ (let g = v.goes c t r (f, subst (A f) x_is is.in_first) in record {
         more = g.more ++ b;
@@ -488,7 +536,13 @@ module _ {m : Measure} {P : Text → Type 0} {least : Text} {completions : List 
     least_short = λ t is. omega (arith, size_nothing m);
     least_uncut = refl;
     goes = λ b t rest is. let g = many_goes is.many.texts is.many.each b t rest is.many.whole in
-        record { more = g.more; completion = g.completion; is = record { many = g.is.many; few = omega (arith, g.is.few, is.few) }; short = g.short; uncut = g.uncut };
+        record {
+          more = g.more;
+          completion = g.completion;
+          is = record { many = g.is.many; few = omega (arith, g.is.few, is.few) };
+          short = g.short;
+          uncut = g.uncut;
+        };
   }
 
 -- ---- some, joined by a byte
@@ -499,7 +553,8 @@ pub record Joined (between : ℕ) (P : Text → Type 0) (t : Text) : Type 0 wher
   pub each : AllByRecursion P (first ∷ others)
   pub whole : t ≡ join_with_byte between (first ∷ others)
 
-module _ (between : ℕ) (small : between < 128) {m : Measure} {P : Text → Type 0} {least : Text} {completions : List Text} (w : CompletesBy m P least completions) where
+module _ (between : ℕ) (small : between < 128) {m : Measure} {P : Text
+    → Type 0} {least : Text} {completions : List Text} (w : CompletesBy m P least completions) where
   -- the first of them, as far as the prefix has it
   first_goes : (t rest : Text) → P (t ++ rest) → IsCompletedBy m (Joined between P) (least ∷ completions) t rest
   first_goes t rest is = let g = goes_all w t rest is in record {

@@ -1,6 +1,7 @@
 -- serves: text_prefixes::bytes::is_prefix
 -- How the prefixes of numbers, of identifiers and of white space are completed.
-use Rattle.std.proofs.Common.{◌≡◌, ℕ, zero, suc, ◌+◌, ◌-◌, ◌<◌, ◌≤◌, ◌^◌, ◌⊎◌, inl, inr, Bool, true, false, List, [], ◌∷◌, ◌++◌, codes, length, decimal}
+use Rattle.std.proofs.Common.{◌≡◌, ℕ, zero, suc, ◌+◌, ◌-◌, ◌<◌, ◌≤◌, ◌^◌, ◌⊎◌, inl}
+use Rattle.std.proofs.Common.{inr, Bool, true, false, List, [], ◌∷◌, ◌++◌, codes, length, decimal}
 use Rattle.std.proofs.Common.{ap, refl, sym, ◌∙◌, subst, arith, append-nil, length-append, ⊎_elim}
 use Rattle.std.specs.Int.{is_in_range}
 use Rattle.std.specs.Prelude.{IsTrue, ◌==◌, ◌&&◌, ◌||◌}
@@ -265,7 +266,8 @@ three : (a b c x y z : ℕ) → ((a == x) && ((b == y) && (c == z))) ≡ true �
 three a b c x y z e known =
     let first = and_parts (a == x) ((b == y) && (c == z)) e in
     let second = and_parts (b == y) (c == z) first.1 in
-    let same : ◌≡◌ {A = Text} (a ∷ b ∷ c ∷ []) (x ∷ y ∷ z ∷ []) = λ i. eqb-true a x first.0 i ∷ eqb-true b y second.0 i ∷ eqb-true c z second.1 i ∷ [] in
+    let same : ◌≡◌ {A = Text} (a ∷ b ∷ c ∷ []) (x ∷ y ∷ z ∷ []) = λ i. eqb-true a x first.0 i ∷ eqb-true b y second.0 i
+    ∷ eqb-true c z second.1 i ∷ [] in
     subst IsUtf8 (sym same) known
 
 white_utf8 : (t : Text) → IsWhite t → IsUtf8 t
@@ -291,12 +293,14 @@ white_utf8 (a ∷ b ∷ c ∷ []) is = elim (either _ _ is) [
     general : (a b c : ℕ) → ((a == 0xE2) && (((b == 0x80) && (is_in_range 0x80 0x8A c || ((c == 0xA8) || ((c == 0xA9) || (c == 0xAF)))))
         || ((b == 0x81) && (c == 0x9F)))) ≡ true → IsUtf8 (a ∷ b ∷ c ∷ [])
     general a b c e =
-        let first = and_parts (a == 0xE2) ((b == 0x80 && (is_in_range 0x80 0x8A c || (c == 0xA8 || (c == 0xA9 || c == 0xAF)))) || (b == 0x81 && c == 0x9F)) e in
+        let first = and_parts (a == 0xE2) ((b == 0x80 && (is_in_range 0x80 0x8A c || (c == 0xA8 || (c == 0xA9 || c == 0xAF)))) ||
+        (b == 0x81 && c == 0x9F)) e in
         elim (either (b == 0x80 && (is_in_range 0x80 0x8A c || (c == 0xA8 || (c == 0xA9 || c == 0xAF)))) (b == 0x81 && c == 0x9F) first.1) [
           | inl m ↦ (let second = and_parts (b == 0x80) (is_in_range 0x80 0x8A c || (c == 0xA8 || (c == 0xA9 || c == 0xAF))) m in
               let low : 128 ≤ c = grind (arith, nat_tests) in
               let high : c < 192 = grind (arith, nat_tests) in
-              let same : ◌≡◌ {A = Text} (a ∷ b ∷ c ∷ []) (0xE2 ∷ 0x80 ∷ c ∷ []) = λ i. eqb-true a 0xE2 first.0 i ∷ eqb-true b 0x80 second.0 i ∷ c ∷ [] in
+              let same : ◌≡◌ {A = Text} (a ∷ b ∷ c ∷ []) (0xE2 ∷ 0x80 ∷ c ∷ []) = λ i. eqb-true a 0xE2 first.0 i
+              ∷ eqb-true b 0x80 second.0 i ∷ c ∷ [] in
               subst IsUtf8 (sym same) (general_utf8 c low high))
           | inr m ↦ three a b c 0xE2 0x81 0x9F (rw first.0 m) (IsUtf8-from_is_utf8 (0xE2 ∷ 0x81 ∷ 0x9F ∷ []) refl)
         ]
@@ -304,7 +308,8 @@ white_utf8 (a ∷ b ∷ c ∷ d ∷ t) is = cc
 
 -- nothing, and what completes the bytes of a character
 abbrev pub white_completions : List Text
-white_completions = [] ∷ (0xA0 ∷ []) ∷ (0x9A ∷ 0x80 ∷ []) ∷ (0x80 ∷ 0x80 ∷ []) ∷ (0x81 ∷ 0x9F ∷ []) ∷ (0xBB ∷ 0xBF ∷ []) ∷ (0x80 ∷ []) ∷ (0x9F ∷ [])
+white_completions = [] ∷ (0xA0 ∷ []) ∷ (0x9A ∷ 0x80 ∷ []) ∷ (0x80 ∷ 0x80 ∷ []) ∷ (0x81 ∷ 0x9F ∷ []) ∷ (0xBB ∷ 0xBF ∷ []) ∷ (0x80
+    ∷ []) ∷ (0x9F ∷ [])
     ∷ (0xBF ∷ []) ∷ []
 
 -- the third byte of a space after E2 80
@@ -343,7 +348,8 @@ white = record { has = refl; utf8 = white_utf8; least_short = white_some; least_
 
     after_one : (b c d : ℕ) → IsWhite (b ∷ c ∷ d ∷ []) → IsCompleted IsWhite white_completions (b ∷ []) (c ∷ d ∷ [])
     after_one b c d is = elim (either _ _ is) [
-      | inl e ↦ fills (b ∷ []) (c ∷ d ∷ []) (2, omega arith, two_bytes c d 0x9A 0x80 (and_parts (b == 0xE1) (c == 0x9A && d == 0x80) e).1) is
+      | inl e ↦ fills (b ∷ []) (c ∷ d
+          ∷ []) (2, omega arith, two_bytes c d 0x9A 0x80 (and_parts (b == 0xE1) (c == 0x9A && d == 0x80) e).1) is
       | inr m ↦ elim (either _ _ m) [
         | inl e ↦ (let first = and_parts (b == 0xE2) (is_general c d || (c == 0x81 && d == 0x9F)) e in
             elim (either (is_general c d) (c == 0x81 && d == 0x9F) first.1) [
@@ -358,8 +364,10 @@ white = record { has = refl; utf8 = white_utf8; least_short = white_some; least_
               | inr g ↦ fills (b ∷ []) (c ∷ d ∷ []) (4, omega arith, two_bytes c d 0x81 0x9F g) is
             ])
         | inr n ↦ elim (either _ _ n) [
-          | inl e ↦ fills (b ∷ []) (c ∷ d ∷ []) (3, omega arith, two_bytes c d 0x80 0x80 (and_parts (b == 0xE3) (c == 0x80 && d == 0x80) e).1) is
-          | inr e ↦ fills (b ∷ []) (c ∷ d ∷ []) (5, omega arith, two_bytes c d 0xBB 0xBF (and_parts (b == 0xEF) (c == 0xBB && d == 0xBF) e).1) is
+          | inl e ↦ fills (b ∷ []) (c ∷ d
+              ∷ []) (3, omega arith, two_bytes c d 0x80 0x80 (and_parts (b == 0xE3) (c == 0x80 && d == 0x80) e).1) is
+          | inr e ↦ fills (b ∷ []) (c ∷ d
+              ∷ []) (5, omega arith, two_bytes c d 0xBB 0xBF (and_parts (b == 0xEF) (c == 0xBB && d == 0xBF) e).1) is
         ]
       ]
     ]
@@ -382,10 +390,18 @@ white = record { has = refl; utf8 = white_utf8; least_short = white_some; least_
               | inr g ↦ fills (b ∷ c ∷ []) (d ∷ []) (7, omega arith, one_byte d 0x9F (and_parts (c == 0x81) (d == 0x9F) g).1) is
             ])
         | inr n ↦ elim (either _ _ n) [
-          | inl e ↦ fills (b ∷ c ∷ []) (d ∷ [])
-              (6, omega arith, one_byte d 0x80 (and_parts (c == 0x80) (d == 0x80) (and_parts (b == 0xE3) (c == 0x80 && d == 0x80) e).1).1) is
-          | inr e ↦ fills (b ∷ c ∷ []) (d ∷ [])
-              (8, omega arith, one_byte d 0xBF (and_parts (c == 0xBB) (d == 0xBF) (and_parts (b == 0xEF) (c == 0xBB && d == 0xBF) e).1).1) is
+          | inl e ↦ fills (b ∷ c ∷ []) (d ∷ []) (
+            6,
+            omega arith,
+            one_byte d 0x80 (and_parts (c == 0x80) (d == 0x80) (and_parts (b == 0xE3)
+                (c == 0x80 && d == 0x80) e).1).1,
+          ) is
+          | inr e ↦ fills (b ∷ c ∷ []) (d ∷ []) (
+            8,
+            omega arith,
+            one_byte d 0xBF (and_parts (c == 0xBB) (d == 0xBF) (and_parts (b == 0xEF)
+                (c == 0xBB && d == 0xBF) e).1).1,
+          ) is
         ]
       ]
     ]

@@ -42,8 +42,9 @@ pub struct Meaning {
 /// Reads a range text into the set of the versions that it means.
 ///
 /// It is [`cargo::read`](crate::cargo::read), [`npm::read`](crate::npm::read) or
-/// `VersionSet::of_text`: `^1.2.0, <1.5` has 1.4.0 in Cargo's dialect, and is refused in the others.
-/// With `PreReleases::Included` the set of `^1.2` begins with 1.2.0-0, and `*` is every version.
+/// `VersionSet::of_text`: `^1.2.0, <1.5` has 1.4.0 in Cargo's dialect, and is refused in the
+/// others. With `PreReleases::Included` the set of `^1.2` begins with 1.2.0-0, and `*` is every
+/// version.
 ///
 /// # Errors
 ///
