@@ -1,6 +1,7 @@
 //! Where and why a text is no version.
 ghost use Rattle.std.specs.Prelude.{◌≡◌, ◌<◌, ◌≤◌, ◌↔◌, ◌+◌, ◌++◌, ◌∷◌, []};
-ghost use Rattle.std.specs.Prelude.{IsTrue, MatchOption, length, take};
+ghost use Rattle.std.specs.Prelude.{IsTrue, MatchOption, false, length, take};
+ghost use Rattle.semver_texts.specs.Texts.{Text};
 ghost use Rattle.semver_texts.specs.ToolVersions.{IsVersionTextIn};
 ghost use Rattle.semver_versions.specs.AnyLength.{IsVersionAtAnyLength};
 ghost use Rattle.text_prefixes.specs.VersionPrefixes.{IsLongestVersionPrefix};
@@ -155,12 +156,26 @@ fn takes(prefix: &[u8], byte: u8, grammar: Grammar, buffer: &mut [u8]) -> bool
     is_version(&buffer[..end + 1], Length::Any, grammar)
 }
 
+/// Whether the dialect limits the length of a version.
+fn has_limit(grammar: Grammar) -> bool
+    ensures { result ≡ false → (text : Text) → ¬ (IsTooLong grammar text) }
+{
+    match grammar {
+        Grammar::Crate => false,
+        Grammar::Cargo => false,
+        Grammar::Npm => true,
+    }
+}
+
 /// Whether some version begins with the bytes, but each is longer than the dialect allows. For
 /// speed, of a short text the answer is known.
 fn is_too_long(text: &[u8], grammar: Grammar, buffer: &mut [u8]) -> bool
     requires { length text.now + 8 ≤ length buffer.old }
     ensures { IsTrue result ↔ IsTooLong grammar text.now }
 {
+    if !has_limit(grammar) {
+        return false;
+    }
     if text.len() + 8 <= CHARACTERS {
         return false;
     }
