@@ -12,7 +12,7 @@ use Rattle.semver_texts.specs.declared.grammar.Grammar.TheVariants.{Crate}
 use Rattle.semver_ranges.specs.declared.range.Compat.{Compat}
 use Rattle.semver_ranges.specs.RangeTree.{PartialTree, Simple, RangeTree, empty, hyphen, simples, SetTree, HasParts, SpellsSimples}
 use Rattle.semver_texts.specs.Texts.{is_part}
-use Rattle.semver_ranges.specs.RangeTree.{SpellsWord, SpellsRange, SpellsPadded, SpellsIn, Spells}
+use Rattle.semver_ranges.specs.RangeTree.{SpellsWord, SpellsRange, SpellsPadded, SpellsRangeIn, Spells}
 use Rattle.semver_ranges.specs.RangeTree.{bare, Role, after_form, after_hyphen}
 use Rattle.semver_texts.specs.Texts.{Text, is_empty}
 use Rattle.semver_texts.specs.Versions.{numbers, IdentifierValue, PlainVersion}
@@ -145,7 +145,7 @@ module _ (d : Grammar) {fit : Simple → Bool} {written : Simple → List PlainC
       → IsPrintableRange mode (record { comparators = range_by written r; compat = mode })
   padded_printable r t (before, inner, after, b, h, a, eq) e = let p = range_printable r inner h e in (p.0, refl, p.1)
 
-  ranges_printable : (tree : SetTree) (t : Text) → SpellsIn d tree t → fits_by fit tree ≡ true
+  ranges_printable : (tree : SetTree) (t : Text) → SpellsRangeIn d tree t → fits_by fit tree ≡ true
       → All (IsPrintableRange mode) (set_by written mode tree).ranges
   ranges_printable [] t h e = absurd h
   ranges_printable (r ∷ []) t h e =
@@ -158,10 +158,10 @@ module _ (d : Grammar) {fit : Simple → Bool} {written : Simple → List PlainC
       (padded_printable r head h parts.0) (ranges_printable (next ∷ others) tail more parts.1)
 
   -- what a tree that spells a text and fits is rewritten to is printable
-  pub set_printable : (tree : SetTree) (t : Text) → SpellsIn d tree t → fits_by fit tree ≡ true
+  pub set_printable : (tree : SetTree) (t : Text) → SpellsRangeIn d tree t → fits_by fit tree ≡ true
       → IsPrintableSet (set_by written mode tree)
   set_printable tree t h e = (some tree h, ranges_printable tree t h e) where
-    some : (tree : SetTree) → SpellsIn d tree t → not (is_empty (set_by written mode tree).ranges) ≡ true
+    some : (tree : SetTree) → SpellsRangeIn d tree t → not (is_empty (set_by written mode tree).ranges) ≡ true
     some [] h = absurd h
     some (r ∷ rs) h = refl
 

@@ -7,7 +7,7 @@ use Rattle.std.proofs.lemmas.Bool.Decides.{nat_tests}
 use Rattle.semver_texts.specs.declared.grammar.Grammar.{Grammar}
 use Rattle.semver_ranges.specs.RangeTree.{PartialTree, Form, bare, tilde, Simple, RangeTree, after_form, after_hyphen}
 use Rattle.semver_ranges.specs.RangeTree.{empty, hyphen, simples, SetTree, is_blank, AreBlanks, AreSomeBlanks, SpellsWord, SpellsForm}
-use Rattle.semver_ranges.specs.RangeTree.{SpellsSimple, SpellsSimples, SpellsRange, SpellsPadded, SpellsIn}
+use Rattle.semver_ranges.specs.RangeTree.{SpellsSimple, SpellsSimples, SpellsRange, SpellsPadded, SpellsRangeIn}
 use Rattle.semver_texts.specs.Texts.{Text}
 use Rattle.semver_ranges.specs.Steps.Reading.{after_blanks, ends_range, ends_word, simple}
 use Rattle.semver_texts.specs.Texts.{begins_with}
@@ -151,12 +151,12 @@ module _ (d : Grammar) where
       rw text (simp append_assoc (rw (after_more before (inner ++ (blanks ++ u)) h) (range_here_read r inner blanks u spelled b e)))
 
   -- the reader finds the tree of a text
-  pub tree_read : (tree : SetTree) (t : Text) → SpellsIn d tree t → read d t ≡ Some tree
+  pub tree_read : (tree : SetTree) (t : Text) → SpellsRangeIn d tree t → read d t ≡ Some tree
   tree_read [] t h = absurd h
   tree_read (r ∷ []) t h = read_step d t ∙ ap (after_range (read d)) (rw append-nil at (range_read r t [] h refl))
   tree_read (r ∷ next ∷ others) t (head, tail, h, more, text) =
       read_step d t ∙ rw (text, append_assoc, range_read r head (124 ∷ 124 ∷ tail) h refl, tree_read (next ∷ others) tail more)
 
   -- two trees that spell one text are equal
-  pub same_tree : (tree tree' : SetTree) (t : Text) → SpellsIn d tree t → SpellsIn d tree' t → tree ≡ tree'
+  pub same_tree : (tree tree' : SetTree) (t : Text) → SpellsRangeIn d tree t → SpellsRangeIn d tree' t → tree ≡ tree'
   same_tree tree tree' t h h' = cc (tree_read tree t h, tree_read tree' t h')

@@ -8,7 +8,7 @@ use Rattle.std.proofs.lemmas.Bool.Decides.{nat_tests}
 use Rattle.semver_texts.specs.declared.grammar.Grammar.{Grammar}
 use Rattle.semver_ranges.specs.RangeTree.{PartialTree, Form, bare, Simple, RangeTree, after_form, after_hyphen, is_bare}
 use Rattle.semver_ranges.specs.RangeTree.{SetTree, is_blank, AreBlanks, AreSomeBlanks, SpellsWord, SpellsForm, SpellsSimple, SpellsSimples}
-use Rattle.semver_ranges.specs.RangeTree.{SpellsRange, SpellsPadded, SpellsIn}
+use Rattle.semver_ranges.specs.RangeTree.{SpellsRange, SpellsPadded, SpellsRangeIn}
 use Rattle.semver_texts.specs.Texts.{Text}
 use Rattle.semver_ranges.specs.Steps.Reading.{front, after_blanks, ends_range, put_before}
 use Rattle.semver_texts.specs.Texts.{begins_with}
@@ -156,7 +156,7 @@ module _ (d : Grammar) where
   -- ranges up to the end
   abbrev SetAt : Text → Option SetTree → Type 0
   SetAt t None = Unit {0}
-  SetAt t (Some tree) = SpellsIn d tree t
+  SetAt t (Some tree) = SpellsRangeIn d tree t
 
   onto_sound : (r : RangeTree) (w t : Text) (o : Option SetTree) → SpellsPadded d r w → SetAt t o
       → SetAt (w ++ (codes "||" ++ t)) (onto r o)
@@ -181,5 +181,5 @@ module _ (d : Grammar) where
   ranges_sound (suc n) t = after_range_sound t _ _ (ranges_sound n) (padded_sound t _ (range_here_sound (after_blanks d t)))
 
   -- the tree that is read spells the text
-  pub read_sound : (t : Text) (tree : SetTree) → read d t ≡ Some tree → SpellsIn d tree t
+  pub read_sound : (t : Text) (tree : SetTree) → read d t ≡ Some tree → SpellsRangeIn d tree t
   read_sound t tree e = rw e at (ranges_sound (suc (length t)) t)

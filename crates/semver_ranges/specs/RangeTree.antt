@@ -202,13 +202,13 @@ SpellsPadded d r t = (before : Text) × (inner : Text) × (after : Text)
     × (t ≡ before ++ inner ++ after)
 
 -- a tree spells a text of a dialect: one or more ranges between blanks, separated by `||`
-abbrev pub SpellsIn : Grammar → SetTree → Text → Type 0
-SpellsIn d [] t = ⊥
-SpellsIn d (range ∷ []) t = SpellsPadded d range t
-SpellsIn d (range ∷ next ∷ others) t = (front : Text) × (back : Text)
-    × SpellsPadded d range front × SpellsIn d (next ∷ others) back
+abbrev pub SpellsRangeIn : Grammar → SetTree → Text → Type 0
+SpellsRangeIn d [] t = ⊥
+SpellsRangeIn d (range ∷ []) t = SpellsPadded d range t
+SpellsRangeIn d (range ∷ next ∷ others) t = (front : Text) × (back : Text)
+    × SpellsPadded d range front × SpellsRangeIn d (next ∷ others) back
     × (t ≡ front ++ codes "||" ++ back)
 
 -- a tree spells a text of the crate's dialect
 abbrev pub Spells : SetTree → Text → Type 0
-Spells tree t = SpellsIn Crate tree t
+Spells tree t = SpellsRangeIn Crate tree t

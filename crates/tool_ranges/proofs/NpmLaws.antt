@@ -20,7 +20,7 @@ use Rattle.semver_ranges.specs.Steps.Reading.{read}
 use Rattle.semver_ranges.proofs.ReadingSound.{read_sound}
 use Rattle.semver_ranges.proofs.ReadingComplete.{tree_read}
 use Rattle.semver_ranges.proofs.AnsweredLaws.{set_printable}
-use Rattle.tool_ranges.specs.NpmGrammar.{may_stand, SpellsNpm}
+use Rattle.tool_ranges.specs.NpmGrammar.{may_stand, SpellsNpmRange}
 use Rattle.tool_ranges.specs.NpmTable.{is_safe_simple, npm_fits, rewritten_npm}
 use Rattle.tool_ranges.specs.Dialects.{HasSetAs, IsTooLargeAs, RefusesAs}
 use Rattle.tool_ranges.specs.declared.dialect.Dialect.TheVariants as dialect
@@ -29,20 +29,20 @@ use Rattle.tool_ranges.proofs.ToolRows.{npm_prints}
 use Rattle.std.proofs.lemmas.Grind.{common_steps}
 
 -- what is read is the one tree
-pub npm_read : (t : Text) (tree : SetTree) → SpellsNpm tree t → read Npm t ≡ Some tree
+pub npm_read : (t : Text) (tree : SetTree) → SpellsNpmRange tree t → read Npm t ≡ Some tree
 npm_read t tree h = tree_read Npm tree t h.spelled
 
-pub read_one : (t : Text) (tree tree' : SetTree) → read Npm t ≡ Some tree → SpellsNpm tree' t → tree ≡ tree'
+pub read_one : (t : Text) (tree tree' : SetTree) → read Npm t ≡ Some tree → SpellsNpmRange tree' t → tree ≡ tree'
 read_one t tree tree' e h = grind (arith, common_steps, npm_read)
 
-none_read : (t : Text) (tree : SetTree) → read Npm t ≡ None → SpellsNpm tree t → ⊥
+none_read : (t : Text) (tree : SetTree) → read Npm t ≡ None → SpellsNpmRange tree t → ⊥
 none_read t tree e h = grind (arith, common_steps, npm_read)
 
 unfit : (t : Text) (tree : SetTree) → read Npm t ≡ Some tree → npm_fits tree ≡ true → IsTooLargeAs dialect.Npm t → ⊥
 unfit t tree e f (tree', s, large) = grind (arith, common_steps, both_ways, npm_fits, read_one)
 
 module _ (t : Text) (stand : list_all may_stand (chars t) ≡ true) where
-  spelled : (tree : SetTree) → read Npm t ≡ Some tree → SpellsNpm tree t
+  spelled : (tree : SetTree) → read Npm t ≡ Some tree → SpellsNpmRange tree t
   spelled tree e = record { spelled = read_sound Npm t tree e; characters = stand }
 
   pub answered : {A : Type 0} (x : A) (tree : SetTree) → read Npm t ≡ Some tree → npm_fits tree ≡ true → RefusesAs dialect.Npm t (Ok x)
@@ -83,7 +83,7 @@ refuses lower t stand (Ok set) (tree, e, fit, same) = answered t stand set tree 
 refuses lower t stand (Err e) is = refused t stand e is
 
 pub begun : (lower : LowerBounds) (t : Text) (r : Result RangeSet RangeError) → IsAnswer lower t r
-    → IfOk r (λ set. (tree : SetTree) → SpellsNpm tree t → set_of set ≡ set_begun lower tree)
+    → IfOk r (λ set. (tree : SetTree) → SpellsNpmRange tree t → set_of set ≡ set_begun lower tree)
 begun lower t (Ok set) (tree, e, fit, same) = λ tree' h. same ∙ ap (set_begun lower) (read_one t tree tree' e h)
 begun lower t (Err e) is = tt
 

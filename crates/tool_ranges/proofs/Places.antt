@@ -9,7 +9,7 @@ use Rattle.std.proofs.lemmas.Str.{IsUtf8-take}
 use Rattle.semver_texts.specs.Texts.{Text}
 use Rattle.semver_texts.specs.declared.grammar.Grammar.{Grammar}
 use Rattle.semver_texts.specs.declared.grammar.Grammar.TheVariants as grammar
-use Rattle.semver_ranges.specs.RangeTree.{SpellsIn, bare, empty, one}
+use Rattle.semver_ranges.specs.RangeTree.{SpellsRangeIn, bare, empty, one}
 use Rattle.text_prefixes.specs.Prefixes.{AreCompletions, Begins, IsLongestPrefix}
 use Rattle.text_prefixes.proofs.LongestPrefixes.{ascii_utf8}
 use Rattle.tool_ranges.specs.declared.dialect.Dialect.{Dialect}
@@ -35,7 +35,7 @@ ascii = search rules
 short : AllByRecursion (λ t. length t ≤ 8) range_completions
 short = search rules
 
-empty_range : (d : Grammar) → SpellsIn d (empty ∷ []) []
+empty_range : (d : Grammar) → SpellsRangeIn d (empty ∷ []) []
 empty_range d = search rules
 
 one_comparator : SpellsRequirement (record { form = bare; partial = one (codes "1") } ∷ []) (codes "1")

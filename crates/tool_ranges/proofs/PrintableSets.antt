@@ -18,7 +18,7 @@ use Rattle.semver_ranges.specs.Partials.{fits_u64, leading_place, pre_release, s
 use Rattle.semver_ranges.specs.PrintedRanges.{is_kept, is_printable_version}
 use Rattle.semver_ranges.specs.RangeTree.{Form, bare, equal, less, at_most, greater, at_least, tilde, caret, HasParts, PartialTree}
 use Rattle.semver_ranges.specs.RangeTree.{one, two, three, after_form, after_hyphen, empty, hyphen, simples, RangeTree, Role, SetTree}
-use Rattle.semver_ranges.specs.RangeTree.{Simple, SpellsIn, SpellsPadded, SpellsRange, SpellsSimples, SpellsWord}
+use Rattle.semver_ranges.specs.RangeTree.{Simple, SpellsRangeIn, SpellsPadded, SpellsRange, SpellsSimples, SpellsWord}
 use Rattle.semver_ranges.specs.RewritingTable.{PlainComparator, PlainRange, bound_fits, cell, cell_raised, simple_fits}
 use Rattle.semver_ranges.specs.RewritingTable.{term_fits_by, up, written_cell}
 use Rattle.semver_ranges.specs.Steps.PartialViews.{begun_as}
@@ -124,7 +124,7 @@ module _ (lower : LowerBounds) where
   padded_prints r t (before, inner, after, b, h, a, eq) e = range_prints r inner h e
 
   -- where a text of npm begins with the lowest pre-releases, and where not
-  pub begun_set_prints : (tree : SetTree) (t : Text) → SpellsIn grammar.Npm tree t → npm_fits tree ≡ true
+  pub begun_set_prints : (tree : SetTree) (t : Text) → SpellsRangeIn grammar.Npm tree t → npm_fits tree ≡ true
       → HasPrintableRanges (set_begun lower tree)
   begun_set_prints [] t h e = absurd h
   begun_set_prints (r ∷ []) t h e = and_from _ _ (padded_prints r t h (and_parts _ _ e).0) refl

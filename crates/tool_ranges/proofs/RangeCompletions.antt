@@ -11,7 +11,7 @@ use Rattle.semver_texts.specs.declared.grammar.Grammar.{Grammar}
 use Rattle.semver_ranges.specs.RangeTree.{Form, bare, equal, less, at_most, greater, at_least, tilde, caret, Simple, RangeTree, empty}
 use Rattle.semver_ranges.specs.RangeTree.{hyphen, simples}
 use Rattle.semver_ranges.specs.RangeTree.{PartialTree, SetTree, Role, after_form, after_hyphen, AreBlanks, AreSomeBlanks, SpellsForm}
-use Rattle.semver_ranges.specs.RangeTree.{SpellsIn}
+use Rattle.semver_ranges.specs.RangeTree.{SpellsRangeIn}
 use Rattle.semver_ranges.specs.RangeTree.{SpellsPadded, SpellsRange, SpellsSimple, SpellsSimples, SpellsWord}
 use Rattle.text_prefixes.proofs.Completions.{CompletesBy, Separated, Seq, among, both, byte_by, choice, dependent, in_bytes}
 use Rattle.text_prefixes.proofs.Completions.{many, optional, same, seq}
@@ -253,13 +253,13 @@ module _ (d : Grammar) where
   -- ---- sets
 
   abbrev pub IsSetText : Text → Type 0
-  IsSetText t = (tree : SetTree) × SpellsIn d tree t
+  IsSetText t = (tree : SetTree) × SpellsRangeIn d tree t
 
   abbrev IsBars : Text → Type 0
   IsBars t = t ≡ codes "||"
 
   set_from : (front : Text) → IsPaddedText front → (xs : List Text) → AllByRecursion (Seq IsBars IsPaddedText) xs
-      → (t : Text) → t ≡ front ++ concat xs → (r : RangeTree) × (rs : SetTree) × SpellsIn d (r ∷ rs) t
+      → (t : Text) → t ≡ front ++ concat xs → (r : RangeTree) × (rs : SetTree) × SpellsRangeIn d (r ∷ rs) t
   set_from front (r, f) [] all t e = (r, [], subst (SpellsPadded d r) (sym (e ∙ append-nil front)) f)
   set_from front (r, f) (x ∷ xs) all t e =
       let w = all.0 in
@@ -275,7 +275,7 @@ module _ (d : Grammar) where
         ),
       )
 
-  set_to : (r : RangeTree) (rs : SetTree) (t : Text) → SpellsIn d (r ∷ rs) t → Separated IsBars IsPaddedText t
+  set_to : (r : RangeTree) (rs : SetTree) (t : Text) → SpellsRangeIn d (r ∷ rs) t → Separated IsBars IsPaddedText t
   set_to r [] t w = record {
     first = t;
     second = [];

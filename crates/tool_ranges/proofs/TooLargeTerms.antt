@@ -12,7 +12,7 @@ use Rattle.semver_ranges.specs.declared.events.Event.TheVariants as event
 use Rattle.semver_ranges.specs.declared.events.Events.{Events}
 use Rattle.semver_ranges.specs.Steps.CursorViews.{HasLeft, IsFirst}
 use Rattle.semver_ranges.specs.Partials.{states_nothing}
-use Rattle.semver_ranges.specs.RangeTree.{PartialTree, RangeTree, Simple, SetTree, SpellsIn, empty, hyphen, simples}
+use Rattle.semver_ranges.specs.RangeTree.{PartialTree, RangeTree, Simple, SetTree, SpellsRangeIn, empty, hyphen, simples}
 use Rattle.semver_ranges.specs.RewritingTable.{PlainComparator}
 use Rattle.semver_ranges.specs.Terms.{left_side, right_side}
 use Rattle.semver_ranges.specs.Steps.PartialViews.{begun_as}
@@ -150,7 +150,7 @@ module _ (p : Simple → Bool) where
     tree_terms (r ∷ next ∷ others) = ap (fitting p) (in_front_of (yielded lower r) (next_range ∷ events_of lower (next ∷ others)))
         ∙ range_terms r (in_events (events_of lower (next ∷ others))) (flat_map terms_of (next ∷ others)) (tree_terms (next ∷ others))
 
-pub text_terms : (terms : Terms) (tree : SetTree) (t : Text) → SpellsIn (grammar_of terms) tree t
+pub text_terms : (terms : Terms) (tree : SetTree) (t : Text) → SpellsRangeIn (grammar_of terms) tree t
     → counted (term_fits terms) 0 (events (grammar_of terms) (lower_of terms) t) ≡ Some (fitting (term_fits terms) (flat_map terms_of tree))
 text_terms terms tree t spelled =
     let table = table_of terms in

@@ -18,7 +18,7 @@ use Rattle.tool_ranges.specs.declared.dialect.Dialect.TheVariants.{CrateNpm}
 use Rattle.tool_ranges.specs.CargoGrammar.{SpellsRequirement}
 use Rattle.tool_ranges.specs.CargoMeaning.{meets_requirement}
 use Rattle.tool_ranges.specs.CargoTable.{requirement_fits, rewritten_requirement}
-use Rattle.tool_ranges.specs.NpmGrammar.{SpellsNpm}
+use Rattle.tool_ranges.specs.NpmGrammar.{SpellsNpmRange}
 use Rattle.tool_ranges.specs.NpmMeaning.{meets_npm}
 use Rattle.tool_ranges.specs.NpmTable.{npm_fits, rewritten_npm}
 
@@ -32,7 +32,7 @@ TreeOf CrateNpm = SetTree
 -- a tree spells a text
 abbrev pub SpellsAs : (dialect : Dialect) → TreeOf dialect → Text → Type 0
 SpellsAs Cargo tree t = SpellsRequirement tree t
-SpellsAs Npm tree t = SpellsNpm tree t
+SpellsAs Npm tree t = SpellsNpmRange tree t
 SpellsAs CrateCargo tree t = Spells tree t
 SpellsAs CrateNpm tree t = Spells tree t
 

@@ -7,7 +7,7 @@ use Rattle.std.specs.List.{list_all}
 use Rattle.std.specs.Str.{chars}
 use Rattle.semver_texts.specs.Texts.{Text}
 use Rattle.semver_texts.specs.declared.grammar.Grammar.TheVariants.{Npm}
-use Rattle.semver_ranges.specs.RangeTree.{SetTree, SpellsIn}
+use Rattle.semver_ranges.specs.RangeTree.{SetTree, SpellsRangeIn}
 
 -- what JavaScript calls white space, beyond ASCII
 abbrev pub is_white_space_beyond_ascii : ℕ → Bool
@@ -20,6 +20,6 @@ abbrev pub may_stand : ℕ → Bool
 may_stand c = is_in_range 0 127 c || is_white_space_beyond_ascii c
 
 -- a tree spells a text as npm reads it
-pub record SpellsNpm (tree : SetTree) (t : Text) : Type 0 where
-  pub spelled : SpellsIn Npm tree t
+pub record SpellsNpmRange (tree : SetTree) (t : Text) : Type 0 where
+  pub spelled : SpellsRangeIn Npm tree t
   pub characters : IsTrue (list_all may_stand (chars t))

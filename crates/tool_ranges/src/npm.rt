@@ -13,7 +13,7 @@ ghost use Rattle.semver_ranges.specs.PrintedRanges.{IsPrintableSet, set_text};
 ghost use Rattle.semver_ranges.specs.RewritingTable.{fits, rewritten};
 ghost use Rattle.version_sets.specs.Flat.{HasPrintableRanges};
 ghost use Rattle.tool_ranges.specs.Steps.LowerBounds.{set_begun, written_for};
-ghost use Rattle.tool_ranges.specs.NpmGrammar.{is_white_space_beyond_ascii, may_stand, SpellsNpm};
+ghost use Rattle.tool_ranges.specs.NpmGrammar.{is_white_space_beyond_ascii, may_stand, SpellsNpmRange};
 ghost use Rattle.tool_ranges.specs.NpmMeaning.{meets_npm};
 ghost use Rattle.tool_ranges.specs.NpmTable.{is_safe_simple, rewritten_npm};
 ghost use Rattle.tool_ranges.specs.Dialects.{RefusesAs};
@@ -58,11 +58,11 @@ pub fn rewrite(alloc: Global, range: &str) -> Result<RangeSet, RangeError>
     // What isn't in npm's grammar and what is too large is refused, exactly; all else is read. What
     // is answered is what each tree of the text is rewritten to.
     ensures refusals { RefusesAs dialect.Npm range.now result }
-    ensures as_rewritten { IfOk result (λ set. (tree : SetTree) → SpellsNpm tree range.now
+    ensures as_rewritten { IfOk result (λ set. (tree : SetTree) → SpellsNpmRange tree range.now
         → set_of set ≡ rewritten_npm tree) }
     // A release meets the answer exactly if the text means it.
     ensures releases { IfOk result (λ set. (tree : SetTree) (v : PlainVersion)
-        → SpellsNpm tree range.now → v.pre ≡ [] →
+        → SpellsNpmRange tree range.now → v.pre ≡ [] →
         meets_set v (set_of set) ≡ meets_npm tree v) }
     // The result is printable, and its text is a range text that `RangeSet::parse` rewrites
     // to that set again.
@@ -77,7 +77,7 @@ pub fn rewrite(alloc: Global, range: &str) -> Result<RangeSet, RangeError>
 /// The set of a text, with lower bounds as they are asked for.
 fn rewritten(alloc: Global, range: &str, lower: LowerBounds) -> Result<RangeSet, RangeError>
     ensures refusals { RefusesAs dialect.Npm range.now result }
-    ensures begun { IfOk result (λ set. (tree : SetTree) → SpellsNpm tree range.now
+    ensures begun { IfOk result (λ set. (tree : SetTree) → SpellsNpmRange tree range.now
         → set_of set ≡ set_begun lower tree) }
     ensures printable { IfOk result (λ set. HasPrintableRanges (set_of set)) }
 {

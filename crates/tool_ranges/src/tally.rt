@@ -3,7 +3,7 @@
 
 ghost use Rattle.std.specs.Prelude.{◌≡◌, ◌≢◌, true, Err, IfOk, MatchResult};
 ghost use Rattle.std.specs.List.{flat_map, list_any, prefix_len};
-ghost use Rattle.semver_ranges.specs.RangeTree.{Simple as SimpleTree, SetTree, Spells, SpellsIn};
+ghost use Rattle.semver_ranges.specs.RangeTree.{Simple as SimpleTree, SetTree, Spells, SpellsRangeIn};
 ghost use Rattle.semver_ranges.specs.Steps.CursorViews.{IsSimpleOf};
 ghost use Rattle.semver_ranges.specs.RangeTexts.{RefusesExactly};
 ghost use Rattle.tool_ranges.specs.Steps.Asking.{Refuses, Says, asked_of, begun, ended, taken};
@@ -195,7 +195,7 @@ pub(crate) fn ask_crate(
 
 /// How many terms of a range text that state a number, from the left, fit.
 pub(crate) fn fitting(text: &[u8], terms: Terms) -> u128
-    ensures { (tree : SetTree) → SpellsIn (grammar_of terms) tree text.now
+    ensures { (tree : SetTree) → SpellsRangeIn (grammar_of terms) tree text.now
         → result ≡ prefix_len (term_fits terms) (stating (flat_map terms_of tree)) }
 {
     let grammar = terms.grammar();

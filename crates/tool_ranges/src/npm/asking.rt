@@ -3,7 +3,7 @@
 ghost use Rattle.std.specs.Prelude.{◌≡◌, ◌≢◌, Err, IfOk, if◌then◌else◌};
 ghost use Rattle.semver_ranges.specs.RangeTree.{SetTree};
 ghost use Rattle.tool_ranges.specs.AllPreReleases.{meets_npm_with_all};
-ghost use Rattle.tool_ranges.specs.NpmGrammar.{SpellsNpm};
+ghost use Rattle.tool_ranges.specs.NpmGrammar.{SpellsNpmRange};
 ghost use Rattle.tool_ranges.specs.NpmMeaning.{meets_npm};
 ghost use Rattle.tool_ranges.specs.Dialects.{RefusesAs};
 ghost use Rattle.tool_ranges.specs.declared.dialect.Dialect.TheVariants as dialect;
@@ -19,7 +19,7 @@ use semver_ranges::RangeError;
 pub(crate) fn ask(range: &str, version: &Asked<'_>) -> Result<bool, RangeError>
     ensures refusals { RefusesAs dialect.Npm range.now result }
     ensures no_memory { result ≢ Err RangeError.OutOfMemory }
-    ensures meaning { IfOk result (λ met. (tree : SetTree) → SpellsNpm tree range.now
+    ensures meaning { IfOk result (λ met. (tree : SetTree) → SpellsNpmRange tree range.now
         → met ≡ meets_npm tree (asked_of version.now)) }
 {
     if !may_stand(range) {
@@ -37,7 +37,7 @@ pub(crate) fn ask(range: &str, version: &Asked<'_>) -> Result<bool, RangeError>
 pub(crate) fn ask_with_all(range: &str, version: &Asked<'_>) -> Result<bool, RangeError>
     ensures refusals { RefusesAs dialect.Npm range.now result }
     ensures no_memory { result ≢ Err RangeError.OutOfMemory }
-    ensures meaning { IfOk result (λ met. (tree : SetTree) → SpellsNpm tree range.now
+    ensures meaning { IfOk result (λ met. (tree : SetTree) → SpellsNpmRange tree range.now
         → met ≡ meets_npm_with_all tree (asked_of version.now)) }
 {
     if !may_stand(range) {

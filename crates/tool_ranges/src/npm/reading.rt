@@ -7,7 +7,7 @@ ghost use Rattle.semver_ranges.specs.RangeViews.{comparator_of, range_of, set_of
 ghost use Rattle.semver_texts.specs.Versions.{PlainVersion};
 ghost use Rattle.version_sets.specs.Flat.{HasPrintableRanges, IsPrintable};
 ghost use Rattle.version_sets.specs.VersionSets.{has, Fits};
-ghost use Rattle.tool_ranges.specs.NpmGrammar.{SpellsNpm};
+ghost use Rattle.tool_ranges.specs.NpmGrammar.{SpellsNpmRange};
 ghost use Rattle.tool_ranges.specs.AllPreReleases.{meets_npm_with_all};
 ghost use Rattle.tool_ranges.specs.NpmMeaning.{meets_npm};
 ghost use Rattle.tool_ranges.specs.Dialects.{RefusesAs};
@@ -41,7 +41,7 @@ pub fn read(alloc: Global, range: &str) -> Result<VersionSet, RangeError>
     ensures refusals { RefusesAs dialect.Npm range.now result }
     // A version is in the set exactly if the text means it.
     ensures meaning { IfOk result (λ set. (tree : SetTree) (v : PlainVersion)
-        → SpellsNpm tree range.now → Fits v → has set v ≡ meets_npm tree v) }
+        → SpellsNpmRange tree range.now → Fits v → has set v ≡ meets_npm tree v) }
     // Its identifiers can be read back from their texts.
     ensures printable { IfOk result IsPrintable }
 {
@@ -60,7 +60,7 @@ pub fn read(alloc: Global, range: &str) -> Result<VersionSet, RangeError>
 pub(crate) fn read_with_all(alloc: Global, range: &str) -> Result<VersionSet, RangeError>
     ensures refusals { RefusesAs dialect.Npm range.now result }
     ensures meaning { IfOk result (λ set. (tree : SetTree) (v : PlainVersion)
-        → SpellsNpm tree range.now → Fits v → has set v ≡ meets_npm_with_all tree v) }
+        → SpellsNpmRange tree range.now → Fits v → has set v ≡ meets_npm_with_all tree v) }
     ensures printable { IfOk result IsPrintable }
 {
     let set = match rewritten(alloc, range, LowerBounds::Lowest) {

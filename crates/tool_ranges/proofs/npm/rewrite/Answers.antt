@@ -11,7 +11,7 @@ use Rattle.semver_ranges.specs.PrintedRanges.{IsPrintableSet, set_text}
 use Rattle.semver_ranges.specs.RangeTree.{SetTree, Spells}
 use Rattle.semver_ranges.specs.RangeViews.{set_of}
 use Rattle.semver_ranges.specs.RewritingTable.{fits, rewritten}
-use Rattle.tool_ranges.specs.NpmGrammar.{SpellsNpm}
+use Rattle.tool_ranges.specs.NpmGrammar.{SpellsNpmRange}
 use Rattle.tool_ranges.specs.NpmMeaning.{meets_npm}
 use Rattle.tool_ranges.specs.NpmTable.{rewritten_npm}
 use Rattle.tool_ranges.specs.Dialects.{HasSetAs}
@@ -28,18 +28,18 @@ stated_set tree = search rules
 
 module _ (t : Text) where
   abbrev IsBegun : RangeSet → Type 0
-  IsBegun set = (tree : SetTree) → SpellsNpm tree t → set_of set ≡ set_begun Stated tree
+  IsBegun set = (tree : SetTree) → SpellsNpmRange tree t → set_of set ≡ set_begun Stated tree
 
-  spelled : (set : RangeSet) → IsBegun set → (tree : SetTree) → SpellsNpm tree t → set_of set ≡ rewritten_npm tree
+  spelled : (set : RangeSet) → IsBegun set → (tree : SetTree) → SpellsNpmRange tree t → set_of set ≡ rewritten_npm tree
   spelled set is tree h = is tree h ∙ stated_set tree
 
   as_rewritten : (r : Result RangeSet RangeError) → IfOk r IsBegun
-      → IfOk r (λ set. (tree : SetTree) → SpellsNpm tree t → set_of set ≡ rewritten_npm tree)
+      → IfOk r (λ set. (tree : SetTree) → SpellsNpmRange tree t → set_of set ≡ rewritten_npm tree)
   as_rewritten (Ok set) is = spelled set is
   as_rewritten (Err e) is = tt
 
   releases : (r : Result RangeSet RangeError) → IfOk r IsBegun → IfOk r (λ set. (tree : SetTree) (v : PlainVersion)
-      → SpellsNpm tree t → v.pre ≡ [] → meets_set v (set_of set) ≡ meets_npm tree v)
+      → SpellsNpmRange tree t → v.pre ≡ [] → meets_set v (set_of set) ≡ meets_npm tree v)
   releases (Ok set) is = λ tree v h release. ap (meets_set v) (spelled set is tree h) ∙ npm_meets v release tree
   releases (Err e) is = tt
 
