@@ -4,8 +4,8 @@
 // the texts that versions-with-tools.js makes, COUNT of each kind, all texts of up to four
 // characters, and all of up to three after `1.0.0-` and after `1.0.0+`. A version is what a tool
 // reads: to npm node-semver, to Cargo the regular expression of semver.org with numbers below 2^64,
-// to the crate that of docs/GRAMMAR.md. A front is what ENDINGS makes a version of; for short texts
-// all endings of up to three characters are tried too. The reason is the one of the table in
+// to the crate that of docs/GRAMMAR.md. A prefix is what one of COMPLETIONS makes a version of; for
+// short texts all completions of up to three characters are tried too. The reason is the one of the table in
 // docs/GRAMMAR.md, with a node-semver whose limit of length is raised. It prints the first 20
 // differences, and then ends with status 1.
 'use strict'
@@ -15,7 +15,7 @@ const { WHITE, OTHER, changed, escaped, limit, text } = require('./versions-with
 
 const BATCH = 10000
 const SHORT = [...'019.-+av \t\u00a0é']
-const ENDINGS = ['', '0', 'a', '.0', '0.0', '.0.0', '0.0.0']
+const COMPLETIONS = ['', '0', 'a', '.0', '0.0', '.0.0', '0.0.0']
 
 // node-semver with another limit of length, or as it is.
 function semverWithin (length) {
@@ -58,43 +58,43 @@ const TOOLS = {
   npm: { isVersion: byNpm, isLong: semverWithin(1 << 20) }
 }
 
-const isFront = (isVersion, of, endings) => endings.some((ending) => isVersion(of + ending))
+const isPrefix = (isVersion, of, completions) => completions.some((completion) => isVersion(of + completion))
 const isWhite = (of) => /^[\t-\r ]/.test(of)
 
 // The white space that the first byte of a character begins; else the character itself.
 const begun = (character) => WHITE.find((white) => Buffer.from(white)[0] === Buffer.from(character)[0]) ?? character
 
 // The reason by the table.
-function reason ({ isVersion, isLong }, front, next) {
-  const takesLetter = isLong(front + 'a')
-  const takesZero = isLong(front + '0')
+function reason ({ isVersion, isLong }, prefix, next) {
+  const takesLetter = isLong(prefix + 'a')
+  const takesZero = isLong(prefix + '0')
   const identifier = takesZero ? 'empty identifier' : 'leading zero'
   if (next === undefined) {
-    if (!/[\dv]/.test(front)) return 'empty'
+    if (!/[\dv]/.test(prefix)) return 'empty'
     return takesLetter ? identifier : 'not three numbers'
   }
-  const longer = front + begun(next)
-  if (isFront(isLong, longer, ENDINGS) && !isFront(isVersion, longer, ENDINGS)) return 'too long'
-  if (/\d/.test(next) && /\d$/.test(front) && !takesLetter) return /(^|\D)0$/.test(front) ? 'leading zero' : 'too large'
-  if (isLong(front)) return isWhite(next) || !/[0-9A-Za-z-]$/.test(front) ? 'text after the version' : 'unexpected character'
+  const longer = prefix + begun(next)
+  if (isPrefix(isLong, longer, COMPLETIONS) && !isPrefix(isVersion, longer, COMPLETIONS)) return 'too long'
+  if (/\d/.test(next) && /\d$/.test(prefix) && !takesLetter) return /(^|\D)0$/.test(prefix) ? 'leading zero' : 'too large'
+  if (isLong(prefix)) return isWhite(next) || !/[0-9A-Za-z-]$/.test(prefix) ? 'text after the version' : 'unexpected character'
   if (!/[.+-]/.test(next) && !isWhite(next)) return 'unexpected character'
   if (takesLetter) return identifier
-  return /\d/.test(front) ? 'not three numbers' : 'unexpected character'
+  return /\d/.test(prefix) ? 'not three numbers' : 'unexpected character'
 }
 
 // Where and why a text is no version, in bytes of UTF-8.
-function wanted (tool, of, endings) {
+function wanted (tool, of, completions) {
   if (tool.isVersion(of)) return 'a version'
   const characters = [...of]
   let count = characters.length
-  while (!isFront(tool.isVersion, characters.slice(0, count).join(''), endings)) count--
-  const front = characters.slice(0, count).join('')
-  return `${Buffer.byteLength(front)}: ${reason(tool, front, characters[count])}`
+  while (!isPrefix(tool.isVersion, characters.slice(0, count).join(''), completions)) count--
+  const prefix = characters.slice(0, count).join('')
+  return `${Buffer.byteLength(prefix)}: ${reason(tool, prefix, characters[count])}`
 }
 
 let differences = 0
 
-function compare (program, what, all, endings = ENDINGS) {
+function compare (program, what, all, completions = COMPLETIONS) {
   const counts = []
   for (const [name, tool] of Object.entries(TOOLS)) {
     let refused = 0
@@ -103,7 +103,7 @@ function compare (program, what, all, endings = ENDINGS) {
       const told = answers(program, batch.map((of) => `refused-as-${name}\t${escaped(of)}`))
       if (told.length !== batch.length) throw new Error(`${told.length} of ${batch.length} answers`)
       told.forEach((answer, place) => {
-        const want = wanted(tool, batch[place], endings)
+        const want = wanted(tool, batch[place], completions)
         refused += want === 'a version' ? 0 : 1
         if (answer === want) return
         differences++
@@ -119,7 +119,7 @@ function compare (program, what, all, endings = ENDINGS) {
 // All texts of so many of some characters.
 function * texts (length, of) {
   if (length === 0) return yield ''
-  for (const front of texts(length - 1, of)) for (const last of of) yield front + last
+  for (const prefix of texts(length - 1, of)) for (const last of of) yield prefix + last
 }
 
 const upTo = (length, of) => Array.from({ length: length + 1 }, (_, longest) => [...texts(longest, of)]).flat()
@@ -129,12 +129,12 @@ function main ([program, count, seed]) {
   const made = (count, make) => Array.from({ length: count }, () => make(random))
   console.log(`seed ${seed}`)
   const tails = upTo(3, [...'0a.-+v ']).flatMap((of) => [of, of + '0.0', of + '.0.0', of + '0.0.0'])
-  const endings = [...ENDINGS, ...tails]
-  compare(program, 'short, by all short endings', upTo(2, SHORT), endings)
-  compare(program, 'short after 1.0., by all short endings', upTo(2, SHORT).map((of) => '1.0.' + of), endings)
+  const completions = [...COMPLETIONS, ...tails]
+  compare(program, 'short, by all short completions', upTo(2, SHORT), completions)
+  compare(program, 'short after 1.0., by all short completions', upTo(2, SHORT).map((of) => '1.0.' + of), completions)
   compare(program, 'all of up to 4 characters', upTo(4, SHORT))
-  for (const front of ['1.0.0', '1.0.0-', '1.0.0+', '1.0.0-a+']) {
-    compare(program, `all of up to 3 after ${front}`, upTo(3, SHORT).map((of) => front + of))
+  for (const prefix of ['1.0.0', '1.0.0-', '1.0.0+', '1.0.0-a+']) {
+    compare(program, `all of up to 3 after ${prefix}`, upTo(3, SHORT).map((of) => prefix + of))
   }
   compare(program, 'by the grammar', made(Number(count), text))
   compare(program, 'changed', made(Number(count), changed))
@@ -145,5 +145,5 @@ function main ([program, count, seed]) {
   process.exit(differences === 0 ? 0 : 1)
 }
 
-module.exports = { ENDINGS, TOOLS, wanted }
+module.exports = { COMPLETIONS, TOOLS, wanted }
 if (require.main === module) main(process.argv.slice(2))
