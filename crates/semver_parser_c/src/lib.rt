@@ -282,8 +282,8 @@ pub extern "C" fn semver_parser_proved_explain_version(
 /// # Errors
 ///
 /// `NO_SUCH_DIALECT`, whatever the text. Then `RANGE_NOT_UTF8`, `NOT_A_RANGE` and
-/// `NUMBER_TOO_LARGE`, and `RANGE_OUT_OF_MEMORY` in place of one of the last two. After any other
-/// answer `place` and `hint` are as they were.
+/// `NUMBER_TOO_LARGE`, and `RANGE_OUT_OF_MEMORY` in place of `NOT_A_RANGE`. After any other answer
+/// `place` and `hint` are as they were.
 #[unsafe(no_mangle)]
 pub extern "C" fn semver_parser_proved_explain_range(
     alloc: Global,

@@ -58,8 +58,8 @@ pub fn refused(alloc: Global, dialect: Dialect, text: &str) -> Result<Option<Ref
     // The hint of a number that is too large is the limit of the dialect.
     ensures limit_hint { IfOk result (λ found. IfSome found (λ refusal.
         refusal.error ≡ NumberTooLarge → refusal.hint ≡ Some (limit_of dialect))) }
-    // Memory runs out only in place of an error.
-    ensures out_of_memory { IfErr result (λ _. ¬ (HasSetAs dialect text.now)) }
+    // Memory runs out only in place of `NotARange`.
+    ensures out_of_memory { IfErr result (λ _. ¬ (IsTextAs dialect text.now)) }
 {
     let Err(error) = check(dialect, text) else {
         return Ok(None);
@@ -81,6 +81,7 @@ fn explained(
         → SpellsAs dialect tree text.now → told.0 ≡ limit_offset dialect tree text.now) }
     ensures limit_hint { IfOk result (λ told. error.now ≡ NumberTooLarge
         → told.1 ≡ Some (limit_of dialect)) }
+    ensures out_of_memory { IfErr result (λ _. ¬ (IsTextAs dialect text.now)) }
 {
     match error {
         RangeError::NumberTooLarge => {

@@ -1,19 +1,9 @@
-use Rattle.std.proofs.Common.{IfErr, Ok, Err, rules}
-use Rattle.std.specs.Prelude.{Result}
+use Rattle.std.proofs.Common.{rules}
 use Rattle.tool_ranges.proofs.RangeErrors.{HasError, has_error}
 use Rattle.tool_ranges.proofs.refusals.refused.Goals as goal
 
 pub returns-in_default-clause-range : goal.returns-in_default-clause-range
 returns-in_default-clause-range c = search rules
-
-pub returns-in_err-place-clause-out_of_memory : goal.returns-in_err-place-clause-out_of_memory
-returns-in_err-place-clause-out_of_memory c = any_err c.from_residual.result
-    (has_error c.args.dialect c.args.text.now c.check.result c.check.ensures.refusals c.check.ensures.no_memory c.in-Err.error
-    c.in-Err.is).no_set
-  where
-    any_err : {A B P : Type 0} (r : Result A B) → P → IfErr r (λ x. P)
-    any_err (Ok x) p = tt
-    any_err (Err x) p = p
 
 known : (c : goal.In_ok-place) → HasError c.args.dialect c.args.text.now c.in-Err.error
 known c =
