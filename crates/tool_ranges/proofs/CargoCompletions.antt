@@ -122,53 +122,40 @@ numbers_from t w = elim (cases IsNumber IsNumber IsNumber Marks t w) [
   ]
 ]
 
-patch_from : (t : Text) → WildPatch t → IsStatedText t
-patch_from t w = elim (cases IsNumber IsNumber IsWild IsNothing t w) [
-  | inl o ↦ (one t, (spelled_one t (of_number t o.is), rw (not_wild t o.is) refl, some_stated t [] o.is))
-  | inr v ↦ elim v [
-    | inl o ↦ (
-      two o.a o.b,
-      (
-        subst (SpellsPartial (two o.a o.b)) (sym o.whole) (spelled_two o.a o.b (of_number o.a o.in_a) (of_number o.b o.in_b)),
-        rw (not_wild o.a o.in_a, not_wild o.b o.in_b) refl,
-        some_stated o.a (o.b ∷ []) o.in_a,
-      ),
-    )
-    | inr o ↦ (
-      three o.a o.b o.c [] [],
-      (
-        subst (SpellsPartial (three o.a o.b o.c [] [])) (sym o.whole)
-            (spelled_three o.a o.b o.c o.m [] [] (of_number o.a o.in_a) (of_number o.b o.in_b) (of_wild o.c o.in_c) refl refl o.in_m),
-        rw (not_wild o.a o.in_a, not_wild o.b o.in_b, o.in_c) refl,
-        some_stated o.a (o.b ∷ o.c ∷ []) o.in_a,
-      ),
-    )
+-- those with wildcards at their end
+module _ (B C : Text → Type 0) (of_b : (t : Text) → B t → is_component t ≡ true) (of_c : (t : Text) → C t → is_component t ≡ true)
+    (two_read : (a b : Text) → IsNumber a → B b → is_partial_of_cargo (two a b) ≡ true)
+    (three_read : (a b c : Text) → IsNumber a → B b → C c → is_partial_of_cargo (three a b c [] []) ≡ true) where
+  wild_from : (t : Text) → Partial IsNumber B C IsNothing t → IsStatedText t
+  wild_from t w = elim (cases IsNumber B C IsNothing t w) [
+    | inl o ↦ (one t, (spelled_one t (of_number t o.is), rw (not_wild t o.is) refl, some_stated t [] o.is))
+    | inr v ↦ elim v [
+      | inl o ↦ (
+        two o.a o.b,
+        (
+          subst (SpellsPartial (two o.a o.b)) (sym o.whole) (spelled_two o.a o.b (of_number o.a o.in_a) (of_b o.b o.in_b)),
+          two_read o.a o.b o.in_a o.in_b,
+          some_stated o.a (o.b ∷ []) o.in_a,
+        ),
+      )
+      | inr o ↦ (
+        three o.a o.b o.c [] [],
+        (
+          subst (SpellsPartial (three o.a o.b o.c [] [])) (sym o.whole)
+              (spelled_three o.a o.b o.c o.m [] [] (of_number o.a o.in_a) (of_b o.b o.in_b) (of_c o.c o.in_c) refl refl o.in_m),
+          three_read o.a o.b o.c o.in_a o.in_b o.in_c,
+          some_stated o.a (o.b ∷ o.c ∷ []) o.in_a,
+        ),
+      )
+    ]
   ]
-]
+
+patch_from : (t : Text) → WildPatch t → IsStatedText t
+patch_from = wild_from IsNumber IsWild of_number of_wild (λ a b x y. rw (not_wild a x, not_wild b y) refl)
+    (λ a b c x y z. rw (not_wild a x, not_wild b y, z) refl)
 
 minor_from : (t : Text) → WildMinor t → IsStatedText t
-minor_from t w = elim (cases IsNumber IsWild IsWild IsNothing t w) [
-  | inl o ↦ (one t, (spelled_one t (of_number t o.is), rw (not_wild t o.is) refl, some_stated t [] o.is))
-  | inr v ↦ elim v [
-    | inl o ↦ (
-      two o.a o.b,
-      (
-        subst (SpellsPartial (two o.a o.b)) (sym o.whole) (spelled_two o.a o.b (of_number o.a o.in_a) (of_wild o.b o.in_b)),
-        rw (not_wild o.a o.in_a, o.in_b) refl,
-        some_stated o.a (o.b ∷ []) o.in_a,
-      ),
-    )
-    | inr o ↦ (
-      three o.a o.b o.c [] [],
-      (
-        subst (SpellsPartial (three o.a o.b o.c [] [])) (sym o.whole)
-            (spelled_three o.a o.b o.c o.m [] [] (of_number o.a o.in_a) (of_wild o.b o.in_b) (of_wild o.c o.in_c) refl refl o.in_m),
-        rw (not_wild o.a o.in_a, o.in_b, o.in_c) refl,
-        some_stated o.a (o.b ∷ o.c ∷ []) o.in_a,
-      ),
-    )
-  ]
-]
+minor_from = wild_from IsWild IsWild of_wild of_wild (λ a b x y. rw (not_wild a x, y) refl) (λ a b c x y z. rw (not_wild a x, y, z) refl)
 
 abbrev Stated : Text → Type 0
 Stated t = Numbers t ⊎ (WildPatch t ⊎ WildMinor t)
@@ -318,9 +305,15 @@ comparator_to t (s, w, some) = record {
   first = w.before;
   second = sign s.form ++ (w.gap ++ (w.word ++ w.after));
   in_first = w.before_is;
-  in_second = both (sign s.form) _ (s.form, refl) (both w.gap _ w.gap_is (both w.word w.after
-      (s.partial, (w.partial, (and_parts (is_partial_of_cargo s.partial)
-          (is_every s || not (states_nothing s.partial)) w.is_read).0, some)) w.after_is));
+  in_second = both (sign s.form) _ (s.form, refl) (both w.gap _ w.gap_is (both w.word w.after (
+    s.partial,
+    (
+      w.partial,
+      (and_parts (is_partial_of_cargo s.partial)
+          (is_every s || not (states_nothing s.partial)) w.is_read).0,
+      some,
+    ),
+  ) w.after_is));
   whole = w.text;
 }
 

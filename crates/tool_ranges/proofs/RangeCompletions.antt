@@ -317,7 +317,7 @@ module _ (d : Grammar) where
         let padded = same (seq (blanks d) (seq inner (blanks d))) IsPaddedText padded_from padded_to in
         let set = same (seq padded (many (seq bars padded))) IsSetText
         (λ t w. let s = set_from w.first w.in_first w.in_second.texts w.in_second.each t (w.whole
-            ∙ ap (λ x. w.first ++ x) w.in_second.whole) in
+        ∙ ap (λ x. w.first ++ x) w.in_second.whole) in
         (s.0 ∷ s.1, s.2)) to in
         among set set_completions refl
       where

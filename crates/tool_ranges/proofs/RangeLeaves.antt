@@ -49,8 +49,11 @@ pub blanks : (d : Grammar) → CompletesBy in_bytes (AreBlanks d) [] ([] ∷ [])
 blanks d = closed (AreBlanks d) [] refl refl (λ t is. omega arith) (λ b t rest is. blanks_prefix d (b ∷ t) rest is)
 
 pub some_blanks : (d : Grammar) → CompletesBy in_bytes (AreSomeBlanks d) (codes " ") ([] ∷ [])
-some_blanks d = closed (AreSomeBlanks d) (codes " ") (refl, space_is_blank d) refl some (λ b t rest is. (refl, blanks_prefix d
-    (b ∷ t) rest is.1))
+some_blanks d = closed (AreSomeBlanks d) (codes " ") (refl, space_is_blank d) refl some (λ b t rest is. (
+  refl,
+  blanks_prefix d
+      (b ∷ t) rest is.1,
+))
   where
     some : (t : Text) → AreSomeBlanks d t → 1 ≤ length t
     some [] is = absurd (let e = is.0 in cc)

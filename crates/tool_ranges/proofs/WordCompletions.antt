@@ -69,7 +69,7 @@ crate_from t w = elim (cases IsComponent IsComponent IsComponent Marks t w) [
 crate_to : (t : Text) → (p : PartialTree) × SpellsPartial p t → CratePartial t
 crate_to t (one a, (e, parts, text)) =
     subst CratePartial (sym (text ∙ append-nil a)) (one_text IsComponent IsComponent IsComponent Marks a (and_parts
-        (is_component a) true e).0)
+    (is_component a) true e).0)
 crate_to t (two a b, (e, parts, text)) =
     let first = and_parts (is_component a) (is_component b && true) e in
     subst CratePartial (sym (text ∙ append-nil (a ++ (46 ∷ b))))
@@ -357,7 +357,7 @@ module _ (role : Role) where
   short_three a b c pre build n h = by_test (not (is_wildcard a || (is_wildcard b || is_wildcard c)))
       (λ y. let none = none_wild (is_wildcard a) (is_wildcard b) (is_wildcard c) y in
       rw y (rw (taken role a b c pre build) (short_by (is_whole role (not (is_empty pre))) n (length (numbers_and_pre
-          (three a b c pre build)))
+      (three a b c pre build)))
       (subst (IsShort role (not (is_empty pre)) n) (sym (size_of a b c (marked (45 ∷ []) pre))) (h none.0 none.1 none.2)))))
       (λ m. rw m refl)
 
@@ -402,7 +402,7 @@ module _ (role : Role) where
 
       short : is_wildcard o.a ≡ false → is_wildcard o.b ≡ false → is_wildcard o.c ≡ false
           → IsShort role (not (is_empty marks.pre)) (length t) ((length o.a + (length o.b + length o.c) + 2) + length (marked
-              (45 ∷ []) marks.pre))
+          (45 ∷ []) marks.pre))
       short x y z = stays role i.k (not (is_empty marks.pre)) i.n (length t) (length i.a + (length i.b + length i.c) + 2)
           (length o.a + (length o.b + length o.c) + 2) i.q (length (marked (45 ∷ []) marks.pre)) less
           (omega (arith, o.in_a.2, o.in_b.2, o.in_c.2)) (within_extra marks.pre i.q marks.short) i.q_some marks.has alone_short
@@ -456,75 +456,43 @@ module _ (role : Role) where
   size_in : (t v back : Text) → t ≡ v ++ back → length back ≤ length t
   size_in t v back e = omega (arith, ap length e ∙ length-append v back)
 
-  module _ (t v back : Text) (v_is : IsV v) (whole : t ≡ v ++ back) where
-    one_to : (a : Text) → is_component a ≡ true → is_short_number a ≡ true → back ≡ a → IsModelled t
+  module _ (t v back : Text) (v_is : IsV v) (whole : t ≡ v ++ back) (some : 1 ≤ length back) where
+    in_place_of : (a b c : Text) (k : Bool) (q : ℕ) → 1 ≤ length a → 1 ≤ length b → 1 ≤ length c → 2 ≤ q
+        → (is_wildcard a ≡ false → is_wildcard b ≡ false → is_wildcard c ≡ false
+        → IsShort role k (length t) ((length a + (length b + length c) + 2) + extra k q))
+        → Partial (InPlace a) (InPlace b) (InPlace c) (NpmMarks k q) back → IsModelled t
     unfolding IsModelled
-    one_to a e short text =
-        let some = some_component a e in
-        let i : Model role = record {
-          a = a;
-          b = codes "*";
-          c = codes "*";
-          k = false;
-          q = 2;
-          n = length t;
-          a_some = some;
-          b_some = omega arith;
-          c_some = omega arith;
-          q_some = omega arith;
-          n_some = omega (arith, size_in t v back whole, ap length text, some);
-          is_short = λ x y z. absurd (cc);
-        } in (
-          i,
-          (
-            record {
-              first = v;
-              second = back;
-              in_first = v_is;
-              in_second = subst (Numbers i) (sym text)
-                  (one_text (InPlace a) (InPlace (codes "*")) (InPlace (codes "*")) (NpmMarks false 2) a (same_place a e short));
-              whole = whole;
-            },
-            omega arith,
-          ),
-        )
-
-    two_to : (a b : Text) → is_component a ≡ true → is_component b ≡ true → is_short_number a ≡ true → is_short_number b ≡ true
-        → back ≡ a ++ (46 ∷ b) → IsModelled t
-    unfolding IsModelled
-    two_to a b e f short_a short_b text =
-        let some = some_component a e in
+    in_place_of a b c k q a_some b_some c_some q_some short is =
         let i : Model role = record {
           a = a;
           b = b;
-          c = codes "*";
-          k = false;
-          q = 2;
+          c = c;
+          k = k;
+          q = q;
           n = length t;
-          a_some = some;
-          b_some = some_component b f;
-          c_some = omega arith;
-          q_some = omega arith;
-          n_some = omega (arith, size_in t v back whole, ap length text ∙ length-append a (46 ∷ b), some);
-          is_short = λ x y z. absurd (cc);
-        } in (
-          i,
-          (
-            record {
-              first = v;
-              second = back;
-              in_first = v_is;
-              in_second = subst (Numbers i) (sym text) (two_text (InPlace a) (InPlace b) (InPlace (codes "*")) (NpmMarks false 2) a b
-                  (same_place a e short_a) (same_place b f short_b));
-              whole = whole;
-            },
-            omega arith,
-          ),
-        )
+          a_some = a_some;
+          b_some = b_some;
+          c_some = c_some;
+          q_some = q_some;
+          n_some = omega (arith, size_in t v back whole, some);
+          is_short = short;
+        } in (i, (record { first = v; second = back; in_first = v_is; in_second = is; whole = whole }, omega arith))
+
+    one_to : (a : Text) → is_component a ≡ true → is_short_number a ≡ true → back ≡ a → IsModelled t
+    one_to a e short text =
+        in_place_of a (codes "*") (codes "*") false 2 (some_component a e) (omega arith) (omega arith) (omega arith) (λ x y z. absurd (cc))
+        (subst (Partial (InPlace a) (InPlace (codes "*")) (InPlace (codes "*")) (NpmMarks false 2)) (sym text)
+        (one_text (InPlace a) (InPlace (codes "*")) (InPlace (codes "*")) (NpmMarks false 2) a (same_place a e short)))
+
+    two_to : (a b : Text) → is_component a ≡ true → is_component b ≡ true → is_short_number a ≡ true → is_short_number b ≡ true
+        → back ≡ a ++ (46 ∷ b) → IsModelled t
+    two_to a b e f short_a short_b text =
+        in_place_of a b (codes "*") false 2 (some_component a e) (some_component b f) (omega arith) (omega arith) (λ x y z. absurd (cc))
+        (subst (Partial (InPlace a) (InPlace b) (InPlace (codes "*")) (NpmMarks false 2)) (sym text)
+        (two_text (InPlace a) (InPlace b) (InPlace (codes "*")) (NpmMarks false 2) a b (same_place a e short_a) (same_place b f short_b)))
 
     three_to : (a b c : Text) (pre build : List Text) → SpellsPartial (three a b c pre build) back
         → is_word_of_npm role (three a b c pre build) (length t) ≡ true → IsModelled t
-    unfolding IsModelled
     three_to a b c pre build spelled is =
         let e = components_of_three a b c spelled.0 in
         let first = and_parts (list_all has_no_leading_zero pre) _ is in
@@ -537,46 +505,30 @@ module _ (role : Role) where
         let short_b = and_parts (is_short_number b) (is_short_number c && true) short_a.1 in
         let short_c = and_parts (is_short_number c) true short_b.1 in
         let text = three_is a b c pre build back spelled in
-        let i : Model role = record {
-          a = a;
-          b = b;
-          c = c;
-          k = not (is_empty pre);
-          q = pre_size pre;
-          n = length t;
-          a_some = some_component a e.0;
-          b_some = some_component b e.1;
-          c_some = some_component c e.2;
-          q_some = pre_some pre spelled.1.0;
-          n_some = omega (arith, size_in t v back whole, ap length text ∙ length-append a _, some_component a e.0);
-          is_short = λ x y z. subst (λ m. IsShort role (not (is_empty pre)) (length t) ((length a + (length b + length c) + 2) + m))
-              (sym (extra_is pre)) (three_short a b c pre build (length t) others.1 x y z);
-        } in (
-          i,
-          (
-            record {
-              first = v;
-              second = back;
-              in_first = v_is;
-              in_second = subst (Numbers i) (sym text)
-                  (three_text (InPlace a) (InPlace b) (InPlace c) (NpmMarks (not (is_empty pre)) (pre_size pre)) a b c _
-                  (same_place a e.0 short_a.0) (same_place b e.1 short_b.0) (same_place c e.2 short_c.0)
-                  (marks_to pre build (pre_size pre) (parts_to is_npm_pre pre spelled.1.0 (all_pass pre first.0 marks.0))
-                  (parts_to is_short_build build spelled.1.1 marks.1) (size_fits pre)));
-              whole = whole;
-            },
-            omega arith,
-          ),
-        )
+        in_place_of a b c (not (is_empty pre)) (pre_size pre) (some_component a e.0) (some_component b e.1) (some_component c e.2)
+        (pre_some pre spelled.1.0)
+        (λ x y z. subst (λ m. IsShort role (not (is_empty pre)) (length t) ((length a + (length b + length c) + 2) + m))
+        (sym (extra_is pre)) (three_short a b c pre build (length t) others.1 x y z))
+        (subst (Partial (InPlace a) (InPlace b) (InPlace c) (NpmMarks (not (is_empty pre)) (pre_size pre))) (sym text)
+        (three_text (InPlace a) (InPlace b) (InPlace c) (NpmMarks (not (is_empty pre)) (pre_size pre)) a b c _
+        (same_place a e.0 short_a.0) (same_place b e.1 short_b.0) (same_place c e.2 short_c.0)
+        (marks_to pre build (pre_size pre) (parts_to is_npm_pre pre spelled.1.0 (all_pass pre first.0 marks.0))
+        (parts_to is_short_build build spelled.1.1 marks.1) (size_fits pre))))
+
+  some_back : (p : PartialTree) (t : Text) → SpellsPartial p t → 1 ≤ length t
+  some_back p t spelled = let w = crate_to t (p, spelled) in
+      omega (arith, ap length w.whole ∙ length-append w.first w.second, some_component w.first w.in_first)
 
   word_to : (t : Text) → IsWord Npm role t → IsModelled t
   word_to t (one a, (v, back, v_is, spelled, is, whole)) =
-      one_to t v back v_is whole a (and_parts (is_component a) true spelled.0).0 (grind arith) (spelled.2 ∙ append-nil a)
+      one_to t v back v_is whole (some_back (one a) back spelled) a (and_parts (is_component a) true spelled.0).0 (grind arith)
+      (spelled.2 ∙ append-nil a)
   word_to t (two a b, (v, back, v_is, spelled, is, whole)) =
       let first = and_parts (is_component a) (is_component b && true) spelled.0 in
-      two_to t v back v_is whole a b first.0 (and_parts (is_component b) true first.1).0 (grind arith) (grind arith)
-      (spelled.2 ∙ append-nil (a ++ (46 ∷ b)))
-  word_to t (three a b c pre build, (v, back, v_is, spelled, is, whole)) = three_to t v back v_is whole a b c pre build spelled is
+      two_to t v back v_is whole (some_back (two a b) back spelled) a b first.0 (and_parts (is_component b) true first.1).0
+      (grind arith) (grind arith) (spelled.2 ∙ append-nil (a ++ (46 ∷ b)))
+  word_to t (three a b c pre build, (v, back, v_is, spelled, is, whole)) =
+      three_to t v back v_is whole (some_back (three a b c pre build) back spelled) a b c pre build spelled is
 
   shortest : Model role
   shortest = record {

@@ -19,7 +19,7 @@ loop-after-preserved c =
           (sym c.states_number.ensures ∙ w.if-states_number.true))
       | else-states_number w ↦ (
           ap (λ n. end_of_word n (word ∷ words more)) (sym w.left-is)
-              ∙ other_word word (words more) (some_words more) c.if-states_number.left
+          ∙ other_word word (words more) (some_words more) c.if-states_number.left
           (sym c.states_number.ensures ∙ w.if-states_number.false))
     ] in
     (omega (arith, so_far.0, step), omega (arith, so_far.1, split.1))

@@ -70,7 +70,7 @@ loop-preserved c =
             count_more seen.0 s c.loop.counter seen.2,
             omega (arith, seen.3, w.fitting-is),
             λ left. let more = fitting_more p s left (states ∙ w.if-not-states_nothing.true) fits in
-            let all = whole left in omega (arith, all, more, w.fitting-is),
+                let all = whole left in omega (arith, all, more, w.fitting-is),
           ))
       | else-not-states_nothing w ↦ (
         seen.0 ++ s ∷ [],
@@ -78,6 +78,6 @@ loop-preserved c =
         count_more seen.0 s c.loop.counter seen.2,
         omega (arith, seen.3, w.fitting-is),
         λ left. let more = fitting_nothing p s left (states ∙ w.if-not-states_nothing.false) in
-        let all = whole left in omega (arith, all, more, w.fitting-is),
+            let all = whole left in omega (arith, all, more, w.fitting-is),
       )
     ]
