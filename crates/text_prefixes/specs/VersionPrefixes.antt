@@ -1,10 +1,10 @@
 -- Prefixes of versions: the texts that some version begins with, in each dialect.
-use Rattle.std.specs.Prelude.{◌<◌, ◌≤◌, ℕ, ◌++◌, length, take}
-use Rattle.std.specs.List.{AllByRecursion}
+use Rattle.std.specs.Prelude.{ℕ, ◌++◌}
 use Rattle.semver_texts.specs.Texts.{Text}
 use Rattle.semver_texts.specs.ToolVersions.{IsVersionTextIn}
 use Rattle.semver_texts.specs.declared.grammar.Grammar.{Grammar}
 use Rattle.semver_versions.specs.AnyLength.{IsVersionAtAnyLength}
+use Rattle.text_prefixes.specs.Prefixes.{BeginsWhole, IsLongestWholePrefix}
 use Rattle.text_prefixes.specs.declared.bytes.Length.{Length}
 use Rattle.text_prefixes.specs.declared.bytes.Length.TheVariants.{Allowed, Any}
 
@@ -19,11 +19,9 @@ IsPrefixIn grammar text = (more : Text) × IsVersionTextIn grammar (text ++ more
 
 -- so does some text of ASCII: the prefix doesn't end within a character
 abbrev pub IsWholePrefixIn : Grammar → Text → Type 0
-IsWholePrefixIn grammar text =
-    (more : Text) × AllByRecursion (λ b. b < 128) more × IsVersionTextIn grammar (text ++ more)
+IsWholePrefixIn grammar text = BeginsWhole (IsVersionTextIn grammar) text
 
 -- the offset is the end of the longest such prefix that the text begins with
-pub record IsLongestVersionPrefix (grammar : Grammar) (text : Text) (offset : ℕ) : Type 0 where
-  pub within : offset ≤ length text
-  pub prefix : IsWholePrefixIn grammar (take offset text)
-  pub no_longer : (n : ℕ) → offset < n → n ≤ length text → ¬ (IsWholePrefixIn grammar (take n text))
+abbrev pub IsLongestVersionPrefix : Grammar → Text → ℕ → Type 0
+IsLongestVersionPrefix grammar text offset =
+    IsLongestWholePrefix (IsVersionTextIn grammar) text offset

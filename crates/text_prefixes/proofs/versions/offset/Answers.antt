@@ -6,7 +6,3 @@ longest_prefix_of_bytes-requires-clause-completions c = (known c.args.grammar).c
 
 pub longest_prefix_of_bytes-requires-clause-utf8 : goal.longest_prefix_of_bytes-requires-clause-utf8
 longest_prefix_of_bytes-requires-clause-utf8 c = (known c.args.grammar).utf8
-
-pub returns : goal.returns
-returns c =
-    let w = c.longest_prefix_of_bytes.ensures in record { within = w.within; prefix = w.prefix; no_longer = w.no_longer }
