@@ -1,5 +1,5 @@
 -- serves: answer_laws::ranges::one_refusal
--- A range text has one error, at one place.
+-- A range text has one error, at one offset.
 use Rattle.std.proofs.Common.{◌≡◌, ◌≢◌, ◌↔◌, ◌∙◌, ℕ, Option, Some, None, IfSome, option_map, refl, sym, ap}
 use Rattle.semver_texts.specs.Texts.{Text}
 use Rattle.semver_parser.specs.declared.RangeError.{RangeError}
@@ -18,20 +18,20 @@ pub record Says (dialect : Dialect) (t : Text) (found : Option Refusal) : Type 0
   pub not_a_range : IfSome found (λ r. (r.error ≡ NotARange) ↔ ¬ (IsTextAs dialect t))
   pub too_large : IfSome found (λ r. (r.error ≡ NumberTooLarge) ↔ IsTooLargeAs dialect t)
   pub no_memory : IfSome found (λ r. r.error ≢ OutOfMemory)
-  pub place : IfSome found (λ r. r.error ≡ NotARange → IsLongestPrefix (BeginsAs dialect) t r.place)
-  pub limit : IfSome found (λ r. r.error ≡ NumberTooLarge → IsLimitOffset dialect t r.place)
+  pub offset : IfSome found (λ r. r.error ≡ NotARange → IsLongestPrefix (BeginsAs dialect) t r.offset)
+  pub limit : IfSome found (λ r. r.error ≡ NumberTooLarge → IsLimitOffset dialect t r.offset)
 
 module _ (dialect : Dialect) (t : Text)
-    (one_place : (m n : ℕ) → IsLongestPrefix (BeginsAs dialect) t m → IsLongestPrefix (BeginsAs dialect) t n → m ≡ n)
+    (one_offset : (m n : ℕ) → IsLongestPrefix (BeginsAs dialect) t m → IsLongestPrefix (BeginsAs dialect) t n → m ≡ n)
     (one_limit : (m n : ℕ) → IsLimitOffset dialect t m → IsLimitOffset dialect t n → m ≡ n) where
   by_error : (e : RangeError) (r s : Refusal) → r.error ≡ e → Says dialect t (Some r) → Says dialect t (Some s)
       → seen_refusal r ≡ seen_refusal s
   by_error NotARange r s is a b =
       let also = b.not_a_range.1 (a.not_a_range.0 is) in
-      (λ i. ((is ∙ sym also) i, one_place r.place s.place (a.place is) (b.place also) i))
+      (λ i. ((is ∙ sym also) i, one_offset r.offset s.offset (a.offset is) (b.offset also) i))
   by_error NumberTooLarge r s is a b =
       let also = b.too_large.1 (a.too_large.0 is) in
-      (λ i. ((is ∙ sym also) i, one_limit r.place s.place (a.limit is) (b.limit also) i))
+      (λ i. ((is ∙ sym also) i, one_limit r.offset s.offset (a.limit is) (b.limit also) i))
   by_error OutOfMemory r s is a b = absurd (a.no_memory is)
 
   pub one_refused : (x y : Option Refusal) → Says dialect t x → Says dialect t y

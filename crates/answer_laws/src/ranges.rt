@@ -1,4 +1,4 @@
-//! The calls that read a range text into comparators, and the place of its error.
+//! The calls that read a range text into comparators, and the offset of its error.
 
 ghost use Rattle.std.specs.Prelude.{alloc_error, option_map};
 ghost use Rattle.semver_parser.specs.RangeViews.{set_of};
@@ -8,8 +8,8 @@ ghost use Rattle.answer_laws.specs.SeenTexts.{seen_refusal};
 use semver_parser::{Compat, RangeError, RangeSet};
 use std::alloc::{AllocError, Global};
 use tool_ranges::dialect::{self, Dialect};
-use tool_ranges::laws::{one_limit_place, one_place};
-use tool_ranges::place::error_place;
+use tool_ranges::laws::{one_limit_offset, one_offset};
+use tool_ranges::offset::error_offset;
 use tool_ranges::refusals::{Refusal, refused};
 use tool_ranges::{cargo, npm};
 
@@ -73,22 +73,22 @@ pub fn one_rewrite(alloc: Global, dialect: Dialect, range: &str) -> Answers
     )
 }
 
-/// `place::error_place` has one answer.
-pub fn one_error_place(
+/// `offset::error_offset` has one answer.
+pub fn one_error_offset(
     alloc: Global,
     dialect: Dialect,
     text: &str,
 ) -> (Result<usize, AllocError>, Result<usize, AllocError>)
     ensures one { AreOne alloc_error itself result.0 result.1 }
 {
-    one_place();
+    one_offset();
     (
-        error_place(alloc, dialect, text),
-        error_place(alloc, dialect, text),
+        error_offset(alloc, dialect, text),
+        error_offset(alloc, dialect, text),
     )
 }
 
-/// `refusals::refused` has one error and one place. Which hint it has is free.
+/// `refusals::refused` has one error and one offset. Which hint it has is free.
 pub fn one_refusal(
     alloc: Global,
     dialect: Dialect,
@@ -99,7 +99,7 @@ pub fn one_refusal(
 )
     ensures one { AreOne alloc_error (option_map seen_refusal) result.0 result.1 }
 {
-    one_place();
-    one_limit_place();
+    one_offset();
+    one_limit_offset();
     (refused(alloc, dialect, text), refused(alloc, dialect, text))
 }

@@ -45,7 +45,7 @@ impl Program {
         ExitCode::from(2)
     }
 
-    /// Writes the error of a range text, with the text and the place, and returns status 2.
+    /// Writes the error of a range text, with the text and the offset, and returns status 2.
     pub fn refuse_range(
         self,
         rt: &HostRuntime,

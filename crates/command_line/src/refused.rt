@@ -1,4 +1,4 @@
-//! The text of a range's error: the place of the first byte that no range could have there, with a
+//! The text of a range's error: the offset of the first byte that no range could have there, with a
 //! caret under it, and a hint if another dialect takes it or a known rule is broken.
 
 use crate::sentences::sentence;
@@ -9,7 +9,7 @@ use std::fmt::Write as _;
 use tool_ranges::dialect::Dialect;
 use tool_ranges::refusals::{Refusal, refused};
 
-/// The text of an error: the error and the range text, and two lines more with the place, and a
+/// The text of an error: the error and the range text, and two lines more with the offset, and a
 /// hint if there is one. A long text is shortened. `Err` is out of memory.
 ///
 /// Of `1.2 || 3` as Cargo reads it:
@@ -33,14 +33,14 @@ pub fn refused_text(
     Ok(written)
 }
 
-/// Writes the lines of an error with its place.
+/// Writes the lines of an error with its offset.
 fn write_refusal(out: &mut String, refusal: &Refusal, text: &str) -> Result<(), AllocError> {
-    let place = refusal.place;
-    let shown = Shown::round(text, place);
+    let offset = refusal.offset;
+    let shown = Shown::round(text, offset);
     write!(out, "{}: {shown}", refusal.error)?;
     shown.write_pointed(out)?;
-    if place < text.len() {
-        write!(out, "at byte {place}")?;
+    if offset < text.len() {
+        write!(out, "at byte {offset}")?;
     } else if refusal.hint.is_some() {
         write!(out, "at the end")?;
     } else {

@@ -1,9 +1,9 @@
-//! A text, or the part of a long one round a place.
+//! A text, or the part of a long one round an offset.
 
 use std::alloc::AllocError;
 use std::fmt::{self, Display, Formatter, Write};
 
-/// How many bytes before and after the place are shown of a long text.
+/// How many bytes before and after the offset are shown of a long text.
 const REACH: usize = 32;
 
 /// What is shown of a text.
@@ -11,20 +11,20 @@ const REACH: usize = 32;
 pub struct Shown<'a> {
     /// The part that is shown.
     text: &'a str,
-    /// How much of it is before the place.
+    /// How much of it is before the offset.
     before: &'a str,
     /// What stands for what is left out before it, and after it.
     left_out: (&'static str, &'static str),
 }
 
 impl<'a> Shown<'a> {
-    /// What is shown of a text round a place.
-    pub fn round(text: &'a str, place: usize) -> Shown<'a> {
-        let begin = boundary(text, place.saturating_sub(REACH));
-        let end = boundary(text, place.saturating_add(REACH).min(text.len()));
+    /// What is shown of a text round an offset.
+    pub fn round(text: &'a str, offset: usize) -> Shown<'a> {
+        let begin = boundary(text, offset.saturating_sub(REACH));
+        let end = boundary(text, offset.saturating_add(REACH).min(text.len()));
         Shown {
             text: text.get(begin..end).unwrap_or(text),
-            before: text.get(begin..place).unwrap_or(""),
+            before: text.get(begin..offset).unwrap_or(""),
             left_out: (
                 if begin > 0 { "..." } else { "" },
                 if end < text.len() { "..." } else { "" },
@@ -32,7 +32,7 @@ impl<'a> Shown<'a> {
         }
     }
 
-    /// Writes the text in a line of its own, and in the next one a caret under the place; only
+    /// Writes the text in a line of its own, and in the next one a caret under the offset; only
     /// blanks in front where it is empty, or has a character that isn't shown in one column.
     pub fn write_pointed(&self, out: &mut String) -> Result<(), AllocError> {
         out.push_str("\n    ")?;
@@ -61,10 +61,10 @@ impl Display for Shown<'_> {
     }
 }
 
-/// The last place between two characters that isn't after a place.
-fn boundary(text: &str, place: usize) -> usize {
+/// The last offset between two characters that isn't after an offset.
+fn boundary(text: &str, offset: usize) -> usize {
     for back in 0..4 {
-        let at = place.saturating_sub(back);
+        let at = offset.saturating_sub(back);
         if text.is_char_boundary(at) {
             return at;
         }

@@ -18,7 +18,7 @@ pub fn write_refused<W: Write>(
     let Some(refusal) = refused(alloc, dialect, text)? else {
         return out.write_all(b"a range");
     };
-    write!(out, "{}: {}", refusal.place, refusal.error)?;
+    write!(out, "{}: {}", refusal.offset, refusal.error)?;
     match refusal.hint {
         Some(hint) => write!(out, ", {}", words(hint)),
         None => Ok(()),

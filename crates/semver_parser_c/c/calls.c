@@ -51,15 +51,15 @@ int32_t semver_parser_parse_version(
 
 int32_t semver_parser_explain_version(
     const uint8_t *text, size_t text_length, int32_t dialect, uint8_t *buffer, size_t room,
-    size_t *place) {
+    size_t *offset) {
     return semver_parser_proved_explain_version(
-        text_at(text, text_length), text_length, dialect, room_at(buffer, room), room, place);
+        text_at(text, text_length), text_length, dialect, room_at(buffer, room), room, offset);
 }
 
 int32_t semver_parser_explain_range(
-    const uint8_t *text, size_t text_length, int32_t dialect, size_t *place, int32_t *hint) {
+    const uint8_t *text, size_t text_length, int32_t dialect, size_t *offset, int32_t *hint) {
     return semver_parser_proved_explain_range(
-        text_at(text, text_length), text_length, dialect, place, hint);
+        text_at(text, text_length), text_length, dialect, offset, hint);
 }
 
 int32_t semver_parser_precedence(const uint8_t *version, size_t version_length,

@@ -14,10 +14,10 @@ int32_t semver_parser_proved_parse_version(
 
 int32_t semver_parser_proved_explain_version(
     const uint8_t *text, size_t text_length, int32_t dialect, uint8_t *buffer, size_t room,
-    size_t *place);
+    size_t *offset);
 
 int32_t semver_parser_proved_explain_range(
-    const uint8_t *text, size_t text_length, int32_t dialect, size_t *place, int32_t *hint);
+    const uint8_t *text, size_t text_length, int32_t dialect, size_t *offset, int32_t *hint);
 
 int32_t semver_parser_proved_precedence(const uint8_t *version, size_t version_length,
     const uint8_t *other, size_t other_length, int32_t dialect, int32_t *order, bool *in_other);

@@ -14,7 +14,7 @@
  * child of a process with several threads. Threads may call concurrently.
  *
  * RESULTS. A function returns SEMVER_PARSER_OK (0) or the number of an error. An error writes
- * nothing, but for what is said of SEMVER_PARSER_NO_ROOM, `in_other`, `place` and `hint`. Errors
+ * nothing, but for what is said of SEMVER_PARSER_NO_ROOM, `in_other`, `offset` and `hint`. Errors
  * come in this order, each exactly if it applies:
  * - SEMVER_PARSER_NO_SUCH_DIALECT, _NO_SUCH_RULE, _NO_SUCH_OPERATION, then _NOT_A_SET;
  * - of a range: SEMVER_PARSER_RANGE_NOT_UTF8, _NOT_A_RANGE, _NUMBER_TOO_LARGE;
@@ -246,21 +246,21 @@ int32_t semver_parser_parse_version(const uint8_t *text, size_t text_length, int
                                     semver_parser_version *out);
 
 /* Returns SEMVER_PARSER_OK exactly for a version, and otherwise the reason, one of
- * SEMVER_PARSER_VERSION_EMPTY to _VERSION_TEXT_AFTER. Then `place` is the offset of the first
+ * SEMVER_PARSER_VERSION_EMPTY to _VERSION_TEXT_AFTER. Then `offset` is the offset of the first
  * character that no version has there, or `text_length`: `1.2.03` gives _VERSION_LEADING_ZERO and
  * 5. The bytes need not be UTF-8. Does not allocate: `buffer` is for the function's own use, and
  * must have room for `text_length` + 8 bytes, or the answer for such a text is
  * SEMVER_PARSER_NO_ROOM. */
 int32_t semver_parser_explain_version(const uint8_t *text, size_t text_length, int32_t dialect,
-                                      uint8_t *buffer, size_t room, size_t *place);
+                                      uint8_t *buffer, size_t room, size_t *offset);
 
-/* Returns SEMVER_PARSER_OK exactly for a range. After _NOT_A_RANGE `place` is the first
+/* Returns SEMVER_PARSER_OK exactly for a range. After _NOT_A_RANGE `offset` is the first
  * character that no range has there, or `text_length`: `1 || 2` by SEMVER_PARSER_CARGO gives 2
  * and _HINT_CARGO_BARS. After _NUMBER_TOO_LARGE it is the end of the first term that states a
  * number, or has a raised bound, above the limit. Only _NOT_A_RANGE allocates;
  * _RANGE_OUT_OF_MEMORY may replace it. */
 int32_t semver_parser_explain_range(const uint8_t *text, size_t text_length, int32_t dialect,
-                                    size_t *place, int32_t *hint);
+                                    size_t *offset, int32_t *hint);
 
 /* Compares two versions by precedence (SemVer 2.0.0, section 11): `order` is -1, 0 or 1. Builds
  * don't count. After an error `in_other` says whether it is of `other`; the first text is read
@@ -299,12 +299,12 @@ int32_t semver_parser_meets_each(const uint8_t *range, size_t range_length, int3
                                  size_t count, uint8_t *answers);
 
 /* Prints the least version that a range means, without a build. `length` is 0 exactly if it means
- * none. `>1.0.0-rc.1` has 1.0.0 by SEMVER_PARSER_RELEASES_ALONE, and else 1.0.0-rc.1.0. */
+ * none. `>1.0.0-rc.1` has 1.0.0 by SEMVER_PARSER_EXCLUDED, and else 1.0.0-rc.1.0. */
 int32_t semver_parser_least(const uint8_t *range, size_t range_length, int32_t dialect,
                             int32_t pre_releases, uint8_t *out, size_t room, size_t *length);
 
 /* Prints the least versions that are lost, gained and shared, one after the other, if a new range
- * replaces an old one. By SEMVER_PARSER_RELEASES_ALONE `^1.2.0` and `>=1.4.0` give
+ * replaces an old one. By SEMVER_PARSER_EXCLUDED `^1.2.0` and `>=1.4.0` give
  * `1.2.02.0.01.4.0`, lost at 0, gained at 5 and shared at 10. `comparison` is also written if the
  * buffer is too small. Errors of the old range come first, then those of the new one, then
  * SEMVER_PARSER_NEW_RANGE_OUT_OF_MEMORY. */
@@ -314,7 +314,7 @@ int32_t semver_parser_compare(const uint8_t *old_range, size_t old_range_length,
                               semver_parser_comparison *comparison);
 
 /* Makes a range into a set of versions as data, which can be copied and stored. Equal sets have
- * equal data: `^1.2` by SEMVER_PARSER_RELEASES_ALONE gives 1, 2, 0, then 1, 2, 0, then 2, 0, 0. */
+ * equal data: `^1.2` by SEMVER_PARSER_EXCLUDED gives 1, 2, 0, then 1, 2, 0, then 2, 0, 0. */
 int32_t semver_parser_set(const uint8_t *range, size_t range_length, int32_t dialect,
                           int32_t pre_releases, semver_parser_switch *made, size_t made_room,
                           size_t *count, uint8_t *out, size_t room, size_t *length);

@@ -20,7 +20,7 @@ use crate::{
 use semver_parser::laws::one_version_in;
 use std::alloc::Global;
 use text_prefixes::laws::{one_longest_prefix, one_reason};
-use tool_ranges::laws::{one_limit_place, one_place};
+use tool_ranges::laws::{one_limit_offset, one_offset};
 use version_sets::FlatSwitch;
 use version_sets::laws::{one_flat, one_set as one_normal_set};
 
@@ -41,51 +41,51 @@ pub fn one_parsed_version(
     (number, other)
 }
 
-/// A text is a version, or no version at one place and for one reason, or the buffers are too
+/// A text is a version, or no version at one offset and for one reason, or the buffers are too
 /// small. What these hold doesn't matter.
 pub fn one_explanation(
     text: &[u8],
     dialect: i32,
     buffer: &mut [u8],
     other_buffer: &mut [u8],
-    place: &mut usize,
-    other_place: &mut usize,
+    offset: &mut usize,
+    other_offset: &mut usize,
 ) -> (i32, i32)
     requires room { length buffer.old ≡ length other_buffer.old }
-    requires place { place.old ≡ other_place.old }
-    ensures one { (result.0 ≡ result.1) × (place.new ≡ other_place.new) }
+    requires offset { offset.old ≡ other_offset.old }
+    ensures one { (result.0 ≡ result.1) × (offset.new ≡ other_offset.new) }
 {
     one_longest_prefix();
     one_reason();
-    let first = semver_parser_proved_explain_version(text, dialect, buffer, place);
-    let second = semver_parser_proved_explain_version(text, dialect, other_buffer, other_place);
+    let first = semver_parser_proved_explain_version(text, dialect, buffer, offset);
+    let second = semver_parser_proved_explain_version(text, dialect, other_buffer, other_offset);
     (first, second)
 }
 
-/// A text gives a range, or gives none at one place and for one error, in place of which memory may
+/// A text gives a range, or gives none at one offset and for one error, in place of which memory may
 /// run out.
 pub fn one_range_explanation(
     alloc: Global,
     text: &[u8],
     dialect: i32,
-    place: &mut usize,
-    other_place: &mut usize,
+    offset: &mut usize,
+    other_offset: &mut usize,
     hint: &mut i32,
     other_hint: &mut i32,
 ) -> (i32, i32)
-    requires place { place.old ≡ other_place.old }
+    requires offset { offset.old ≡ other_offset.old }
     requires hint { hint.old ≡ other_hint.old }
     ensures one { AreOne (number.not_a_range ∷ number.number_too_large
         ∷ number.range_out_of_memory ∷ []) result.0 result.1 ⊤ }
-    ensures place { result.0 ≡ result.1 → place.new ≡ other_place.new }
+    ensures offset { result.0 ≡ result.1 → offset.new ≡ other_offset.new }
     // The hint of a text that is no range is free.
     ensures hint { result.0 ≡ result.1 → result.0 ≢ number.not_a_range
         → hint.new ≡ other_hint.new }
 {
-    one_place();
-    one_limit_place();
-    let number = semver_parser_proved_explain_range(alloc, text, dialect, place, hint);
-    let other = semver_parser_proved_explain_range(alloc, text, dialect, other_place, other_hint);
+    one_offset();
+    one_limit_offset();
+    let number = semver_parser_proved_explain_range(alloc, text, dialect, offset, hint);
+    let other = semver_parser_proved_explain_range(alloc, text, dialect, other_offset, other_hint);
     (number, other)
 }
 

@@ -214,11 +214,11 @@ pub extern "C" fn semver_parser_proved_parse_version(
 
 // Answer: law semver_parser_c::laws::one_explanation.
 /// Where and why a text is no version in the dialect `dialect`: `OK` if it is one, else the
-/// number of the reason, and `place` is the byte offset of the first character that no version has
+/// number of the reason, and `offset` is the byte offset of the first character that no version has
 /// there, or the length of the text if something is missing at its end. Does not allocate.
 ///
 /// `1.2.03` gives `VERSION_LEADING_ZERO` and 5, and `1.2` gives `VERSION_NOT_THREE_NUMBERS` and 3.
-/// Bytes that are no UTF-8 have their place and reason too.
+/// Bytes that are no UTF-8 have their offset and reason too.
 ///
 /// `buffer` is written to while the text is examined: it must have at least 8 bytes more than the
 /// text. What it holds after a reason is not specified.
@@ -226,13 +226,13 @@ pub extern "C" fn semver_parser_proved_parse_version(
 /// # Errors
 ///
 /// `NO_SUCH_DIALECT`, whatever the text; then `NO_ROOM` if the text is no version and the buffer is
-/// too small. After these and after `OK` `place` and `buffer` are as they were.
+/// too small. After these and after `OK` `offset` and `buffer` are as they were.
 #[unsafe(no_mangle)]
 pub extern "C" fn semver_parser_proved_explain_version(
     text: &[u8],
     dialect: i32,
     buffer: &mut [u8],
-    place: &mut usize,
+    offset: &mut usize,
 ) -> i32
     ensures numbers { IsOneOf (number.ok ∷ number.no_such_dialect ∷ number.no_room
         ∷ reason_numbers) result }
@@ -242,13 +242,13 @@ pub extern "C" fn semver_parser_proved_explain_version(
         → (result ≡ number.ok) ↔ IsVersionTextIn d text.now }
     ensures no_room { (d : Grammar) → IsGrammar d dialect → (result ≡ number.no_room)
         ↔ ((length buffer.old < length text.now + 8) × ¬ (IsVersionTextIn d text.now)) }
-    ensures place { (d : Grammar) → IsGrammar d dialect → result ≢ number.ok
-        → result ≢ number.no_room → IsLongestVersionPrefix d text.now place.new }
+    ensures offset { (d : Grammar) → IsGrammar d dialect → result ≢ number.ok
+        → result ≢ number.no_room → IsLongestVersionPrefix d text.now offset.new }
     ensures reason { (d : Grammar) → IsGrammar d dialect → result ≢ number.ok
-        → result ≢ number.no_room → (r : Reason) × IsReason d (take place.new text.now)
-        (byte_at text.now place.new) r × (result ≡ reason_number r) }
+        → result ≢ number.no_room → (r : Reason) × IsReason d (take offset.new text.now)
+        (byte_at text.now offset.new) r × (result ≡ reason_number r) }
     ensures unchanged { IsOneOf (number.ok ∷ number.no_such_dialect ∷ number.no_room ∷ []) result
-        → (place.new ≡ place.old) × (buffer.new ≡ buffer.old) }
+        → (offset.new ≡ offset.old) × (buffer.new ≡ buffer.old) }
 {
     let Some(dialect) = dialects::dialect_of(dialect) else {
         return numbers::NO_SUCH_DIALECT;
@@ -262,7 +262,7 @@ pub extern "C" fn semver_parser_proved_explain_version(
     }
     match refused(text, grammar, buffer) {
         Some(refusal) => {
-            *place = refusal.offset;
+            *offset = refusal.offset;
             refusals::number_of(refusal.reason)
         }
         None => numbers::OK,
@@ -271,9 +271,9 @@ pub extern "C" fn semver_parser_proved_explain_version(
 
 // Answer: free, the hint (else law laws::one_range_explanation): ../replayed_cases/stdin.
 /// Where and why a text gives no range in the dialect `dialect`: `OK` if it gives one, else the
-/// number of its error. After `NOT_A_RANGE` `place` is the byte offset of the first character that
+/// number of its error. After `NOT_A_RANGE` `offset` is the byte offset of the first character that
 /// no range has there, or the length of the text if something is missing at its end, and `hint` the
-/// number of what may have been meant, or 0. After `NUMBER_TOO_LARGE` `place` is the end of the
+/// number of what may have been meant, or 0. After `NUMBER_TOO_LARGE` `offset` is the end of the
 /// first term that states a number, or has a raised bound, above the limit of the dialect, as 21 in
 /// `=18446744073709551616 || 1`, and `hint` the number of the limit.
 ///
@@ -283,34 +283,34 @@ pub extern "C" fn semver_parser_proved_explain_version(
 ///
 /// `NO_SUCH_DIALECT`, whatever the text. Then `RANGE_NOT_UTF8`, `NOT_A_RANGE` and
 /// `NUMBER_TOO_LARGE`, and `RANGE_OUT_OF_MEMORY` in place of `NOT_A_RANGE`. After any other answer
-/// `place` and `hint` are as they were.
+/// `offset` and `hint` are as they were.
 #[unsafe(no_mangle)]
 pub extern "C" fn semver_parser_proved_explain_range(
     alloc: Global,
     text: &[u8],
     dialect: i32,
-    place: &mut usize,
+    offset: &mut usize,
     hint: &mut i32,
 ) -> i32
     ensures numbers { IsOneOf (number.ok ∷ number.no_such_dialect ∷ range_errors) result }
     ensures refusals { ExplainsRange dialect text.now result }
-    ensures place { (r : Dialect) → dialect ≡ dialect_number r → result ≡ number.not_a_range
-        → IsLongestPrefix (BeginsAs r) text.now place.new }
+    ensures offset { (r : Dialect) → dialect ≡ dialect_number r → result ≡ number.not_a_range
+        → IsLongestPrefix (BeginsAs r) text.now offset.new }
     ensures limit { (r : Dialect) → dialect ≡ dialect_number r → result ≡ number.number_too_large
-        → IsLimitOffset r text.now place.new }
+        → IsLimitOffset r text.now offset.new }
     ensures hint { IsExplained result → IsOneOf hint_numbers hint.new }
     // The hint of a number that is too large is the limit of the dialect.
     ensures limit_hint { (r : Dialect) → dialect ≡ dialect_number r
         → result ≡ number.number_too_large → hint.new ≡ hint_number (Some (limit_of r)) }
     ensures unchanged { (IsExplained result → ⊥)
-        → (place.new ≡ place.old) × (hint.new ≡ hint.old) }
+        → (offset.new ≡ offset.old) × (hint.new ≡ hint.old) }
 {
     let Some(dialect) = dialects::dialect_of(dialect) else {
         return numbers::NO_SUCH_DIALECT;
     };
     let (number, told) = range_refusals::explained(alloc, dialect, text);
     if let Some((at, what)) = told {
-        *place = at;
+        *offset = at;
         *hint = what;
     }
     number
@@ -445,11 +445,10 @@ pub extern "C" fn semver_parser_proved_comparators(
 /// Whether a version meets a range, by the dialect and by the rule for pre-releases that numbers
 /// name: `OK` with the answer in `meets`, or the number of an error with `meets` as it was.
 ///
-/// It goes by what the range text means by itself, and not by comparators. By `RELEASES_ALONE` no
-/// version with a pre-release meets any range, and by `ALL_PRE_RELEASES` each within the bounds
-/// does. The tools' dialects, `CARGO` and `NPM`, have besides `PRE_RELEASES_OF_TOOL`: those
-/// that the tool takes. `CRATE_CARGO` and `CRATE_NPM` have besides `STATED_PRE_RELEASES`, by which
-/// one meets the range where a term states the same three numbers and a pre-release.
+/// It goes by what the range text means by itself, and not by comparators. By `EXCLUDED` no version
+/// with a pre-release meets any range, and by `INCLUDED` each within the bounds does. By `DEFAULT`
+/// those do that the tool takes, `CARGO` or `NPM`; by `CRATE_CARGO` and `CRATE_NPM` one does if a
+/// term of the range states the same three numbers and a pre-release.
 ///
 /// # Errors
 ///

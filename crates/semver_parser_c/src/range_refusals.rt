@@ -17,14 +17,14 @@ use tool_ranges::dialect::Dialect;
 use tool_ranges::hints::Hint;
 use tool_ranges::refusals::refused;
 
-/// Whether a text gives a range by a dialect, or why not, by numbers, and then the place and the
+/// Whether a text gives a range by a dialect, or why not, by numbers, and then the offset and the
 /// number of the hint.
 pub fn explained(alloc: Global, dialect: Dialect, text: &[u8]) -> (i32, Option<(usize, i32)>)
     ensures number { IsOneOf (number.ok ∷ range_errors) result.0 }
     ensures by { ExplainsBy dialect text.now result.0 }
     ensures told { MatchOption result.1 (IsExplained result.0 → ⊥)
         (λ told. IsExplained result.0 × IsOneOf hint_numbers told.1) }
-    ensures place { result.0 ≡ number.not_a_range → IfSome result.1
+    ensures offset { result.0 ≡ number.not_a_range → IfSome result.1
         (λ told. IsLongestPrefix (BeginsAs dialect) text.now told.0) }
     ensures limit { result.0 ≡ number.number_too_large → IfSome result.1
         (λ told. IsLimitOffset dialect text.now told.0) }
@@ -37,7 +37,7 @@ pub fn explained(alloc: Global, dialect: Dialect, text: &[u8]) -> (i32, Option<(
     match refused(alloc, dialect, text) {
         Ok(None) => (numbers::OK, None),
         Ok(Some(refusal)) => {
-            let told = Some((refusal.place, number_of(refusal.hint)));
+            let told = Some((refusal.offset, number_of(refusal.hint)));
             match refusal.error {
                 RangeError::NotARange => (numbers::NOT_A_RANGE, told),
                 RangeError::NumberTooLarge => (numbers::NUMBER_TOO_LARGE, told),

@@ -1,4 +1,4 @@
--- serves: tool_ranges::laws::fronts_begin_fronts
+-- serves: tool_ranges::laws::prefixes_begin_prefixes
 -- How the prefixes of requirements, as Cargo reads them, are completed.
 use Rattle.std.proofs.Common.{◌≡◌, ℕ, ◌≤◌, ◌⊎◌, inl, inr, Bool, true, false, List, [], ◌∷◌, ◌++◌, codes, length, refl, sym, ap, ◌∙◌, arith}
 use Rattle.std.proofs.Common.{append-nil, append_assoc, rules, subst}

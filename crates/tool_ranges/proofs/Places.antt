@@ -1,5 +1,5 @@
--- serves: tool_ranges::laws::fronts_begin_fronts
--- The place of a range text's error: whether a text is a range text, and what completes its prefixes.
+-- serves: tool_ranges::laws::prefixes_begin_prefixes
+-- The offset of a range text's error: whether a text is a range text, and what completes its prefixes.
 use Rattle.std.proofs.Common.{◌≡◌, ℕ, ◌<◌, ◌≤◌, [], ◌∷◌, ◌++◌, List, codes, refl, sym, rules}
 use Rattle.std.proofs.Common.{arith, length, take}
 use Rattle.std.specs.List.{AllByRecursion}

@@ -1,4 +1,4 @@
--- serves: tool_ranges::laws::fronts_begin_fronts
+-- serves: tool_ranges::laws::prefixes_begin_prefixes
 -- How the prefixes of the range texts of the crate and of npm are completed, by how those of their words are.
 use Rattle.std.proofs.Common.{◌≡◌, ℕ, ◌≤◌, ◌⊎◌, inl, inr, Bool, true, false, List, [], ◌∷◌, ◌++◌, codes, length, refl, sym, ap, ◌∙◌}
 use Rattle.std.proofs.Common.{append-nil, append_assoc, arith, subst}

@@ -1,4 +1,4 @@
--- serves: tool_ranges::laws::fronts_begin_fronts
+-- serves: tool_ranges::laws::prefixes_begin_prefixes
 -- How the prefixes of blanks, components, signs and identifiers of a range text are completed.
 use Rattle.std.proofs.Common.{◌≡◌, ℕ, ◌≤◌, Bool, true, false, [], ◌∷◌, ◌++◌, codes, length, refl, sym, subst, arith, append-nil, ◌∙◌}
 use Rattle.std.specs.List.{list_all}

@@ -1,4 +1,4 @@
--- serves: tool_ranges::laws::fronts_begin_fronts
+-- serves: tool_ranges::laws::prefixes_begin_prefixes
 -- What completes the prefixes of the range texts of each dialect.
 use Rattle.std.proofs.Common.{◌≡◌, true, ◌++◌, refl}
 use Rattle.std.specs.List.{AllByRecursion, Contains, list_all}

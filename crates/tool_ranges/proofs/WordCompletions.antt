@@ -1,4 +1,4 @@
--- serves: tool_ranges::laws::fronts_begin_fronts
+-- serves: tool_ranges::laws::prefixes_begin_prefixes
 -- How the prefixes of the words of range texts, as the crate and as npm read them, are completed.
 use Rattle.std.proofs.Common.{◌≡◌, ℕ, ◌+◌, ◌≤◌, ◌⊎◌, inl, inr, Bool, true, false, List, [], ◌∷◌, ◌++◌, codes, length, refl, sym, ap, ◌∙◌}
 use Rattle.std.proofs.Common.{arith}

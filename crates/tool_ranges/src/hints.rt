@@ -38,35 +38,35 @@ pub enum Hint {
     NpmLimit,
 }
 
-/// What may have been meant at the place at which a text stops being a range, if there is something
+/// What may have been meant at the offset at which a text stops being a range, if there is something
 /// to say.
-pub(crate) fn hint_at(dialect: Dialect, text: &str, place: usize) -> Option<Hint> {
-    let front = text.as_bytes().get(..place)?;
-    let next = text.as_bytes().get(place).copied();
-    let ending = Ending::of(front);
+pub(crate) fn hint_at(dialect: Dialect, text: &str, offset: usize) -> Option<Hint> {
+    let prefix = text.as_bytes().get(..offset)?;
+    let next = text.as_bytes().get(offset).copied();
+    let ending = Ending::of(prefix);
     if !matches!(dialect, Dialect::CrateCargo | Dialect::CrateNpm)
-        && ending.has_leading_zero(front, next)
+        && ending.has_leading_zero(prefix, next)
     {
         return Some(Hint::LeadingZero);
     }
     match (dialect, next?) {
         (_, b'-' | b'+') if ending.is_partial() => Some(Hint::ThreeNumbers),
-        (Dialect::Cargo, next) => of_cargo(front, ending, next),
-        (Dialect::Npm, next) if ending.may_be_too_long(front, next) => Some(Hint::NpmLength),
+        (Dialect::Cargo, next) => of_cargo(prefix, ending, next),
+        (Dialect::Npm, next) if ending.may_be_too_long(prefix, next) => Some(Hint::NpmLength),
         (Dialect::Npm, b',') => Some(Hint::NpmComma),
         (Dialect::CrateCargo | Dialect::CrateNpm, b',') => Some(Hint::CrateComma),
-        (Dialect::CrateCargo | Dialect::CrateNpm, b'v') if may_begin(front) => Some(Hint::CrateV),
+        (Dialect::CrateCargo | Dialect::CrateNpm, b'v') if may_begin(prefix) => Some(Hint::CrateV),
         _ => None,
     }
 }
 
-/// What may have been meant to Cargo, by the text before the place, its ending and the byte there.
-fn of_cargo(front: &[u8], ending: Ending, next: u8) -> Option<Hint> {
-    let after_comparator = ends_comparator(front);
-    let after_space = front.last() == Some(&b' ');
+/// What may have been meant to Cargo, by the text before the offset, its ending and the byte there.
+fn of_cargo(prefix: &[u8], ending: Ending, next: u8) -> Option<Hint> {
+    let after_comparator = ends_comparator(prefix);
+    let after_space = prefix.last() == Some(&b' ');
     match next {
         b'|' => Some(Hint::CargoBars),
-        b'v' if may_begin(front) => Some(Hint::CargoV),
+        b'v' if may_begin(prefix) => Some(Hint::CargoV),
         b'-' if after_comparator && after_space => Some(Hint::CargoHyphen),
         b'<'..=b'>' | b'^' | b'~' if after_comparator => Some(Hint::CargoCommas),
         b'0'..=b'9' | b'*' | b'x' | b'X' if after_comparator && after_space => {

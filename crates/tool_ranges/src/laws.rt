@@ -14,23 +14,23 @@ pub fn one_tree()
         → SpellsAs dialect tree t → SpellsAs dialect other t → tree ≡ other }
 {}
 
-/// What begins a front of a range text is one, so is nothing, and so is each range text.
-pub fn fronts_begin_fronts()
+/// What begins a prefix of a range text is one, so is nothing, and so is each range text.
+pub fn prefixes_begin_prefixes()
     ensures shorter { (dialect : Dialect) (t more : Text) → BeginsAs dialect (t ++ more)
         → BeginsAs dialect t }
     ensures empty { (dialect : Dialect) → BeginsAs dialect [] }
     ensures whole { (dialect : Dialect) (t : Text) → IsTextAs dialect t → BeginsAs dialect t }
 {}
 
-/// A text has one place at which it stops being the front of a range text.
-pub fn one_place()
-    ensures same_place { (dialect : Dialect) (t : Text) (m n : ℕ)
+/// A text has one offset at which it stops being the prefix of a range text.
+pub fn one_offset()
+    ensures same_offset { (dialect : Dialect) (t : Text) (m n : ℕ)
         → IsLongestPrefix (BeginsAs dialect) t m → IsLongestPrefix (BeginsAs dialect) t n
         → m ≡ n }
 {}
 
 /// And one end of the first term that does not fit.
-pub fn one_limit_place()
-    ensures same_place { (dialect : Dialect) (t : Text) (m n : ℕ)
+pub fn one_limit_offset()
+    ensures same_offset { (dialect : Dialect) (t : Text) (m n : ℕ)
         → IsLimitOffset dialect t m → IsLimitOffset dialect t n → m ≡ n }
 {}

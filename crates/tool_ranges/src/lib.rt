@@ -11,7 +11,7 @@ pub mod laws;
 mod limit;
 pub mod meaning;
 pub mod npm;
-pub mod place;
+pub mod offset;
 pub mod refusals;
 mod rows;
 mod tally;

@@ -13,7 +13,7 @@ ghost use Rattle.tool_ranges.specs.TooLarge.{IsLimitOffset, limit_offset};
 use crate::dialect::Dialect;
 use crate::hints::{self, Hint};
 use crate::limit::limit_offset;
-use crate::place::{check, error_place};
+use crate::offset::{check, error_offset};
 use semver_ranges::RangeError;
 use std::alloc::{AllocError, Global};
 
@@ -26,7 +26,7 @@ pub struct Refusal {
     /// length of the text if something is missing at its end. Of a number that is too large it is
     /// the end of the first term that states a number, or has a raised bound, above the limit of
     /// the dialect: 21 in `=18446744073709551616 || 1`.
-    pub place: usize,
+    pub offset: usize,
     /// What may have been meant, or of a number that is too large the limit of the dialect.
     pub hint: Option<Hint>,
 }
@@ -49,12 +49,12 @@ pub fn refused(alloc: Global, dialect: Dialect, text: &str) -> Result<Option<Ref
         (refusal.error ≡ NumberTooLarge) ↔ IsTooLargeAs dialect text.now)) }
     ensures no_memory { IfOk result (λ found. IfSome found (λ refusal.
         refusal.error ≢ OutOfMemory)) }
-    // Some range text begins with what is before the place, and none with a longer prefix.
-    ensures place { IfOk result (λ found. IfSome found (λ refusal. refusal.error ≡ NotARange
-        → IsLongestPrefix (BeginsAs dialect) text.now refusal.place)) }
+    // Some range text begins with what is before the offset, and none with a longer prefix.
+    ensures offset { IfOk result (λ found. IfSome found (λ refusal. refusal.error ≡ NotARange
+        → IsLongestPrefix (BeginsAs dialect) text.now refusal.offset)) }
     // It is the end of the first term that does not fit.
     ensures limit { IfOk result (λ found. IfSome found (λ refusal. refusal.error ≡ NumberTooLarge
-        → IsLimitOffset dialect text.now refusal.place)) }
+        → IsLimitOffset dialect text.now refusal.offset)) }
     // The hint of a number that is too large is the limit of the dialect.
     ensures limit_hint { IfOk result (λ found. IfSome found (λ refusal.
         refusal.error ≡ NumberTooLarge → refusal.hint ≡ Some (limit_of dialect))) }
@@ -64,18 +64,18 @@ pub fn refused(alloc: Global, dialect: Dialect, text: &str) -> Result<Option<Ref
     let Err(error) = check(dialect, text) else {
         return Ok(None);
     };
-    let (place, hint) = explained(alloc, dialect, text, &error)?;
-    Ok(Some(Refusal { error, place, hint }))
+    let (offset, hint) = explained(alloc, dialect, text, &error)?;
+    Ok(Some(Refusal { error, offset, hint }))
 }
 
-/// The place of an error of a text, and the hint.
+/// The offset of an error of a text, and the hint.
 fn explained(
     alloc: Global,
     dialect: Dialect,
     text: &str,
     error: &RangeError,
 ) -> Result<(usize, Option<Hint>), AllocError>
-    ensures place { IfOk result (λ told. error.now ≡ NotARange
+    ensures offset { IfOk result (λ told. error.now ≡ NotARange
         → IsLongestPrefix (BeginsAs dialect) text.now told.0) }
     ensures limit { IfOk result (λ told. error.now ≡ NumberTooLarge → (tree : TreeOf dialect)
         → SpellsAs dialect tree text.now → told.0 ≡ limit_offset dialect tree text.now) }
@@ -85,12 +85,12 @@ fn explained(
 {
     match error {
         RangeError::NumberTooLarge => {
-            let place = limit_offset(dialect, text);
-            Ok((place, Some(hints::limit(dialect))))
+            let offset = limit_offset(dialect, text);
+            Ok((offset, Some(hints::limit(dialect))))
         }
         _ => {
-            let place = error_place(alloc, dialect, text)?;
-            Ok((place, hints::hint_at(dialect, text, place)))
+            let offset = error_offset(alloc, dialect, text)?;
+            Ok((offset, hints::hint_at(dialect, text, offset)))
         }
     }
 }

@@ -127,7 +127,7 @@ pub fn range_error(alloc: Global) -> Ending {
         return Ending::Wrong;
     }
     match refused(alloc, Dialect::Cargo, "1.2 || 3") {
-        Ok(Some(refusal)) => Ending::full_if(refusal.place == 4),
+        Ok(Some(refusal)) => Ending::full_if(refusal.offset == 4),
         Ok(None) => Ending::Wrong,
         Err(_) => Ending::Refused,
     }

@@ -14,7 +14,7 @@ returns c = record {
         not_a_range = said _ is all.not_a_range;
         too_large = said _ is all.too_large;
         no_memory = said _ is all.no_memory;
-        place = said _ is all.place;
+        offset = said _ is all.offset;
         limit = said _ is all.limit;
       } in
       let y : Says c.args.dialect c.args.text.now b =
@@ -24,9 +24,9 @@ returns c = record {
         not_a_range = said _ is' all.not_a_range;
         too_large = said _ is' all.too_large;
         no_memory = said _ is' all.no_memory;
-        place = said _ is' all.place;
+        offset = said _ is' all.offset;
         limit = said _ is' all.limit;
       } in
-      one_refused c.args.dialect c.args.text.now (c.one_place.ensures.same_place c.args.dialect c.args.text.now)
-      (c.one_limit_place.ensures.same_place c.args.dialect c.args.text.now) a b x y);
+      one_refused c.args.dialect c.args.text.now (c.one_offset.ensures.same_offset c.args.dialect c.args.text.now)
+      (c.one_limit_offset.ensures.same_offset c.args.dialect c.args.text.now) a b x y);
 }

@@ -17,13 +17,13 @@ use Rattle.semver_parser_c.specs.Refusals.{reason_number}
 use Rattle.semver_parser_c.proofs.OneAnswer.{IsItself}
 use Rattle.semver_parser_c.proofs.laws.one_explanation.Goals as goal
 
--- what the clauses say of an answer with so much room, and of what is at its place
-record Explains (d : Grammar) (t : Text) (room : ℕ) (n : ℤ) (place : ℕ) : Type 0 where
+-- what the clauses say of an answer with so much room, and of what is at its offset
+record Explains (d : Grammar) (t : Text) (room : ℕ) (n : ℤ) (offset : ℕ) : Type 0 where
   version : (n ≡ number.ok) ↔ IsVersionTextIn d t
   no_room : (n ≡ number.no_room) ↔ ((room < length t + 8) × ¬ (IsVersionTextIn d t))
-  longest : n ≢ number.ok → n ≢ number.no_room → IsLongestVersionPrefix d t place
+  longest : n ≢ number.ok → n ≢ number.no_room → IsLongestVersionPrefix d t offset
   reason : n ≢ number.ok → n ≢ number.no_room
-      → (r : Reason) × IsReason d (take place t) (byte_at t place) r × (n ≡ reason_number r)
+      → (r : Reason) × IsReason d (take offset t) (byte_at t offset) r × (n ≡ reason_number r)
 
 module _ (one_longest : (d : Grammar) (t : Text) (m n : ℕ) → IsLongestVersionPrefix d t m → IsLongestVersionPrefix d t n → m ≡ n)
     (one_reason : (d : Grammar) (t : Text) (next : Option ℕ) (x y : Reason) → IsReason d t next x → IsReason d t next y → x ≡ y)
@@ -32,11 +32,11 @@ module _ (one_longest : (d : Grammar) (t : Text) (m n : ℕ) → IsLongestVersio
   explained_once wrong told =
       let wrong' : m ≢ number.ok = λ ok. wrong (a.version.1 (b.version.0 ok)) in
       let told' : m ≢ number.no_room = λ none. told (a.no_room.1 (b.no_room.0 none)) in
-      let place : p ≡ q = one_longest d t p q (a.longest wrong told) (b.longest wrong' told') in
+      let offset : p ≡ q = one_longest d t p q (a.longest wrong told) (b.longest wrong' told') in
       let (r, is, e) = a.reason wrong told in
       let (s, is', e') = b.reason wrong' told' in
-      let same = one_reason d (take q t) (byte_at t q) r s (subst (λ k. IsReason d (take k t) (byte_at t k) r) place is) is' in
-      (e ∙ ap reason_number same ∙ sym e', place)
+      let same = one_reason d (take q t) (byte_at t q) r s (subst (λ k. IsReason d (take k t) (byte_at t k) r) offset is) is' in
+      (e ∙ ap reason_number same ∙ sym e', offset)
 
 by_number : {A : Type 0} (n m : ℤ) → (n ≡ m → A) → (n ≢ m → A) → A
 by_number n m same other =
@@ -51,22 +51,22 @@ returns c =
     let q = m.ensures in
     let text = c.args.text.now in
     let room = length c.args.buffer.now in
-    let a : (d : Grammar) → IsGrammar d (to_z w32 (of_z w32 c.args.dialect)) → Explains d text room n.result n.new.place =
-    λ d is. record { version = p.version d is; no_room = p.no_room d is; longest = p.place d is; reason = p.reason d is } in
-    let b : (d : Grammar) → IsGrammar d (to_z w32 (of_z w32 c.args.dialect)) → Explains d text room m.result m.new.place =
+    let a : (d : Grammar) → IsGrammar d (to_z w32 (of_z w32 c.args.dialect)) → Explains d text room n.result n.new.offset =
+    λ d is. record { version = p.version d is; no_room = p.no_room d is; longest = p.offset d is; reason = p.reason d is } in
+    let b : (d : Grammar) → IsGrammar d (to_z w32 (of_z w32 c.args.dialect)) → Explains d text room m.result m.new.offset =
     λ d is. record {
       version = q.version d is;
       no_room = subst (λ k. (m.result ≡ number.no_room) ↔ ((k < length text + 8) × ¬ (IsVersionTextIn d text))) (sym c.requires.room)
           (q.no_room d is);
-      longest = q.place d is;
+      longest = q.offset d is;
       reason = q.reason d is;
     } in
     let as_it_is : IsItself n.result = search rules in
     let as_it_is' : IsItself m.result = search rules in
-    let kept : (k : ℤ) → n.result ≡ k → m.result ≡ k → n.new.place ≡ c.args.place.now → m.new.place ≡ c.args.other_place.now
-    → (n.result ≡ m.result) × (n.new.place ≡ m.new.place) =
-    λ k is also first second. (is ∙ sym also, first ∙ c.requires.place ∙ sym second) in
-    let same : (n.result ≡ m.result) × (n.new.place ≡ m.new.place) =
+    let kept : (k : ℤ) → n.result ≡ k → m.result ≡ k → n.new.offset ≡ c.args.offset.now → m.new.offset ≡ c.args.other_offset.now
+    → (n.result ≡ m.result) × (n.new.offset ≡ m.new.offset) =
+    λ k is also first second. (is ∙ sym also, first ∙ c.requires.offset ∙ sym second) in
+    let same : (n.result ≡ m.result) × (n.new.offset ≡ m.new.offset) =
     ⊎_elim
     (λ e. let e' = q.no_such_dialect.1 (p.no_such_dialect.0 e) in
     kept _ e e' (p.unchanged (inr (inl e))).0 (q.unchanged (inr (inl e'))).0)

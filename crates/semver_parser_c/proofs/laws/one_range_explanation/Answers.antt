@@ -45,7 +45,7 @@ neither n first second (inl e) = first e
 neither n first second (inr (inl e)) = second e
 neither n first second (inr (inr none)) = none
 
--- there is a place of one error or of the other, or there is none
+-- there is an offset of one error or of the other, or there is none
 by_explained : {A : Type 0} (n : ℤ) → (n ≡ number.not_a_range → A) → (n ≡ number.number_too_large → A)
     → ((IsExplained n → ⊥) → A) → A
 by_explained n none large other =
@@ -54,7 +54,7 @@ by_explained n none large other =
     (λ e'. other (neither n (not_from_Decides _ (Decides-int_eq n number.not_a_range) e)
     (not_from_Decides _ (Decides-int_eq n number.number_too_large) e'))))
 
--- what has a place has a dialect
+-- what has an offset has a dialect
 dialect_of : {A : Type 0} {dialect : ℤ} {text : Text} {n : ℤ} → ExplainsRange dialect text n → n ≢ number.no_such_dialect
     → ((r : Dialect) → dialect ≡ dialect_number r → A) → A
 dialect_of p named by = elim p.named [ inl e ↦ absurd (named e) | inr is ↦ by is.0 is.1 ]
@@ -77,13 +77,13 @@ returns c =
     (refused a b) (λ _ _. tt)) in
     rw (as_it_is, as_it_is') (record {
       one = one;
-      place = λ same.
+      offset = λ same.
           by_explained n.result
           (λ e. dialect_of p.refusals (λ e'. cc) (λ r is.
-          c.one_place.ensures.same_place r c.args.text.now n.new.place m.new.place (p.place r is e) (q.place r is (sym same ∙ e))))
+          c.one_offset.ensures.same_offset r c.args.text.now n.new.offset m.new.offset (p.offset r is e) (q.offset r is (sym same ∙ e))))
           (λ e. dialect_of p.refusals (λ e'. cc) (λ r is.
-          c.one_limit_place.ensures.same_place r c.args.text.now n.new.place m.new.place (p.limit r is e) (q.limit r is (sym same ∙ e))))
-          (λ none. (p.unchanged none).0 ∙ c.requires.place ∙ sym ((q.unchanged (λ is. none (rw same is))).0));
+          c.one_limit_offset.ensures.same_offset r c.args.text.now n.new.offset m.new.offset (p.limit r is e) (q.limit r is (sym same ∙ e))))
+          (λ none. (p.unchanged none).0 ∙ c.requires.offset ∙ sym ((q.unchanged (λ is. none (rw same is))).0));
       hint = λ same ranges.
           by_explained n.result (λ e. absurd (ranges e))
           (λ e. dialect_of p.refusals (λ e'. cc) (λ r is. p.limit_hint r is e ∙ sym (q.limit_hint r is (sym same ∙ e))))

@@ -5,7 +5,7 @@ use Rattle.tool_ranges.proofs.refusals.refused.Goals as goal
 pub returns-in_default-clause-range : goal.returns-in_default-clause-range
 returns-in_default-clause-range c = search rules
 
-known : (c : goal.In_ok-place) → HasError c.args.dialect c.args.text.now c.in-Err.error
+known : (c : goal.In_ok-offset) → HasError c.args.dialect c.args.text.now c.in-Err.error
 known c =
     has_error c.args.dialect c.args.text.now c.check.result c.check.ensures.refusals c.check.ensures.no_memory c.in-Err.error c.in-Err.is
 

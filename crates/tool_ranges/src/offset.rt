@@ -1,4 +1,4 @@
-//! The place of a range text's error: the end of the longest prefix that some range text begins
+//! The offset of a range text's error: the end of the longest prefix that some range text begins
 //! with. It is found by asking the dialect itself what completes a prefix, so there is no second
 //! grammar.
 
@@ -43,8 +43,8 @@ impl Language for RangeTexts {
     }
 }
 
-// Answer: law answer_laws::ranges::one_error_place.
-/// Returns the place of the first error of a refused range text, in bytes: no range text of the
+// Answer: law answer_laws::ranges::one_error_offset.
+/// Returns the offset of the first error of a refused range text, in bytes: no range text of the
 /// dialect begins with a longer prefix of the text. It is 4 in `1.2 || 3` as Cargo reads it, and
 /// the length of the text if something is missing at the end, as in `>=`, or if nothing is wrong
 /// but a number that is too large.
@@ -55,9 +55,9 @@ impl Language for RangeTexts {
 /// # Errors
 ///
 /// `AllocError` if the allocation of the buffer fails.
-pub fn error_place(alloc: Global, dialect: Dialect, text: &str) -> Result<usize, AllocError>
-    // Some range text begins with what is before the place, and none with a longer prefix.
-    ensures place { IfOk result (λ place. IsLongestPrefix (BeginsAs dialect) text.now place) }
+pub fn error_offset(alloc: Global, dialect: Dialect, text: &str) -> Result<usize, AllocError>
+    // Some range text begins with what is before the offset, and none with a longer prefix.
+    ensures offset { IfOk result (λ offset. IsLongestPrefix (BeginsAs dialect) text.now offset) }
     ensures out_of_memory { IfErr result (λ _. ¬ (IsTextAs dialect text.now)) }
 {
     if is_range(dialect, text) {

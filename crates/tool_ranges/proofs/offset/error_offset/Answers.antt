@@ -2,10 +2,10 @@ use Rattle.text_prefixes.proofs.LongestPrefixes.{whole_text_longest}
 use Rattle.tool_ranges.specs.Dialects.{IsTextAs}
 use Rattle.tool_ranges.specs.Steps.Places.{range_completions}
 use Rattle.tool_ranges.proofs.Places.{completed, longest_as}
-use Rattle.tool_ranges.proofs.place.error_place.Goals as goal
+use Rattle.tool_ranges.proofs.offset.error_offset.Goals as goal
 
-pub returns-then-is_range-clause-place : goal.returns-then-is_range-clause-place
-returns-then-is_range-clause-place c =
+pub returns-then-is_range-clause-offset : goal.returns-then-is_range-clause-offset
+returns-then-is_range-clause-offset c =
     longest_as c.args.dialect c.args.text.now c.utf8.text _
     (whole_text_longest (IsTextAs c.args.dialect) range_completions c.args.text.now (completed c.args.dialect)
     (c.is_range.ensures.0 c.if-is_range.true))
@@ -13,5 +13,5 @@ returns-then-is_range-clause-place c =
 pub longest_prefix-requires-clause-completions : goal.longest_prefix-requires-clause-completions
 longest_prefix-requires-clause-completions c = completed c.args.dialect
 
-pub returns-clause-place : goal.returns-clause-place
-returns-clause-place c = longest_as c.args.dialect c.args.text.now c.utf8.text c.longest_prefix.result c.longest_prefix.ensures
+pub returns-clause-offset : goal.returns-clause-offset
+returns-clause-offset c = longest_as c.args.dialect c.args.text.now c.utf8.text c.longest_prefix.result c.longest_prefix.ensures
