@@ -11,8 +11,8 @@ definitions, by the names of their files in `specs/`, and a proof imports lemmas
 function returns, and that nothing in it panics, overflows or goes past a bound, is proved with or without a clause.
 
 `semver_parser` passes on the calls of the layers below it under the Rust crate's paths. The rest of `specs/Steps` is a
-means of proof: it says what the code does step by step, and no clause of a call for users cites it, but for `HasRead` of
-a `Scanner` and the views of `Lexer`, `VersionSet`, `FlatSet` and `Lines`.
+means of proof: it says what the code does step by step, and no clause of a call for users cites it, but for the views of
+`Lexer`, `VersionSet`, `FlatSet` and `Lines`.
 
 ## One answer for each call
 
