@@ -65,7 +65,11 @@ pub fn refused(alloc: Global, dialect: Dialect, text: &str) -> Result<Option<Ref
         return Ok(None);
     };
     let (offset, hint) = explained(alloc, dialect, text, &error)?;
-    Ok(Some(Refusal { error, offset, hint }))
+    Ok(Some(Refusal {
+        error,
+        offset,
+        hint,
+    }))
 }
 
 /// The offset of an error of a text, and the hint.
