@@ -2,14 +2,14 @@
  * doesn't meet its range.
  *
  *     make
- *     printf '^1.2.0\t1.4.0\n^1.2.0\t2.0.0\n' | out/check-ranges [READING]
+ *     printf '^1.2.0\t1.4.0\n^1.2.0\t2.0.0\n' | out/check-ranges [DIALECT]
  *
  * prints the second. Text after another tab is ignored, and printed with its line. A line that
  * can't be checked is reported on standard error with its number. The status is 0 if all lines
  * hold, 1 if one doesn't, and 2 if one can't be checked, the input can't be read to its end, or the
  * output can't be written: then the rest is left unchecked, and that is reported.
  *
- * READING is a dialect: `npm`, the default, or `cargo`, with the pre-releases that the tool takes;
+ * DIALECT is `npm`, the default, or `cargo`, with the pre-releases that the tool takes;
  * or `crate-npm` or `crate-cargo`, those of the Rust crate semver-parser, with each pre-release
  * within the bounds: 1.3.0-rc meets `^1.2.0`, and 2.0.0-rc doesn't. */
 #define _POSIX_C_SOURCE 200809L

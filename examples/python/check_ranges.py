@@ -1,11 +1,11 @@
 """Checks lines of a range, a tab and a version, from standard input, by `semver_parser`.
 
-    printf '^1.2.0\\t1.4.0\\n^1.2.0\\t2.0.0\\n' | python3 check_ranges.py [READING]
+    printf '^1.2.0\\t1.4.0\\n^1.2.0\\t2.0.0\\n' | python3 check_ranges.py [DIALECT]
 
 It prints each line whose version doesn't meet its range, and reports on standard error each line
 that can't be checked. Text after another tab is ignored, and printed with its line.
 
-READING is a dialect: `npm`, the default, or `cargo`, with the pre-releases that the tool takes; or
+DIALECT is `npm`, the default, or `cargo`, with the pre-releases that the tool takes; or
 `crate-npm` or `crate-cargo`, those of the Rust crate semver-parser, with each pre-release within
 the bounds: 1.3.0-rc meets `^1.2.0`, and 2.0.0-rc doesn't. The status is 0 if all lines hold, 1 if
 one doesn't, and 2 if one can't be checked.

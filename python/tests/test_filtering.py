@@ -51,7 +51,7 @@ RULES = (PreReleases.EXCLUDED, PreReleases.DEFAULT, PreReleases.INCLUDED)
 # Of docs/MEANING.md, "Which dialect?" and what it has of each tool: a range, a version, and whether
 # it meets by each dialect, in the order above and by the rule that is taken where none is named;
 # None where the text is no range.
-BY_READING = [
+BY_DIALECT = [
     ("1.2.3", "1.9.0", (True, False, True, False)),
     ("1.2", "1.9.0", (True, False, False, False)),
     (">1.2", "1.2.9", (False, False, True, True)),
@@ -116,7 +116,7 @@ class Meeting(unittest.TestCase):
         self.assertIs(meets(text, version, dialect, PreReleases.EXCLUDED), alone)
 
     def test_dialects(self) -> None:
-        for text, version, wanted in BY_READING:
+        for text, version, wanted in BY_DIALECT:
             for dialect, met in zip(DIALECTS, wanted):
                 with self.subTest(range=text, version=version, dialect=dialect):
                     self.check_dialect(text, version, dialect, met)
@@ -226,7 +226,7 @@ class Meeting(unittest.TestCase):
         ):
             self.assertIs(meets(text, version, dialect), means, text)
             self.assertIs(version in parse_range(text, dialect), states, text)
-        for text, version, wanted in BY_READING:
+        for text, version, wanted in BY_DIALECT:
             for dialect, met in zip(Dialect, wanted):
                 if met is not None and "-" not in version:
                     self.assertIs(version in parse_range(text, dialect), met, (text, dialect))

@@ -44,7 +44,7 @@ LAST = ".".join([MOST] * 3)
 
 # A range, and its least version among releases alone, and by the rule that the dialect takes where
 # none is named. They follow from what docs/MEANING.md has of each dialect.
-LEAST_BY_READING = [
+LEAST_BY_DIALECT = [
     (Dialect.CARGO, "1.2", ("1.2.0", "1.2.0")),
     (Dialect.CARGO, ">1.2", ("1.3.0", "1.3.0")),
     (Dialect.CARGO, "^1.2.3-beta", ("1.2.3", "1.2.3-beta")),
@@ -67,7 +67,7 @@ LEAST_BY_READING = [
 Three = Tuple[Optional[str], Optional[str], Optional[str]]
 
 # Two ranges, and what is lost, gained and shared in the same two ways.
-COMPARED_BY_READING = [
+COMPARED_BY_DIALECT = [
     (Dialect.CARGO, "1.2", "^1.2", 2 * ((None, None, "1.2.0"),)),
     (Dialect.NPM, "1.2", "^1.2", 2 * ((None, "1.3.0", "1.2.0"),)),
     (Dialect.CRATE_CARGO, "1.2", "^1.2", 2 * ((None, "1.3.0", "1.2.0"),)),
@@ -164,7 +164,7 @@ class ComparedTest(unittest.TestCase):
                     self.compares(old, new, dialect, rule, wanted)
 
     def test_dialects(self) -> None:
-        for dialect, old, new, (alone, taken) in COMPARED_BY_READING:
+        for dialect, old, new, (alone, taken) in COMPARED_BY_DIALECT:
             self.compares(old, new, dialect, PreReleases.EXCLUDED, alone)
             self.compares(old, new, dialect, None, taken)
             self.compares(old, new, dialect, PreReleases.DEFAULT, taken)
@@ -236,7 +236,7 @@ class LeastTest(unittest.TestCase):
             self.assertEqual(None if answered is None else str(answered), wanted)
 
     def test_dialects(self) -> None:
-        for dialect, range, (alone, taken) in LEAST_BY_READING:
+        for dialect, range, (alone, taken) in LEAST_BY_DIALECT:
             self.has_least(range, dialect, PreReleases.EXCLUDED, alone)
             self.has_least(range, dialect, None, taken)
             self.has_least(range, dialect, PreReleases.DEFAULT, taken)

@@ -25,7 +25,7 @@ _NO_RANGE = "refused-range"
 _DIALECTS_OF_TOOLS = {"cargo": Dialect.CARGO, "npm": Dialect.NPM}
 _DIALECTS_OF_CRATE = {"crate-cargo": Dialect.CRATE_CARGO, "crate-npm": Dialect.CRATE_NPM}
 _DIALECTS_OF_REFUSED = {**_DIALECTS_OF_TOOLS, "crate": Dialect.CRATE_CARGO}
-_READINGS = {**_DIALECTS_OF_REFUSED, **_DIALECTS_OF_CRATE}
+_DIALECTS_OF_RANGES = {**_DIALECTS_OF_REFUSED, **_DIALECTS_OF_CRATE}
 # How the table writes the reasons for which a text is no version, where it isn't the name in words.
 _REASONS = {"text-after": "text after the version"}
 # How the table writes the hints.
@@ -84,7 +84,7 @@ class Tools(unittest.TestCase):
         for asked, tool, row in rows_of_tools():
             asked = asked.removeprefix(_SUM)
             with self.subTest(call=row.call, text=row.text[:200], steps=row.steps):
-                dialect = _READINGS[tool]
+                dialect = _DIALECTS_OF_RANGES[tool]
                 if asked == _NO_RANGE:
                     self.check_no_range(row.text, dialect, row.wanted)
                 elif asked == _REFUSED:

@@ -13,7 +13,7 @@ use Rattle.semver_parser_c.specs.declared.meeting.Question.TheVariants as questi
 use Rattle.semver_parser_c.specs.Errors.{RefusesVersion}
 use Rattle.semver_parser_c.specs.Steps.TextErrors.{IsReadable}
 
--- what passes the filter is what the range text means, of versions in the dialect of its dialect
+-- what passes the filter is what the range text means, of versions in its dialect
 pub record IsFilterOf (filter : FilterValue) (m : Meaning) (range : Text) : Type 0 where
   pub grammar : filter.grammar ≡ grammar_of m.dialect
   pub meaning : (tree : TreeOf m.dialect) (v : VersionValue) (version : Text)
