@@ -9,7 +9,6 @@ pub mod EventSums
 pub mod ExactLaws
 pub mod FoundEvents
 pub mod Fronts
-pub mod KeptParts
 pub mod LongWords
 pub mod Meanings
 pub mod OnlySimples

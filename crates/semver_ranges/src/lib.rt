@@ -7,6 +7,7 @@
 //! pre-releases, 1 %. Other hints brought nothing, and there are none.
 #![tactic(auto)]
 
+pub mod comparing;
 pub mod events;
 pub mod grammar;
 pub mod laws;

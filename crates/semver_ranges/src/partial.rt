@@ -18,6 +18,7 @@ ghost use Rattle.semver_ranges.specs.Steps.PartialViews.{AreComponentsOf, IsPart
 ghost use Rattle.semver_ranges.specs.Steps.PartialViews.{PartsPass, begun_as};
 
 use crate::range::{Comparator, Identifier, Op};
+use semver_texts::decimals::number_of_digits;
 use semver_texts::dotted::of_parts;
 use std::alloc::{AllocError, Global};
 
@@ -409,10 +410,10 @@ fn kept_parts(alloc: Global, pre: &[u8]) -> Result<Vec<Identifier>, AllocError>
 
 /// A part as it is kept.
 fn read_identifier(alloc: Global, part: &str) -> Result<Identifier, AllocError>
-    ensures { IfOk result (λ i. is_part part.now ≡ true → identifier_of i ≡ kept part.now) }
+    ensures { IfOk result (λ i. identifier_of i ≡ kept part.now) }
 {
-    match part.parse::<u64>() {
-        Ok(number) => Ok(Identifier::Numeric(number)),
-        Err(_) => Ok(Identifier::AlphaNumeric(String::from_str(alloc, part)?)),
+    match number_of_digits(part.as_bytes()) {
+        Some(number) => Ok(Identifier::Numeric(number)),
+        None => Ok(Identifier::AlphaNumeric(String::from_str(alloc, part)?)),
     }
 }

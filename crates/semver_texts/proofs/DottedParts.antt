@@ -12,6 +12,7 @@ use Rattle.std.proofs.lemmas.Bool.Decides.{nat_tests}
 use Rattle.std.proofs.lemmas.List.{drop_more}
 use Rattle.std.proofs.lemmas.List.Sums.{prefix_len-drop_no}
 use Rattle.std.proofs.lemmas.Str.{IsUtf8-from_ascii}
+pub use Rattle.semver_texts.specs.Compared.{parts_after}
 use Rattle.semver_texts.specs.Texts.{Text, is_dot, is_dotted_byte}
 use Rattle.semver_texts.specs.declared.dotted.Hyphens.{Hyphens}
 use Rattle.semver_texts.specs.declared.dotted.Hyphens.TheVariants.{Any, BetweenRuns}
@@ -84,10 +85,6 @@ found_same {X = X} {Y = Y} {x = x} {x' = x'} {y = y} {y' = y'} e =
     let same : ◌≡◌ {A = X × Y} (x, y) (x', y') = cc in (ap (λ (p : X × Y). p.0) same, ap (λ (p : X × Y). p.1) same)
 
 -- ---- what is left to be cut
-
-abbrev pub parts_after : Option (Bor Text) → List Text
-parts_after None = []
-parts_after (Some rest) = slice_split is_dot rest.now
 
 abbrev pub ArePartsAfter : Option (Bor Text) → Type 0
 ArePartsAfter None = Unit {0}

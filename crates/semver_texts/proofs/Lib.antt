@@ -1,5 +1,4 @@
 pub mod DottedParts
-pub mod DerivedOrder
 pub mod Joins
 pub mod Lists
 pub mod Numerals

@@ -3,7 +3,8 @@
 use Rattle.std.proofs.Common.{◌≡◌, ℕ, ◌<◌, Bool, true, false, List, [], ◌∷◌, ◌++◌, length, take, drop}
 use Rattle.std.proofs.Common.{refl, one-add}
 use Rattle.std.specs.Prelude.{IsTrue, map, slice_index}
-use Rattle.std.specs.List.{AllByRecursion, AllZip, prefix_len, join_with_byte}
+use Rattle.std.specs.List.{AllByRecursion, AllZip, list_all, prefix_len, join_with_byte}
+use Rattle.std.proofs.lemmas.Bool.{and_parts}
 use Rattle.std.specs.Str.{IsAscii}
 use Rattle.std.proofs.lemmas.Str.Ascii.{IsAscii-cons, IsAscii-nil}
 use Rattle.semver_texts.specs.Texts.{marked}
@@ -44,7 +45,19 @@ zip_mapped S f each [] (y ∷ ys) zip all = absurd zip
 zip_mapped S f each (x ∷ xs) [] zip all = absurd zip
 zip_mapped S f each (x ∷ xs) (y ∷ ys) zip all = (each x y zip.0 all.0, zip_mapped S f each xs ys zip.1 all.1)
 
+-- what is made of two lists is the same where it is so place by place
+pub zip_same : {X Y Z : Type 0} {R : X → Y → Type 0} (f : X → Z) (g : Y → Z) → ((x : X) (y : Y) → R x y → f x ≡ g y)
+    → (xs : List X) (ys : List Y) → AllZip R xs ys → map f xs ≡ map g ys
+zip_same f g each [] [] zip = refl
+zip_same f g each [] (y ∷ ys) zip = absurd zip
+zip_same f g each (x ∷ xs) [] zip = absurd zip
+zip_same f g each (x ∷ xs) (y ∷ ys) zip = λ i. each x y zip.0 i ∷ zip_same f g each xs ys zip.1 i
+
 -- ---- bytes
+
+pub each_passes : {X : Type 0} (p : X → Bool) (t : List X) → list_all p t ≡ true → AllByRecursion (λ x. IsTrue (p x)) t
+each_passes p [] e = tt
+each_passes p (b ∷ t) e = let both = and_parts (p b) _ e in (both.0, each_passes p t both.1)
 
 -- each byte passes the test
 abbrev pub Passes : (ℕ → Bool) → List ℕ → Type 0

@@ -1,4 +1,4 @@
--- serves: semver_texts::decimals::whole_number
+-- serves: semver_texts::decimals::number_of_digits
 -- Texts, and the numbers that they spell.
 use Rattle.std.proofs.Common.{◌≡◌, ℕ, ◌^◌, ◌<◌, ◌≢◌, true, false, eqb, List, [], ◌∷◌, ◌++◌, length, take, drop, map, get_or}
 use Rattle.std.proofs.Common.{sym, refl, ap, ◌∙◌, subst, ⊎_elim}
@@ -6,7 +6,7 @@ use Rattle.std.proofs.Common.{arith, decimal, ◌⊎◌, ◌+◌, ◌-◌, ◌*�
 use Rattle.std.proofs.Math.Seq.{take-length}
 use Rattle.std.specs.Char.{is_ascii_digit, digit_value}
 use Rattle.std.specs.Str.{all_ascii_digits}
-use Rattle.std.specs.Prelude.{slice_index}
+use Rattle.std.specs.Prelude.{◌&&◌, nat_lt, slice_index}
 use Rattle.std.specs.List.{prefix_len, join_with_byte}
 use Rattle.std.specs.Str.Parse.{digits_value}
 use Rattle.std.proofs.lemmas.Fmt.{digits_decimal, digits_value-decimal, decimal-digits_value, decimal_digit, decimal_nonempty}
@@ -18,6 +18,7 @@ use Rattle.std.proofs.lemmas.List.Sums.{prefix_len-drop_yes}
 use Rattle.std.proofs.lemmas.List.{take_at, drop_at, take-append-drop, take-take}
 use Rattle.std.proofs.lemmas.List.Folds.{length-prefix_len}
 use Rattle.std.proofs.lemmas.Bool.{and_parts}
+use Rattle.std.proofs.lemmas.Bool.Decides.{nat_tests}
 use Rattle.std.proofs.lemmas.Grind.{common_steps}
 use Rattle.semver_texts.proofs.Numerals.{own}
 use Rattle.semver_texts.specs.Texts.{IsNumber, BeginsWithNumber, BeginsWithNumbers}
@@ -304,3 +305,24 @@ value_before text at on =
     subst (λ l. digits_value 10 l ≤ digits_value 10 (digits_front text))
     (take-take at (prefix_len is_ascii_digit text) text (omega (arith, on)))
     (digits_value-take-le 10 (digits_front text) at (omega arith))
+
+-- ---- a part of digits
+
+front_all : (part : List ℕ) → all_ascii_digits part ≡ true → digits_front part ≡ part
+front_all [] all = refl
+front_all (b ∷ part) all = let parts = and_parts (is_ascii_digit b) _ all in rw (parts.0, one-add, front_all part parts.1) refl
+
+pub all_read : (part : List ℕ) (n : ℕ) → length part ≡ length (digits_front part) → n < 2 ^ 64 → n ≡ digits_value 10 (digits_front part)
+    → ((all_ascii_digits part && nat_lt (digits_value 10 part) (2 ^ 64)) ≡ true) × (n ≡ digits_value 10 part)
+all_read part n count small is =
+    let whole : digits_front part ≡ part =
+    ap (λ k. take k part) (sym (count ∙ length-prefix_len is_ascii_digit part)) ∙ take-length part in
+    let all = subst (λ t. all_ascii_digits t ≡ true) whole (digits_all _ (all_of_prefix is_ascii_digit part)) in
+    let value : n ≡ digits_value 10 part = is ∙ ap (digits_value 10) whole in
+    (rw all (subst (λ k. nat_lt k (2 ^ 64) ≡ true) value (grind (arith, nat_tests))), value)
+
+-- where the digits at the front are too many, or not all, it is none of a number that fits
+pub none_of_digits : (part : List ℕ) → (digits_front part ≡ part → nat_lt (digits_value 10 part) (2 ^ 64) ≡ false)
+    → (all_ascii_digits part && nat_lt (digits_value 10 part) (2 ^ 64)) ≡ false
+none_of_digits part not_small =
+    by_test (all_ascii_digits part) (λ all. rw all (not_small (front_all part all))) (λ other. rw other refl)

@@ -1,12 +1,13 @@
 -- serves: semver_texts::dotted::have_no_leading_zeros
 -- Parts and dots at the front of a text, byte by byte, where each hyphen may stand.
-use Rattle.std.proofs.Common.{◌≡◌, ℕ, Bool, true, false, ◌&&◌, List, [], ◌∷◌, take, refl, arith, one-add, if◌then◌else◌}
+use Rattle.std.proofs.Common.{◌≡◌, ℕ, Bool, true, false, ◌&&◌, List, [], ◌∷◌, take, refl, subst, arith, one-add, if◌then◌else◌}
 use Rattle.std.specs.Prelude.{◌==◌, ◌||◌}
-use Rattle.std.specs.List.{list_all, prefix_len, slice_split}
+use Rattle.std.specs.List.{join_with_byte, list_all, prefix_len, slice_split}
+use Rattle.std.proofs.lemmas.List.Splits.{join_with_byte-slice_split}
 use Rattle.std.proofs.lemmas.Bool.Decides.{nat_tests}
 use Rattle.semver_texts.specs.Texts.{Text, cut_at_dots, has_no_leading_zero, is_part, is_part_byte, is_dot, is_dotted_byte}
 use Rattle.semver_texts.specs.Steps.DottedParts.{begins_oddly, is_odd, odd_after, runs_stand}
-use Rattle.semver_texts.proofs.Lists.{by_test}
+use Rattle.semver_texts.proofs.Lists.{Passes, all_more, by_test, each_passes, joined_pass}
 
 -- the first piece of a text between dots, and the other pieces
 abbrev pub first_piece : List Text → Text
@@ -63,3 +64,18 @@ odd (b ∷ t) =
 pub no_zero_begins : (t : Text) → begins_oddly t ≡ false → list_all has_no_leading_zero (cut_at_dots t) ≡ true
 no_zero_begins [] e = refl
 no_zero_begins (b ∷ t) e = grind (arith, odd (b ∷ t))
+
+-- ---- the bytes of parts
+
+pub joined_cut : (t : Text) → join_with_byte 46 (cut_at_dots t) ≡ t
+joined_cut [] = refl
+joined_cut (b ∷ t) = join_with_byte-slice_split 46 _
+
+pub part_passes : (t : Text) → is_part t ≡ true → Passes is_dotted_byte t
+part_passes [] e = tt
+part_passes (b ∷ t) e = all_more (λ b h. rw h refl) (b ∷ t) (each_passes is_part_byte (b ∷ t) e)
+
+pub parts_pass : (t : Text) → list_all is_part (cut_at_dots t) ≡ true → Passes is_dotted_byte t
+parts_pass t e =
+    subst (Passes is_dotted_byte) (joined_cut t)
+    (joined_pass is_dotted_byte 46 refl (cut_at_dots t) (all_more part_passes (cut_at_dots t) (each_passes is_part _ e)))

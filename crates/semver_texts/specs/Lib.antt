@@ -6,3 +6,4 @@ pub mod PrintedText
 pub mod VersionGrammar
 pub mod VersionViews
 pub mod Precedence
+pub mod Compared

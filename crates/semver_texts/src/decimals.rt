@@ -1,8 +1,9 @@
 //! Numbers: canonical decimals, which are `0`, or digits that don't begin with `0`.
 ghost use Rattle.std.specs.Prelude.{◌≡◌, ℕ, ◌+◌, ◌*◌, ◌<◌, ◌≤◌, ◌^◌, ◌∷◌, length};
 ghost use Rattle.std.specs.Prelude.{decimal};
-ghost use Rattle.std.specs.Prelude.{true, slice_index, MatchOption};
+ghost use Rattle.std.specs.Prelude.{true, false, ◌&&◌, nat_lt, slice_index, MatchOption};
 ghost use Rattle.std.specs.Char.{is_ascii_digit};
+ghost use Rattle.std.specs.Str.{all_ascii_digits};
 ghost use Rattle.std.specs.Str.Parse.{digits_value};
 ghost use Rattle.semver_texts.specs.Texts.{Text, IsNumber, BeginsWithNumber, BeginsWithNumbers};
 ghost use Rattle.semver_texts.specs.Steps.Decimals.{digits_front};
@@ -89,6 +90,30 @@ fn number(bytes: &[u8]) -> Option<(u64, &[u8])>
         return None;
     }
     number_at_digit(bytes)
+}
+
+// Answer: equation.
+/// The number up to 2^64 - 1 that a part of digits writes, which may begin with zeros. That of no
+/// digits is 0.
+#[inline(always)]
+pub fn number_of_digits(part: &[u8]) -> Option<u64>
+    ensures { MatchOption result
+        ((all_ascii_digits part.now && nat_lt (digits_value 10 part.now) (2 ^ 64)) ≡ false)
+        (λ n. ((all_ascii_digits part.now && nat_lt (digits_value 10 part.now) (2 ^ 64)) ≡ true)
+        × (n ≡ digits_value 10 part.now)) }
+{
+    if part.is_empty() {
+        return Some(0);
+    }
+    if !begins_with_digit(part) {
+        return None;
+    }
+    let (number, len) = digits(part)?;
+    if len == part.len() {
+        Some(number)
+    } else {
+        None
+    }
 }
 
 // Answer: law answer_laws::texts::one_whole_number.

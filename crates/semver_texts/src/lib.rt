@@ -7,6 +7,7 @@ pub mod bytes;
 pub mod decimals;
 pub mod dotted;
 pub mod grammar;
+pub mod identifiers;
 pub mod laws;
 pub mod precedence;
 pub mod printing;

@@ -1,10 +1,38 @@
 //! The precedence of versions (SemVer 2.0.0, section 11).
-ghost use Rattle.std.specs.Prelude.{◌≡◌, map};
-ghost use Rattle.semver_texts.specs.Precedence.{pre_cmp, precedence};
-ghost use Rattle.semver_texts.specs.VersionViews.{identifier_value, version_value};
+ghost use Rattle.std.specs.Prelude.{◌≡◌, ◌∷◌, [], List, MatchOption};
+ghost use Rattle.std.specs.Cmp.Lexicographic.{slice_cmp};
+ghost use Rattle.semver_texts.specs.Compared.{of_numbers, ref_value};
+ghost use Rattle.semver_texts.specs.Precedence.{identifier_cmp, pre_cmp, precedence};
+ghost use Rattle.semver_texts.specs.Texts.{is_empty};
+ghost use Rattle.semver_texts.specs.Versions.{IdentifierValue};
+ghost use Rattle.semver_texts.specs.VersionViews.{version_value};
 
-use crate::version::{Identifier, Version};
+use crate::version::Version;
 use std::cmp::Ordering;
+
+/// An identifier of a pre-release as it is compared.
+#[derive(Clone, Copy)]
+pub enum IdentifierRef<'a> {
+    /// A number.
+    Numeric(u64),
+    /// Any other text, by its bytes.
+    AlphaNumeric(&'a [u8]),
+}
+
+/// The identifiers of a pre-release, from the first on.
+pub trait Identifiers<'a>: Copy {
+    /// Those that are left.
+    ghost left: { Self → List IdentifierValue };
+
+    /// Whether none is left.
+    fn is_empty(&self) -> bool
+        ensures { result ≡ is_empty (left self.now) };
+
+    /// Takes the first of those that are left.
+    fn next(&mut self) -> Option<IdentifierRef<'a>>
+        ensures { MatchOption result ((left self.old ≡ []) × (left self.new ≡ []))
+            (λ first. left self.old ≡ ref_value first ∷ left self.new) };
+}
 
 // Answer: equation.
 /// How two versions compare by precedence (SemVer 2.0.0, section 11): `Less` where the first is
@@ -21,24 +49,81 @@ pub fn cmp_precedence(version: &Version, other: &Version) -> Ordering
     ensures { result ≡ precedence (version_value version.now).plain
         (version_value other.now).plain }
 {
-    version
-        .major
-        .cmp(&other.major)
-        .then(version.minor.cmp(&other.minor))
-        .then(version.patch.cmp(&other.patch))
-        .then_with(|| compare_pre_releases(&version.pre, &other.pre))
+    compare(
+        (version.major, version.minor, version.patch),
+        version.pre.as_slice(),
+        (other.major, other.minor, other.patch),
+        other.pre.as_slice(),
+    )
 }
 
-/// No pre-release is above any. Two go by the derived order of their identifiers, which is that of
-/// precedence.
-fn compare_pre_releases(version: &[Identifier], other: &[Identifier]) -> Ordering
-    ensures { result ≡ pre_cmp (map identifier_value version.now)
-        (map identifier_value other.now) }
+// Answer: equation.
+/// How two versions compare by precedence, each of its numbers and the identifiers of its
+/// pre-release. It does not allocate.
+#[inline(always)]
+pub fn compare<'a, A: Identifiers<'a>, B: Identifiers<'a>>(
+    numbers: (u64, u64, u64),
+    pre: A,
+    other_numbers: (u64, u64, u64),
+    other_pre: B,
+) -> Ordering
+    ensures { result ≡ precedence (of_numbers numbers (A.left pre))
+        (of_numbers other_numbers (B.left other_pre)) }
+{
+    let by_numbers = numbers.cmp(&other_numbers);
+    if by_numbers.is_ne() {
+        return by_numbers;
+    }
+    compare_pre_releases(pre, other_pre)
+}
+
+// Answer: equation.
+/// How two pre-releases compare. None is above any, and two go by their identifiers.
+#[inline(always)]
+pub fn compare_pre_releases<'a, A: Identifiers<'a>, B: Identifiers<'a>>(
+    version: A,
+    other: B,
+) -> Ordering
+    ensures { result ≡ pre_cmp (A.left version) (B.left other) }
 {
     match (version.is_empty(), other.is_empty()) {
         (true, true) => Ordering::Equal,
         (true, false) => Ordering::Greater,
         (false, true) => Ordering::Less,
-        (false, false) => version.cmp(other),
+        (false, false) => compare_lists(version, other),
+    }
+}
+
+/// The first identifiers that differ decide. Where there are none, the longer list is above.
+fn compare_lists<'a, A: Identifiers<'a>, B: Identifiers<'a>>(version: A, other: B) -> Ordering
+    ensures { result ≡ slice_cmp identifier_cmp (A.left version) (B.left other) }
+{
+    let (mut rest, mut others) = (version, other);
+    while let Some(first) = rest.next() {
+        let Some(beside) = others.next() else {
+            return Ordering::Greater;
+        };
+        let ordering = compare_identifiers(first, beside);
+        if ordering.is_ne() {
+            return ordering;
+        }
+    }
+    if others.is_empty() {
+        Ordering::Equal
+    } else {
+        Ordering::Less
+    }
+}
+
+/// Numbers go as numbers and texts by their bytes, and a number is below any text.
+#[inline(always)]
+fn compare_identifiers(first: IdentifierRef<'_>, other: IdentifierRef<'_>) -> Ordering
+    ensures { result ≡ identifier_cmp (ref_value first.entry) (ref_value other.entry) }
+{
+    match (first, other) {
+        (IdentifierRef::Numeric(number), IdentifierRef::Numeric(bound)) => number.cmp(&bound),
+        (IdentifierRef::Numeric(_), IdentifierRef::AlphaNumeric(_)) => Ordering::Less,
+        (IdentifierRef::AlphaNumeric(_), IdentifierRef::Numeric(_)) => Ordering::Greater,
+        (IdentifierRef::AlphaNumeric(text), IdentifierRef::AlphaNumeric(bound)) => text.cmp(bound),
     }
 }

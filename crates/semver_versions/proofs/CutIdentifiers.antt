@@ -22,7 +22,8 @@ use Rattle.semver_texts.proofs.PartRuns.{runs_ahead}
 use Rattle.semver_texts.proofs.Runs.{decimal_is_run}
 use Rattle.semver_texts.proofs.SpelledVersions.{identifier_is_part}
 use Rattle.semver_versions.proofs.KeptTexts.{are_parts, identifiers_are_parts, joined_some, marked_cut, no_identifiers, part_bytes}
-use Rattle.semver_versions.proofs.KeptTexts.{parts_cut, parts_pass, some_cut}
+use Rattle.semver_versions.proofs.KeptTexts.{parts_cut, some_cut}
+use Rattle.semver_texts.proofs.PartRuns.{parts_pass}
 
 -- ---- one run more
 

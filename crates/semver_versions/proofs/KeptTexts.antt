@@ -2,7 +2,7 @@
 -- Texts of letters, digits and hyphens, the identifiers that they are kept as, and such texts between dots.
 use Rattle.std.proofs.Common.{◌≡◌, ℕ, ◌<◌, ◌≤◌, ◌+◌, ◌^◌, Bool, true, false, List, [], ◌∷◌, ◌++◌, length, map, arith, ap, sym, refl}
 use Rattle.std.proofs.Common.{◌∙◌, subst, decimal, length-append}
-use Rattle.std.specs.Prelude.{◌==◌, ◌&&◌, nat_lt, slice_index, IsTrue}
+use Rattle.std.specs.Prelude.{◌==◌, ◌&&◌, nat_lt, slice_index}
 use Rattle.std.specs.List.{All, AllByRecursion, AllZip, join_with_byte, list_all, slice_split}
 use Rattle.std.specs.Str.Parse.{digits_value}
 use Rattle.std.proofs.lemmas.Bool.{and_parts}
@@ -11,28 +11,25 @@ use Rattle.std.proofs.lemmas.Fmt.{decimal_injective}
 use Rattle.std.proofs.lemmas.Grind.{common_steps}
 use Rattle.std.proofs.lemmas.List.Elements.{All-nil, All-cons}
 use Rattle.std.proofs.lemmas.List.Splits.{join_with_byte-slice_split, length-slice_split, slice_split_none, slice_split_at}
-use Rattle.semver_texts.specs.Texts.{Text, cut_at_dots, is_dot, is_dotted_byte, is_number, is_part, is_part_byte, marked}
+use Rattle.semver_texts.specs.Texts.{Text, cut_at_dots, is_dot, is_number, is_part, is_part_byte, marked}
 use Rattle.semver_texts.specs.ToolVersions.{IsKeptAs}
 use Rattle.semver_texts.specs.Versions.{IdentifierValue, numeric, alphanumeric}
 use Rattle.semver_texts.specs.VersionGrammar.{IsIdentifierText, SpellsIdentifier}
 use Rattle.semver_texts.specs.declared.dotted.Hyphens.{Hyphens}
 use Rattle.semver_texts.specs.declared.dotted.Hyphens.TheVariants.{Any, BetweenRuns}
-use Rattle.semver_texts.proofs.Lists.{Passes, all_more, by_test, joined_pass}
+use Rattle.semver_texts.proofs.Lists.{Passes, all_more, by_test, each_passes}
+use Rattle.semver_texts.proofs.PartRuns.{joined_cut}
 use Rattle.semver_texts.proofs.Numbers.{IsCanonical, canonical_from_IsNumber, decimal_canonical}
 use Rattle.semver_texts.proofs.SpelledVersions.{all_passes, identifier_is_part, kept_texts}
 use Rattle.semver_texts.proofs.Runs.{run_is_part, decimal_is_run}
 use Rattle.semver_versions.specs.Outlines.{identifier_of, dotted_text}
-use Rattle.semver_versions.specs.Steps.Reading.{AreIdentifiers, ArePartTexts}
+use Rattle.semver_versions.specs.Steps.Reading.{AreIdentifiers}
 
 -- ---- one text
 
 -- it isn't empty, and has these bytes alone
 abbrev pub IsPartText : Text → Type 0
 IsPartText t = (0 < length t) × Passes is_part_byte t
-
-pub each_passes : {X : Type 0} (p : X → Bool) (t : List X) → list_all p t ≡ true → AllByRecursion (λ x. IsTrue (p x)) t
-each_passes p [] e = tt
-each_passes p (b ∷ t) e = let both = and_parts (p b) _ e in (both.0, each_passes p t both.1)
 
 pub part_bytes : (t : Text) → is_part t ≡ true → IsPartText t
 part_bytes [] e = cc
@@ -155,18 +152,6 @@ parts_cut [] e = refl
 parts_cut (t ∷ ts) e =
     let each = parts_bytes (t ∷ ts) e in
     some_cut (join_with_byte 46 (t ∷ ts)) (joined_some t ts each.0.0) ∙ split_joined t ts each
-
-joined_cut : (t : Text) → join_with_byte 46 (cut_at_dots t) ≡ t
-joined_cut [] = refl
-joined_cut (b ∷ t) = join_with_byte-slice_split 46 _
-
-pub part_passes : (t : Text) → is_part t ≡ true → Passes is_dotted_byte t
-part_passes t e = all_more (λ b h. rw h refl) t (part_bytes t e).1
-
-pub parts_pass : (t : Text) → ArePartTexts t → Passes is_dotted_byte t
-parts_pass t e =
-    subst (Passes is_dotted_byte) (joined_cut t)
-    (joined_pass is_dotted_byte 46 refl (cut_at_dots t) (all_more part_passes (cut_at_dots t) (each_passes is_part _ e)))
 
 -- the text of identifiers is the one that they are kept from
 pub kept_dotted : (ids : List IdentifierValue) (t : Text) → AllZip IsKeptAs ids (cut_at_dots t) → t ≡ dotted_text ids

@@ -1,4 +1,3 @@
-pub mod ComparedTexts
 pub mod CutIdentifiers
 pub mod DialectOutlines
 pub mod KeptTexts

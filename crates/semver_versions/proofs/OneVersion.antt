@@ -10,7 +10,8 @@ use Rattle.semver_texts.proofs.Lists.{Passes, all_more, marked_passes}
 use Rattle.semver_texts.proofs.SpelledVersions.{spelled_kept_all}
 use Rattle.semver_versions.proofs.DialectOutlines.{no_space}
 use Rattle.semver_versions.proofs.ReadTexts.{crate_read, digit_begins, one_version_in}
-use Rattle.semver_versions.proofs.KeptTexts.{begins_marked, kept_parts, part_bytes, each_passes, same_kept}
+use Rattle.semver_versions.proofs.KeptTexts.{begins_marked, kept_parts, part_bytes, same_kept}
+use Rattle.semver_texts.proofs.Lists.{each_passes}
 use Rattle.semver_versions.proofs.ReadVersions.{marked_rest, its_numbers}
 use Rattle.semver_texts.specs.Texts.{is_part}
 

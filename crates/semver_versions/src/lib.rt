@@ -2,7 +2,7 @@
 //! `Version`.
 #![tactic(auto)]
 
-mod comparing;
+pub mod comparing;
 mod identifiers;
 pub mod laws;
 mod outlines;

@@ -11,9 +11,11 @@ ghost use Rattle.semver_versions.specs.Outlines.{IsOutlineOf, after_mark};
 ghost use Rattle.semver_versions.specs.Outlines.{version_of};
 ghost use Rattle.semver_versions.specs.Steps.Reading.{ArePartTexts, outline_with};
 
-use crate::comparing::compare_pre_releases;
+use crate::comparing::InVersions;
 use crate::identifiers::identifiers;
 use semver_texts::dotted::text_of_parts;
+use semver_texts::identifiers::Joined;
+use semver_texts::precedence::compare;
 use semver_texts::version::{Identifier, Version};
 use std::alloc::{AllocError, Global};
 use std::cmp::Ordering;
@@ -209,21 +211,12 @@ impl<'t> Outline<'t> {
         ensures of_version { result
             ≡ precedence (version_of self.now).plain (version_value version.now).plain }
     {
-        let Outline {
-            major,
-            minor,
-            patch,
-            pre,
-            ..
-        } = self;
-        let by_numbers = major
-            .cmp(&version.major)
-            .then(minor.cmp(&version.minor))
-            .then(patch.cmp(&version.patch));
-        if by_numbers.is_ne() {
-            return by_numbers;
-        }
-        compare_pre_releases(pre.as_bytes(), &version.pre)
+        compare(
+            (self.major, self.minor, self.patch),
+            Joined::of(self.pre.as_bytes(), InVersions),
+            (version.major, version.minor, version.patch),
+            version.pre.as_slice(),
+        )
     }
 }
 

@@ -22,7 +22,7 @@ use Rattle.semver_texts.specs.VersionGrammar.{IsIdentifierText}
 use Rattle.semver_texts.proofs.DottedParts.{dotted_utf8}
 use Rattle.semver_texts.proofs.Lists.{all_apart, ascii_from}
 use Rattle.semver_texts.proofs.Numbers.{IsCanonical, all_digits, canonical_decimal, decimal_canonical, digits_value_number}
-use Rattle.semver_versions.proofs.KeptTexts.{part_passes}
+use Rattle.semver_texts.proofs.PartRuns.{part_passes}
 use Rattle.text_prefixes.proofs.Completions.{Completes, IsCompleted, Joined, characters_append, joined, same}
 
 -- ---- bytes that pass

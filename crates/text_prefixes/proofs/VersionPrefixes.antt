@@ -12,7 +12,8 @@ use Rattle.semver_texts.specs.Versions.{VersionValue, numbers}
 use Rattle.semver_texts.specs.declared.grammar.Grammar.{Grammar}
 use Rattle.semver_texts.specs.declared.grammar.Grammar.TheVariants.{Crate, Cargo, Npm}
 use Rattle.semver_versions.proofs.CutIdentifiers.{spelled_are}
-use Rattle.semver_versions.proofs.KeptTexts.{all_kept, each_passes, identifiers_are_parts, kept_parts, kept_spelled_all}
+use Rattle.semver_versions.proofs.KeptTexts.{all_kept, identifiers_are_parts, kept_parts, kept_spelled_all}
+use Rattle.semver_texts.proofs.Lists.{each_passes}
 use Rattle.semver_versions.specs.Outlines.{identifier_of}
 use Rattle.semver_versions.specs.AnyLength.{IsVersionAtAnyLength}
 use Rattle.text_prefixes.proofs.Completions.{Completes, Many, Seq, are_among, are_completions, both, byte, bytes_go_on, is_one, limited}

@@ -16,9 +16,12 @@ ghost use Rattle.tool_ranges.specs.Steps.Asking.{asked_of, states_at};
 ghost use Rattle.tool_ranges.specs.ToolTable.{states_some};
 
 use semver_parser::version::Outline;
+use semver_ranges::comparing::InRanges;
 use semver_ranges::partial::{Partial, PartialKind};
+use semver_texts::identifiers::Joined;
+use semver_texts::precedence::compare;
+use semver_versions::comparing::InVersions;
 use std::cmp::Ordering;
-use version_sets::texts::compare_pre_releases;
 
 /// The numbers of a version, and the identifiers of its pre-release joined by dots.
 #[derive(Clone, Copy)]
@@ -69,15 +72,12 @@ impl<'t> Asked<'t> {
     pub(crate) fn precedence(&self, partial: &Partial<'_>) -> Ordering
         ensures { result ≡ precedence (asked_of self.now) (version_of partial.now) }
     {
-        let by_numbers = self
-            .major
-            .cmp(&partial.major())
-            .then(self.minor.cmp(&partial.minor()))
-            .then(self.patch.cmp(&partial.patch()));
-        if by_numbers.is_ne() {
-            return by_numbers;
-        }
-        compare_pre_releases(self.pre, partial.pre())
+        compare(
+            (self.major, self.minor, self.patch),
+            Joined::of(self.pre, InVersions),
+            (partial.major(), partial.minor(), partial.patch()),
+            Joined::of(partial.pre(), InRanges),
+        )
     }
 
     /// How its numbers compare with those that a partial states, as many as these are.

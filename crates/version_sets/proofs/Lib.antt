@@ -17,9 +17,7 @@ mod IntervalLaws
 mod KindLaws
 mod ReadBack
 mod SetRangeLaws
-mod PartTexts
 mod FlatTexts
 mod FlatLists
 mod FlatSets
 mod MetLaws
-mod RightAbove

@@ -3,7 +3,7 @@
 use Rattle.std.proofs.Common.{◌≡◌, ◌==◌, ◌||◌, ◌&&◌, ◌<◌, ℕ, Bool, true, false, get_or, List, [], ◌∷◌, map, length, refl, sym}
 use Rattle.std.proofs.Common.{ap, subst, arith, IfOk, IfErr, Result, Ok, Err}
 use Rattle.std.proofs.lemmas.Bool.Decides.{nat_tests}
-use Rattle.std.specs.List.{AllZip, list_all, list_any}
+use Rattle.std.specs.List.{list_all, list_any}
 use Rattle.semver_parser.specs.Texts.{is_empty}
 
 pub none_left : {X Y : Type 0} (f : X → Y) (xs : List X) (n : ℕ) (r : Bool) → r ≡ (n == 0) → n ≡ length xs → r ≡ is_empty (map f xs)
@@ -35,14 +35,6 @@ list_any-map p f (x ∷ xs) = ap (λ b. p (f x) || b) (list_any-map p f xs)
 pub list_all-map : {X Y : Type 0} (p : Y → Bool) (f : X → Y) (xs : List X) → list_all p (map f xs) ≡ list_all (λ x. p (f x)) xs
 list_all-map p f [] = refl
 list_all-map p f (x ∷ xs) = ap (λ b. p (f x) && b) (list_all-map p f xs)
-
--- what is made of two lists is the same where it is so place by place
-pub zip_same : {X Y Z : Type 0} {R : X → Y → Type 0} (f : X → Z) (g : Y → Z) → ((x : X) (y : Y) → R x y → f x ≡ g y)
-    → (xs : List X) (ys : List Y) → AllZip R xs ys → map f xs ≡ map g ys
-zip_same f g each [] [] zip = refl
-zip_same f g each [] (y ∷ ys) zip = absurd zip
-zip_same f g each (x ∷ xs) [] zip = absurd zip
-zip_same f g each (x ∷ xs) (y ∷ ys) zip = λ i. each x y zip.0 i ∷ zip_same f g each xs ys zip.1 i
 
 -- a list of one
 pub any_of_one : {X : Type 0} (p : X → Bool) (xs : List X) (d : X) → 0 < length xs → length xs < 2 → p (get_or xs 0 d) ≡ list_any p xs

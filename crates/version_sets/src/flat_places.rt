@@ -8,8 +8,11 @@ ghost use Rattle.version_sets.specs.Steps.FlatViews.{asked_value, place_value};
 ghost use Rattle.version_sets.specs.Steps.FlatViews.{switch_value, text_at};
 
 use crate::flat::FlatSwitch;
-use crate::texts::compare_pre_releases;
 use semver_parser::version::Outline;
+use semver_ranges::comparing::InRanges;
+use semver_texts::identifiers::Joined;
+use semver_texts::precedence::compare;
+use semver_versions::comparing::InVersions;
 use std::cmp::Ordering;
 
 /// The numbers of a version, and the identifiers of its pre-release joined by dots.
@@ -50,15 +53,12 @@ impl<'t> Place<'t> {
     pub(crate) fn compare(&self, switch: &FlatSwitch, bytes: &[u8]) -> Ordering
         ensures { result ≡ precedence (place_value self.now) (switch_value bytes.now switch.now) }
     {
-        let by_numbers = self
-            .major
-            .cmp(&switch.major)
-            .then(self.minor.cmp(&switch.minor))
-            .then(self.patch.cmp(&switch.patch));
-        if by_numbers.is_ne() {
-            return by_numbers;
-        }
-        compare_pre_releases(self.pre, text_at(bytes, switch))
+        compare(
+            (self.major, self.minor, self.patch),
+            Joined::of(self.pre, InVersions),
+            (switch.major, switch.minor, switch.patch),
+            Joined::of(text_at(bytes, switch), InRanges),
+        )
     }
 }
 

@@ -11,9 +11,12 @@ ghost use Rattle.version_sets.specs.Steps.FlatViews.{is_flat, is_flat_list, is_p
 
 use crate::flat::{FlatSet, FlatSwitch};
 use crate::flat_places::{Place, text_at};
-use crate::texts::compare_pre_releases;
+use semver_ranges::comparing::InRanges;
 use semver_texts::bytes::is_part_byte;
 use semver_texts::dotted::split_at_dot;
+use semver_texts::identifiers::Joined;
+use semver_texts::precedence::compare_pre_releases;
+use semver_versions::comparing::InVersions;
 
 /// The number of the format of flat data, which its head has as the first number.
 pub(crate) const FORMAT: u64 = 1;
@@ -117,7 +120,8 @@ fn is_placed(switch: &FlatSwitch, at: usize, bytes: &[u8]) -> bool
 fn is_text(text: &[u8]) -> bool
     ensures { result ≡ is_text text.now }
 {
-    are_parts(text) && compare_pre_releases(text, text).is_eq()
+    let as_kept = Joined::of(text, InVersions);
+    are_parts(text) && compare_pre_releases(as_kept, Joined::of(text, InRanges)).is_eq()
 }
 
 /// Whether each text between the dots is one or more letters, digits and hyphens; so it is if there

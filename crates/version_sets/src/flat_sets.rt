@@ -13,9 +13,9 @@ ghost use Rattle.version_sets.specs.Steps.Places.{version_place};
 use crate::flat::{FlatSet, FlatSwitch};
 use crate::flat_places;
 use crate::release::Release;
-use crate::texts::digits;
 use crate::version_set::VersionSet;
 use semver_parser::version::{Identifier, Version};
+use semver_texts::decimals::number_of_digits;
 use semver_texts::dotted::of_parts;
 use std::alloc::{AllocError, Global};
 
@@ -108,7 +108,7 @@ fn identifiers(alloc: Global, text: &[u8]) -> Result<Vec<Identifier>, AllocError
 fn identifier(alloc: Global, part: &str) -> Result<Identifier, AllocError>
     ensures { IfOk result (λ id. identifier_value id ≡ kept part.now) }
 {
-    match digits(part.as_bytes()) {
+    match number_of_digits(part.as_bytes()) {
         Some(number) => Ok(Identifier::Numeric(number)),
         None => Ok(Identifier::AlphaNumeric(String::from_str(alloc, part)?)),
     }

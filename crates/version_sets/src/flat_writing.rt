@@ -13,9 +13,9 @@ ghost use Rattle.version_sets.specs.Steps.Places.{version_place};
 use crate::flat::FlatSwitch;
 use crate::flat_reading::{FORMAT, is_part};
 use crate::release::Release;
-use crate::texts::digits;
 use crate::version_set::VersionSet;
 use semver_parser::version::{Identifier, Version};
+use semver_texts::decimals::number_of_digits;
 use semver_texts::printing::write_joined;
 use std::alloc::{AllocError, Global};
 use std::fmt;
@@ -179,7 +179,7 @@ fn is_kept(identifier: &Identifier) -> bool
         }
         Identifier::AlphaNumeric(text) => {
             let bytes = text.as_bytes();
-            is_part(bytes) && digits(bytes).is_none()
+            is_part(bytes) && number_of_digits(bytes).is_none()
         }
     }
 }

@@ -3,19 +3,21 @@
 ghost use Rattle.std.specs.Prelude.{◌≡◌, ◌<◌, ◌++◌, ◌∷◌, [], length, map, option_map, Option};
 ghost use Rattle.std.specs.Prelude.{IfOk, IfErr};
 ghost use Rattle.std.specs.Ordering.{is_eq};
-ghost use Rattle.semver_parser.specs.Precedence.{identifier_cmp, pre_cmp};
+ghost use Rattle.semver_parser.specs.Precedence.{pre_cmp};
 ghost use Rattle.semver_parser.specs.RangeViews.{comparator_of, identifier_of, range_of};
 ghost use Rattle.semver_parser.specs.RewritingTable.{comparator as plain_comparator};
 ghost use Rattle.semver_parser.specs.Versions.{numeric, PlainVersion};
 ghost use Rattle.semver_parser.specs.VersionViews.{identifier_value};
 ghost use Rattle.version_sets.specs.SetRanges.{interval, intervals, is_lowest, is_same_end};
 ghost use Rattle.version_sets.specs.SetRanges.{npm_range, bounds as plain_bounds};
-ghost use Rattle.version_sets.specs.SetRanges.{is_lowest_pre as lowest_pre};
 
 use crate::release::{Release, next_numbers};
+use crate::set_ranges::is_lowest_pre;
 use crate::switch::Switch;
+use crate::with_zero::WithZero;
 use semver_parser::version::{self, Version};
 use semver_parser::{Comparator, Compat, Identifier, Op, Range};
+use semver_texts::precedence::compare_pre_releases;
 use std::alloc::{AllocError, Global};
 
 /// A switch as a bound of an interval.
@@ -100,28 +102,11 @@ fn are_right_above(identifiers: &[version::Identifier], below: &[version::Identi
     ensures { result ≡ is_eq (pre_cmp (map identifier_value identifiers.now)
         (map identifier_value below.now ++ numeric 0 ∷ [])) }
 {
-    match identifiers.split_last() {
-        Some((last, others)) => is_zero(last) && others.cmp(below).is_eq(),
-        None => false,
-    }
-}
-
-/// Whether an identifier is the number 0.
-fn is_zero(identifier: &version::Identifier) -> bool
-    ensures { result ≡ is_eq (identifier_cmp (identifier_value identifier.now) (numeric 0)) }
-{
-    matches!(identifier, version::Identifier::Numeric(0))
-}
-
-/// Whether there is no pre-release, or the lowest, `0`.
-fn is_lowest_pre(identifiers: &[version::Identifier]) -> bool
-    ensures { result ≡ lowest_pre (map identifier_value identifiers.now) }
-{
-    match identifiers {
-        [] => true,
-        [version::Identifier::Numeric(number)] => *number == 0,
-        _ => false,
-    }
+    let above = WithZero {
+        identifiers: below,
+        zero: true,
+    };
+    compare_pre_releases(identifiers, above).is_eq()
 }
 
 /// Identifiers of a version, as those of a range.

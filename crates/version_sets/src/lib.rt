@@ -25,9 +25,9 @@ mod set_ranges;
 mod spans;
 mod switch;
 mod switches;
-pub mod texts;
 mod version_set;
 mod walk;
+mod with_zero;
 
 pub use comparison::Comparison;
 pub use flat::{FlatSet, FlatSwitch};

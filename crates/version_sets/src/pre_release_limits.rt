@@ -1,12 +1,10 @@
 //! Where spans of pre-releases begin and end.
 
-ghost use Rattle.std.specs.Prelude.{◌≡◌, ◌||◌, [], true, map, option_map, IfOk};
-ghost use Rattle.std.specs.Cmp.Lexicographic.{slice_cmp};
+ghost use Rattle.std.specs.Prelude.{◌≡◌, true, map, option_map, IfOk};
 ghost use Rattle.std.specs.Ordering.{is_ge, is_gt};
-ghost use Rattle.semver_parser.specs.Precedence.{identifier_cmp, precedence};
+ghost use Rattle.semver_parser.specs.Precedence.{precedence};
 ghost use Rattle.semver_parser.specs.PrintedRanges.{is_printable_version};
 ghost use Rattle.semver_parser.specs.RangeViews.{comparator_of, identifier_of};
-ghost use Rattle.semver_parser.specs.Texts.{is_empty};
 ghost use Rattle.semver_parser.specs.VersionViews.{identifier_value};
 ghost use Rattle.semver_parser.specs.Versions.{PlainVersion};
 ghost use Rattle.version_sets.specs.VersionSets.{IsPreRelease};
@@ -18,9 +16,10 @@ ghost use Rattle.version_sets.specs.Steps.SpanViews.{with_zero};
 
 use crate::limits::{Limit, numbers_of};
 use crate::release::{Release, next_numbers};
-use crate::set_ranges::is_lowest_pre;
+use crate::with_zero::WithZero;
 use semver_parser::version::{self, Version};
 use semver_parser::{Comparator, Identifier};
+use semver_texts::precedence::compare_pre_releases;
 use std::alloc::{AllocError, Global};
 use std::cmp::Ordering;
 
@@ -99,12 +98,15 @@ impl<'a> PreReleaseLimit<'a> {
         Some(PreReleaseLimit::lowest(next_numbers(numbers)?))
     }
 
-    /// Whether the number 0 is after the identifiers.
-    fn has_zero(&self) -> bool
-        ensures { result ≡ (self.now.with_zero
-            || is_empty (map identifier_of self.now.identifiers.now)) }
+    /// The pre-release: the identifiers, with the number 0 after them or not.
+    fn pre(&self) -> WithZero<&'a [Identifier]>
+        ensures { with_zero (map identifier_of result.identifiers.now) result.zero
+            ≡ (limit_place self.now).pre }
     {
-        self.with_zero || self.identifiers.is_empty()
+        WithZero {
+            identifiers: self.identifiers,
+            zero: self.with_zero || self.identifiers.is_empty(),
+        }
     }
 }
 
@@ -120,12 +122,7 @@ impl<'a> Limit for PreReleaseLimit<'a> {
         if !turns.is_eq() {
             return turns;
         }
-        compare_identifiers(
-            self.identifiers,
-            self.has_zero(),
-            other.identifiers,
-            other.has_zero(),
-        )
+        compare_pre_releases(self.pre(), other.pre())
     }
 
     fn switch(&self, alloc: Global) -> Result<Version, AllocError> {
@@ -133,7 +130,7 @@ impl<'a> Limit for PreReleaseLimit<'a> {
             major: self.numbers.major,
             minor: self.numbers.minor,
             patch: self.numbers.patch,
-            pre: copied(alloc, self.identifiers, self.has_zero())?,
+            pre: copied(alloc, self.pre())?,
             build: Vec::new(alloc),
         })
     }
@@ -142,75 +139,20 @@ impl<'a> Limit for PreReleaseLimit<'a> {
 /// Identifiers of a range, and the number 0 after them or not, as those of a version.
 fn copied(
     alloc: Global,
-    identifiers: &[Identifier],
-    zero: bool,
+    pre: WithZero<&[Identifier]>,
 ) -> Result<Vec<version::Identifier>, AllocError>
     ensures { IfOk result (λ copies. map identifier_value copies.items
-        ≡ with_zero (map identifier_of identifiers.now) zero) }
+        ≡ with_zero (map identifier_of pre.entry.identifiers.now) pre.entry.zero) }
 {
-    let size = identifiers.len().saturating_add(usize::from(zero));
+    let size = pre.identifiers.len().saturating_add(usize::from(pre.zero));
     let mut copies = Vec::with_capacity(alloc, size)?;
-    for identifier in identifiers {
+    for identifier in pre.identifiers {
         copies.push(copy_of(identifier)?)?;
     }
-    if zero {
+    if pre.zero {
         copies.push(version::Identifier::Numeric(0))?;
     }
     Ok(copies)
-}
-
-/// How two lists of identifiers compare, each with the number 0 after it or not.
-fn compare_identifiers(
-    first: &[Identifier],
-    first_zero: bool,
-    second: &[Identifier],
-    second_zero: bool,
-) -> Ordering
-    ensures { result ≡ slice_cmp identifier_cmp
-        (with_zero (map identifier_of first.now) first_zero)
-        (with_zero (map identifier_of second.now) second_zero) }
-{
-    let (mut left, mut right) = (first, second);
-    while let ([one, left_others @ ..], [other, right_others @ ..]) = (left, right) {
-        let turns = compare_identifier(one, other);
-        if !turns.is_eq() {
-            return turns;
-        }
-        left = left_others;
-        right = right_others;
-    }
-    if left.is_empty() {
-        compare_zero(first_zero, right, second_zero)
-    } else {
-        compare_zero(second_zero, left, first_zero).reverse()
-    }
-}
-
-/// How no identifiers, with the number 0 after them or not, compare with others.
-fn compare_zero(zero: bool, others: &[Identifier], others_zero: bool) -> Ordering
-    ensures { result ≡ slice_cmp identifier_cmp (with_zero [] zero)
-        (with_zero (map identifier_of others.now) others_zero) }
-{
-    if others.is_empty() {
-        return zero.cmp(&others_zero);
-    }
-    if zero && !others_zero && is_lowest_pre(others) {
-        Ordering::Equal
-    } else {
-        Ordering::Less
-    }
-}
-
-/// How two identifiers compare.
-fn compare_identifier(first: &Identifier, second: &Identifier) -> Ordering
-    ensures { result ≡ identifier_cmp (identifier_of first.now) (identifier_of second.now) }
-{
-    match (first, second) {
-        (Identifier::Numeric(first), Identifier::Numeric(second)) => first.cmp(second),
-        (Identifier::Numeric(_), Identifier::AlphaNumeric(_)) => Ordering::Less,
-        (Identifier::AlphaNumeric(_), Identifier::Numeric(_)) => Ordering::Greater,
-        (Identifier::AlphaNumeric(first), Identifier::AlphaNumeric(second)) => first.cmp(second),
-    }
 }
 
 /// An identifier of a range, as one of a version.

@@ -5,7 +5,7 @@ ghost use Rattle.std.specs.List.{list_all};
 ghost use Rattle.semver_parser.specs.declared.Compat.TheVariants.{Npm};
 ghost use Rattle.semver_parser.specs.Meeting.{meets_set};
 ghost use Rattle.semver_parser.specs.PrintedRanges.{is_printable_version};
-ghost use Rattle.semver_parser.specs.RangeViews.{comparator_of, identifier_of, range_of, set_of};
+ghost use Rattle.semver_parser.specs.RangeViews.{comparator_of, range_of, set_of};
 ghost use Rattle.semver_parser.specs.Versions.{PlainVersion};
 ghost use Rattle.version_sets.specs.SetRanges.{release_ranges, pre_release_ranges};
 ghost use Rattle.version_sets.specs.SetRanges.{is_whole, ranges_text, ReadsBack};
@@ -15,7 +15,9 @@ ghost use Rattle.version_sets.specs.VersionSets.{has, IsIn, IsRelease, IsPreRele
 
 use crate::intervals::ranges_of;
 use crate::version_set::VersionSet;
-use semver_parser::{Comparator, Compat, Identifier, Op, Range, RangeSet, laws};
+use semver_parser::{Comparator, Compat, Op, Range, RangeSet, laws};
+use semver_texts::identifiers::Kept;
+use semver_texts::precedence::IdentifierRef;
 use std::alloc::{AllocError, Global};
 use std::fmt;
 
@@ -140,12 +142,12 @@ fn is_from_lowest(comparators: &[Comparator]) -> bool
 }
 
 /// Whether there is no pre-release, or the lowest, `0`.
-pub(crate) fn is_lowest_pre(identifiers: &[Identifier]) -> bool
-    ensures { result ≡ lowest_pre (map identifier_of identifiers.now) }
+pub(crate) fn is_lowest_pre<T: Kept>(identifiers: &[T]) -> bool
+    ensures { result ≡ lowest_pre (map T.value identifiers.now) }
 {
     match identifiers {
         [] => true,
-        [Identifier::Numeric(number)] => *number == 0,
+        [only] => matches!(only.as_compared(), IdentifierRef::Numeric(0)),
         _ => false,
     }
 }

@@ -3,7 +3,8 @@ use Rattle.semver_texts.specs.Texts.{is_part}
 use Rattle.semver_texts.specs.ToolVersions.{IsKeptAs}
 use Rattle.semver_texts.specs.VersionViews.{identifier_value}
 use Rattle.semver_texts.proofs.Lists.{zip_mapped}
-use Rattle.semver_versions.proofs.KeptTexts.{each_passes, parts_pass}
+use Rattle.semver_texts.proofs.Lists.{each_passes}
+use Rattle.semver_texts.proofs.PartRuns.{parts_pass}
 use Rattle.semver_versions.proofs.OutlineVersions.{if_ok_more}
 use Rattle.semver_versions.proofs.identifiers.identifiers.Goals as goal
 

@@ -1,5 +1,6 @@
 use Rattle.std.proofs.Common.{arith}
-use Rattle.semver_versions.proofs.KeptTexts.{part_fits, parts_pass}
+use Rattle.semver_versions.proofs.KeptTexts.{part_fits}
+use Rattle.semver_texts.proofs.PartRuns.{parts_pass}
 use Rattle.semver_versions.proofs.outlines.with_parts.Goals as goal
 
 pub text_of_parts-requires : goal.text_of_parts-requires

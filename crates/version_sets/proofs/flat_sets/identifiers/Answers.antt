@@ -1,10 +1,11 @@
 use Rattle.std.proofs.Common.{rules}
-use Rattle.semver_versions.proofs.KeptTexts.{parts_pass}
+use Rattle.semver_texts.proofs.PartRuns.{parts_pass}
 use Rattle.semver_parser.specs.Partials.{kept}
 use Rattle.semver_parser.specs.Texts.{cut_at_dots}
 use Rattle.semver_parser.specs.VersionViews.{identifier_value}
 use Rattle.version_sets.proofs.FlatTexts.{parts}
-use Rattle.version_sets.proofs.Lists.{answered_so, zip_same}
+use Rattle.semver_texts.proofs.Lists.{zip_same}
+use Rattle.version_sets.proofs.Lists.{answered_so}
 use Rattle.version_sets.proofs.flat_sets.identifiers.Goals as goal
 
 pub of_parts-requires-clause-bytes : goal.of_parts-requires-clause-bytes

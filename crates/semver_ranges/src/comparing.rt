@@ -1,0 +1,37 @@
+//! How the identifiers that a range states are compared, kept or still a text.
+
+ghost use Rattle.semver_ranges.specs.Partials.{kept};
+ghost use Rattle.semver_ranges.specs.RangeViews.{identifier_of};
+
+use crate::range::Identifier;
+use semver_texts::decimals::number_of_digits;
+use semver_texts::identifiers::{Kept, Reading};
+use semver_texts::precedence::IdentifierRef;
+
+impl Kept for Identifier {
+    ghost value = { identifier_of };
+
+    #[inline(always)]
+    fn as_compared(&self) -> IdentifierRef<'_> {
+        match self {
+            Identifier::Numeric(number) => IdentifierRef::Numeric(*number),
+            Identifier::AlphaNumeric(text) => IdentifierRef::AlphaNumeric(text.as_bytes()),
+        }
+    }
+}
+
+/// How ranges are read: digits that begin with a zero are a number.
+#[derive(Clone, Copy)]
+pub struct InRanges;
+
+impl Reading for InRanges {
+    ghost identifier = { kept };
+
+    #[inline(always)]
+    fn read(part: &[u8]) -> IdentifierRef<'_> {
+        match number_of_digits(part) {
+            Some(number) => IdentifierRef::Numeric(number),
+            None => IdentifierRef::AlphaNumeric(part),
+        }
+    }
+}

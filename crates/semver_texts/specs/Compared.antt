@@ -1,0 +1,23 @@
+-- What contracts see of versions and identifiers as they are compared: their values.
+use Rattle.std.specs.Prelude.{ℕ, List, [], Option, Some, None}
+use Rattle.std.specs.Borrow.{Bor}
+use Rattle.std.specs.List.{slice_split}
+use Rattle.semver_texts.specs.Texts.{Text, is_dot}
+use Rattle.semver_texts.specs.Versions.{IdentifierValue, PlainVersion, numeric, alphanumeric}
+use Rattle.semver_texts.specs.declared.precedence.IdentifierRef.{IdentifierRef}
+use Rattle.semver_texts.specs.declared.precedence.IdentifierRef.TheVariants.{Numeric, AlphaNumeric}
+
+-- an identifier
+abbrev pub ref_value : IdentifierRef → IdentifierValue
+ref_value (Numeric n) = numeric n
+ref_value (AlphaNumeric text) = alphanumeric text.now
+
+-- the texts between the dots of what is left of a text
+abbrev pub parts_after : Option (Bor Text) → List Text
+parts_after None = []
+parts_after (Some rest) = slice_split is_dot rest.now
+
+-- a version of three numbers and the identifiers of its pre-release
+abbrev pub of_numbers : ℕ × ℕ × ℕ → List IdentifierValue → PlainVersion
+of_numbers (major, minor, patch) pre =
+    record { major = major; minor = minor; patch = patch; pre = pre }
