@@ -5,14 +5,14 @@ ghost use Rattle.semver_ranges.specs.RangeViews.{identifier_of};
 
 use crate::range::Identifier;
 use semver_texts::decimals::number_of_digits;
-use semver_texts::identifiers::{Kept, Reading};
+use semver_texts::identifiers::{AsIdentifier, Reading};
 use semver_texts::precedence::IdentifierRef;
 
-impl Kept for Identifier {
+impl AsIdentifier for Identifier {
     ghost value = { identifier_of };
 
     #[inline(always)]
-    fn as_compared(&self) -> IdentifierRef<'_> {
+    fn as_identifier(&self) -> IdentifierRef<'_> {
         match self {
             Identifier::Numeric(number) => IdentifierRef::Numeric(*number),
             Identifier::AlphaNumeric(text) => IdentifierRef::AlphaNumeric(text.as_bytes()),

@@ -10,21 +10,21 @@ use crate::dotted::split_at_dot;
 use crate::precedence::{IdentifierRef, Identifiers};
 use crate::version::Identifier;
 
-/// What is kept of an identifier.
-pub trait Kept {
+/// A type of identifiers.
+pub trait AsIdentifier {
     /// The identifier.
     ghost value: { Self → IdentifierValue };
 
     /// The identifier as it is compared.
-    fn as_compared(&self) -> IdentifierRef<'_>
+    fn as_identifier(&self) -> IdentifierRef<'_>
         ensures { ref_value result ≡ value self.now };
 }
 
-impl Kept for Identifier {
+impl AsIdentifier for Identifier {
     ghost value = { identifier_value };
 
     #[inline(always)]
-    fn as_compared(&self) -> IdentifierRef<'_> {
+    fn as_identifier(&self) -> IdentifierRef<'_> {
         match self {
             Identifier::Numeric(number) => IdentifierRef::Numeric(*number),
             Identifier::AlphaNumeric(text) => IdentifierRef::AlphaNumeric(text.as_bytes()),
@@ -32,7 +32,7 @@ impl Kept for Identifier {
     }
 }
 
-impl<'a, T: Kept> Identifiers<'a> for &'a [T] {
+impl<'a, T: AsIdentifier> Identifiers<'a> for &'a [T] {
     ghost left = { λ identifiers. map T.value identifiers.now };
 
     #[inline(always)]
@@ -46,7 +46,7 @@ impl<'a, T: Kept> Identifiers<'a> for &'a [T] {
             return None;
         };
         *self = others;
-        Some(first.as_compared())
+        Some(first.as_identifier())
     }
 }
 

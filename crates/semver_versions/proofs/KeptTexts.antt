@@ -1,4 +1,4 @@
--- serves: semver_versions::outlines::Outline::pre_identifiers, of_version
+-- serves: semver_versions::laws::one_version
 -- Texts of letters, digits and hyphens, the identifiers that they are kept as, and such texts between dots.
 use Rattle.std.proofs.Common.{◌≡◌, ℕ, ◌<◌, ◌≤◌, ◌+◌, ◌^◌, Bool, true, false, List, [], ◌∷◌, ◌++◌, length, map, arith, ap, sym, refl}
 use Rattle.std.proofs.Common.{◌∙◌, subst, decimal, length-append}

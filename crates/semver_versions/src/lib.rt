@@ -3,7 +3,7 @@
 #![tactic(auto)]
 
 pub mod comparing;
-mod identifiers;
+pub mod identifiers;
 pub mod laws;
 mod outlines;
 mod reader;

@@ -2,9 +2,6 @@
 
 ghost use Rattle.std.specs.Prelude.{◌≡◌, ◌<◌, [], IfOk, IfErr, length, map, true};
 ghost use Rattle.std.specs.List.{AllByRecursion};
-ghost use Rattle.semver_parser.specs.Partials.{kept};
-ghost use Rattle.semver_parser.specs.Texts.{cut_at_dots};
-ghost use Rattle.semver_parser.specs.VersionViews.{identifier_value};
 ghost use Rattle.version_sets.specs.Releases.{release_value};
 ghost use Rattle.version_sets.specs.VersionSets.{HasSomeVersion};
 ghost use Rattle.version_sets.specs.Steps.FlatViews.{is_text, switch_value, text_at};
@@ -14,9 +11,8 @@ use crate::flat::{FlatSet, FlatSwitch};
 use crate::flat_places;
 use crate::release::Release;
 use crate::version_set::VersionSet;
-use semver_parser::version::{Identifier, Version};
-use semver_texts::decimals::number_of_digits;
-use semver_texts::dotted::of_parts;
+use semver_parser::version::Version;
+use semver_versions::identifiers::identifiers;
 use std::alloc::{AllocError, Global};
 
 impl<'a> FlatSet<'a> {
@@ -93,23 +89,4 @@ fn version_of(alloc: Global, switch: &FlatSwitch, bytes: &[u8]) -> Result<Versio
         pre: identifiers(alloc, flat_places::text_at(bytes, switch))?,
         build: Vec::new(alloc),
     })
-}
-
-/// The identifiers of a text.
-fn identifiers(alloc: Global, text: &[u8]) -> Result<Vec<Identifier>, AllocError>
-    requires { is_text text.now ≡ true }
-    ensures { IfOk result (λ ids.
-        map identifier_value ids.items ≡ map kept (cut_at_dots text.now)) }
-{
-    of_parts(alloc, text, |part| identifier(alloc, part))
-}
-
-/// The identifier that a part is kept as.
-fn identifier(alloc: Global, part: &str) -> Result<Identifier, AllocError>
-    ensures { IfOk result (λ id. identifier_value id ≡ kept part.now) }
-{
-    match number_of_digits(part.as_bytes()) {
-        Some(number) => Ok(Identifier::Numeric(number)),
-        None => Ok(Identifier::AlphaNumeric(String::from_str(alloc, part)?)),
-    }
 }

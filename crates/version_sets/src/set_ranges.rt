@@ -16,7 +16,7 @@ ghost use Rattle.version_sets.specs.VersionSets.{has, IsIn, IsRelease, IsPreRele
 use crate::intervals::ranges_of;
 use crate::version_set::VersionSet;
 use semver_parser::{Comparator, Compat, Op, Range, RangeSet, laws};
-use semver_texts::identifiers::Kept;
+use semver_texts::identifiers::AsIdentifier;
 use semver_texts::precedence::IdentifierRef;
 use std::alloc::{AllocError, Global};
 use std::fmt;
@@ -142,12 +142,12 @@ fn is_from_lowest(comparators: &[Comparator]) -> bool
 }
 
 /// Whether there is no pre-release, or the lowest, `0`.
-pub(crate) fn is_lowest_pre<T: Kept>(identifiers: &[T]) -> bool
+pub(crate) fn is_lowest_pre<T: AsIdentifier>(identifiers: &[T]) -> bool
     ensures { result ≡ lowest_pre (map T.value identifiers.now) }
 {
     match identifiers {
         [] => true,
-        [only] => matches!(only.as_compared(), IdentifierRef::Numeric(0)),
+        [only] => matches!(only.as_identifier(), IdentifierRef::Numeric(0)),
         _ => false,
     }
 }

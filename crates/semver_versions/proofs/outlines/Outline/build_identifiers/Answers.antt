@@ -1,16 +1,15 @@
 use Rattle.std.proofs.Common.{map, ap, sym, ◌∙◌}
-use Rattle.semver_texts.specs.VersionViews.{identifier_value}
+use Rattle.semver_texts.specs.Texts.{cut_at_dots}
 use Rattle.semver_texts.specs.Versions.{VersionValue}
-use Rattle.semver_versions.specs.Outlines.{OutlineValue}
-use Rattle.semver_versions.proofs.KeptTexts.{kept_is}
+use Rattle.semver_versions.specs.Outlines.{OutlineValue, identifier_of}
 use Rattle.semver_versions.proofs.OutlineVersions.{its_version}
 use Rattle.semver_versions.proofs.OutlineVersions.{if_ok_more}
 use Rattle.semver_versions.proofs.outlines.Outline.build_identifiers.Goals as goal
 
 pub returns-clause-of_version : goal.returns-clause-of_version
 returns-clause-of_version c =
-    if_ok_more c.identifiers.result (λ ids each. kept_is (map identifier_value ids.items) _
-    (rw (c.as_bytes.ensures.value ∙ ap (λ (o : OutlineValue). o.build) c.self.view_is) at each))
+    if_ok_more c.identifiers.result (λ ids is. is ∙ ap (λ t. map identifier_of (cut_at_dots t))
+    (c.as_bytes.ensures.value ∙ ap (λ (o : OutlineValue). o.build) c.self.view_is))
     c.identifiers.ensures.kept
 
 pub returns-clause-identifiers : goal.returns-clause-identifiers
