@@ -18,12 +18,10 @@ use std::alloc::{AllocError, Global};
 fn identifier(alloc: Global, text: &str) -> Result<Identifier, AllocError>
     ensures { IfOk result (λ id. identifier_value id ≡ identifier_of text.now) }
 {
-    match InVersions::read(text.as_bytes()) {
-        IdentifierRef::Numeric(number) => Ok(Identifier::Numeric(number)),
-        IdentifierRef::AlphaNumeric(_) => Ok(Identifier::AlphaNumeric(String::from_str(
-            alloc, text,
-        )?)),
+    if let IdentifierRef::Numeric(number) = InVersions::read(text.as_bytes()) {
+        return Ok(Identifier::Numeric(number));
     }
+    Ok(Identifier::AlphaNumeric(String::from_str(alloc, text)?))
 }
 
 // Answer: equation.
