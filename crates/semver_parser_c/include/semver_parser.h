@@ -1,38 +1,33 @@
 /* Versions and ranges of Cargo, npm and the Rust crate semver-parser, for Linux on x86-64-v2.
  *
- * Results and outputs are proved (src/lib.rt), except hints and memory figures; c/calls.c and
- * c/heap.c are trusted. docs/GRAMMAR.md says which texts are read, docs/MEANING.md what a range
- * means.
+ *     semver_parser_options npm = {SEMVER_PARSER_NPM, SEMVER_PARSER_DEFAULT};
+ *     bool satisfies;
+ *     semver_parser_error error;
+ *     if (semver_parser_satisfies(semver_parser_str("1.9.0"), semver_parser_str("^1.2"), npm,
+ *                                 &satisfies, &error) != SEMVER_PARSER_OK) {
+ *         fprintf(stderr, "%s, at byte %zu: %s\n", semver_parser_status_text(error.status),
+ *                 error.offset, semver_parser_reason_text(error.reason));
+ *     }
  *
- * STRINGS AND BUFFERS. Strings are UTF-8, given as pointer and byte length; they need no
- * terminating zero, and none is written. Offsets and lengths count bytes. Buffers are given as
- * pointer and capacity. If a length or capacity is 0, the pointer may be null.
+ * Compile with `pkg-config --cflags --libs semver_parser`. docs/GRAMMAR.md says which strings are
+ * versions and ranges, docs/MEANING.md what a range means. What the functions answer is proved but
+ * for hints; c/ holds the memory, and is trusted.
  *
- * THE CALLER MUST pass strings, arrays and buffers of the given size, and not change them during
- * the call; pointers to write to that overlap with no other argument, are aligned and, for a single
- * object, not null; bools of 0 or 1; and must not call from a signal handler, nor in the forked
- * child of a process with several threads. Threads may call concurrently.
+ * STRINGS are UTF-8 with a length in bytes, and need no terminating zero; `data` may be null if
+ * `length` is 0. A `char *` that a function makes is zero-terminated; semver_parser_string_free
+ * frees it.
  *
- * RESULTS. A function returns SEMVER_PARSER_OK (0) or the number of an error. An error writes
- * nothing, but for what is said of SEMVER_PARSER_NO_ROOM, `in_other`, `offset` and `hint`. Errors
- * come in this order, each exactly if it applies:
- * - SEMVER_PARSER_NO_SUCH_DIALECT, _NO_SUCH_RULE, _NO_SUCH_OPERATION, then _NOT_A_SET;
- * - of a range: SEMVER_PARSER_RANGE_NOT_UTF8, _NOT_A_RANGE, _NUMBER_TOO_LARGE;
- * - of a version: SEMVER_PARSER_VERSION_NOT_UTF8; then by Cargo's and npm's dialects
- *   SEMVER_PARSER_NOT_A_VERSION, and by the crate's SEMVER_PARSER_UNEXPECTED_END,
- *   _UNEXPECTED_TOKEN, _UNEXPECTED_CHAR or _MORE_INPUT;
- * - out of memory (SEMVER_PARSER_RANGE_OUT_OF_MEMORY, _VERSION_OUT_OF_MEMORY,
- *   _NEW_RANGE_OUT_OF_MEMORY): in place of a success, of one of the last four, or as said below.
- * - SEMVER_PARSER_NO_ROOM if a buffer is too small: then the lengths, if there are any, say what
- *   is needed, and the buffers are unchanged. So a call with capacity 0 asks for the length.
+ * ERRORS. A function returns SEMVER_PARSER_OK or the status of an error. After an error its outputs
+ * are as they were, and `error`, which may be null, says more. INVALID_ARGUMENT comes first, then
+ * the errors of the arguments from left to right. OUT_OF_MEMORY may come in place of OK, or of
+ * another error if `error` isn't null, and only if the function is said to allocate.
  *
- * MEMORY. Nothing is kept between calls or must be freed. Allocations are by `malloc`. Making a set
- * of a range (_set, _least, _compare, and _meets_each of 4 versions or more) takes up to 290 bytes
- * per byte of it, calls on sets but _set_has up to 10, and time n log n for n comparators. Else
- * time is linear. Add 1,000 bytes to each.
+ * THE CALLER MUST pass valid pointers, not null but where it is said, and not change what they point
+ * to during a call. Threads may call concurrently, and read one set or list at once. In the child of
+ * a fork of several threads only what POSIX has there may be called, which malloc isn't.
  *
- * Compile with `pkg-config --cflags --libs semver_parser`, or cc program.c c/calls.c c/heap.c
- * out/libsemver_parser_c.a
+ * MEMORY. Allocations are by malloc: for a range of n bytes up to 300 n + 1,000 bytes, and time
+ * n log n. Satisfying, parsing and comparing take linear time.
  */
 #ifndef SEMVER_PARSER_H
 #define SEMVER_PARSER_H
@@ -42,96 +37,43 @@
 #endif
 #include <stddef.h>
 #include <stdint.h>
+#include <string.h>
 
-/* The library's version. The second number is raised if a call changes. */
-#define SEMVER_PARSER_VERSION_MAJOR 0
-#define SEMVER_PARSER_VERSION_MINOR 7
+/* The version of this header. */
+#define SEMVER_PARSER_VERSION_MAJOR 1
+#define SEMVER_PARSER_VERSION_MINOR 0
 #define SEMVER_PARSER_VERSION_PATCH 0
-#define SEMVER_PARSER_VERSION "0.7.0"
+#define SEMVER_PARSER_VERSION "1.0.0"
+
+/* Attributes, for compilers that have them. */
+#if defined(__GNUC__)
+#define SEMVER_PARSER_MUST_USE __attribute__((warn_unused_result))
+#define SEMVER_PARSER_NONNULL(...) __attribute__((nonnull(__VA_ARGS__)))
+#pragma GCC visibility push(default)
+#else
+#define SEMVER_PARSER_MUST_USE
+#define SEMVER_PARSER_NONNULL(...)
+#endif
 
 #ifdef __cplusplus
 extern "C" {
 #endif
 
-/* Results. */
-enum {
-    SEMVER_PARSER_OK = 0,
+typedef struct {
+    const char *data;
+    size_t length;
+} semver_parser_string;
 
-    /* Errors of a version. */
-    SEMVER_PARSER_VERSION_NOT_UTF8 = 2,
-    /* `1.2`. */
-    SEMVER_PARSER_UNEXPECTED_END = 3,
-    /* `1.2.3--1`. */
-    SEMVER_PARSER_UNEXPECTED_TOKEN = 4,
-    /* `/`. */
-    SEMVER_PARSER_UNEXPECTED_CHAR = 5,
-    /* `1.2.3 a`. */
-    SEMVER_PARSER_MORE_INPUT = 6,
-    /* Never returned. */
-    SEMVER_PARSER_EMPTY_PREDICATE = 7,
-    SEMVER_PARSER_EMPTY_RANGE = 8,
-    SEMVER_PARSER_VERSION_OUT_OF_MEMORY = 9,
+/* Returns a zero-terminated string with its length. */
+SEMVER_PARSER_NONNULL(1)
+static inline semver_parser_string semver_parser_str(const char *zero_terminated) {
+    semver_parser_string string = {zero_terminated, strlen(zero_terminated)};
+    return string;
+}
 
-    /* Errors of a range. */
-    SEMVER_PARSER_RANGE_NOT_UTF8 = 10,
-    SEMVER_PARSER_NOT_A_RANGE = 11,
-    /* A number or a raised bound is above 2^64 - 1, to npm above 2^53 - 1. */
-    SEMVER_PARSER_NUMBER_TOO_LARGE = 12,
-    SEMVER_PARSER_RANGE_OUT_OF_MEMORY = 13,
-
-    SEMVER_PARSER_NO_ROOM = 14,
-    SEMVER_PARSER_NO_SUCH_RULE = 15,
-
-    /* Errors of the new range. */
-    SEMVER_PARSER_NEW_RANGE_NOT_UTF8 = 16,
-    SEMVER_PARSER_NEW_NOT_A_RANGE = 17,
-    SEMVER_PARSER_NEW_NUMBER_TOO_LARGE = 18,
-    SEMVER_PARSER_NEW_RANGE_OUT_OF_MEMORY = 19,
-
-    SEMVER_PARSER_NO_SUCH_DIALECT = 20,
-    /* By Cargo's or npm's dialect. */
-    SEMVER_PARSER_NOT_A_VERSION = 21,
-
-    /* Why a text is no version: empty or white space; */
-    SEMVER_PARSER_VERSION_EMPTY = 22,
-    /* a number is missing (`1.2`, `1..3`); */
-    SEMVER_PARSER_VERSION_NOT_THREE_NUMBERS = 23,
-    /* of a number or a pre-release identifier of digits (`1.2.03`); */
-    SEMVER_PARSER_VERSION_LEADING_ZERO = 24,
-    /* `1.2.3-`, `1.2.3-a..b`; */
-    SEMVER_PARSER_VERSION_EMPTY_IDENTIFIER = 25,
-    /* no version has this character there (`1.x`); */
-    SEMVER_PARSER_VERSION_CHARACTER = 26,
-    /* above 2^64 - 1, to npm above 2^53 - 1; */
-    SEMVER_PARSER_VERSION_NUMBER_TOO_LARGE = 27,
-    /* needs more than npm's 256 characters; */
-    SEMVER_PARSER_VERSION_TOO_LONG = 28,
-    /* `1.2.3 x`. */
-    SEMVER_PARSER_VERSION_TEXT_AFTER = 29,
-
-    SEMVER_PARSER_NOT_A_SET = 30,
-    SEMVER_PARSER_NO_SUCH_OPERATION = 31,
-
-    /* Hints. */
-    SEMVER_PARSER_NO_HINT = 0,
-    SEMVER_PARSER_HINT_LEADING_ZERO = 32,
-    SEMVER_PARSER_HINT_THREE_NUMBERS = 33,
-    SEMVER_PARSER_HINT_COMMAS = 34,
-    SEMVER_PARSER_HINT_WILDCARD = 35,
-    SEMVER_PARSER_HINT_CARGO_BARS = 36,
-    SEMVER_PARSER_HINT_CARGO_V = 37,
-    SEMVER_PARSER_HINT_CARGO_HYPHEN = 38,
-    SEMVER_PARSER_HINT_NPM_LENGTH = 39,
-    SEMVER_PARSER_HINT_NPM_COMMA = 40,
-    SEMVER_PARSER_HINT_CRATE_COMMA = 41,
-    SEMVER_PARSER_HINT_CRATE_V = 42,
-    SEMVER_PARSER_HINT_LIMIT = 43,
-    SEMVER_PARSER_HINT_NPM_LIMIT = 44
-};
-
-/* Dialects: values of `dialect` (docs/MEANING.md, "Which dialect?"). */
-enum {
-    /* `1.2` is `>=1.2.0 <2.0.0`. Versions are SemVer 2.0.0. */
+/* Whose rules apply (docs/MEANING.md, "Which dialect?"). */
+typedef enum {
+    /* `1.2` is `>=1.2.0 <2.0.0`. Versions are those of SemVer 2.0.0. */
     SEMVER_PARSER_CARGO = 0,
     /* `1.2` is `>=1.2.0 <1.3.0`. A version may have a `v` and white space around it. Numbers go up
      * to 2^53 - 1, and versions have at most 256 characters. */
@@ -140,209 +82,280 @@ enum {
     SEMVER_PARSER_CRATE_CARGO = 2,
     /* The Rust crate in its npm mode, which isn't npm's dialect: `>1.2` is `>1.2.0`. */
     SEMVER_PARSER_CRATE_NPM = 3
-};
+} semver_parser_dialect;
 
-/* Values of `pre_releases`: which pre-releases satisfy a range. */
-enum {
-    /* Those that Cargo and npm match by default (docs/MEANING.md). By the crate's dialects one does
-     * if it is within the bounds, and a term of the range states its three numbers and a
-     * pre-release. */
+/* Which pre-releases satisfy a range. */
+typedef enum {
+    /* Those that Cargo and npm match by default: `^1.2.3-rc` contains 1.2.3-rc.1, not 1.3.0-rc. */
     SEMVER_PARSER_DEFAULT = 0,
     /* Each within the bounds. */
     SEMVER_PARSER_INCLUDED = 1,
     /* None. */
     SEMVER_PARSER_EXCLUDED = 2
-};
+} semver_parser_pre_releases;
 
-/* Operators of comparators. */
-enum {
+typedef struct {
+    semver_parser_dialect dialect;
+    semver_parser_pre_releases pre_releases;
+} semver_parser_options;
+
+typedef enum {
+    SEMVER_PARSER_OK = 0,
+    /* The string is no range of the dialect. */
+    SEMVER_PARSER_INVALID_RANGE = 1,
+    /* It is, but a number or a raised bound is above 2^64 - 1, to npm above 2^53 - 1. */
+    SEMVER_PARSER_NUMBER_TOO_LARGE = 2,
+    /* The string is no version of the dialect. */
+    SEMVER_PARSER_INVALID_VERSION = 3,
+    SEMVER_PARSER_OUT_OF_MEMORY = 4,
+    /* An option that isn't one of those above, two sets of different options, an index that is too
+     * large, or bytes that aren't a saved set. */
+    SEMVER_PARSER_INVALID_ARGUMENT = 5
+} semver_parser_status;
+
+/* Why a string is refused. */
+typedef enum {
+    /* Nothing more is known. */
+    SEMVER_PARSER_REASON_NONE = 0,
+
+    /* Of a version: it is empty or white space; */
+    SEMVER_PARSER_REASON_EMPTY = 1,
+    /* a number is missing (`1.2`, `1..3`); */
+    SEMVER_PARSER_REASON_NOT_THREE_NUMBERS = 2,
+    /* a number or a pre-release identifier of digits has one (`1.2.03`); */
+    SEMVER_PARSER_REASON_LEADING_ZERO = 3,
+    /* `1.2.3-`, `1.2.3-a..b`; */
+    SEMVER_PARSER_REASON_EMPTY_IDENTIFIER = 4,
+    /* no version has this character there (`1.x`); */
+    SEMVER_PARSER_REASON_UNEXPECTED_CHARACTER = 5,
+    /* a number is above 2^64 - 1, to npm above 2^53 - 1; */
+    SEMVER_PARSER_REASON_TOO_LARGE = 6,
+    /* it needs more than npm's 256 characters; */
+    SEMVER_PARSER_REASON_TOO_LONG = 7,
+    /* `1.2.3 x`. */
+    SEMVER_PARSER_REASON_TEXT_AFTER = 8,
+
+    /* Of a range. */
+    SEMVER_PARSER_REASON_NOT_UTF8 = 9,
+    SEMVER_PARSER_REASON_RANGE_LEADING_ZERO = 10,
+    SEMVER_PARSER_REASON_RANGE_NOT_THREE_NUMBERS = 11,
+    SEMVER_PARSER_REASON_CARGO_COMMAS = 12,
+    SEMVER_PARSER_REASON_CARGO_WILDCARD = 13,
+    SEMVER_PARSER_REASON_CARGO_BARS = 14,
+    SEMVER_PARSER_REASON_CARGO_V = 15,
+    SEMVER_PARSER_REASON_CARGO_HYPHEN = 16,
+    SEMVER_PARSER_REASON_NPM_LENGTH = 17,
+    SEMVER_PARSER_REASON_NPM_COMMA = 18,
+    SEMVER_PARSER_REASON_CRATE_COMMA = 19,
+    SEMVER_PARSER_REASON_CRATE_V = 20,
+    SEMVER_PARSER_REASON_LIMIT = 21,
+    SEMVER_PARSER_REASON_NPM_LIMIT = 22
+} semver_parser_reason;
+
+/* Where and why a call was refused. */
+typedef struct {
+    semver_parser_status status;
+    /* Which string of the call it is about: 0 for the first, 1 for the second. */
+    int argument;
+    /* The offset in bytes of the first character that no version or range has there, or the length
+     * of the string if something is missing at its end. After NUMBER_TOO_LARGE, the end of the first
+     * term above the limit. */
+    size_t offset;
+    semver_parser_reason reason;
+} semver_parser_error;
+
+/* Returns an English sentence, zero-terminated; of REASON_NONE an empty one. */
+const char *semver_parser_status_text(semver_parser_status status);
+const char *semver_parser_reason_text(semver_parser_reason reason);
+
+/* Returns the version of the loaded library: "1.0.0", and 1000000 for it. */
+const char *semver_parser_library_version(void);
+uint32_t semver_parser_library_version_number(void);
+
+/* Frees a string; null is fine. */
+void semver_parser_string_free(char *string);
+
+/* ---- versions and ranges */
+
+/* Whether a version satisfies a range: 1.9.0 satisfies `^1.2`. Build metadata is ignored. It
+ * doesn't allocate, but for `error`. INVALID_VERSION, INVALID_RANGE, NUMBER_TOO_LARGE. */
+SEMVER_PARSER_MUST_USE SEMVER_PARSER_NONNULL(4)
+semver_parser_status semver_parser_satisfies(
+    semver_parser_string version, semver_parser_string range, semver_parser_options options,
+    bool *satisfies, semver_parser_error *error);
+
+/* A version. `pre` and `build` are parts of the string that was parsed, without `-` and `+`. */
+typedef struct {
+    uint64_t major;
+    uint64_t minor;
+    uint64_t patch;
+    semver_parser_string pre;
+    semver_parser_string build;
+} semver_parser_version;
+
+/* Parses a version: `1.2.3-rc.1+b5` gives 1, 2, 3, `rc.1` and `b5`. It doesn't allocate, but for
+ * `error`. INVALID_VERSION. */
+SEMVER_PARSER_MUST_USE SEMVER_PARSER_NONNULL(3)
+semver_parser_status semver_parser_parse_version(
+    semver_parser_string version, semver_parser_dialect dialect, semver_parser_version *parsed,
+    semver_parser_error *error);
+
+/* Compares two versions by precedence (SemVer 2.0.0, section 11): `order` is -1, 0 or 1, and -1 of
+ * 1.0.0-rc and 1.0.0. It doesn't allocate, but for `error`. INVALID_VERSION. */
+SEMVER_PARSER_MUST_USE SEMVER_PARSER_NONNULL(4)
+semver_parser_status semver_parser_compare_versions(
+    semver_parser_string version, semver_parser_string other, semver_parser_dialect dialect,
+    int *order, semver_parser_error *error);
+
+/* ---- sets of versions: a range that is read once */
+
+typedef struct semver_parser_set semver_parser_set;
+
+/* Makes the set of the versions that satisfy a range. It allocates. INVALID_RANGE,
+ * NUMBER_TOO_LARGE. */
+SEMVER_PARSER_MUST_USE SEMVER_PARSER_NONNULL(3)
+semver_parser_status semver_parser_set_of_range(
+    semver_parser_string range, semver_parser_options options, semver_parser_set **set,
+    semver_parser_error *error);
+
+/* Frees a set; null is fine. */
+void semver_parser_set_free(semver_parser_set *set);
+
+/* Returns the options of the range that a set was made of, by which versions are read. */
+SEMVER_PARSER_NONNULL(1)
+semver_parser_options semver_parser_set_options(const semver_parser_set *set);
+
+/* Whether a version is in the set, as semver_parser_satisfies says. It doesn't allocate, but for
+ * `error`. INVALID_VERSION. */
+SEMVER_PARSER_MUST_USE SEMVER_PARSER_NONNULL(1, 3)
+semver_parser_status semver_parser_set_contains(
+    const semver_parser_set *set, semver_parser_string version, bool *contains,
+    semver_parser_error *error);
+
+/* Whether each of `count` versions is in the set. `statuses`, which may be null, gets OK or
+ * INVALID_VERSION for each; an invalid version isn't contained. It allocates. */
+SEMVER_PARSER_MUST_USE SEMVER_PARSER_NONNULL(1)
+semver_parser_status semver_parser_set_contains_each(
+    const semver_parser_set *set, const semver_parser_string *versions, size_t count,
+    bool *contains, semver_parser_status *statuses);
+
+/* Finds the highest or lowest of `count` versions that are in the set, the first of equal ones:
+ * `index` becomes its index, or `count` if none is. Invalid versions are skipped. It allocates. */
+SEMVER_PARSER_MUST_USE SEMVER_PARSER_NONNULL(1, 4)
+semver_parser_status semver_parser_set_highest(
+    const semver_parser_set *set, const semver_parser_string *versions, size_t count,
+    size_t *index);
+SEMVER_PARSER_MUST_USE SEMVER_PARSER_NONNULL(1, 4)
+semver_parser_status semver_parser_set_lowest(
+    const semver_parser_set *set, const semver_parser_string *versions, size_t count,
+    size_t *index);
+
+/* Makes the set of the versions that are in one or the other, in both, or in the first alone: the
+ * difference of `^1.2` and `>=1.4` contains 1.2.0 and not 1.4.0. Both sets need the same options, or
+ * it is INVALID_ARGUMENT. It allocates. */
+SEMVER_PARSER_MUST_USE SEMVER_PARSER_NONNULL(1, 2, 3)
+semver_parser_status semver_parser_set_union(
+    const semver_parser_set *set, const semver_parser_set *other, semver_parser_set **made);
+SEMVER_PARSER_MUST_USE SEMVER_PARSER_NONNULL(1, 2, 3)
+semver_parser_status semver_parser_set_intersection(
+    const semver_parser_set *set, const semver_parser_set *other, semver_parser_set **made);
+SEMVER_PARSER_MUST_USE SEMVER_PARSER_NONNULL(1, 2, 3)
+semver_parser_status semver_parser_set_difference(
+    const semver_parser_set *set, const semver_parser_set *other, semver_parser_set **made);
+
+/* Whether two sets have the same versions, and whether each version of the first is in the other.
+ * Both need the same options, or it is INVALID_ARGUMENT. They allocate. */
+SEMVER_PARSER_MUST_USE SEMVER_PARSER_NONNULL(1, 2, 3)
+semver_parser_status semver_parser_set_equal(
+    const semver_parser_set *set, const semver_parser_set *other, bool *equal);
+SEMVER_PARSER_MUST_USE SEMVER_PARSER_NONNULL(1, 2, 3)
+semver_parser_status semver_parser_set_is_subset(
+    const semver_parser_set *set, const semver_parser_set *other, bool *is_subset);
+
+/* Returns whether a set has no version: that of `>2.0.0 <1.0.0` has none. */
+SEMVER_PARSER_NONNULL(1)
+bool semver_parser_set_is_empty(const semver_parser_set *set);
+
+/* Prints the lowest version of all that are in the set, which is null if it is empty: `^1.2.0` has
+ * 1.2.0. It allocates. */
+SEMVER_PARSER_MUST_USE SEMVER_PARSER_NONNULL(1, 2)
+semver_parser_status semver_parser_set_lowest_version(
+    const semver_parser_set *set, char **version);
+
+/* Prints the releases of a set, or its pre-releases, as a range: `>=1.2.0 <2.0.0`, `*` for all,
+ * `<0.0.0-0` for none. It allocates. */
+SEMVER_PARSER_MUST_USE SEMVER_PARSER_NONNULL(1, 3)
+semver_parser_status semver_parser_set_to_string(
+    const semver_parser_set *set, bool pre_releases, char **string);
+
+/* Makes bytes of a set, with its options, which can be stored; equal sets have equal bytes.
+ * semver_parser_string_free frees them. It allocates. */
+SEMVER_PARSER_MUST_USE SEMVER_PARSER_NONNULL(1, 2, 3)
+semver_parser_status semver_parser_set_save(
+    const semver_parser_set *set, char **bytes, size_t *length);
+
+/* Makes the set of such bytes. All other bytes are INVALID_ARGUMENT. It allocates. */
+SEMVER_PARSER_MUST_USE SEMVER_PARSER_NONNULL(3)
+semver_parser_status semver_parser_set_load(
+    const char *bytes, size_t length, semver_parser_set **set);
+
+/* ---- comparators: what a range is rewritten to */
+
+typedef struct semver_parser_comparators semver_parser_comparators;
+
+typedef enum {
     SEMVER_PARSER_LESS = 0,
     SEMVER_PARSER_LESS_EQUAL = 1,
     SEMVER_PARSER_GREATER = 2,
     SEMVER_PARSER_GREATER_EQUAL = 3,
     SEMVER_PARSER_EQUAL = 4
-};
+} semver_parser_operator;
 
-/* Operations on two sets. */
-enum {
-    SEMVER_PARSER_UNION = 0,
-    SEMVER_PARSER_INTERSECTION = 1,
-    SEMVER_PARSER_DIFFERENCE = 2
-};
-
-/* What semver_parser_meets_each writes for a version. */
-enum {
-    SEMVER_PARSER_DOES_NOT_MEET = 0,
-    SEMVER_PARSER_MEETS = 1
-};
-
-/* Where a part of a text is. Both are 0 if it is missing, but in a comparator `offset` is the sum
- * of the lengths before. */
-typedef struct {
-    size_t offset;
-    size_t length;
-} semver_parser_part;
-
-/* A version. The parts are without `-` and `+`. */
-typedef struct {
-    uint64_t major;
-    uint64_t minor;
-    uint64_t patch;
-    semver_parser_part pre;
-    semver_parser_part build;
-} semver_parser_version;
-
-/* A comparator. `range` counts from 0; `pre` is in `out`. */
+/* A comparator. Those of one `range` all have to hold; ranges count from 0. `pre` is valid as long
+ * as the list that it is of. */
 typedef struct {
     size_t range;
-    int32_t op;
+    semver_parser_operator op;
     uint64_t major;
     uint64_t minor;
     uint64_t patch;
-    semver_parser_part pre;
+    semver_parser_string pre;
 } semver_parser_comparator;
 
-/* Where the versions are; 0 and 0 if there is none. */
-typedef struct {
-    semver_parser_part lost;
-    semver_parser_part gained;
-    semver_parser_part shared;
-} semver_parser_comparison;
+/* Rewrites a range to plain comparators: `^1.2` gives `>=` 1.2.0 and `<` 2.0.0-0. By the crate's
+ * dialects a raised bound is such only if `exact`, and else `<2.0.0`. They say which releases
+ * satisfy the range; for pre-releases use a set. It allocates. INVALID_RANGE, NUMBER_TOO_LARGE. */
+SEMVER_PARSER_MUST_USE SEMVER_PARSER_NONNULL(4)
+semver_parser_status semver_parser_comparators_of_range(
+    semver_parser_string range, semver_parser_dialect dialect, bool exact,
+    semver_parser_comparators **comparators, semver_parser_error *error);
 
-/* A switch of a set (docs/MEANING.md), and where its pre-release is. Before them is a head: 1, and
- * how many are of releases and of pre-releases. */
-typedef struct {
-    uint64_t major;
-    uint64_t minor;
-    uint64_t patch;
-    size_t pre_offset;
-    size_t pre_length;
-} semver_parser_switch;
+/* Frees comparators; null is fine. */
+void semver_parser_comparators_free(semver_parser_comparators *comparators);
 
-/* A set as data. */
-typedef struct {
-    const semver_parser_switch *switches;
-    size_t count;
-    const uint8_t *bytes;
-    size_t length;
-} semver_parser_flat_set;
+/* Returns how many there are. */
+SEMVER_PARSER_NONNULL(1)
+size_t semver_parser_comparators_count(const semver_parser_comparators *comparators);
 
-/* A string in an array. */
-typedef struct {
-    const uint8_t *bytes;
-    size_t length;
-} semver_parser_text;
+/* Gives one of them. An index that is too large is INVALID_ARGUMENT. */
+SEMVER_PARSER_MUST_USE SEMVER_PARSER_NONNULL(1, 3)
+semver_parser_status semver_parser_comparators_get(
+    const semver_parser_comparators *comparators, size_t index,
+    semver_parser_comparator *comparator);
 
-/* Returns the version of the loaded library, zero-terminated. */
-const char *semver_parser_library_version(void);
-
-/* Returns an English sentence for a result or a hint, zero-terminated. */
-const char *semver_parser_fault_text(int32_t answer);
-
-/* Reads a version. `1.2.3-rc.1+b5` gives 1, 2, 3, the pre-release at offset 6 with length 4, and
- * the build at offset 11 with length 2. A version allocates nothing; the error of another text may.
- */
-int32_t semver_parser_parse_version(const uint8_t *text, size_t text_length, int32_t dialect,
-                                    semver_parser_version *out);
-
-/* Returns SEMVER_PARSER_OK exactly for a version, and otherwise the reason, one of
- * SEMVER_PARSER_VERSION_EMPTY to _VERSION_TEXT_AFTER. Then `offset` is the offset of the first
- * character that no version has there, or `text_length`: `1.2.03` gives _VERSION_LEADING_ZERO and
- * 5. The bytes need not be UTF-8. Does not allocate: `buffer` is for the function's own use, and
- * must have room for `text_length` + 8 bytes, or the answer for such a text is
- * SEMVER_PARSER_NO_ROOM. */
-int32_t semver_parser_explain_version(const uint8_t *text, size_t text_length, int32_t dialect,
-                                      uint8_t *buffer, size_t room, size_t *offset);
-
-/* Returns SEMVER_PARSER_OK exactly for a range. After _NOT_A_RANGE `offset` is the first
- * character that no range has there, or `text_length`: `1 || 2` by SEMVER_PARSER_CARGO gives 2
- * and _HINT_CARGO_BARS. After _NUMBER_TOO_LARGE it is the end of the first term that states a
- * number, or has a raised bound, above the limit. Only _NOT_A_RANGE allocates;
- * _RANGE_OUT_OF_MEMORY may replace it. */
-int32_t semver_parser_explain_range(const uint8_t *text, size_t text_length, int32_t dialect,
-                                    size_t *offset, int32_t *hint);
-
-/* Compares two versions by precedence (SemVer 2.0.0, section 11): `order` is -1, 0 or 1. Builds
- * don't count. After an error `in_other` says whether it is of `other`; the first text is read
- * first. For two versions only a pre-release of `other` allocates. */
-int32_t semver_parser_precedence(const uint8_t *version, size_t version_length,
-                                 const uint8_t *other, size_t other_length, int32_t dialect,
-                                 int32_t *order, bool *in_other);
-
-/* Rewrites a range into comparators, and prints them: `^1.2 || 3.x` by SEMVER_PARSER_NPM gives
- * `>=1.2.0 <2.0.0-0 || >=3.0.0 <4.0.0-0`. By the crate's dialects raised bounds are so only if
- * `exact`, and otherwise `<2.0.0`. By Cargo's and npm's the comparators say which releases the
- * range means. Allocates up to 155 bytes per byte. */
-int32_t semver_parser_rewrite(const uint8_t *text, size_t text_length, int32_t dialect, bool exact,
-                              uint8_t *out, size_t room, size_t *length);
-
-/* Gives the same comparators as data, with their pre-releases one after the other in `out`.
- * `^1.2.3-rc.1` by SEMVER_PARSER_NPM gives `rc.10`: `>=` 1, 2, 3 with offset 0 and length 4, and
- * `<` 2, 0, 0 with 4 and 1. Allocates up to 300 bytes per byte. */
-int32_t semver_parser_comparators(const uint8_t *text, size_t text_length, int32_t dialect,
-                                  bool exact, semver_parser_comparator *comparators,
-                                  size_t comparator_room, size_t *count, uint8_t *out, size_t room,
-                                  size_t *length);
-
-/* Returns whether a range means a version: by the meaning of the text, and not by its comparators.
- * Builds don't count. Allocates only for a text that is no version:
- * SEMVER_PARSER_RANGE_OUT_OF_MEMORY never comes. */
-int32_t semver_parser_meets(const uint8_t *range, size_t range_length, int32_t dialect,
-                            int32_t pre_releases, const uint8_t *version, size_t version_length,
-                            bool *meets);
-
-/* The same for `count` versions. Each byte of `answers` is SEMVER_PARSER_MEETS,
- * SEMVER_PARSER_DOES_NOT_MEET, or the error of that version. If an empty string is null, the array
- * is copied. */
-int32_t semver_parser_meets_each(const uint8_t *range, size_t range_length, int32_t dialect,
-                                 int32_t pre_releases, const semver_parser_text *versions,
-                                 size_t count, uint8_t *answers);
-
-/* Prints the least version that a range means, without a build. `length` is 0 exactly if it means
- * none. `>1.0.0-rc.1` has 1.0.0 by SEMVER_PARSER_EXCLUDED, and else 1.0.0-rc.1.0. */
-int32_t semver_parser_least(const uint8_t *range, size_t range_length, int32_t dialect,
-                            int32_t pre_releases, uint8_t *out, size_t room, size_t *length);
-
-/* Prints the least versions that are lost, gained and shared, one after the other, if a new range
- * replaces an old one. By SEMVER_PARSER_EXCLUDED `^1.2.0` and `>=1.4.0` give
- * `1.2.02.0.01.4.0`, lost at 0, gained at 5 and shared at 10. `comparison` is also written if the
- * buffer is too small. Errors of the old range come first, then those of the new one, then
- * SEMVER_PARSER_NEW_RANGE_OUT_OF_MEMORY. */
-int32_t semver_parser_compare(const uint8_t *old_range, size_t old_range_length,
-                              const uint8_t *new_range, size_t new_range_length, int32_t dialect,
-                              int32_t pre_releases, uint8_t *out, size_t room, size_t *length,
-                              semver_parser_comparison *comparison);
-
-/* Makes a range into a set of versions as data, which can be copied and stored. Equal sets have
- * equal data: `^1.2` by SEMVER_PARSER_EXCLUDED gives 1, 2, 0, then 1, 2, 0, then 2, 0, 0. */
-int32_t semver_parser_set(const uint8_t *range, size_t range_length, int32_t dialect,
-                          int32_t pre_releases, semver_parser_switch *made, size_t made_room,
-                          size_t *count, uint8_t *out, size_t room, size_t *length);
-
-/* Returns whether a set has a version. Other data gives SEMVER_PARSER_NOT_A_SET, here and below. */
-int32_t semver_parser_set_has(semver_parser_flat_set set, const uint8_t *version,
-                              size_t version_length, int32_t dialect, bool *is_in);
-
-/* Makes a set of two. */
-int32_t semver_parser_combine(semver_parser_flat_set set, semver_parser_flat_set other,
-                              int32_t operation, semver_parser_switch *made, size_t made_room,
-                              size_t *count, uint8_t *out, size_t room, size_t *length);
-
-/* Returns whether a set is within another, and whether it contains it. */
-int32_t semver_parser_compare_sets(semver_parser_flat_set set, semver_parser_flat_set other,
-                                   bool *within, bool *contains);
-
-/* Prints the least version of a set. `length` is 0 exactly if it has none. */
-int32_t semver_parser_set_least(semver_parser_flat_set set, uint8_t *out, size_t room,
-                                size_t *length);
-
-/* Prints the releases of a set, or its pre-releases, as a range: `>=1.2.0 <2.0.0`, `*` for all,
- * `<0.0.0-0` for none. */
-int32_t semver_parser_print_set(semver_parser_flat_set set, bool pre_releases, uint8_t *out,
-                                size_t room, size_t *length);
+/* Prints them: `>=1.2.0 <2.0.0-0 || >=3.0.0 <4.0.0-0`. It allocates. */
+SEMVER_PARSER_MUST_USE SEMVER_PARSER_NONNULL(1, 2)
+semver_parser_status semver_parser_comparators_to_string(
+    const semver_parser_comparators *comparators, char **string);
 
 #ifdef __cplusplus
 }
 #endif
+
+#if defined(__GNUC__)
+#pragma GCC visibility pop
+#endif
+#undef SEMVER_PARSER_MUST_USE
+#undef SEMVER_PARSER_NONNULL
 
 #endif

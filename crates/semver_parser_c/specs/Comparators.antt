@@ -7,9 +7,9 @@ use Rattle.semver_parser.specs.declared.Op.TheVariants.{Lt, Lte, Gt, Gte, Eq}
 use Rattle.semver_parser.specs.Texts.{Text}
 use Rattle.semver_parser.specs.Outlines.{dotted_text}
 use Rattle.semver_parser.specs.RewritingTable.{PlainComparator, PlainRange, PlainSet}
-use Rattle.semver_parser_c.specs.declared.RewrittenComparator.{RewrittenComparator}
+use Rattle.semver_parser_c.specs.declared.ListedComparator.{ListedComparator}
 use Rattle.semver_parser_c.specs.Numbers as number
-use Rattle.semver_parser_c.specs.Places.{bytes_at}
+use Rattle.semver_parser_c.specs.Parts.{bytes_at}
 
 -- the number of an operator
 abbrev pub op_number : Op → ℤ
@@ -43,7 +43,7 @@ abbrev pub pre_releases : List Numbered → Text
 pre_releases cs = flat_map pre_release cs
 
 -- a comparator as it is written out where the text of its pre-release begins at an offset
-abbrev pub listed_comparator : ℕ → Numbered → RewrittenComparator
+abbrev pub listed_comparator : ℕ → Numbered → ListedComparator
 listed_comparator at c = record {
   range = c.range;
   op = op_number c.comparator.op;
@@ -54,14 +54,14 @@ listed_comparator at c = record {
 }
 
 -- comparators as they are written out: each offset is the one before and the length there
-abbrev pub listed_from : ℕ → List Numbered → List RewrittenComparator
+abbrev pub listed_from : ℕ → List Numbered → List ListedComparator
 listed_from at [] = []
 listed_from at (c ∷ cs) = listed_comparator at c ∷ listed_from (at + length (pre_release c)) cs
 
 -- the first offset is 0
-abbrev pub listed_comparators : List Numbered → List RewrittenComparator
+abbrev pub listed_comparators : List Numbered → List ListedComparator
 listed_comparators cs = listed_from 0 cs
 
 -- at the place of each is its pre-release
-abbrev pub HasPreReleases : Text → List RewrittenComparator → List Numbered → Type 0
+abbrev pub HasPreReleases : Text → List ListedComparator → List Numbered → Type 0
 HasPreReleases text told cs = AllZip (λ t c. bytes_at t.pre text ≡ pre_release c) told cs

@@ -7,7 +7,7 @@ ghost use Rattle.semver_parser.specs.RangeViews.{comparator_of, identifier_of, s
 ghost use Rattle.semver_parser_c.specs.Comparators.{comparators_of, op_number, pre_releases};
 ghost use Rattle.semver_parser_c.specs.Comparators.{listed_comparator, listed_comparators};
 
-use crate::{Part, RewrittenComparator, numbers};
+use crate::{Part, ListedComparator, numbers};
 use semver_parser::{Comparator, Identifier, Op, RangeSet};
 use semver_texts::printing::write_joined;
 use std::alloc::{AllocError, Global};
@@ -17,7 +17,7 @@ use std::fmt;
 #[derive(Drop)]
 pub struct Listed {
     /// The comparators, in order.
-    pub comparators: Vec<RewrittenComparator>,
+    pub comparators: Vec<ListedComparator>,
     /// The texts of their pre-releases, one after the other.
     pub pre_releases: String,
 }
@@ -55,7 +55,7 @@ fn append(listed: &mut Listed, number: usize, comparator: &Comparator) -> Result
     let pre_release = Dotted(&comparator.pre);
     write!(listed.pre_releases, "{pre_release}")?;
     let length = listed.pre_releases.as_bytes().len() - offset;
-    listed.comparators.push(RewrittenComparator {
+    listed.comparators.push(ListedComparator {
         range: number,
         op: op_number(&comparator.op),
         major: comparator.major,

@@ -1,8 +1,9 @@
 //! Sets as flat data: numbers and bytes without pointers, which can be copied and stored.
 
-ghost use Rattle.std.specs.Prelude.{◌≡◌};
+ghost use Rattle.std.specs.Prelude.{◌≡◌, ◌↔◌, true};
 ghost use Rattle.semver_parser.specs.Outlines.{version_of};
-ghost use Rattle.version_sets.specs.VersionSets.{has};
+ghost use Rattle.semver_parser.specs.Versions.{PlainVersion};
+ghost use Rattle.version_sets.specs.VersionSets.{has, IsIn};
 
 use crate::flat_places::{Place, is_among};
 use semver_parser::version::Outline;
@@ -49,6 +50,14 @@ impl<'a> Model for FlatSet<'a> {
 }
 
 impl<'a> FlatSet<'a> {
+    // Answer: equation.
+    /// Whether no version is in the set. It does not allocate.
+    pub fn is_empty(&self) -> bool
+        ensures { (result ≡ true) ↔ ((v : PlainVersion) → ¬ IsIn v self.now) }
+    {
+        self.releases.is_empty() && self.pre_releases.is_empty()
+    }
+
     // Answer: equation.
     /// Whether the version of an outline is in the set, as `VersionSet::has_outline` says. It
     /// takes time in the number of switches, and no memory.

@@ -1,4 +1,0 @@
-pub mod TextErrors
-pub mod MeantSets
-pub mod VersionErrors
-pub mod Questions

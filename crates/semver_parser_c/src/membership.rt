@@ -1,0 +1,178 @@
+//! The functions that ask a set about versions: whether it contains one, or each of many, and which
+//! is the highest or the lowest.
+
+ghost use Rattle.std.specs.Prelude.{◌≡◌, ◌↔◌, MatchOption, map, true};
+ghost use Rattle.std.specs.declared.cmp.Ordering.TheVariants.{Less};
+ghost use Rattle.semver_parser.specs.Outlines.{version_of};
+ghost use Rattle.semver_parser.specs.ToolVersions.{SpellsIn};
+ghost use Rattle.tool_ranges.specs.Dialects.{grammar_of};
+ghost use Rattle.version_sets.specs.VersionSets.{has};
+ghost use Rattle.semver_parser_c.specs.Membership.{Contains, ContainsEach, FindsHighest};
+ghost use Rattle.semver_parser_c.specs.Membership.{IsByteFor, IsHighestIndex, IsMemberText};
+ghost use Rattle.semver_parser_c.specs.Membership.{order_for};
+
+use crate::numbers;
+use crate::options::dialect_of;
+use crate::versions::precedence;
+use semver_parser::version::{Outline, outline_in};
+use tool_ranges::dialect::Dialect;
+use version_sets::{FlatSet, FlatSwitch};
+
+// Answer: law semver_parser_c::laws::one_membership.
+/// Finds whether a version is in a set: `OK` with the answer in `contains`. The version is read in
+/// a dialect. Build metadata is ignored. It does not allocate.
+///
+/// # Errors
+///
+/// `INVALID_ARGUMENT` if no dialect has the number, or the data is no set, then `INVALID_VERSION`.
+/// Then `contains` is as it was.
+#[unsafe(no_mangle)]
+pub extern "C" fn semver_parser_proved_contains(
+    switches: &[FlatSwitch],
+    bytes: &[u8],
+    version: &[u8],
+    dialect: i32,
+    contains: &mut bool,
+) -> i32
+    ensures { Contains dialect (record { switches = switches.now; bytes = bytes.now }) version.now
+        contains.old contains.new result }
+{
+    let Some(dialect) = dialect_of(dialect) else {
+        return numbers::INVALID_ARGUMENT;
+    };
+    let Some(set) = FlatSet::read(switches, bytes) else {
+        return numbers::INVALID_ARGUMENT;
+    };
+    match outline_in(version, dialect.grammar()) {
+        Some(outline) => {
+            *contains = set.has_outline(&outline);
+            numbers::OK
+        }
+        None => numbers::INVALID_VERSION,
+    }
+}
+
+// Answer: law semver_parser_c::laws::one_memberships.
+/// Finds whether each of many versions is in a set: `OK` with a byte in `answers` for each:
+/// `CONTAINED`, `NOT_CONTAINED`, or `NO_VERSION`. If `versions` and `answers` differ in length, as
+/// many are written as the shorter has. It does not allocate.
+///
+/// # Errors
+///
+/// `INVALID_ARGUMENT` if no dialect has the number, or the data is no set. Then `answers` is as it
+/// was.
+#[unsafe(no_mangle)]
+pub extern "C" fn semver_parser_proved_contains_each(
+    switches: &[FlatSwitch],
+    bytes: &[u8],
+    versions: &[&[u8]],
+    dialect: i32,
+    answers: &mut [u8],
+) -> i32
+    ensures { ContainsEach dialect (record { switches = switches.now; bytes = bytes.now })
+        (map (λ text. text.now) versions.now) answers.old answers.new result }
+{
+    let Some(dialect) = dialect_of(dialect) else {
+        return numbers::INVALID_ARGUMENT;
+    };
+    let Some(set) = FlatSet::read(switches, bytes) else {
+        return numbers::INVALID_ARGUMENT;
+    };
+    for at in 0..versions.len().min(answers.len()) {
+        answers[at] = byte_for(&set, versions[at], dialect);
+    }
+    numbers::OK
+}
+
+/// What is written for a string.
+#[inline(always)]
+fn byte_for(set: &FlatSet<'_>, version: &[u8], dialect: Dialect) -> u8
+    ensures { IsByteFor dialect set.now version.now result }
+{
+    match outline_in(version, dialect.grammar()) {
+        None => numbers::NO_VERSION,
+        Some(outline) if set.has_outline(&outline) => numbers::CONTAINED,
+        Some(_) => numbers::NOT_CONTAINED,
+    }
+}
+
+// Answer: law semver_parser_c::laws::one_highest.
+/// Finds the highest of many versions that are in a set, or the lowest if `lowest`, by precedence
+/// (SemVer 2.0.0, section 11), the first of equal ones: `OK` with its index in `index`, or how many
+/// strings there are if no version is in the set. Invalid versions are skipped. It does not
+/// allocate.
+///
+/// # Errors
+///
+/// `INVALID_ARGUMENT` if no dialect has the number, or the data is no set. Then `index` is as it
+/// was.
+#[unsafe(no_mangle)]
+pub extern "C" fn semver_parser_proved_highest(
+    switches: &[FlatSwitch],
+    bytes: &[u8],
+    versions: &[&[u8]],
+    dialect: i32,
+    lowest: bool,
+    index: &mut usize,
+) -> i32
+    ensures { FindsHighest dialect (record { switches = switches.now; bytes = bytes.now })
+        (map (λ text. text.now) versions.now) lowest index.old index.new result }
+{
+    let Some(dialect) = dialect_of(dialect) else {
+        return numbers::INVALID_ARGUMENT;
+    };
+    let Some(set) = FlatSet::read(switches, bytes) else {
+        return numbers::INVALID_ARGUMENT;
+    };
+    *index = highest(&set, versions, dialect, lowest);
+    numbers::OK
+}
+
+/// The index of the highest, or how many strings there are.
+fn highest(set: &FlatSet<'_>, versions: &[&[u8]], dialect: Dialect, lowest: bool) -> usize
+    ensures { IsHighestIndex lowest dialect set.now (map (λ text. text.now) versions.now) result }
+{
+    let mut found = versions.len();
+    let mut best: Option<Outline<'_>> = None;
+    for at in 0..versions.len() {
+        let Some(outline) = member(set, versions[at], dialect) else {
+            continue;
+        };
+        if is_above(&outline, &best, lowest) {
+            best = Some(outline);
+            found = at;
+        }
+    }
+    found
+}
+
+/// The outline of a version that is in a set.
+#[inline(always)]
+fn member<'t>(set: &FlatSet<'_>, version: &'t [u8], dialect: Dialect) -> Option<Outline<'t>>
+    ensures { MatchOption result (¬ (IsMemberText dialect set.now version.now))
+        (λ outline. SpellsIn (grammar_of dialect) (version_of outline) version.now
+        × (has set.now (version_of outline).plain ≡ true)) }
+{
+    let outline = outline_in(version, dialect.grammar())?;
+    if !set.has_outline(&outline) {
+        return None;
+    }
+    Some(outline)
+}
+
+/// Whether a version is above the best one so far, if there is one, or below it if `lowest`.
+fn is_above(version: &Outline<'_>, best: &Option<Outline<'_>>, lowest: bool) -> bool
+    ensures { MatchOption best.now (result ≡ true)
+        (λ best. (result ≡ true) ↔ (order_for lowest (version_of best).plain
+        (version_of version.now).plain ≡ Less)) }
+{
+    let Some(best) = best else {
+        return true;
+    };
+    let order = precedence(best, version);
+    if lowest {
+        order.is_gt()
+    } else {
+        order.is_lt()
+    }
+}

@@ -1,0 +1,233 @@
+//! The functions on ranges: whether a version satisfies one, its comparators, and why a string is
+//! none.
+
+ghost use Rattle.std.specs.Prelude.{◌≡◌, ◌≢◌, Err, IfErr, IfOk, IsUtf8, take};
+ghost use Rattle.semver_parser.specs.RangeViews.{set_of};
+ghost use Rattle.semver_parser.specs.declared.RangeError.TheVariants.{NotARange};
+ghost use Rattle.tool_ranges.specs.Dialects.{RefusesAs, SpellsAs, TreeOf};
+ghost use Rattle.tool_ranges.specs.declared.dialect.Dialect.{Dialect as SomeDialect};
+ghost use Rattle.semver_parser_c.specs.Comparators.{HasPreReleases, comparators_of};
+ghost use Rattle.semver_parser_c.specs.Numbers as number;
+ghost use Rattle.semver_parser_c.specs.Options.{dialect_number};
+ghost use Rattle.semver_parser_c.specs.Ranges.{ExplainsRange, IsSetFor, ListsComparators};
+ghost use Rattle.semver_parser_c.specs.Ranges.{PrintsComparators, Satisfies, set_for};
+
+use crate::buffers::{put, put_both};
+use crate::options::{dialect_of, meaning_of};
+use crate::reasons::hint_number;
+use crate::{ListedComparator, comparators, numbers};
+use semver_parser::version::outline_in;
+use semver_parser::{Compat, RangeError, RangeSet};
+use std::alloc::Global;
+use tool_ranges::dialect::{self, Dialect};
+use tool_ranges::meaning;
+use tool_ranges::refusals::refused;
+
+// Answer: law semver_parser_c::laws::one_satisfaction.
+/// Finds whether a version satisfies a range, by a dialect and by a rule for pre-releases: `OK`
+/// with the answer in `satisfies`. It does not allocate.
+///
+/// It goes by what the range means, and not by comparators.
+///
+/// # Errors
+///
+/// `INVALID_ARGUMENT` if a number names no dialect or rule, then `INVALID_VERSION`, and then
+/// `INVALID_RANGE` or `NUMBER_TOO_LARGE`. Then `satisfies` is as it was.
+#[unsafe(no_mangle)]
+pub extern "C" fn semver_parser_proved_satisfies(
+    version: &[u8],
+    range: &[u8],
+    dialect: i32,
+    pre_releases: i32,
+    satisfies: &mut bool,
+) -> i32
+    ensures { Satisfies dialect pre_releases version.now range.now satisfies.old satisfies.new
+        result }
+{
+    let Some(meaning) = meaning_of(dialect, pre_releases) else {
+        return numbers::INVALID_ARGUMENT;
+    };
+    let Some(outline) = outline_in(version, meaning.dialect.grammar()) else {
+        return numbers::INVALID_VERSION;
+    };
+    let Ok(text) = std::str::from_utf8(range) else {
+        return numbers::INVALID_RANGE;
+    };
+    match meaning::meets(meaning, text, &outline) {
+        Ok(met) => {
+            *satisfies = met;
+            numbers::OK
+        }
+        Err(RangeError::NotARange) => numbers::INVALID_RANGE,
+        Err(RangeError::NumberTooLarge) => numbers::NUMBER_TOO_LARGE,
+        Err(RangeError::OutOfMemory) => unreachable!(),
+    }
+}
+
+// Answer: free, the hint (else law laws::one_range_explanation): ../replayed_cases/stdin.
+/// Finds where and why a string is no range of a dialect: `OK` if it is one whose numbers fit, else
+/// `INVALID_RANGE` or `NUMBER_TOO_LARGE` with `offset` and the number of the reason.
+///
+/// `1 || 2` by `CARGO` gives 2 and `REASON_CARGO_BARS`. After `INVALID_RANGE` `offset` is that of
+/// the first character that no range has there, or the length of the string if something is missing
+/// at its end; if the bytes aren't UTF-8, that is the reason, and `offset` that of the first byte
+/// that isn't. After `NUMBER_TOO_LARGE` it is the end of the first term that states a number, or
+/// has a raised bound, above the limit of the dialect.
+///
+/// # Errors
+///
+/// `INVALID_ARGUMENT` if no dialect has the number, and `OUT_OF_MEMORY` in place of `INVALID_RANGE`.
+/// After these and `OK` all is as it was.
+#[unsafe(no_mangle)]
+pub extern "C" fn semver_parser_proved_explain_range(
+    alloc: Global,
+    range: &[u8],
+    dialect: i32,
+    offset: &mut usize,
+    reason: &mut i32,
+) -> i32
+    ensures explains { ExplainsRange dialect range.now offset.new reason.new
+        ((offset.new ≡ offset.old) × (reason.new ≡ reason.old)) result }
+{
+    let Some(dialect) = dialect_of(dialect) else {
+        return numbers::INVALID_ARGUMENT;
+    };
+    let text = match std::str::from_utf8(range) {
+        Ok(text) => text,
+        Err(error) => {
+            *offset = error.valid_up_to();
+            *reason = numbers::REASON_NOT_UTF8;
+            return numbers::INVALID_RANGE;
+        }
+    };
+    match refused(alloc, dialect, text) {
+        Ok(None) => numbers::OK,
+        Ok(Some(refusal)) => {
+            *offset = refusal.offset;
+            *reason = hint_number(refusal.hint);
+            match refusal.error {
+                RangeError::NotARange => numbers::INVALID_RANGE,
+                RangeError::NumberTooLarge => numbers::NUMBER_TOO_LARGE,
+                RangeError::OutOfMemory => unreachable!(),
+            }
+        }
+        Err(_) => numbers::OUT_OF_MEMORY,
+    }
+}
+
+// Answer: law semver_parser_c::laws::one_comparators.
+/// Rewrites a range into plain comparators: `OK` with these at the front of `comparators`, and at
+/// the front of `out` the identifiers of their pre-releases, joined by dots, those of one right
+/// after those of the one before. Bounds are exact, as `<2.0.0-0`, by a tool's dialect and if
+/// `exact`, and else those of the Rust crate, as `<2.0.0`.
+///
+/// `^1.2.3-rc.1 || <2.0.0-a` gives three with exact bounds, and `rc.10a`: of range 0 `>=` 1.2.3
+/// with a pre-release at offset 0 with length 4 and `<` 2.0.0 with one at offset 4 with length 1,
+/// and of range 1 `<` 2.0.0 with one at offset 5 with length 1.
+///
+/// `count` and `length` become how many comparators and bytes there are, also if a buffer is too
+/// small: then it is `NO_ROOM`, and both buffers are as they were.
+///
+/// # Errors
+///
+/// `INVALID_ARGUMENT` if no dialect has the number, then `INVALID_RANGE` or `NUMBER_TOO_LARGE`,
+/// `OUT_OF_MEMORY`, and `NO_ROOM`. After all but the last nothing is written.
+#[unsafe(no_mangle)]
+pub extern "C" fn semver_parser_proved_comparators(
+    alloc: Global,
+    range: &[u8],
+    dialect: i32,
+    exact: bool,
+    comparators: &mut [ListedComparator],
+    count: &mut usize,
+    out: &mut [u8],
+    length: &mut usize,
+) -> i32
+    ensures lists { ListsComparators dialect exact range.now
+        (record { old = comparators.old; new = comparators.new; length_old = count.old;
+        length_new = count.new })
+        (record { old = out.old; new = out.new; length_old = length.old; length_new = length.new })
+        result }
+    // Where each says, is its pre-release, its identifiers joined by dots.
+    ensures pre_releases { result ≡ number.ok → (d : SomeDialect) → dialect ≡ dialect_number d
+        → (tree : TreeOf d) → SpellsAs d tree range.now
+        → HasPreReleases out.new (take count.new comparators.new)
+        (comparators_of (set_for exact d tree)) }
+{
+    let Some(dialect) = dialect_of(dialect) else {
+        return numbers::INVALID_ARGUMENT;
+    };
+    let set = match rewritten(alloc, range, dialect, exact) {
+        Ok(set) => set,
+        Err(RangeError::NotARange) => return numbers::INVALID_RANGE,
+        Err(RangeError::NumberTooLarge) => return numbers::NUMBER_TOO_LARGE,
+        Err(RangeError::OutOfMemory) => return numbers::OUT_OF_MEMORY,
+    };
+    match comparators::list(alloc, &set) {
+        Ok(listed) => {
+            let texts = listed.pre_releases.as_bytes();
+            put_both(&listed.comparators, texts, comparators, count, out, length)
+        }
+        Err(_) => numbers::OUT_OF_MEMORY,
+    }
+}
+
+// Answer: law semver_parser_c::laws::one_rewriting.
+/// Rewrites a range into plain comparators, as `semver_parser_proved_comparators`, and prints them:
+/// `OK` with `>=1.2.0 <2.0.0-0` at the front of `out` for `^1.2`.
+///
+/// `length` becomes the length of the string, also if the buffer is too small: then it is `NO_ROOM`,
+/// and the buffer is as it was.
+///
+/// # Errors
+///
+/// Those of `semver_parser_proved_comparators`.
+#[unsafe(no_mangle)]
+pub extern "C" fn semver_parser_proved_print_comparators(
+    alloc: Global,
+    range: &[u8],
+    dialect: i32,
+    exact: bool,
+    out: &mut [u8],
+    length: &mut usize,
+) -> i32
+    ensures { PrintsComparators dialect exact range.now
+        (record { old = out.old; new = out.new; length_old = length.old; length_new = length.new })
+        result }
+{
+    let Some(dialect) = dialect_of(dialect) else {
+        return numbers::INVALID_ARGUMENT;
+    };
+    let set = match rewritten(alloc, range, dialect, exact) {
+        Ok(set) => set,
+        Err(RangeError::NotARange) => return numbers::INVALID_RANGE,
+        Err(RangeError::NumberTooLarge) => return numbers::NUMBER_TOO_LARGE,
+        Err(RangeError::OutOfMemory) => return numbers::OUT_OF_MEMORY,
+    };
+    match set.to_string(alloc) {
+        Ok(printed) => put(printed.as_bytes(), out, length),
+        Err(_) => numbers::OUT_OF_MEMORY,
+    }
+}
+
+/// The set to which a range is rewritten; bytes that are no UTF-8 are no range.
+fn rewritten(
+    alloc: Global,
+    range: &[u8],
+    dialect: Dialect,
+    exact: bool,
+) -> Result<RangeSet, RangeError>
+    ensures utf8 { IsUtf8 range.now → RefusesAs dialect range.now result }
+    ensures accepted { IfOk result (λ _. IsUtf8 range.now) }
+    ensures refused { IfErr result (λ error. error ≢ NotARange → IsUtf8 range.now) }
+    ensures as_rewritten { IfOk result (λ set. IsSetFor exact dialect range.now (set_of set)) }
+{
+    let Ok(text) = std::str::from_utf8(range) else {
+        return Err(RangeError::NotARange);
+    };
+    match dialect {
+        Dialect::CrateCargo if !exact => RangeSet::parse(alloc, text, Compat::Cargo),
+        Dialect::CrateNpm if !exact => RangeSet::parse(alloc, text, Compat::Npm),
+        _ => dialect::rewrite(alloc, dialect, text),
+    }
+}
