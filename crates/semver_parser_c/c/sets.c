@@ -182,7 +182,8 @@ semver_parser_status semver_parser_set_contains(
     if (status == SEMVER_PARSER_INVALID_VERSION) {
         return semver_parser_refuse_version(version, set->options.dialect, 0, error);
     }
-    return (semver_parser_status)status;
+    return status == SEMVER_PARSER_OK ? SEMVER_PARSER_OK
+                                      : semver_parser_refuse((semver_parser_status)status, error);
 }
 
 /* An array of strings as the proved functions take it, without null; the caller frees it. Null if
@@ -201,19 +202,23 @@ static proved_string *copy_of(const semver_parser_string *strings, size_t count)
 
 semver_parser_status semver_parser_set_contains_each(
     const semver_parser_set *set, const semver_parser_string *versions, size_t count,
-    bool *contains, semver_parser_status *statuses) {
+    bool *contains, semver_parser_status *statuses, semver_parser_error *error) {
     if (count == 0) {
         return SEMVER_PARSER_OK;
     }
     proved_string *strings = copy_of(versions, count);
     if (strings == NULL) {
-        return SEMVER_PARSER_OUT_OF_MEMORY;
+        return semver_parser_refuse(SEMVER_PARSER_OUT_OF_MEMORY, error);
     }
+    /* The bytes are written where the answers belong, and made these. */
     uint8_t *answers = (uint8_t *)contains;
     int32_t status = semver_parser_proved_contains_each(
         set->switches, set->count, bytes_in(set), set->length, strings, count,
         (int32_t)set->options.dialect, answers, count);
     free(strings);
+    if (status != SEMVER_PARSER_OK) {
+        return semver_parser_refuse((semver_parser_status)status, error);
+    }
     for (size_t at = 0; at < count; at++) {
         if (statuses != NULL) {
             statuses[at] =
@@ -221,33 +226,34 @@ semver_parser_status semver_parser_set_contains_each(
         }
         contains[at] = answers[at] == CONTAINED;
     }
-    return (semver_parser_status)status;
+    return SEMVER_PARSER_OK;
 }
 
 static semver_parser_status find(
     const semver_parser_set *set, const semver_parser_string *versions, size_t count, bool lowest,
-    size_t *index) {
+    size_t *index, semver_parser_error *error) {
     proved_string *strings = copy_of(versions, count);
     if (strings == NULL) {
-        return SEMVER_PARSER_OUT_OF_MEMORY;
+        return semver_parser_refuse(SEMVER_PARSER_OUT_OF_MEMORY, error);
     }
     int32_t status = semver_parser_proved_highest(
         set->switches, set->count, bytes_in(set), set->length, strings, count,
         (int32_t)set->options.dialect, lowest, index);
     free(strings);
-    return (semver_parser_status)status;
+    return status == SEMVER_PARSER_OK ? SEMVER_PARSER_OK
+                                      : semver_parser_refuse((semver_parser_status)status, error);
 }
 
 semver_parser_status semver_parser_set_highest(
     const semver_parser_set *set, const semver_parser_string *versions, size_t count,
-    size_t *index) {
-    return find(set, versions, count, false, index);
+    size_t *index, semver_parser_error *error) {
+    return find(set, versions, count, false, index, error);
 }
 
 semver_parser_status semver_parser_set_lowest(
     const semver_parser_set *set, const semver_parser_string *versions, size_t count,
-    size_t *index) {
-    return find(set, versions, count, true, index);
+    size_t *index, semver_parser_error *error) {
+    return find(set, versions, count, true, index, error);
 }
 
 /* ---- strings and bytes */

@@ -135,7 +135,7 @@ typedef enum {
     /* `1.2.3 x`. */
     SEMVER_PARSER_REASON_TEXT_AFTER = 8,
 
-    /* Of a range. */
+    /* Of a range: `offset` is that of the first byte that isn't UTF-8; */
     SEMVER_PARSER_REASON_NOT_UTF8 = 9,
     SEMVER_PARSER_REASON_RANGE_LEADING_ZERO = 10,
     SEMVER_PARSER_REASON_RANGE_NOT_THREE_NUMBERS = 11,
@@ -148,6 +148,7 @@ typedef enum {
     SEMVER_PARSER_REASON_NPM_COMMA = 18,
     SEMVER_PARSER_REASON_CRATE_COMMA = 19,
     SEMVER_PARSER_REASON_CRATE_V = 20,
+    /* NUMBER_TOO_LARGE has one of these two. */
     SEMVER_PARSER_REASON_LIMIT = 21,
     SEMVER_PARSER_REASON_NPM_LIMIT = 22
 } semver_parser_reason;
@@ -164,7 +165,7 @@ typedef struct {
     semver_parser_reason reason;
 } semver_parser_error;
 
-/* Returns an English sentence, zero-terminated; of REASON_NONE an empty one. */
+/* Returns an English phrase, zero-terminated; of REASON_NONE an empty one. */
 const char *semver_parser_status_text(semver_parser_status status);
 const char *semver_parser_reason_text(semver_parser_reason reason);
 
@@ -237,18 +238,18 @@ semver_parser_status semver_parser_set_contains(
 SEMVER_PARSER_MUST_USE SEMVER_PARSER_NONNULL(1)
 semver_parser_status semver_parser_set_contains_each(
     const semver_parser_set *set, const semver_parser_string *versions, size_t count,
-    bool *contains, semver_parser_status *statuses);
+    bool *contains, semver_parser_status *statuses, semver_parser_error *error);
 
 /* Finds the highest or lowest of `count` versions that are in the set, the first of equal ones:
  * `index` becomes its index, or `count` if none is. Invalid versions are skipped. It allocates. */
 SEMVER_PARSER_MUST_USE SEMVER_PARSER_NONNULL(1, 4)
 semver_parser_status semver_parser_set_highest(
     const semver_parser_set *set, const semver_parser_string *versions, size_t count,
-    size_t *index);
+    size_t *index, semver_parser_error *error);
 SEMVER_PARSER_MUST_USE SEMVER_PARSER_NONNULL(1, 4)
 semver_parser_status semver_parser_set_lowest(
     const semver_parser_set *set, const semver_parser_string *versions, size_t count,
-    size_t *index);
+    size_t *index, semver_parser_error *error);
 
 /* Makes the set of the versions that are in one or the other, in both, or in the first alone: the
  * difference of `^1.2` and `>=1.4` contains 1.2.0 and not 1.4.0. Both sets need the same options, or

@@ -11,3 +11,4 @@ pub mod Ranges
 pub mod Sets
 pub mod Membership
 pub mod OneAnswer
+pub mod Steps

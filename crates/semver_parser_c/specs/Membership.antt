@@ -1,6 +1,7 @@
 -- Which versions are in a set, and which of them is the highest or the lowest.
-use Rattle.std.specs.Prelude.{◌≡◌, ◌≢◌, ◌⊎◌, ◌<◌, ℕ, ℤ, Bool, true, false, List, Some, IfSome}
-use Rattle.std.specs.Prelude.{length, slice_get, slice_index, if◌then◌else◌, drop}
+use Rattle.std.specs.Prelude.{◌≡◌, ◌≢◌, ◌⊎◌, ◌<◌, ◌≤◌, ℕ, ℤ, Bool, true, false, List, Some, IfSome}
+use Rattle.std.specs.Prelude.{length, slice_get, slice_index, if◌then◌else◌}
+use Rattle.std.specs.Borrow.{Bor}
 use Rattle.std.specs.Ordering.{flip_args}
 use Rattle.std.specs.declared.cmp.Ordering.{Ordering}
 use Rattle.std.specs.declared.cmp.Ordering.TheVariants.{Less, Greater}
@@ -35,15 +36,15 @@ IsByteFor d set text byte =
     × (byte ≡ membership_byte (has set v.plain)))
 
 -- a byte for each string, as far as both lists go, and nothing after them
-pub record HasByteForEach (d : Dialect) (set : SetValue) (texts : List Text) (old new : List ℕ)
+pub record HasByteForEach (d : Dialect) (set : SetValue) (texts : List (Bor Text)) (old new : List ℕ)
     : Type 0 where
   pub each : (k : ℕ) → k < length texts → k < length old
-      → IfSome (slice_get texts k) (λ text. IsByteFor d set text (slice_index new k))
-  pub after : drop (length texts) new ≡ drop (length texts) old
+      → IfSome (slice_get texts k) (λ text. IsByteFor d set text.now (slice_index new k))
+  pub after : (k : ℕ) → length texts ≤ k → slice_index new k ≡ slice_index old k
   pub length : length new ≡ length old
 
 -- whether each of many versions is in a set
-abbrev pub ContainsEach : ℤ → Given → List Text → List ℕ → List ℕ → ℤ → Type 0
+abbrev pub ContainsEach : ℤ → Given → List (Bor Text) → List ℕ → List ℕ → ℤ → Type 0
 ContainsEach dialect given texts old new r = ByDialect dialect r (new ≡ old) (λ d.
     OfSet given.switches given.bytes r (new ≡ old) (λ set.
     (r ≡ number.ok) × HasByteForEach d set texts old new))
@@ -54,12 +55,12 @@ IsMemberText d set text =
     (v : VersionValue) × SpellsIn (grammar_of d) v text × (has set v.plain ≡ true)
 
 -- the string at an index is a version that is in the set
-pub record IsMember (d : Dialect) (set : SetValue) (texts : List Text) (k : ℕ) (v : PlainVersion)
+pub record IsMember (d : Dialect) (set : SetValue) (texts : List (Bor Text)) (k : ℕ) (v : PlainVersion)
     : Type 0 where
-  pub text : Text
+  pub text : Bor Text
   pub at : slice_get texts k ≡ Some text
   pub version : VersionValue
-  pub spells : SpellsIn (grammar_of d) version text
+  pub spells : SpellsIn (grammar_of d) version text.now
   pub plain : version.plain ≡ v
   pub is_in : has set v ≡ true
 
@@ -77,13 +78,13 @@ pub record IsHighest (order : PlainVersion → PlainVersion → Ordering)
   pub later : (k : ℕ) (v : PlainVersion) → IsOne k v → order v version ≢ Greater
 
 -- the index is that of the highest, or, if there is no member, the number of strings
-abbrev pub IsHighestIndex : Bool → Dialect → SetValue → List Text → ℕ → Type 0
+abbrev pub IsHighestIndex : Bool → Dialect → SetValue → List (Bor Text) → ℕ → Type 0
 IsHighestIndex lowest d set texts index =
     IsHighest (order_for lowest) (IsMember d set texts) index
     ⊎ ((index ≡ length texts) × ((k : ℕ) (v : PlainVersion) → ¬ IsMember d set texts k v))
 
 -- which is the highest version that is in a set, or the lowest
-abbrev pub FindsHighest : ℤ → Given → List Text → Bool → ℕ → ℕ → ℤ → Type 0
+abbrev pub FindsHighest : ℤ → Given → List (Bor Text) → Bool → ℕ → ℕ → ℤ → Type 0
 FindsHighest dialect given texts lowest old new r = ByDialect dialect r (new ≡ old) (λ d.
     OfSet given.switches given.bytes r (new ≡ old) (λ set.
     (r ≡ number.ok) × IsHighestIndex lowest d set texts new))

@@ -1,6 +1,6 @@
 -- What the functions on ranges return.
-use Rattle.std.specs.Prelude.{◌≡◌, ◌⊎◌, ◌↔◌, ℕ, ℤ, Bool, false, Option, Some, IsUtf8, ◌∷◌}
-use Rattle.std.specs.List.{AllZip}
+use Rattle.std.specs.Prelude.{◌≡◌, ◌⊎◌, ℕ, ℤ, Bool, false, Option, Some, IsUtf8}
+use Rattle.std.specs.Str.Lossy.{utf8_valid_len}
 use Rattle.semver_parser.specs.RewritingTable.{rewritten, PlainSet}
 use Rattle.semver_parser.specs.PrintedRanges.{set_text}
 use Rattle.semver_parser.specs.Texts.{Text}
@@ -62,7 +62,8 @@ PrintsComparators dialect exact range buffer r = ByDialect dialect r (IsSame buf
 -- where and why a string is no range, or has a number that is too large
 abbrev pub ExplainsRange : ℤ → Text → ℕ → ℤ → Type 0 → ℤ → Type 0
 ExplainsRange dialect text offset reason Same r = ByDialect dialect r Same (λ d.
-    ((¬ IsUtf8 text) × (r ≡ number.invalid_range) × (reason ≡ number.reason_not_utf8))
+    ((¬ IsUtf8 text) × (r ≡ number.invalid_range) × (offset ≡ utf8_valid_len text)
+    × (reason ≡ number.reason_not_utf8))
     ⊎ (IsUtf8 text
     × ((HasSetAs d text × Refused number.ok r Same)
     ⊎ ((¬ IsTextAs d text) × InMemory r Same

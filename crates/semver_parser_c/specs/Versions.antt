@@ -1,9 +1,9 @@
 -- What the functions on versions return.
-use Rattle.std.specs.Prelude.{◌≡◌, ◌⊎◌, ◌+◌, ◌<◌, ℕ, ℤ, length, take}
-use Rattle.semver_parser.specs.Outlines.{IsOutlineIn, OutlineValue}
+use Rattle.std.specs.Prelude.{◌≡◌, ◌⊎◌, ◌+◌, ◌<◌, ◌≤◌, ℕ, ℤ, length, take}
+use Rattle.semver_parser.specs.Outlines.{outline_after}
 use Rattle.semver_parser.specs.Precedence.{precedence}
 use Rattle.semver_parser.specs.Texts.{Text}
-use Rattle.semver_parser.specs.ToolVersions.{IsVersionTextIn}
+use Rattle.semver_parser.specs.ToolVersions.{IsVersionTextIn, before_numbers}
 use Rattle.text_prefixes.specs.Reasons.{IsReason, byte_at}
 use Rattle.text_prefixes.specs.VersionPrefixes.{IsLongestVersionPrefix}
 use Rattle.text_prefixes.specs.declared.reasons.Reason.{Reason}
@@ -16,12 +16,11 @@ use Rattle.semver_parser_c.specs.Parts.{parsed}
 use Rattle.semver_parser_c.specs.Reasons.{reason_number}
 use Rattle.semver_parser_c.specs.declared.ParsedVersion.{ParsedVersion}
 
--- the version that a string spells in a dialect, as its outline
+-- the version that a string spells in a dialect, with where its parts are
 abbrev pub Parses : ℤ → Text → ParsedVersion → ParsedVersion → ℤ → Type 0
 Parses dialect text old new r = ByDialect dialect r (new ≡ old) (λ d.
-    ((¬ IsVersionTextIn (grammar_of d) text) × Refused number.invalid_version r (new ≡ old))
-    ⊎ ((o : OutlineValue) × IsOutlineIn (grammar_of d) text o × (r ≡ number.ok)
-    × (new ≡ parsed o)))
+    OfVersion d text r (new ≡ old) (λ v.
+    (r ≡ number.ok) × (new ≡ parsed (outline_after (before_numbers text) v))))
 
 -- the precedence of two versions; the first string is parsed first
 abbrev pub Compares : ℤ → Text → Text → ℤ → ℤ → ℤ → Type 0
@@ -44,4 +43,5 @@ ExplainsVersion dialect text room offset reason Same r = ByDialect dialect r Sam
     (IsVersionTextIn (grammar_of d) text × Refused number.ok r Same)
     ⊎ ((¬ IsVersionTextIn (grammar_of d) text)
     × (((room < length text + 8) × Refused number.no_room r Same)
-    ⊎ ((r ≡ number.invalid_version) × IsVersionRefusal d text offset reason))))
+    ⊎ ((length text + 8 ≤ room) × (r ≡ number.invalid_version)
+    × IsVersionRefusal d text offset reason))))

@@ -1,19 +1,21 @@
 //! The functions that ask a set about versions: whether it contains one, or each of many, and which
 //! is the highest or the lowest.
 
-ghost use Rattle.std.specs.Prelude.{◌≡◌, ◌↔◌, MatchOption, map, true};
+ghost use Rattle.std.specs.Prelude.{◌≡◌, ◌↔◌, MatchOption, true};
 ghost use Rattle.std.specs.declared.cmp.Ordering.TheVariants.{Less};
 ghost use Rattle.semver_parser.specs.Outlines.{version_of};
 ghost use Rattle.semver_parser.specs.ToolVersions.{SpellsIn};
 ghost use Rattle.tool_ranges.specs.Dialects.{grammar_of};
 ghost use Rattle.version_sets.specs.VersionSets.{has};
 ghost use Rattle.semver_parser_c.specs.Membership.{Contains, ContainsEach, FindsHighest};
+ghost use Rattle.semver_parser_c.specs.Membership.{HasByteForEach};
 ghost use Rattle.semver_parser_c.specs.Membership.{IsByteFor, IsHighestIndex, IsMemberText};
 ghost use Rattle.semver_parser_c.specs.Membership.{order_for};
 
 use crate::numbers;
 use crate::options::dialect_of;
 use crate::versions::precedence;
+use semver_parser::laws::one_version_in;
 use semver_parser::version::{Outline, outline_in};
 use tool_ranges::dialect::Dialect;
 use version_sets::{FlatSet, FlatSwitch};
@@ -70,7 +72,7 @@ pub extern "C" fn semver_parser_proved_contains_each(
     answers: &mut [u8],
 ) -> i32
     ensures { ContainsEach dialect (record { switches = switches.now; bytes = bytes.now })
-        (map (λ text. text.now) versions.now) answers.old answers.new result }
+        versions.now answers.old answers.new result }
 {
     let Some(dialect) = dialect_of(dialect) else {
         return numbers::INVALID_ARGUMENT;
@@ -78,10 +80,17 @@ pub extern "C" fn semver_parser_proved_contains_each(
     let Some(set) = FlatSet::read(switches, bytes) else {
         return numbers::INVALID_ARGUMENT;
     };
-    for at in 0..versions.len().min(answers.len()) {
-        answers[at] = byte_for(&set, versions[at], dialect);
-    }
+    write_each(&set, versions, dialect, answers);
     numbers::OK
+}
+
+/// Writes a byte for each string, as far as there is room.
+fn write_each(set: &FlatSet<'_>, versions: &[&[u8]], dialect: Dialect, answers: &mut [u8])
+    ensures { HasByteForEach dialect set.now versions.now answers.old answers.new }
+{
+    for at in 0..versions.len().min(answers.len()) {
+        answers[at] = byte_for(set, versions[at], dialect);
+    }
 }
 
 /// What is written for a string.
@@ -116,7 +125,7 @@ pub extern "C" fn semver_parser_proved_highest(
     index: &mut usize,
 ) -> i32
     ensures { FindsHighest dialect (record { switches = switches.now; bytes = bytes.now })
-        (map (λ text. text.now) versions.now) lowest index.old index.new result }
+        versions.now lowest index.old index.new result }
 {
     let Some(dialect) = dialect_of(dialect) else {
         return numbers::INVALID_ARGUMENT;
@@ -130,8 +139,9 @@ pub extern "C" fn semver_parser_proved_highest(
 
 /// The index of the highest, or how many strings there are.
 fn highest(set: &FlatSet<'_>, versions: &[&[u8]], dialect: Dialect, lowest: bool) -> usize
-    ensures { IsHighestIndex lowest dialect set.now (map (λ text. text.now) versions.now) result }
+    ensures { IsHighestIndex lowest dialect set.now versions.now result }
 {
+    one_version_in();
     let mut found = versions.len();
     let mut best: Option<Outline<'_>> = None;
     for at in 0..versions.len() {
@@ -153,6 +163,7 @@ fn member<'t>(set: &FlatSet<'_>, version: &'t [u8], dialect: Dialect) -> Option<
         (λ outline. SpellsIn (grammar_of dialect) (version_of outline) version.now
         × (has set.now (version_of outline).plain ≡ true)) }
 {
+    one_version_in();
     let outline = outline_in(version, dialect.grammar())?;
     if !set.has_outline(&outline) {
         return None;
@@ -169,10 +180,9 @@ fn is_above(version: &Outline<'_>, best: &Option<Outline<'_>>, lowest: bool) -> 
     let Some(best) = best else {
         return true;
     };
-    let order = precedence(best, version);
     if lowest {
-        order.is_gt()
+        precedence(version, best).is_lt()
     } else {
-        order.is_lt()
+        precedence(best, version).is_lt()
     }
 }

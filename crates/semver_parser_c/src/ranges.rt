@@ -1,16 +1,16 @@
 //! The functions on ranges: whether a version satisfies one, its comparators, and why a string is
 //! none.
 
-ghost use Rattle.std.specs.Prelude.{◌≡◌, ◌≢◌, Err, IfErr, IfOk, IsUtf8, take};
+ghost use Rattle.std.specs.Prelude.{◌≡◌, IfErr, IfOk, IsUtf8, take};
 ghost use Rattle.semver_parser.specs.RangeViews.{set_of};
-ghost use Rattle.semver_parser.specs.declared.RangeError.TheVariants.{NotARange};
-ghost use Rattle.tool_ranges.specs.Dialects.{RefusesAs, SpellsAs, TreeOf};
+ghost use Rattle.tool_ranges.specs.Dialects.{HasSetAs, RefusesAs, SpellsAs, TreeOf};
 ghost use Rattle.tool_ranges.specs.declared.dialect.Dialect.{Dialect as SomeDialect};
 ghost use Rattle.semver_parser_c.specs.Comparators.{HasPreReleases, comparators_of};
 ghost use Rattle.semver_parser_c.specs.Numbers as number;
 ghost use Rattle.semver_parser_c.specs.Options.{dialect_number};
 ghost use Rattle.semver_parser_c.specs.Ranges.{ExplainsRange, IsSetFor, ListsComparators};
 ghost use Rattle.semver_parser_c.specs.Ranges.{PrintsComparators, Satisfies, set_for};
+ghost use Rattle.semver_parser_c.specs.Steps.RangeErrors.{IsRefusedFor};
 
 use crate::buffers::{put, put_both};
 use crate::options::{dialect_of, meaning_of};
@@ -86,7 +86,7 @@ pub extern "C" fn semver_parser_proved_explain_range(
     offset: &mut usize,
     reason: &mut i32,
 ) -> i32
-    ensures explains { ExplainsRange dialect range.now offset.new reason.new
+    ensures { ExplainsRange dialect range.now offset.new reason.new
         ((offset.new ≡ offset.old) × (reason.new ≡ reason.old)) result }
 {
     let Some(dialect) = dialect_of(dialect) else {
@@ -217,17 +217,32 @@ fn rewritten(
     dialect: Dialect,
     exact: bool,
 ) -> Result<RangeSet, RangeError>
-    ensures utf8 { IsUtf8 range.now → RefusesAs dialect range.now result }
-    ensures accepted { IfOk result (λ _. IsUtf8 range.now) }
-    ensures refused { IfErr result (λ error. error ≢ NotARange → IsUtf8 range.now) }
-    ensures as_rewritten { IfOk result (λ set. IsSetFor exact dialect range.now (set_of set)) }
+    ensures as_rewritten { IfOk result (λ set. (IsUtf8 range.now × HasSetAs dialect range.now)
+        × IsSetFor exact dialect range.now (set_of set)) }
+    ensures refused { IfErr result (IsRefusedFor dialect range.now) }
 {
     let Ok(text) = std::str::from_utf8(range) else {
         return Err(RangeError::NotARange);
     };
+    rewritten_text(alloc, text, dialect, exact)
+}
+
+/// The set to which a string is rewritten.
+fn rewritten_text(
+    alloc: Global,
+    text: &str,
+    dialect: Dialect,
+    exact: bool,
+) -> Result<RangeSet, RangeError>
+    ensures refusals { RefusesAs dialect text.now result }
+    ensures as_rewritten { IfOk result (λ set. IsSetFor exact dialect text.now (set_of set)) }
+{
+    if exact {
+        return dialect::rewrite(alloc, dialect, text);
+    }
     match dialect {
-        Dialect::CrateCargo if !exact => RangeSet::parse(alloc, text, Compat::Cargo),
-        Dialect::CrateNpm if !exact => RangeSet::parse(alloc, text, Compat::Npm),
-        _ => dialect::rewrite(alloc, dialect, text),
+        Dialect::CrateCargo => RangeSet::parse(alloc, text, Compat::Cargo),
+        Dialect::CrateNpm => RangeSet::parse(alloc, text, Compat::Npm),
+        Dialect::Cargo | Dialect::Npm => dialect::rewrite(alloc, dialect, text),
     }
 }

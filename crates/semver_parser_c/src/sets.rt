@@ -1,11 +1,13 @@
 //! The functions on sets: one is made of a range or of two sets, compared, checked and printed.
 
-ghost use Rattle.std.specs.Prelude.{◌≡◌, IfErr, IfOk, MatchOption, string_bytes};
+ghost use Rattle.std.specs.Prelude.{◌≡◌, ◌≢◌, IfErr, IfOk, MatchOption, None, string_bytes};
 ghost use Rattle.version_sets.specs.Flat.{IsPrintable};
 ghost use Rattle.semver_parser_c.specs.Sets.{ChecksSet, Combines, ComparesSets, IsMadeOf};
+ghost use Rattle.semver_parser_c.specs.Outcomes.{InMemory};
+ghost use Rattle.semver_parser_c.specs.Printing.{IsSame};
 ghost use Rattle.semver_parser_c.specs.Sets.{IsOperation, MakesSet, PrintsLowest, PrintsSet};
+ghost use Rattle.semver_parser_c.specs.Sets.{PutsSet};
 ghost use Rattle.semver_parser_c.specs.Sets.{kind_text, operation_number, text_of};
-ghost use Rattle.semver_parser_c.specs.Numbers as number;
 
 use crate::buffers::{put, put_both};
 use crate::numbers;

@@ -1,0 +1,9 @@
+mod OptionNumbers
+mod ListedComparators
+mod Members
+mod RangeErrors
+mod Lowest
+mod OneOutcome
+mod OneExplanation
+mod OneSet
+mod OneMembership
