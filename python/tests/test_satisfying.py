@@ -1,9 +1,7 @@
-"""Which versions meet a range by each dialect and each rule, in order and with repeats, and the
-greatest of them."""
+"""Which versions satisfy a range by each dialect and each rule for pre-releases, in order and with
+repeats, and the highest and lowest of them."""
 
-import ctypes
 import operator
-import pickle
 import threading
 import unittest
 from functools import partial
@@ -11,25 +9,24 @@ from typing import List, Optional, Tuple
 
 from semver_parser import (
     Compat,
-    Filter,
+    Dialect,
     PreReleases,
     Range,
     RangeError,
-    RangeSet,
-    Dialect,
     Version,
     VersionError,
     compare_ranges,
-    greatest,
-    least,
-    meets,
     parse_range,
     parse_version,
     precedence,
+    satisfies,
 )
+from semver_parser.interface import INVALID_ARGUMENT, OK, COptions
 from semver_parser.library import LIBRARY
+from semver_parser.options import c_options, dialect_number
+from semver_parser.strings import c_string
 
-# The versions of the standard's section 11, from the lowest to the greatest.
+# The versions of the standard's section 11, from the lowest to the highest.
 ORDERED = [
     "1.0.0-alpha",
     "1.0.0-alpha.1",
@@ -44,13 +41,13 @@ ORDERED = [
     "2.1.1",
 ]
 
-# In the order in which the tables below have what meets.
+# In the order in which the tables below have what satisfies.
 DIALECTS = (Dialect.CARGO, Dialect.NPM, Dialect.CRATE_CARGO, Dialect.CRATE_NPM)
 RULES = (PreReleases.EXCLUDED, PreReleases.DEFAULT, PreReleases.INCLUDED)
 
 # Of docs/MEANING.md, "Which dialect?" and what it has of each tool: a range, a version, and whether
-# it meets by each dialect, in the order above and by the rule that is taken where none is named;
-# None where the text is no range.
+# it satisfies by each dialect, in the order above and with the default pre-releases; None if the
+# string is no range.
 BY_DIALECT = [
     ("1.2.3", "1.9.0", (True, False, True, False)),
     ("1.2", "1.9.0", (True, False, False, False)),
@@ -70,7 +67,8 @@ BY_DIALECT = [
     ("^1.2.3-beta", "1.3.0-rc", (False, False, False, False)),
 ]
 
-# Of docs/MEANING.md, "Three rules for pre-releases": range, version, and which rules let it meet.
+# Of docs/MEANING.md, "Three rules for pre-releases": range, version, and by which rules it
+# satisfies.
 THREE_RULES = [
     ("^1.2.3-beta.4", "1.9.0", (True, True, True)),
     ("^1.2.3-beta.4", "1.2.3-rc", (False, True, True)),
@@ -84,210 +82,196 @@ THREE_RULES = [
 ]
 
 
-class Meeting(unittest.TestCase):
+class Satisfying(unittest.TestCase):
     def test_rules(self) -> None:
-        for text, version, wanted in THREE_RULES:
-            for rule, met in zip(RULES, wanted):
-                with self.subTest(range=text, version=version, rule=rule):
-                    self.assertIs(meets(text, version, Dialect.CRATE_NPM, rule), met)
-                    self.assertIs(meets(text, version, Dialect.CRATE_CARGO, rule), met)
-                    chosen = Filter(text, Dialect.CRATE_NPM, rule)
-                    self.assertIs(chosen.meets(parse_version(version)), met)
-                    self.assertEqual(chosen.kept([version]), [version] if met else [])
+        for string, version, wanted in THREE_RULES:
+            for rule, is_wanted in zip(RULES, wanted):
+                for dialect in (Dialect.CRATE_NPM, Dialect.CRATE_CARGO):
+                    with self.subTest(range=string, version=version, rule=rule):
+                        by = {"dialect": dialect, "pre_releases": rule}
+                        self.assertIs(satisfies(version, string, **by), is_wanted)
+                        chosen = Range(string, **by)
+                        parsed = parse_version(version, dialect=dialect)
+                        for one in (version, version.encode(), parsed):
+                            self.assertIs(one in chosen, is_wanted)
+                            self.assertEqual(chosen.filter([one]), [one] if is_wanted else [])
 
     def check_dialect(
-        self, text: str, version: str, dialect: Dialect, wanted: Optional[bool]
+        self, string: str, version: str, dialect: Dialect, wanted: Optional[bool]
     ) -> None:
-        """Whether a version meets by the rule of a dialect, and among releases alone."""
+        """Whether a version satisfies with the default pre-releases, and with none."""
         if wanted is None:
-            for rule in (None, *PreReleases):
+            for rule in PreReleases:
                 with self.assertRaises(RangeError):
-                    Filter(text, dialect, rule)
+                    Range(string, dialect=dialect, pre_releases=rule)
                 with self.assertRaises(RangeError):
-                    meets(text, version, dialect, rule)
+                    satisfies(version, string, dialect=dialect, pre_releases=rule)
             return
-        for rule in (None, PreReleases.DEFAULT):
-            self.assertIs(meets(text, version, dialect, rule), wanted)
-            chosen = Filter(text, dialect, rule)
+        self.assertIs(satisfies(version, string, dialect=dialect), wanted)
+        for chosen in (
+            Range(string, dialect=dialect),
+            Range(string, dialect=dialect, pre_releases=PreReleases.DEFAULT),
+            Range(string, dialect=dialect.value, pre_releases="default"),
+        ):
             self.assertIs(version in chosen, wanted)
-            self.assertEqual(chosen.kept([version, version]), 2 * [version] if wanted else [])
-            self.assertEqual(greatest(text, [version], dialect, rule), version if wanted else None)
+            self.assertEqual(chosen.filter([version, version]), 2 * [version] if wanted else [])
+            self.assertEqual(chosen.highest([version]), version if wanted else None)
+            self.assertEqual(chosen.lowest([version]), version if wanted else None)
         alone = wanted and "-" not in version
-        self.assertIs(meets(text, version, dialect, PreReleases.EXCLUDED), alone)
+        self.assertIs(satisfies(version, string, dialect=dialect, pre_releases="excluded"), alone)
 
     def test_dialects(self) -> None:
-        for text, version, wanted in BY_DIALECT:
-            for dialect, met in zip(DIALECTS, wanted):
-                with self.subTest(range=text, version=version, dialect=dialect):
-                    self.check_dialect(text, version, dialect, met)
-
-    def test_rules_of_dialects(self) -> None:
-        """Each dialect takes each rule in every call."""
-        calls = [
-            lambda *by: meets("^1", "1.2.3", *by),
-            lambda *by: Filter("^1", *by),
-            lambda *by: greatest("^1", ["1.2.3"], *by),
-            lambda *by: least("^1", *by),
-            lambda *by: compare_ranges("^1", "^1.2", *by),
-        ]
-        for dialect in Dialect:
-            for rule in PreReleases:
-                for call in calls:
-                    with self.subTest(dialect=dialect, rule=rule):
-                        call(dialect, rule)
-
-    def test_numbers_of_the_library(self) -> None:
-        """Each number is one of a dialect or of a rule, and beside these there is none."""
-        for dialect in Dialect:
-            for rule in PreReleases:
-                self.assertNotEqual(self.asked(dialect.value, rule.value), 15)
-            for number in (-1, len(PreReleases)):
-                self.assertEqual(self.asked(dialect.value, number), 15)
-        for number in (-1, len(Dialect)):
-            self.assertEqual(self.asked(number, 0), 20)
-
-    def asked(self, dialect: int, rule: int) -> int:
-        """What the library answers."""
-        length = ctypes.c_size_t()
-        answer: int = LIBRARY.semver_parser_least(b"1", 1, dialect, rule, b"", 0, length)
-        return answer
-
-    def test_defaults(self) -> None:
-        self.assertTrue(meets("1.2.3", "1.9.0"))
-        self.assertTrue(meets("1.2", "1.9.0"))
-        self.assertFalse(meets("1.2.3", "1.9.0", Dialect.NPM))
-        self.assertTrue(meets("^1.2.3-beta", "1.2.3-rc"))
-        self.assertFalse(meets("^1.2.3-beta", "1.3.0-rc"))
-        for dialect in Dialect:
-            self.assertIs(Filter("1", dialect).pre_releases, PreReleases.DEFAULT)
-            self.assertEqual(Filter("1", dialect), Filter("1", dialect, PreReleases.DEFAULT))
+        for string, version, wanted in BY_DIALECT:
+            for dialect, is_wanted in zip(DIALECTS, wanted):
+                with self.subTest(range=string, version=version, dialect=dialect):
+                    self.check_dialect(string, version, dialect, is_wanted)
 
     def test_errors(self) -> None:
-        for call in (meets, lambda text, version: Filter(text).meets(version)):
+        """A version is refused first."""
+        for call in (
+            lambda version, string: satisfies(version, string, dialect="cargo"),
+            lambda version, string: version in Range(string, dialect="cargo"),
+        ):
             with self.assertRaises(RangeError) as of_range:
-                call("v1", "v1")
-            self.assertEqual(of_range.exception.name, "not-a-range")
-            self.assertEqual(of_range.exception.text, "v1")
+                call("1.0.0", "v1")
+            self.assertEqual(of_range.exception.string, "v1")
+            self.assertIs(of_range.exception.dialect, Dialect.CARGO)
             with self.assertRaises(VersionError) as of_version:
-                call("^1", b"1.2.3\xff")
-            self.assertEqual(of_version.exception.name, "not-utf8")
-            self.assertEqual(of_version.exception.text, b"1.2.3\xff")
+                call(b"1.2.3\xff", "^1")
+            self.assertEqual(of_version.exception.string, b"1.2.3\xff")
+        with self.assertRaises(VersionError):
+            satisfies("v1", "v1", dialect="cargo")
 
     def test_versions_made_by_hand(self) -> None:
-        self.assertTrue(meets("=1.2.3-5", Version(1, 2, 3, (5,))))
-        self.assertTrue(meets("=1.2.3", Version(1, 2, 3, (), ("05", "b-c"))))
-
-    def test_in_a_filter(self) -> None:
-        for text, version, wanted in THREE_RULES:
-            for rule, met in zip(RULES, wanted):
-                chosen = Filter(text, Dialect.CRATE_NPM, rule)
-                for asked in (version, version.encode(), parse_version(version)):
-                    self.assertIs(asked in chosen, met, (text, version, rule))
-        with self.assertRaises(VersionError):
-            "1.2" in Filter("^1")
-        with self.assertRaises(TypeError):
-            1 in Filter("^1")
-
-    def test_in_a_range_set(self) -> None:
-        """It goes by the comparators, which differ from the text in pre-releases of a raised bound
-        alone, and not where bounds are exact."""
-        crate = Dialect.CRATE_CARGO
-        for dialect in (crate, Dialect.CRATE_NPM):
-            for text, version, wanted in THREE_RULES:
-                for exact in (False, True):
-                    answered = parse_range(text, dialect, exact)
-                    self.assertIs(version in answered, wanted[1], (text, version, exact))
-                    self.assertIs(parse_version(version) in answered, wanted[1])
-        self.assertIn("2.0.0-a", parse_range("^1.2 <2.0.0-b", crate))
-        self.assertNotIn("2.0.0-a", parse_range("^1.2 <2.0.0-b", crate, exact=True))
-        self.assertIn("1.9.0", parse_range("1.2.3"))
-        self.assertNotIn("1.9.0", parse_range("1.2.3", Dialect.NPM))
-        for version in ("0.0.0", b"1.0.0", Version(1, 0, 0)):
-            self.assertIn(version, parse_range("", Dialect.NPM))
-            self.assertIn(version, parse_range("*"))
-            self.assertIn(version, RangeSet((Range((), Compat.NPM),), Compat.NPM))
-            self.assertNotIn(version, RangeSet((), Compat.NPM))
-        for answered in (parse_range("^1"), RangeSet((), Compat.CARGO)):
-            for no_version in ("1.2", "1.2.3--a", Version(1, 2, 3, ("-a",))):
-                with self.assertRaises(VersionError) as caught:
-                    no_version in answered
-                self.assertNotEqual(caught.exception.name, "not-a-version")
-            with self.assertRaises(TypeError):
-                1 in answered
-
-    def test_tools_in_a_range_set(self) -> None:
-        """Of releases the comparators tell what the text means to the tool, and of pre-releases
-        what they state: so the text has to be asked for those of the tool."""
-        for text, dialect, version, means, states in (
-            ("* || =1.0.0-a", Dialect.NPM, "1.0.0-a", False, True),
-            ("^1.2.3-beta", Dialect.NPM, "1.2.3-rc", True, True),
-            ("=1.2, >=1.2.0-a", Dialect.CARGO, "1.2.0-b", False, False),
-            ("^1.2, >=1.2.0-a", Dialect.CARGO, "1.2.0-b", True, False),
-        ):
-            self.assertIs(meets(text, version, dialect), means, text)
-            self.assertIs(version in parse_range(text, dialect), states, text)
-        for text, version, wanted in BY_DIALECT:
-            for dialect, met in zip(Dialect, wanted):
-                if met is not None and "-" not in version:
-                    self.assertIs(version in parse_range(text, dialect), met, (text, dialect))
+        self.assertTrue(satisfies(Version(1, 2, 3, (5,)), "=1.2.3-5", dialect="cargo"))
+        made = Version(1, 2, 3, (), ("05", "b-c"))
+        self.assertTrue(satisfies(made, "=1.2.3", dialect="cargo"))
 
     def test_other_types(self) -> None:
-        for arguments in (("1", 1), (None, "1.2.3"), ("1", "1.2.3", "npm"), ("1", "1.2.3", 1)):
+        for version, string in ((1, "1"), ("1.2.3", None), (None, "1"), ("1.2.3", b"1"[0])):
             with self.assertRaises(TypeError):
-                meets(*arguments)
-        for dialect in (1, True, "npm", None, Compat.NPM):
-            for call in (Filter, least, partial(compare_ranges, "1")):
-                for rule in (None, *PreReleases):
-                    with self.assertRaisesRegex(TypeError, "^a dialect is a Dialect, and not "):
-                        call("1", dialect, rule)
-        for rule in (1, True, "stated", Dialect.NPM):
-            for call in (Filter, least, partial(compare_ranges, "1")):
-                with self.assertRaisesRegex(TypeError, "^a rule for pre-releases is a PreReleases"):
-                    call("1", Dialect.CRATE_NPM, rule)
+                satisfies(version, string, dialect="npm")
+        with self.assertRaises(TypeError):
+            satisfies("1.2.3", Range("1", dialect="npm"), dialect="npm")
+        with self.assertRaises(TypeError):
+            1 in Range("^1", dialect="npm")
 
 
-class Kept(unittest.TestCase):
+class Options(unittest.TestCase):
+    """Each function that takes options takes the same, and nothing else."""
+
+    CALLS = (
+        partial(satisfies, "1.2.3", "^1"),
+        partial(Range, "^1"),
+        partial(compare_ranges, "^1", "^1.2"),
+    )
+    OF_DIALECT = (partial(parse_version, "1.2.3"), partial(parse_range, "^1"), *CALLS)
+
+    def test_each(self) -> None:
+        for dialect in Dialect:
+            for call in self.OF_DIALECT:
+                self.assertEqual(call(dialect=dialect), call(dialect=dialect.value))
+            for rule in PreReleases:
+                for call in self.CALLS:
+                    one = call(dialect=dialect, pre_releases=rule)
+                    self.assertEqual(one, call(dialect=dialect.value, pre_releases=rule.value))
+        values = ["cargo", "npm", "crate-cargo", "crate-npm"]
+        self.assertEqual([it.value for it in Dialect], values)
+        self.assertEqual([it.value for it in PreReleases], ["default", "included", "excluded"])
+
+    def test_dialect_is_required_by_name(self) -> None:
+        for call in self.OF_DIALECT:
+            with self.assertRaisesRegex(TypeError, "dialect"):
+                call()
+            with self.assertRaises(TypeError):
+                call("npm")
+
+    def test_other_dialects(self) -> None:
+        for call in self.OF_DIALECT:
+            for wrong in (1, True, None, b"npm", Compat.NPM, PreReleases.DEFAULT):
+                with self.assertRaisesRegex(TypeError, "^dialect is a Dialect or one of 'cargo', "):
+                    call(dialect=wrong)
+            for wrong in ("", "NPM", "yarn", "cargo "):
+                with self.assertRaisesRegex(ValueError, "^dialect is one of 'cargo', 'npm', "):
+                    call(dialect=wrong)
+
+    def test_other_rules(self) -> None:
+        for call in self.CALLS:
+            for wrong in (1, True, None, b"default", Dialect.NPM):
+                with self.assertRaisesRegex(TypeError, "^pre_releases is a PreReleases or one of "):
+                    call(dialect="npm", pre_releases=wrong)
+            for wrong in ("", "stated", "Default"):
+                with self.assertRaisesRegex(ValueError, "^pre_releases is one of 'default', "):
+                    call(dialect="npm", pre_releases=wrong)
+
+    def test_numbers_of_the_library(self) -> None:
+        """Each number is one of an option, and beside these there is none."""
+        for dialect in Dialect:
+            for rule in PreReleases:
+                self.assertEqual(self.status(c_options(dialect, rule)), OK)
+            for number in (-1, len(PreReleases)):
+                options = COptions(dialect_number(dialect), number)
+                self.assertEqual(self.status(options), INVALID_ARGUMENT)
+        for number in (-1, len(Dialect)):
+            self.assertEqual(self.status(COptions(number, 0)), INVALID_ARGUMENT)
+
+    def status(self, options: COptions) -> int:
+        """The status that the library returns."""
+        flag = LIBRARY.semver_parser_satisfies.argtypes[3]._type_()
+        strings = (c_string("1.0.0"), c_string("1"))
+        status: int = LIBRARY.semver_parser_satisfies(*strings, options, flag, None)
+        return status
+
+
+class Filtered(unittest.TestCase):
     def test_order_and_repeats(self) -> None:
+        chosen = Range("^1.2", dialect="cargo")
         given = ["1.5.0", b"1.2.0", Version(1, 3, 0), "2.0.0", "1.5.0", "1.5.0+b"]
-        kept = Filter("^1.2").kept(given)
-        self.assertEqual(kept, ["1.5.0", b"1.2.0", Version(1, 3, 0), "1.5.0", "1.5.0+b"])
-        self.assertIs(kept[2], given[2])
-        self.assertEqual(Filter("^1.2").kept([]), [])
-        self.assertEqual(Filter("^1.2").kept(iter(given)), kept)
+        wanted = ["1.5.0", b"1.2.0", Version(1, 3, 0), "1.5.0", "1.5.0+b"]
+        filtered = chosen.filter(given)
+        self.assertEqual(filtered, wanted)
+        self.assertIs(filtered[2], given[2])
+        self.assertEqual(chosen.filter([]), [])
+        self.assertEqual(chosen.filter(iter(given)), wanted)
+        self.assertIsNone(chosen.highest([]))
 
     def test_errors(self) -> None:
         given = ["1.2.0", "1.2", "\ud800", "1.2.3/", "1.4.0"]
-        for dialect, name, sentence in (
-            (Dialect.CARGO, "not-a-version", "not a version"),
-            (Dialect.NPM, "not-a-version", "not a version"),
-            (Dialect.CRATE_CARGO, "unexpected-end", "the version ends too early"),
-            (Dialect.CRATE_NPM, "unexpected-end", "the version ends too early"),
-        ):
-            with self.assertRaises(VersionError) as caught:
-                Filter("^1.2", dialect).kept(given)
-            error = caught.exception
-            self.assertEqual((error.name, error.text, error.index), (name, "1.2", 1))
-            self.assertEqual(str(error), f"{sentence}, at index 1: '1.2'")
-            again = pickle.loads(pickle.dumps(error))
-            self.assertEqual((again.index, str(again)), (1, str(error)))
-        self.assertEqual(Filter("^1.2").kept(given, pass_over=True), ["1.2.0", "1.4.0"])
-        self.assertEqual(Filter("^1.2").greatest(given, pass_over=True), "1.4.0")
-        with self.assertRaises(RangeError):
-            Filter("v1")
-        for pass_over in (False, True):
-            with self.assertRaisesRegex(TypeError, "NoneType, at index 2$"):
-                Filter("^1").kept(["1.2.3", "x", None], pass_over=pass_over)
+        for dialect in Dialect:
+            chosen = Range("^1.2", dialect=dialect)
+            for call in (chosen.filter, chosen.highest, chosen.lowest):
+                with self.assertRaises(VersionError) as caught:
+                    call(given)
+                error = caught.exception
+                self.assertEqual((error.string, error.index), ("1.2", 1))
+                self.assertIs(error.dialect, dialect)
+            self.assertEqual(chosen.highest(given, invalid="skip"), "1.4.0")
+            self.assertEqual(chosen.lowest(given, invalid="skip"), "1.2.0")
+        chosen = Range("~1.2", dialect="cargo")
+        self.assertEqual(chosen.filter(given, invalid="skip"), ["1.2.0"])
         with self.assertRaises(VersionError) as alone:
-            Filter("^1").meets("1.2")
+            "1.2" in chosen
         self.assertIsNone(alone.exception.index)
-        for one in ("1.2.3", b"1.2.3"):
+
+    def test_other_values(self) -> None:
+        chosen = Range("^1", dialect="cargo")
+        for call in (chosen.filter, chosen.highest, chosen.lowest):
+            for invalid in ("raise", "skip"):
+                with self.assertRaisesRegex(TypeError, "NoneType, at index 2$"):
+                    call(["1.2.3", "x", None], invalid=invalid)
+                for one in ("1.2.3", b"1.2.3"):
+                    with self.assertRaises(TypeError):
+                        call(one, invalid=invalid)
+            for wrong in ("", "ignore", None, True):
+                with self.assertRaisesRegex(ValueError, "^invalid is 'raise' or 'skip', not "):
+                    call([], invalid=wrong)
             with self.assertRaises(TypeError):
-                Filter("^1").greatest(one)
+                call([], "skip")
 
     def test_dialects(self) -> None:
         """The versions are read by the dialect of the range, as docs/GRAMMAR.md has them."""
         of_crate = (Dialect.CRATE_CARGO, Dialect.CRATE_NPM)
-        for text, takes in (
+        for string, has in (
             ("1.0.0--a", (Dialect.CARGO, Dialect.NPM)),
             ("1.0.0-01", of_crate),
             ("v1.2.3", (Dialect.NPM,)),
@@ -296,22 +280,25 @@ class Kept(unittest.TestCase):
             ("9007199254740992.0.0", (Dialect.CARGO, *of_crate)),
         ):
             for dialect in Dialect:
-                with self.subTest(text=text, dialect=dialect):
-                    chosen = Filter(">=1.0.0-0", dialect)
-                    if dialect in takes:
-                        self.assertTrue(chosen.meets(text))
-                        self.assertTrue(meets(">=1.0.0-0", text, dialect))
-                        self.assertEqual(chosen.kept(["0.1.0", text]), [text])
-                        self.assertEqual(chosen.greatest(["0.1.0", text]), text)
+                with self.subTest(string=string, dialect=dialect):
+                    chosen = Range(">=1.0.0-0", dialect=dialect)
+                    if dialect in has:
+                        self.assertIn(string, chosen)
+                        self.assertTrue(satisfies(string, ">=1.0.0-0", dialect=dialect))
+                        self.assertEqual(chosen.filter(["0.1.0", string]), [string])
+                        self.assertEqual(chosen.highest(["0.1.0", string]), string)
                         continue
-                    for call in (chosen.meets, lambda it, by=dialect: meets(">=1.0.0-0", it, by)):
+                    for call in (
+                        chosen.__contains__,
+                        lambda it, by=dialect: satisfies(it, ">=1.0.0-0", dialect=by),
+                    ):
                         with self.assertRaises(VersionError):
-                            call(text)
-                    for call in (chosen.kept, chosen.greatest):
+                            call(string)
+                    for call in (chosen.filter, chosen.highest, chosen.lowest):
                         with self.assertRaises(VersionError) as caught:
-                            call(["0.1.0", text])
+                            call(["0.1.0", string])
                         self.assertEqual(caught.exception.index, 1)
-                    self.assertEqual(chosen.kept([text, "1.2.3"], pass_over=True), ["1.2.3"])
+                    self.assertEqual(chosen.filter([string, "1.2.3"], invalid="skip"), ["1.2.3"])
 
     def test_canaries(self) -> None:
         """Versions whose pre-release begins with a hyphen, as npm and Cargo have them."""
@@ -319,37 +306,66 @@ class Kept(unittest.TestCase):
         given = ["6.2.0--canary.9.0", canary, "6.2.0--canary.14175.ab12", "6.2.1--canary.1"]
         given.append("5.0.0")
         for dialect in (Dialect.CARGO, Dialect.NPM):
-            chosen = Filter("^6.2.0--canary.10", dialect)
-            self.assertEqual(chosen.kept(given), [canary, given[2]])
-            self.assertEqual(chosen.greatest(given), canary)
-            made = list(map(parse_version, given))
-            self.assertEqual(chosen.greatest(made), made[1])
-            self.assertEqual(chosen.greatest([*given, "6.2.0"]), "6.2.0")
-            self.assertEqual(Filter("^6.2.0", dialect).kept(given), [])
-            self.assertEqual(greatest("=" + canary, given, dialect), canary)
+            chosen = Range("^6.2.0--canary.10", dialect=dialect)
+            self.assertEqual(chosen.filter(given), [canary, given[2]])
+            self.assertEqual(chosen.highest(given), canary)
+            self.assertEqual(chosen.lowest(given), given[2])
+            made = [parse_version(it, dialect=dialect) for it in given]
+            self.assertEqual(chosen.highest(made), made[1])
+            self.assertEqual(chosen.highest([*given, "6.2.0"]), "6.2.0")
+            self.assertEqual(Range("^6.2.0", dialect=dialect).filter(given), [])
+            self.assertEqual(Range("=" + canary, dialect=dialect).highest(given), canary)
         for dialect in (Dialect.CRATE_CARGO, Dialect.CRATE_NPM):
-            chosen = Filter("^6.2.0--canary.10", dialect)
+            chosen = Range("^6.2.0--canary.10", dialect=dialect)
             with self.assertRaises(VersionError) as caught:
-                chosen.greatest(given)
-            self.assertEqual(caught.exception.name, "unexpected-token")
+                chosen.highest(given)
+            self.assertEqual(caught.exception.reason, "empty-identifier")
             self.assertEqual(caught.exception.index, 0)
-            self.assertEqual(chosen.kept([*given, "6.2.0"], pass_over=True), ["6.2.0"])
+            self.assertEqual(chosen.filter([*given, "6.2.0"], invalid="skip"), ["6.2.0"])
 
     def test_many(self) -> None:
         given = [f"1.{minor}.0" for minor in range(100_000)]
-        self.assertEqual(Filter("^1.50000").kept(given), given[50_000:])
-        self.assertEqual(Filter("1.x").greatest(given), given[-1])
-
-    def test_filter_is_a_value(self) -> None:
-        self.assertEqual(Filter("^1"), Filter("^1", Dialect.CARGO, PreReleases.DEFAULT))
-        self.assertEqual(len({Filter("^1"), Filter("^1"), Filter("^1", Dialect.NPM)}), 2)
-        self.assertNotEqual(Filter("^1.2"), Filter("1.2"))
-        self.assertEqual(pickle.loads(pickle.dumps(Filter("^1"))), Filter("^1"))
+        self.assertEqual(Range("^1.50000", dialect="cargo").filter(given), given[50_000:])
+        self.assertEqual(Range("1.x", dialect="cargo").highest(given), given[-1])
+        self.assertEqual(Range("1.x", dialect="cargo").lowest(given), given[0])
 
 
-class Greatest(unittest.TestCase):
+class Highest(unittest.TestCase):
+    def test_highest_and_lowest(self) -> None:
+        def both(string: str, versions: List[str], dialect: Dialect = Dialect.CARGO) -> object:
+            chosen = Range(string, dialect=dialect)
+            return chosen.highest(versions), chosen.lowest(versions)
+
+        self.assertEqual(both("*", ORDERED[::-1]), ("2.1.1", "1.0.0"))
+        self.assertEqual(both("^1", ORDERED), ("1.0.0", "1.0.0"))
+        self.assertEqual(both("<1.0.0-rc.1", ORDERED), ("1.0.0-beta.11", "1.0.0-alpha"))
+        self.assertEqual(both("^3", ORDERED), (None, None))
+        self.assertEqual(both("^3", []), (None, None))
+        given = ["1.9.0", "1.10.0", "1.2.0"]
+        self.assertEqual(both("1", given, Dialect.NPM), ("1.10.0", "1.2.0"))
+
+    def test_order_of_the_standard(self) -> None:
+        """The order of section 11, by the library."""
+        every = Range("*", dialect="cargo", pre_releases="included")
+        for at, lower in enumerate(ORDERED):
+            for higher in ORDERED[at + 1 :]:
+                for both in ([lower, higher], [higher, lower]):
+                    self.assertEqual(every.highest(both), higher)
+                    self.assertEqual(every.lowest(both), lower)
+
+    def test_first_of_equal_ones(self) -> None:
+        given: List[object] = ["1.2.0+a", b"1.2.0+b", Version(1, 2, 0)]
+        chosen = Range("^1", dialect="cargo")
+        self.assertEqual(chosen.highest(["1.0.0", *given]), "1.2.0+a")
+        self.assertEqual(chosen.lowest(["1.3.0", *given]), "1.2.0+a")
+        given.reverse()
+        self.assertIs(chosen.highest(given), given[0])
+        self.assertIs(chosen.lowest(given), given[0])
+
+
+class Precedence(unittest.TestCase):
     def test_precedence(self) -> None:
-        versions = list(map(parse_version, ORDERED))
+        versions = [parse_version(it, dialect="cargo") for it in ORDERED]
         self.assertEqual(sorted(reversed(versions), key=precedence), versions)
         for lower, higher in zip(versions, versions[1:]):
             self.assertLess(precedence(lower), precedence(higher))
@@ -358,31 +374,39 @@ class Greatest(unittest.TestCase):
         """The order of the keys is that of the comparators."""
         versions = [f"1.2.3{end}" for end in ends]
         for dialect in dialects:
-            keys = {it: precedence(parse_version(it, dialect)) for it in versions}
+            keys = {it: precedence(parse_version(it, dialect=dialect)) for it in versions}
             for one in versions:
                 for other in versions:
                     if "-01" in other or "+" in other:
                         continue  # a range has it as another identifier, or drops it
-                    wanted = meets(f"<{other}", one, dialect, PreReleases.INCLUDED)
-                    self.assertIs(keys[one] < keys[other], wanted, (one, other, dialect))
+                    below = Range(f"<{other}", dialect=dialect, pre_releases="included")
+                    self.assertIs(keys[one] < keys[other], one in below, (one, other, dialect))
 
     def test_precedence_is_the_library_s(self) -> None:
         """For identifiers of all kinds."""
         ends = ["", "-0", "-1", "-10", "-2", "-a", "-A", "-a-b", "-a.0", "-a.a", "-a.0.0", "-a+b"]
-        large = [f"-{number}" for number in (2**64 - 1, 2**64, 99999999999999999999)]
+        largest = f"-{2**64 - 1}"
         hyphens = ["--", "--a", "--1", "-a-", "-a--b", "-a.-", "---"]
-        self.goes_as_comparators([*ends, *large, "-01"], (Dialect.CRATE_CARGO, Dialect.CRATE_NPM))
-        self.goes_as_comparators([*ends, *hyphens], (Dialect.CARGO, Dialect.NPM))
+        of_crate = (Dialect.CRATE_CARGO, Dialect.CRATE_NPM)
+        self.goes_as_comparators([*ends, largest, "-01"], of_crate)
+        self.goes_as_comparators([*ends, largest, *hyphens], (Dialect.CARGO, Dialect.NPM))
+
+    def test_numbers_of_any_size(self) -> None:
+        """Identifiers of digits are numbers, and below others, as section 11 has it."""
+        numbers = ["9", str(2**64 - 1), str(2**64), "9" * 20, "1" + "0" * 20, "1" + "0" * 5000]
+        strings = [f"1.2.3-{it}" for it in (*numbers, "0a", "a")]
+        versions = [parse_version(it, dialect="cargo") for it in strings]
+        self.assertEqual(sorted(reversed(versions)), versions)
 
     def test_other_types(self) -> None:
         for value in ("1.2.3", b"1.2.3", (1, 2, 3), 1, None):
             with self.assertRaises(TypeError):
                 precedence(value)
             with self.assertRaises(TypeError):
-                sorted([parse_version("1.2.3"), value], key=precedence)
+                sorted([Version(1, 2, 3), value], key=precedence)
 
-    def test_builds_do_not_count(self) -> None:
-        one, other = parse_version("1.0.0-a+1"), parse_version("1.0.0-a+2")
+    def test_build_metadata_is_ignored(self) -> None:
+        one, other = Version(1, 0, 0, ("a",), (1,)), Version(1, 0, 0, ("a",), (2,))
         self.assertEqual(precedence(one), precedence(other))
         self.assertTrue(one <= other and other <= one and one >= other and other >= one)
         self.assertFalse(one < other or one > other or one == other)
@@ -391,7 +415,7 @@ class Greatest(unittest.TestCase):
         self.assertEqual(sorted([other, one]), [other, one])
 
     def test_order(self) -> None:
-        versions = list(map(parse_version, ORDERED))
+        versions = [parse_version(it, dialect="npm") for it in ORDERED]
         self.assertEqual(sorted(reversed(versions)), versions)
         self.assertEqual((min(versions), max(versions)), (versions[0], versions[-1]))
         for at, one in enumerate(versions):
@@ -402,7 +426,7 @@ class Greatest(unittest.TestCase):
                 self.assertIs(one >= other, at >= after)
 
     def test_order_of_other_types(self) -> None:
-        version = parse_version("1.2.3")
+        version = Version(1, 2, 3)
         for value in ("1.2.3", (1, 2, 3), 1, None):
             for compare in (operator.lt, operator.le, operator.gt, operator.ge):
                 with self.assertRaises(TypeError):
@@ -411,45 +435,44 @@ class Greatest(unittest.TestCase):
                     compare(value, version)
             self.assertNotEqual(version, value)
 
-    def test_greatest(self) -> None:
-        self.assertEqual(greatest("*", ORDERED[::-1]), "2.1.1")
-        self.assertEqual(greatest("^1", ORDERED), "1.0.0")
-        self.assertEqual(greatest("<1.0.0-rc.1", ORDERED), "1.0.0-beta.11")
-        self.assertIsNone(greatest("^3", ORDERED))
-        self.assertIsNone(greatest("^3", []))
-        self.assertEqual(greatest("1", ["1.9.0", "1.10.0", "1.2.0"], Dialect.NPM), "1.10.0")
-
-    def test_first_among_equals(self) -> None:
-        given: List[object] = ["1.0.0", "1.2.0+a", b"1.2.0+b", Version(1, 2, 0)]
-        self.assertEqual(greatest("^1", given), "1.2.0+a")
-        given.reverse()
-        self.assertEqual(greatest("^1", given), Version(1, 2, 0))
-
-    def test_errors(self) -> None:
-        for call in (Filter("*").greatest, Filter("*").kept, partial(greatest, "*")):
-            with self.assertRaises(VersionError) as caught:
-                call(["1.2.3", "x"])
-            self.assertEqual((caught.exception.index, caught.exception.text), (1, "x"))
-        self.assertEqual(greatest("*", ["1.2.3", "x"], pass_over=True), "1.2.3")
-
 
 class Threads(unittest.TestCase):
-    def test_threads(self) -> None:
-        """Calls from several threads answer each its own."""
-        wrong: List[object] = []
-
-        def ask(number: int) -> None:
-            mine = [f"{number}.{minor}.0-rc.{minor}" for minor in range(50)]
-            for _ in range(40):
-                chosen = Filter(f"^{number}.10.0-rc", Dialect.CRATE_NPM, PreReleases.INCLUDED)
-                if chosen.kept(mine) != mine[10:] or chosen.greatest(mine) != mine[-1]:
-                    wrong.append(number)
-                if [str(parse_version(text)) for text in mine] != mine:
-                    wrong.append(number)
-
-        threads = [threading.Thread(target=ask, args=(number,)) for number in range(1, 9)]
+    def run_all(self, threads: List[threading.Thread]) -> None:
         for thread in threads:
             thread.start()
         for thread in threads:
             thread.join()
+
+    def test_ranges_of_each(self) -> None:
+        """Calls from several threads return each its own."""
+        wrong: List[object] = []
+
+        def call(number: int) -> None:
+            mine = [f"{number}.{minor}.0-rc.{minor}" for minor in range(50)]
+            for _ in range(40):
+                string = f"^{number}.10.0-rc"
+                chosen = Range(string, dialect="crate-npm", pre_releases="included")
+                if chosen.filter(mine) != mine[10:] or chosen.highest(mine) != mine[-1]:
+                    wrong.append(number)
+                if [str(parse_version(it, dialect="crate-npm")) for it in mine] != mine:
+                    wrong.append(number)
+
+        self.run_all([threading.Thread(target=call, args=(number,)) for number in range(1, 9)])
+        self.assertEqual(wrong, [])
+
+    def test_one_range(self) -> None:
+        """One range is used by several threads, which combine it and let go of it."""
+        wrong: List[object] = []
+        given = [f"1.{minor}.0" for minor in range(50)]
+        shared = Range("^1.10", dialect="npm")
+
+        def call(number: int) -> None:
+            for _ in range(200):
+                upper = shared & Range(f">=1.{10 + number}", dialect="npm")
+                if upper.filter(given) != given[10 + number :] or "1.5.0" in shared:
+                    wrong.append(number)
+                if hash(shared | upper) != hash(shared) or str(shared.lowest_version) != "1.10.0":
+                    wrong.append(number)
+
+        self.run_all([threading.Thread(target=call, args=(number,)) for number in range(8)])
         self.assertEqual(wrong, [])
