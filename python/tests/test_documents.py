@@ -76,7 +76,7 @@ class Documents(unittest.TestCase):
                 names |= {f"{name}.{member}" for member in dir(it) if not member.startswith("_")}
             if inspect.isfunction(it):
                 names |= {f"{name}({parameter})" for parameter in inspect.signature(it).parameters}
-        other = "meets?|means?|has|takes|greatest|least|told|asked|text|fault|room|place|kept"
+        other = "meets?|means?|has|takes|greatest|least|told|asked|text|room|place|kept"
         other += "|reading|stated|pass_over|which|name|build_|address|folder|front|ending"
         for name in names:
             self.assertIsNone(re.search(rf"(?i)(\b|_)({other})(\b|_)", name), name)
