@@ -17,7 +17,8 @@ ranges, and docs/MEANING.md which versions satisfy a range.
 
 Strings are `str`, or `bytes` in UTF-8. A string that is refused raises `VersionError` or
 `RangeError`, a value of another type `TypeError`, and a failed allocation `MemoryError`. Threads
-may call everything at once, and use one range at once. A fork has ranges of its own.
+may call everything at once, and use one range at once. A fork has ranges of its own. By POSIX a
+fork of several threads may not allocate, so it can't use the package.
 
 The functions are those of the shared library `libsemver_parser.so.1`, which is loaded when the
 package is imported: from the path of the environment variable SEMVER_PARSER_LIBRARY, else from

@@ -46,7 +46,7 @@ class _Explanation(NamedTuple):
 
 
 class _StringError(ValueError):
-    """A string that is refused. All that an error says is found when it is asked for."""
+    """A string that is refused. Where and why is found when that is used, not when it is raised."""
 
     _STATUS = OK
 
@@ -119,6 +119,8 @@ class VersionError(_StringError):
     - `hint`: a sentence for that.
     """
 
+    __module__ = "semver_parser"
+
     _STATUS = INVALID_VERSION
 
     def _explain(self, error: CError) -> int:
@@ -151,6 +153,8 @@ class RangeError(_StringError):
       is known.
     - `hint`: a sentence for that, which may say what was meant; None if there is no reason.
     """
+
+    __module__ = "semver_parser"
 
     _STATUS = INVALID_RANGE
 

@@ -81,13 +81,15 @@ def _option(kind: Type[_Option], value: object, name: str) -> _Option:
     """The option of a value."""
     if isinstance(value, kind):
         return value
-    values = ", ".join(repr(it.value) for it in kind)
-    if not isinstance(value, str):
-        raise TypeError(f"{name} is a {kind.__name__} or one of {values}, not {value!r}")
     try:
-        return kind(value)
+        if isinstance(value, str):
+            return kind(value)
     except ValueError:
-        raise ValueError(f"{name} is one of {values}, not {value!r}") from None
+        pass
+    values = ", ".join(repr(it.value) for it in kind)
+    if isinstance(value, str):
+        raise ValueError(f"{name} is one of {values}, not {value!r}")
+    raise TypeError(f"{name} is a {kind.__name__} or one of {values}, not {value!r}")
 
 
 def dialect_of(dialect: AnyDialect) -> Dialect:

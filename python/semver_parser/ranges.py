@@ -54,13 +54,11 @@ class Range:
     _pre_releases: PreReleases
     _string: Optional[str]
 
-    def __init__(
-        self, range: String, *, dialect: AnyDialect, pre_releases: AnyPreReleases = "default"
-    ) -> None:
-        self._dialect = dialect_of(dialect)
-        self._pre_releases = pre_releases_of(pre_releases)
-        self._set = sets.set_of_range(range, self._dialect, self._pre_releases)
-        self._string = range.decode("utf-8") if isinstance(range, bytes) else range
+    def __new__(
+        cls, range: String, *, dialect: AnyDialect, pre_releases: AnyPreReleases = "default"
+    ) -> "Range":
+        made = sets.set_of_range(range, dialect_of(dialect), pre_releases_of(pre_releases))
+        return _of_set(made, range.decode("utf-8") if isinstance(range, bytes) else range)
 
     @property
     def dialect(self) -> Dialect:
@@ -293,7 +291,7 @@ class Range:
 
 def _of_set(made: sets.Set, string: Optional[str]) -> Range:
     """The range of a set."""
-    range = Range.__new__(Range)
+    range = object.__new__(Range)
     range._set, range._string = made, string
     range._dialect, range._pre_releases = sets.options_of(made)
     return range

@@ -44,6 +44,8 @@ def identifiers_of(joined: str) -> Tuple[Identifier, ...]:
 
 def identifiers_in(part: CPart) -> Tuple[Identifier, ...]:
     """Returns the identifiers of a part that the library gives."""
+    if not part.length:
+        return ()
     return identifiers_of(ctypes.string_at(part.data, part.length).decode("ascii"))
 
 

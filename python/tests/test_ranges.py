@@ -281,6 +281,8 @@ class Keeping(unittest.TestCase):
         for name in ("dialect", "pre_releases", "lowest_version", "comparators", "another"):
             with self.assertRaises(AttributeError):
                 setattr(made, name, None)
+        made.__init__("^2", dialect="cargo")
+        self.assertEqual(repr(made), "Range('^1', dialect='npm')")
 
     def test_memory_is_freed(self) -> None:
         """The memory of this process doesn't grow by ranges that nothing has any more."""
@@ -300,6 +302,21 @@ class Keeping(unittest.TestCase):
         before = pages()
         make(60)
         self.assertLess(pages() - before, 2000)
+
+    def test_out_of_memory(self) -> None:
+        """A range that there is no memory for."""
+        self.check_run(
+            "import resource\n"
+            "from semver_parser import Range, compare_ranges, parse_range\n"
+            "string = ' || '.join(f'={at}.0.0' for at in range(100_000))\n"
+            "size = int(open('/proc/self/statm').read().split()[0]) * resource.getpagesize()\n"
+            "resource.setrlimit(resource.RLIMIT_AS, 2 * (size + 30_000_000,))\n"
+            "for call in (Range, parse_range):\n"
+            "    try: call(string, dialect='npm')\n"
+            "    except MemoryError: pass\n"
+            "    else: print('too much memory')\n"
+            "print('1.2.3' in Range('^1', dialect='npm'))\n"
+        )
 
     def test_cycles(self) -> None:
         """A range that is in a cycle is usable in what ends the cycle."""

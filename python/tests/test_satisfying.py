@@ -126,6 +126,15 @@ class Satisfying(unittest.TestCase):
                 with self.subTest(range=string, version=version, dialect=dialect):
                     self.check_dialect(string, version, dialect, is_wanted)
 
+    def test_releases_satisfy_the_comparators(self) -> None:
+        """A release satisfies a range if it satisfies its comparators, by each dialect."""
+        for string, version, wanted in BY_DIALECT:
+            for dialect, is_wanted in zip(DIALECTS, wanted):
+                if is_wanted is not None and "-" not in version:
+                    for exact in (False, True):
+                        printed = str(parse_range(string, dialect=dialect, exact=exact))
+                        self.assertIs(satisfies(version, printed, dialect="crate-npm"), is_wanted)
+
     def test_errors(self) -> None:
         """A version is refused first."""
         for call in (
@@ -178,6 +187,15 @@ class Options(unittest.TestCase):
         values = ["cargo", "npm", "crate-cargo", "crate-npm"]
         self.assertEqual([it.value for it in Dialect], values)
         self.assertEqual([it.value for it in PreReleases], ["default", "included", "excluded"])
+
+    def test_default(self) -> None:
+        for dialect in Dialect:
+            one = Range("1", dialect=dialect)
+            self.assertIs(one.dialect, dialect)
+            self.assertIs(one.pre_releases, PreReleases.DEFAULT)
+            self.assertEqual(one, Range("1", dialect=dialect, pre_releases="default"))
+        self.assertTrue(satisfies("1.2.3-rc", "^1.2.3-beta", dialect="cargo"))
+        self.assertFalse(satisfies("1.3.0-rc", "^1.2.3-beta", dialect="cargo"))
 
     def test_dialect_is_required_by_name(self) -> None:
         for call in self.OF_DIALECT:
