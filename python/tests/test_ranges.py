@@ -308,9 +308,9 @@ class Keeping(unittest.TestCase):
         self.check_run(
             "import resource\n"
             "from semver_parser import Range, compare_ranges, parse_range\n"
-            "string = ' || '.join(f'={at}.0.0' for at in range(100_000))\n"
+            "string = ' || '.join(f'={at}.0.0' for at in range(300_000))\n"
             "size = int(open('/proc/self/statm').read().split()[0]) * resource.getpagesize()\n"
-            "resource.setrlimit(resource.RLIMIT_AS, 2 * (size + 30_000_000,))\n"
+            "resource.setrlimit(resource.RLIMIT_AS, 2 * (size + 20_000_000,))\n"
             "for call in (Range, parse_range):\n"
             "    try: call(string, dialect='npm')\n"
             "    except MemoryError: pass\n"
