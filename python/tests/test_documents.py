@@ -48,6 +48,12 @@ class Documents(unittest.TestCase):
         failed, tried = doctest.testfile(str(document), module_relative=False)
         self.assertEqual((failed, tried > 0), (0, True), document)
 
+    def test_links(self) -> None:
+        """README is shown where the package is published, so its links lead to no other file."""
+        readme = (TOP / "python" / "README.md").read_text()
+        for target in re.findall(r"\]\(([^)\s]+)\)", readme):
+            self.assertRegex(target, "^(https://|#)")
+
     def test_docstrings(self) -> None:
         found = []
         for file in (TOP / "python" / "semver_parser").glob("*.py"):
