@@ -4,6 +4,7 @@
 #   make install-python       installs the Python package and the checkers, too
 #   make uninstall            removes what was installed under PREFIX
 #   make archive              makes OUT/semver-parser-VERSION-linux-x86_64.tar.gz
+#   make wheel                makes a wheel in OUT, for pip: the Python package with the library
 #   make clean                removes what was compiled of C; what is proved stays
 #   dpkg-buildpackage -b -uc  makes the Debian packages, in the folder above this one
 PREFIX ?= /usr/local
@@ -14,7 +15,7 @@ export PREFIX OUT
 MAKEFLAGS += -r -j$(shell nproc) --no-print-directory
 .ONESHELL .SILENT .DELETE_ON_ERROR:
 .SHELLFLAGS := -euc
-.PHONY: all stage stage-python install install-python uninstall archive clean
+.PHONY: all stage stage-python install install-python uninstall archive wheel clean
 
 programs := semver-parser release-filter compare-ranges
 checkers := check-lock-file compare-requirements
@@ -173,3 +174,12 @@ archive:
 	gzip -n -9 < "$$work/tar" > "$$work/$(archive).tar.gz"
 	mkdir -p "$$OUT" && to=$$OUT put "$$work" ./$(archive).tar.gz
 	echo "made $$OUT/$(archive).tar.gz"
+
+# The wheel is the same to the byte if the files that it has are.
+wheel: out/lib/$(shared)
+	$(begin)
+	may_write "$$OUT"
+	strip --strip-unneeded --remove-section=.comment -o "$$work/library" out/lib/$(shared)
+	name=$$(python3 tools/make-wheel "$$work/library" "$$work")
+	mkdir -p "$$OUT" && to=$$OUT put "$$work" "./$$name"
+	echo "made $$OUT/$$name"

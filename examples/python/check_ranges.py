@@ -2,18 +2,18 @@
 
     printf '^1.2.0\\t1.4.0\\n^1.2.0\\t2.0.0\\n' | python3 check_ranges.py [DIALECT]
 
-It prints each line whose version doesn't meet its range, and reports on standard error each line
-that can't be checked. Text after another tab is ignored, and printed with its line.
+It prints each line whose version doesn't satisfy its range, and reports on standard error each line
+that is invalid. What follows another tab is ignored, and printed with its line.
 
-DIALECT is `npm`, the default, or `cargo`, with the pre-releases that the tool takes; or
-`crate-npm` or `crate-cargo`, those of the Rust crate semver-parser, with each pre-release within
-the bounds: 1.3.0-rc meets `^1.2.0`, and 2.0.0-rc doesn't. The status is 0 if all lines hold, 1 if
-one doesn't, and 2 if one can't be checked.
+DIALECT is `npm`, the default, or `cargo`, with the pre-releases that the tool matches by default;
+or `crate-npm` or `crate-cargo`, those of the Rust crate semver-parser, with each pre-release within
+the bounds: 1.3.0-rc satisfies `^1.2.0`, and 2.0.0-rc doesn't. The status is 0 if all lines hold, 1
+if one doesn't, and 2 if one is invalid.
 """
 
 import sys
 
-from semver_parser import PreReleases, RangeError, Dialect, VersionError, meets
+from semver_parser import Dialect, PreReleases, RangeError, VersionError, satisfies
 
 DIALECTS = {
     "npm": (Dialect.NPM, PreReleases.DEFAULT),
@@ -24,16 +24,17 @@ DIALECTS = {
 
 
 def check(line: bytes, number: int, dialect: Dialect, pre_releases: PreReleases) -> int:
-    """The status of a line."""
-    wanted, tab, after = line.partition(b"\t")
+    """Returns the status of a line."""
+    range, tab, after = line.partition(b"\t")
     if not tab:
         print(f"line {number}: no tab", file=sys.stderr)
         return 2
+    version = after.split(b"\t")[0]
     try:
-        if meets(wanted, after.split(b"\t")[0], dialect, pre_releases):
+        if satisfies(version, range, dialect=dialect, pre_releases=pre_releases):
             return 0
     except (RangeError, VersionError) as error:
-        print(f"line {number}: {error.sentence}", file=sys.stderr)
+        print(f"line {number}: {error}", file=sys.stderr)
         return 2
     sys.stdout.buffer.write(line + b"\n")
     return 1

@@ -9,7 +9,7 @@ import subprocess
 import sys
 from typing import Dict, Iterator, List, NamedTuple, Optional, Tuple
 
-from semver_parser import RangeError, Dialect, compare_ranges
+from semver_parser import Dialect, RangeError, compare_ranges
 
 from .cargo.manifests import Need, by_table
 from .files import (
@@ -198,15 +198,15 @@ def comparison(
     if old.source != new.source:
         return ANOTHER, []
     try:
-        compared = compare_ranges(old.range, new.range, dialect)
+        compared = compare_ranges(old.range, new.range, dialect=dialect)
     except RangeError:
         return "not read", []
     ranges = [
         None if text == NOTHING else text
         for versions in (compared.lost, compared.gained, compared.shared)
-        for text in (versions.releases, versions.pre_releases)
+        for text in (versions.printed_releases, versions.printed_pre_releases)
     ]
-    return SAME if compared.means_same else "" if compared.overlaps else "nothing shared", ranges
+    return SAME if compared.is_equal else "" if compared.overlaps else "nothing shared", ranges
 
 
 # ---- what is printed

@@ -2,7 +2,7 @@
 
 from typing import NamedTuple, Optional
 
-from semver_parser import RangeError, Dialect, VersionError, meets, parse_version
+from semver_parser import Dialect, Range, RangeError, VersionError, parse_version, satisfies
 
 NO_VERSION = "no version"
 NOT_THERE = "not there"
@@ -23,18 +23,27 @@ class Finding(NamedTuple):
 def is_version(text: str, dialect: Dialect) -> bool:
     """Whether a text is a version to a tool."""
     try:
-        parse_version(text, dialect)
+        parse_version(text, dialect=dialect)
     except VersionError:
         return False
     return True
 
 
-def is_met(wanted: str, version: str, dialect: Dialect) -> Optional[bool]:
-    """Whether a version meets a range; None if the range isn't read. What is no version meets
-    none."""
+def is_range(text: str, dialect: Dialect) -> bool:
+    """Whether a text is a range to a tool."""
     try:
-        return meets(wanted, version, dialect)
+        Range(text, dialect=dialect)
+    except RangeError:
+        return False
+    return True
+
+
+def is_met(wanted: str, version: str, dialect: Dialect) -> Optional[bool]:
+    """Whether a version satisfies a range; None if the range is invalid. An invalid version
+    satisfies none."""
+    try:
+        return satisfies(version, wanted, dialect=dialect)
     except RangeError:
         return None
     except VersionError:
-        return False
+        return False if is_range(wanted, dialect) else None

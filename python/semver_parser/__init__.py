@@ -1,73 +1,63 @@
-"""Version texts and range texts, read, rewritten and compared by a proved library.
+"""Checks versions against ranges of npm and Cargo, and combines and compares ranges.
 
-    >>> from semver_parser import Filter, Dialect, meets, parse_range, parse_version
-    >>> parse_version("1.2.3-rc.1+b5").pre
+    >>> from semver_parser import Range, compare_ranges, parse_version, satisfies
+    >>> satisfies("1.9.0", "^1.2", dialect="npm")
+    True
+    >>> npm = Range("^1.2 || 3.x", dialect="npm")
+    >>> npm.highest(["1.3.0", "1.10.0", "2.0.0", "latest"], invalid="skip")
+    '1.10.0'
+    >>> str(compare_ranges("^1.2.0", ">=1.4.0", dialect="cargo").lost)
+    '>=1.2.0 <1.4.0'
+    >>> parse_version("1.2.3-rc.1", dialect="cargo").pre
     ('rc', 1)
-    >>> str(parse_range("^1.2 || 3.x", Dialect.NPM))
-    '>=1.2.0 <2.0.0-0 || >=3.0.0 <4.0.0-0'
-    >>> meets("1.2.3", "1.9.0"), meets("1.2.3", "1.9.0", Dialect.NPM)
-    (True, False)
-    >>> Filter("^1.2").greatest(["1.2.0", "1.9.0", "2.0.0"])
-    '1.9.0'
 
-A range and a version are read as Cargo itself reads them unless another `Dialect` is given: npm's
-own, or that of the Rust crate `semver-parser` in one of its two modes. docs/GRAMMAR.md of the
-repository says which texts are versions and ranges, and docs/MEANING.md what a range means.
+The `dialect` says whose rules apply: "npm", "cargo", or those of the Rust crate `semver-parser`,
+"crate-npm" and "crate-cargo". docs/GRAMMAR.md of the repository says which strings are versions and
+ranges, and docs/MEANING.md which versions satisfy a range.
 
-Texts are `str` or `bytes` in UTF-8. A text that is refused raises `VersionError` or `RangeError`,
-and out of memory is `MemoryError`. Everything may be called from several threads at once, and
-nothing from a signal handler or from a forked child of a process that has several threads.
+Strings are `str`, or `bytes` in UTF-8. A string that is refused raises `VersionError` or
+`RangeError`, a value of another type `TypeError`, and a failed allocation `MemoryError`. Threads
+may call everything at once, and use one range at once. A fork has ranges of its own. By POSIX a
+fork of several threads may not allocate, so it can't use the package.
 
-The calls are those of the shared library `libsemver_parser.so.0.7`, which is loaded when the
-package is imported. It is looked for at the path that the environment variable
-SEMVER_PARSER_LIBRARY has; or else beside these modules, and then where the system looks for
-libraries.
+The functions are those of the shared library `libsemver_parser.so.1`, which is loaded when the
+package is imported: from the path of the environment variable SEMVER_PARSER_LIBRARY, else from
+beside these modules, else from where the system looks for libraries.
 """
 
+from .comparators import Comparator, ComparatorSet, Op, RangeSet, parse_range
 from .comparing import Comparison, compare_ranges
-from .errors import RangeError, Text, VersionError
-from .filtering import Filter, greatest, meets
-from .reading import parse_range, parse_version
-from .sets import least
-from .values import (
-    AnyVersion,
-    Comparator,
-    Compat,
-    Identifier,
-    Op,
-    PreReleases,
-    Range,
-    RangeSet,
-    Dialect,
-    Version,
-    precedence,
-)
-from .version_sets import VersionSet
+from .errors import RangeError, VersionError
+from .options import AnyDialect, AnyPreReleases, Compat, Dialect, PreReleases
+from .ranges import Invalid, Range
+from .satisfying import satisfies
+from .strings import String
+from .versions import AnyVersion, Identifier, Version, parse_version, precedence
 
-__version__ = "0.7.0"
+__version__ = "1.0.0"
 
 __all__ = [
+    "AnyDialect",
+    "AnyPreReleases",
     "AnyVersion",
     "Comparator",
+    "ComparatorSet",
     "Comparison",
     "Compat",
-    "Filter",
+    "Dialect",
     "Identifier",
+    "Invalid",
     "Op",
     "PreReleases",
     "Range",
     "RangeError",
     "RangeSet",
-    "Dialect",
-    "Text",
+    "String",
     "Version",
     "VersionError",
-    "VersionSet",
     "compare_ranges",
-    "greatest",
-    "least",
-    "meets",
     "parse_range",
     "parse_version",
     "precedence",
+    "satisfies",
 ]

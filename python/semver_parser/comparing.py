@@ -1,68 +1,68 @@
-"""How two ranges compare: the versions that are lost, gained and shared."""
+"""What changes if a new range replaces an old one."""
 
 from dataclasses import dataclass
-from typing import Optional
 
-from .errors import RangeError, Text, encoded
-from .values import PreReleases, Dialect
-from .version_sets import VersionSet
+from .errors import RangeError
+from .options import AnyDialect, AnyPreReleases, dialect_of, pre_releases_of
+from .ranges import Range
+from .strings import String, encoded
 
 
 @dataclass(frozen=True)
 class Comparison:
-    """How what an old range means compares with what a new one means, as sets of versions.
+    """The versions that differ between an old range and a new one.
 
-    - `lost`: the versions that the old range means and the new one doesn't.
-    - `gained`: the versions that the new range means and the old one doesn't.
-    - `shared`: the versions that both mean.
+    - `lost`: the versions of the old range that aren't in the new one.
+    - `gained`: the versions of the new range that aren't in the old one.
+    - `shared`: the versions of both.
     """
 
-    lost: VersionSet
-    gained: VersionSet
-    shared: VersionSet
+    lost: Range
+    gained: Range
+    shared: Range
 
     @property
     def overlaps(self) -> bool:
-        """Whether some version is meant by both."""
+        """Whether some version is in both."""
         return bool(self.shared)
 
     @property
-    def is_within(self) -> bool:
-        """Whether each version that the old range means is one that the new range means: nothing is
-        lost. It is so of an old range that means none."""
+    def is_subset(self) -> bool:
+        """Whether each version of the old range is in the new one: nothing is lost."""
         return not self.lost
 
     @property
-    def means_same(self) -> bool:
-        """Whether both mean the same versions: nothing is lost, and nothing is gained."""
+    def is_equal(self) -> bool:
+        """Whether both have the same versions: nothing is lost, and nothing is gained."""
         return not self.lost and not self.gained
 
 
 def compare_ranges(
-    old: Text,
-    new: Text,
-    dialect: Dialect = Dialect.CARGO,
-    pre_releases: Optional[PreReleases] = None,
+    old: String,
+    new: String,
+    *,
+    dialect: AnyDialect,
+    pre_releases: AnyPreReleases = "default",
 ) -> Comparison:
-    """What is lost, gained and shared if a new range takes the place of an old one, both by one
-    dialect and by one rule for pre-releases, which is the dialect's own if none is given: among all
-    versions with numbers up to 2^64 - 1.
+    """Returns what is lost, gained and shared if a new range replaces an old one.
 
-    Raises `RangeError` if one of the texts is no range; its `which` is `old` or `new`, and the
-    error of the old one comes first.
+    >>> compared = compare_ranges("^1.2.0", ">=1.4.0", dialect="npm")
+    >>> str(compared.lost), str(compared.gained), str(compared.shared)
+    ('>=1.2.0 <1.4.0', '>=2.0.0', '>=1.4.0 <2.0.0')
+    >>> compared.overlaps, compared.is_subset, compared.is_equal
+    (True, False, False)
+
+    Raises `RangeError` if one is no range of the dialect; its `index` is 0 for the old one, which
+    comes first, and 1 for the new one.
     """
-    for text in (old, new):
-        encoded(text)
-    first = _set_of("old", old, dialect, pre_releases)
-    second = _set_of("new", new, dialect, pre_releases)
+    chosen, rule = dialect_of(dialect), pre_releases_of(pre_releases)
+    ranges = []
+    for string in (old, new):
+        encoded(string)
+    for index, string in enumerate((old, new)):
+        try:
+            ranges.append(Range(string, dialect=chosen, pre_releases=rule))
+        except RangeError:
+            raise RangeError(string, chosen, index) from None
+    first, second = ranges
     return Comparison(first - second, second - first, first & second)
-
-
-def _set_of(
-    which: str, text: Text, dialect: Dialect, pre_releases: Optional[PreReleases]
-) -> VersionSet:
-    """The set of one of the ranges."""
-    try:
-        return VersionSet(text, dialect, pre_releases)
-    except RangeError as error:
-        raise error.of(which) from None

@@ -1,7 +1,7 @@
-"""The table of cases of the repository: rows, and how it writes what a call answers.
+"""The table of cases of the repository: rows, and how it writes what a function returns.
 
-`crates/replayed_cases` of the checkout has the rows in its `stdin` and the wanted answers in its
-`stdout`. How texts are escaped is told by its `src/text.rt`. Its calls that end with `-as-cargo`
+`crates/replayed_cases` of the checkout has the rows in its `stdin` and the wanted results in its
+`stdout`; its `src/text.rt` says how strings are escaped. Its functions that end with `-as-cargo`
 and `-as-npm` read ranges and versions as these tools do, beside which their rows were made; all
 others read them by the crate's dialects.
 """
@@ -12,14 +12,15 @@ from pathlib import Path
 from typing import Callable, Dict, Iterator, List, NamedTuple, Optional, Tuple
 
 from semver_parser import (
-    Filter,
+    Dialect,
     Identifier,
     PreReleases,
+    Range,
     RangeError,
     RangeSet,
-    Dialect,
     Version,
     VersionError,
+    compare_ranges,
     parse_range,
     parse_version,
 )
@@ -28,17 +29,21 @@ CASES = Path(__file__).resolve().parents[2] / "crates" / "replayed_cases"
 
 _ESCAPES = {"n": "\n", "r": "\r", "t": "\t", "\\": "\\"}
 
-# How the table writes the errors: versions by the front of the name, ranges also as a sentence.
-_VERSION_ERRORS = {
-    "unexpected-end": "UnexpectedEnd",
-    "unexpected-token": "UnexpectedToken(",
-    "unexpected-char": "Lexer(",
-    "more-input": "MoreInput(",
-}
-_RANGE_NAMES = {"not-a-range": "NotARange", "number-too-large": "NumberTooLarge"}
-_RANGE_SENTENCES = {"not-a-range": "not a range", "number-too-large": "number too large"}
+# How the table writes the errors of versions, in fields and in reports. The package has no names
+# for these, so all are one.
+_NO_VERSION = "no version"
+_VERSION_ERRORS = re.compile(
+    r"\A(?:UnexpectedEnd\Z|UnexpectedToken\(.*|Lexer\(.*|MoreInput\(.*)"
+    r"|(?<=\Aversion: )(?:unexpected-(?:end|token|char)|more-input)(?=;)",
+    re.S,
+)
 
-# The rules for pre-releases of the calls that tell which versions meet a range.
+# How it writes those of ranges: by name, as a sentence, and in reports.
+_NAMES = {False: "NotARange", True: "NumberTooLarge"}
+_SENTENCES = {False: "not a range", True: "number too large"}
+_WORDS = {False: "not-a-range", True: "number-too-large"}
+
+# Which pre-releases the functions include that say which versions satisfy a range.
 _RULES = {
     "filter": PreReleases.EXCLUDED,
     "releases": PreReleases.EXCLUDED,
@@ -47,8 +52,8 @@ _RULES = {
     "meet": PreReleases.INCLUDED,
 }
 
-# Those of the calls that tell the greatest version, in the crate's npm mode.
-_RULES_OF_GREATEST = {
+# Those of the functions that say the highest version, in the crate's npm mode.
+_RULES_OF_HIGHEST = {
     "greatest-release": PreReleases.EXCLUDED,
     "greatest-stated": PreReleases.DEFAULT,
     "greatest-of-all": PreReleases.INCLUDED,
@@ -65,7 +70,7 @@ class Row(NamedTuple):
 
 
 def _unescaped(text: str, place: Optional[int] = None) -> str:
-    """A text without repetitions, which stands at a place of a list or at none."""
+    """A string without repetitions, at a place of a list or at none."""
 
     def meant(found: "re.Match[str]") -> str:
         character = found.group(1)
@@ -75,7 +80,7 @@ def _unescaped(text: str, place: Optional[int] = None) -> str:
 
 
 def expanded(escaped: str) -> str:
-    """The text that is meant by one of the table."""
+    """The string that one of the table is short for."""
 
     def repeated(found: "re.Match[str]") -> str:
         count, unit, joiner = found.group(1).split(",", 2)
@@ -96,19 +101,20 @@ def rows() -> Iterator[Row]:
     for line, answer in zip(asked, wanted):
         name, call, text, steps = (line.split("\t") + ["", ""])[:4]
         assert answer.startswith(name + ": "), line
-        yield Row(call, expanded(text), expanded(steps), answer[len(name) + 2 :])
+        wanted_here = _VERSION_ERRORS.sub(_NO_VERSION, answer[len(name) + 2 :])
+        yield Row(call, expanded(text), expanded(steps), wanted_here)
 
 
 def rows_of_tools() -> Iterator[Tuple[str, str, Row]]:
-    """The rows of the tools: what is asked, the dialect, and the row.
+    """The rows of the tools: the function, the dialect, and the row.
 
-    Asked is `rewritten`, `meant` or `meant-with-all`, which takes all pre-releases within bounds,
-    `version`, or `refused`: where and why a text is no version, or `refused-range`: gives no range.
+    The function is `rewritten`, `meant` or `meant-with-all`, which includes all pre-releases,
+    `version`, `refused`: where and why a string is no version, or `refused-range`: no range.
     """
     for row in rows():
-        asked, _, tool = row.call.partition("-as-")
+        function, _, tool = row.call.partition("-as-")
         if tool:
-            yield asked, tool, row
+            yield function, tool, row
 
 
 def _dialect(npm: bool) -> Dialect:
@@ -138,80 +144,123 @@ def _fields_of_set(answered: RangeSet) -> str:
     return f"{answered.compat.name.title()} " + " || ".join(ranges)
 
 
-def _of_version(text: str, show: Callable[[Version], str], errors: Dict[str, str]) -> str:
+def is_too_large(error: RangeError) -> bool:
+    """Whether a number of a range is too large."""
+    return error.reason in ("limit", "npm-limit")
+
+
+def _of_version(text: str, show: Callable[[Version], str], no_version: str) -> str:
     try:
-        return show(parse_version(text, Dialect.CRATE_CARGO))
-    except VersionError as error:
-        return errors[error.name]
+        return show(parse_version(text, dialect="crate-cargo"))
+    except VersionError:
+        return no_version
 
 
 def _of_range(
-    text: str, npm: bool, exact: bool, show: Callable[[RangeSet], str], errors: Dict[str, str]
+    text: str, npm: bool, exact: bool, show: Callable[[RangeSet], str], errors: Dict[bool, str]
 ) -> str:
     try:
-        return show(parse_range(text, _dialect(npm), exact))
+        return show(parse_range(text, dialect=_dialect(npm), exact=exact))
     except RangeError as error:
-        return errors[error.name]
+        return errors[is_too_large(error)]
 
 
 def _report(text: str) -> str:
-    """The lines of the program, whose status is 0 where one of them has a value."""
-    errors = {name: name for name in (*_VERSION_ERRORS, *_RANGE_NAMES)}
-    version = _of_version(text, str, errors)
-    cargo = _of_range(text, False, False, str, errors)
-    npm = _of_range(text, True, False, str, errors)
+    """The lines of the program, whose status is 0 if one of them has a value."""
+    version = _of_version(text, str, _NO_VERSION)
+    cargo = _of_range(text, False, False, str, _WORDS)
+    npm = _of_range(text, True, False, str, _WORDS)
+    errors = (_NO_VERSION, *_WORDS.values())
     status = int(all(value in errors for value in (version, cargo, npm)))
     return f"version: {version}; cargo: {cargo}; npm: {npm}; status {status}"
 
 
-def _of_filter(
+def _of_chosen(
     text: str,
     npm: bool,
     pre_releases: PreReleases,
     steps: str,
-    show: Callable[[Filter, List[Version]], str],
+    show: Callable[[Range, List[Version]], str],
 ) -> str:
+    dialect = _dialect(npm)
     try:
-        chosen = Filter(text, _dialect(npm), pre_releases)
+        chosen = Range(text, dialect=dialect, pre_releases=pre_releases)
     except RangeError as error:
-        return _RANGE_SENTENCES[error.name]
-    return show(chosen, [parse_version(it, chosen.dialect) for it in steps.split(" ") if it])
+        return _SENTENCES[is_too_large(error)]
+    return show(chosen, [parse_version(it, dialect=dialect) for it in steps.split(" ") if it])
 
 
-def _kept(chosen: Filter, versions: List[Version]) -> str:
-    return "".join(f"{version} " for version in chosen.kept(versions)) + "end"
+def _filtered(chosen: Range, versions: List[Version]) -> str:
+    return "".join(f"{version} " for version in chosen.filter(versions)) + "end"
 
 
-def _greatest(chosen: Filter, versions: List[Version]) -> str:
-    return str(chosen.greatest(versions) or "none")
+def _highest(chosen: Range, versions: List[Version]) -> str:
+    return str(chosen.highest(versions) or "none")
+
+
+def _whole(of: Range) -> str:
+    return f"{of.printed_releases}, pre-releases {of.printed_pre_releases}"
+
+
+def _lowest_of(of: Range) -> str:
+    return str(of.lowest_version or "none")
+
+
+def _of_set(call: str, text: str, steps: str) -> str:
+    """What the table has of the set of a range, or of those of two, of which `steps` is one."""
+    what, rule, mode = call.rsplit("-", 2)
+    dialect, pre_releases = _dialect(mode == "npm"), _RULES[rule]
+    try:
+        of = Range(text, dialect=dialect, pre_releases=pre_releases)
+        if what == "whole":
+            return _whole(of)
+        if what == "set":
+            filtered = _filtered(of, [parse_version(it, dialect=dialect) for it in steps.split()])
+            release = Range(text, dialect=dialect, pre_releases="excluded")
+            return (
+                f"{filtered}, least {_lowest_of(of)}, least release {_lowest_of(release)}, "
+                f"empty {str(not of).lower()}"
+            )
+        compared = compare_ranges(text, steps, dialect=dialect, pre_releases=pre_releases)
+    except RangeError as error:
+        return _SENTENCES[is_too_large(error)]
+    parts = [("lost", compared.lost), ("gained", compared.gained), ("shared", compared.shared)]
+    if what == "whole-pair":
+        return "; ".join(f"{name} {_whole(it)}" for name, it in parts)
+    other = Range(steps, dialect=dialect, pre_releases=pre_releases)
+    said = {"within": of <= other, "overlaps": not of.isdisjoint(other), "same": of == other}
+    assert list(said.values()) == [compared.is_subset, compared.overlaps, compared.is_equal]
+    return ", ".join(
+        [f"{name} {_lowest_of(it)}" for name, it in parts]
+        + [f"{name} {str(it).lower()}" for name, it in said.items()]
+    )
 
 
 def answer(call: str, text: str, steps: str) -> Optional[str]:
-    """What the package answers to a call of the table, as that writes it; None where it has none.
-
-    An answer that ends with a bracket is a front: the tokens after it aren't told.
-    """
+    """What the package returns for a row of the table, as that writes it; None if it has no such
+    function."""
     name, _, last = call.partition("-")
     npm = "npm" in call
     if call in ("version", "read"):
-        errors = _VERSION_ERRORS if call == "version" else dict.fromkeys(_VERSION_ERRORS, "none")
-        return _of_version(text, fields_of_version, errors)
+        return _of_version(text, fields_of_version, _NO_VERSION if call == "version" else "none")
     if call == "version-text":
-        return _of_version(text, str, _VERSION_ERRORS)
+        return _of_version(text, str, _NO_VERSION)
     if call in ("cargo", "npm"):
-        return _of_range(text, npm, False, _fields_of_set, _RANGE_NAMES)
+        return _of_range(text, npm, False, _fields_of_set, _NAMES)
     if call in ("cargo-text", "npm-text", "from-str", "cargo-exact", "npm-exact"):
-        return _of_range(text, npm, last == "exact", str, _RANGE_SENTENCES)
+        return _of_range(text, npm, last == "exact", str, _SENTENCES)
     if call == "report":
         return _report(text)
     if name in _RULES and last in ("cargo", "npm"):
-        return _of_filter(text, npm, _RULES[name], steps, _kept)
-    if call in _RULES_OF_GREATEST:
-        return _of_filter(text, True, _RULES_OF_GREATEST[call], steps, _greatest)
+        return _of_chosen(text, npm, _RULES[name], steps, _filtered)
+    if re.fullmatch(r"(set|pair|whole|whole-pair)-(releases|stated|mean)-(cargo|npm)", call):
+        return _of_set(call, text, steps)
+    if call in _RULES_OF_HIGHEST:
+        return _of_chosen(text, True, _RULES_OF_HIGHEST[call], steps, _highest)
     return None
 
 
 def checksum(text: str) -> str:
-    """What the table has in place of a long answer."""
+    """What the table has in place of a long result."""
     answered = text.encode()
     return f"{len(answered)} bytes, Adler-32 {zlib.adler32(answered):08x}"

@@ -1,14 +1,17 @@
-"""What the documents show in Python is what comes out, one version number stands everywhere, and
-each public name says what it is."""
+"""What the documents show in Python is what comes out, one version number is everywhere, and each
+public name says what it is, in the words of the project."""
 
 import ast
 import doctest
+import importlib
+import inspect
 import re
 import unittest
 from pathlib import Path
 from typing import Iterator, List, Tuple
 
 import semver_parser
+from semver_parser import library
 
 TOP = Path(__file__).resolve().parents[2]
 
@@ -24,7 +27,7 @@ def named(body: List[ast.stmt]) -> Iterator[Tuple[str, ast.stmt, ast.stmt]]:
             yield it.target.id, it, after
 
 
-def is_told(name: str, it: ast.stmt, after: ast.stmt, around: str) -> bool:
+def is_described(name: str, it: ast.stmt, after: ast.stmt, around: str) -> bool:
     """Whether something has a docstring, or a string after it, or is named in the one around."""
     if isinstance(it, (ast.ClassDef, ast.FunctionDef)):
         return ast.get_docstring(it) is not None
@@ -34,11 +37,22 @@ def is_told(name: str, it: ast.stmt, after: ast.stmt, around: str) -> bool:
 
 class Documents(unittest.TestCase):
     def test_examples(self) -> None:
-        failed, tried = doctest.testmod(semver_parser)
-        self.assertEqual((failed, tried > 0), (0, True))
+        count = 0
+        for file in (TOP / "python" / "semver_parser").glob("*.py"):
+            name = "semver_parser" if file.stem == "__init__" else f"semver_parser.{file.stem}"
+            failed, tried = doctest.testmod(importlib.import_module(name))
+            self.assertEqual(failed, 0, name)
+            count += tried
+        self.assertGreater(count, 25)
         document = TOP / "python" / "README.md"
         failed, tried = doctest.testfile(str(document), module_relative=False)
         self.assertEqual((failed, tried > 0), (0, True), document)
+
+    def test_links(self) -> None:
+        """README is shown where the package is published, so its links lead to no other file."""
+        readme = (TOP / "python" / "README.md").read_text()
+        for target in re.findall(r"\]\(([^)\s]+)\)", readme):
+            self.assertRegex(target, "^(https://|#)")
 
     def test_docstrings(self) -> None:
         found = []
@@ -48,7 +62,7 @@ class Documents(unittest.TestCase):
             for name, it, after in named(module.body):
                 if name in semver_parser.__all__:
                     found.append(name)
-                    self.assertTrue(is_told(name, it, after, ""), name)
+                    self.assertTrue(is_described(name, it, after, ""), name)
                     self.check_members(it)
         self.assertEqual(sorted(found), sorted(semver_parser.__all__))
 
@@ -57,18 +71,32 @@ class Documents(unittest.TestCase):
             around = ast.get_docstring(of) or ""
             for name, it, after in named(of.body):
                 if not name.startswith("_"):
-                    self.assertTrue(is_told(name, it, after, around), (of.name, name))
+                    self.assertTrue(is_described(name, it, after, around), (of.name, name))
+
+    def test_words(self) -> None:
+        """No public name has a word that the project doesn't use for it."""
+        names = set(semver_parser.__all__)
+        for name in semver_parser.__all__:
+            it = getattr(semver_parser, name)
+            if inspect.isclass(it):
+                names |= {f"{name}.{member}" for member in dir(it) if not member.startswith("_")}
+            if inspect.isfunction(it):
+                names |= {f"{name}({parameter})" for parameter in inspect.signature(it).parameters}
+        other = "meets?|means?|has|takes|greatest|least|told|asked|text|room|place|kept"
+        other += "|reading|stated|pass_over|which|name|build_|address|folder|front|ending"
+        for name in names:
+            self.assertIsNone(re.search(rf"(?i)(\b|_)({other})(\b|_)", name), name)
 
     def test_version(self) -> None:
         version = (TOP / "VERSION").read_text().strip()
         self.assertEqual(semver_parser.__version__, version)
         major, minor, _ = map(int, version.split("."))
         fitting = (major, minor) if major == 0 else (major,)
-        self.assertEqual(semver_parser.library.FITTING, fitting)
+        self.assertEqual(library.FITTING, fitting)
 
     def test_name_of_the_library(self) -> None:
         python = TOP / "python"
         package = python / "semver_parser" / "__init__.py"
         for file in (python / "README.md", python / "pyproject.toml", package, TOP / ".gitignore"):
             named = re.findall(r"libsemver_parser\.so[.0-9]*[0-9]", file.read_text())
-            self.assertEqual(set(named), {semver_parser.library.NAME}, file)
+            self.assertEqual(set(named), {library.NAME}, file)

@@ -1,4 +1,4 @@
-"""Where the shared library is looked for, and what is said where it isn't or doesn't fit.
+"""Where the shared library is looked for, and what is said if it is missing or doesn't fit.
 
 Each test imports a copy of the package in a process of its own. The library that is tested is the
 one of SEMVER_PARSER_LIBRARY.
@@ -14,7 +14,7 @@ from pathlib import Path
 
 PACKAGE = Path(__file__).resolve().parents[1] / "semver_parser"
 VARIABLE = "SEMVER_PARSER_LIBRARY"
-NAME = "libsemver_parser.so.0.7"
+NAME = "libsemver_parser.so.1"
 
 
 @unittest.skipUnless(os.environ.get(VARIABLE), f"{VARIABLE} names no library")
@@ -25,8 +25,8 @@ class Loading(unittest.TestCase):
         self.folder = Path(folder.name)
         self.package = self.folder / "semver_parser"
         self.library = os.environ[VARIABLE]
-        passed_over = shutil.ignore_patterns("*.so*", "__pycache__")
-        shutil.copytree(PACKAGE, self.package, ignore=passed_over)
+        ignored = shutil.ignore_patterns("*.so*", "__pycache__")
+        shutil.copytree(PACKAGE, self.package, ignore=ignored)
 
     def run_python(self, code: str, **variables: str) -> "subprocess.CompletedProcess[str]":
         kept = {name: value for name, value in os.environ.items() if name != VARIABLE}
@@ -39,7 +39,7 @@ class Loading(unittest.TestCase):
         )
 
     def imports(self, **variables: str) -> None:
-        code = "import semver_parser; print(semver_parser.meets('^1', '1.2.3'))"
+        code = "import semver_parser as it; print(it.satisfies('1.2.3', '^1', dialect='npm'))"
         ended = self.run_python(code, **variables)
         self.assertEqual((ended.stdout, ended.stderr, ended.returncode), ("True\n", "", 0))
 
@@ -75,7 +75,7 @@ class Loading(unittest.TestCase):
         shutil.copy(self.library, self.folder / "libraries" / NAME)
         self.imports(LD_LIBRARY_PATH=str(self.folder / "libraries"))
 
-    def test_what_cannot_be_loaded_is_passed_over(self) -> None:
+    def test_what_cannot_be_loaded_is_skipped(self) -> None:
         (self.package / NAME).write_text("no library")
         (self.folder / "libraries").mkdir()
         shutil.copy(self.library, self.folder / "libraries" / NAME)
@@ -97,16 +97,16 @@ class Loading(unittest.TestCase):
         self.assertNotIn("beside", said)
 
     def test_another_version(self) -> None:
-        tells = 'const char *semver_parser_library_version(void) { return "%s"; }'
-        for version in ("0.1.0", "0.6.0", "0.8.0", "1.7.0", "0.70.0", ""):
-            path = self.make_library(f"lib{version}.so", tells % version)
+        source = 'const char *semver_parser_library_version(void) { return "%s"; }'
+        for version in ("0.1.0", "0.7.0", "2.0.0", "10.0.0", "0.1.1", ""):
+            path = self.make_library(f"lib{version}.so", source % version)
             said = self.refused(SEMVER_PARSER_LIBRARY=path)
             self.assertEqual(
-                said, f"{path} has version {version}, and semver_parser needs version 0.7 of it\n"
+                said, f"{path} has version {version}, and semver_parser needs version 1 of it\n"
             )
-        path = self.make_library("lacking.so", tells % "0.7.7")
+        path = self.make_library("lacking.so", source % "1.7.7")
         said = self.refused(SEMVER_PARSER_LIBRARY=path)
-        self.assertEqual(said, f"{path} lacks the call semver_parser_parse_version\n")
+        self.assertEqual(said, f"{path} lacks the function semver_parser_satisfies\n")
 
     def test_another_library(self) -> None:
         path = self.make_library("other.so", "int other;")

@@ -1,22 +1,23 @@
-"""The rows of the table: versions, ranges by each dialect, printing, exact bounds, and filters."""
+"""The rows of the table: versions, ranges by each dialect, printing, exact bounds, which versions
+satisfy a range, and sets."""
 
 import re
 import unittest
 from collections import Counter
 from typing import Counter as Counts
-from typing import Dict, List, Optional, Tuple
+from typing import List, Tuple
 
 from semver_parser import (
-    Filter,
-    PreReleases,
-    RangeError,
     Dialect,
+    PreReleases,
+    Range,
+    RangeError,
     VersionError,
-    meets,
     parse_range,
     parse_version,
+    satisfies,
 )
-from tests.table import answer, checksum, fields_of_version, rows, rows_of_tools
+from tests.table import answer, checksum, fields_of_version, is_too_large, rows, rows_of_tools
 
 _SUM = "sum-of-"
 _VERSION = "version"
@@ -26,29 +27,28 @@ _DIALECTS_OF_TOOLS = {"cargo": Dialect.CARGO, "npm": Dialect.NPM}
 _DIALECTS_OF_CRATE = {"crate-cargo": Dialect.CRATE_CARGO, "crate-npm": Dialect.CRATE_NPM}
 _DIALECTS_OF_REFUSED = {**_DIALECTS_OF_TOOLS, "crate": Dialect.CRATE_CARGO}
 _DIALECTS_OF_RANGES = {**_DIALECTS_OF_REFUSED, **_DIALECTS_OF_CRATE}
-# How the table writes the reasons for which a text is no version, where it isn't the name in words.
+# How the table writes the reasons, if not in the words of their names: of versions, and of ranges.
 _REASONS = {"text-after": "text after the version"}
-# How the table writes the hints.
 _HINTS = {
-    "a number has no leading zero": "leading zero",
-    "a pre-release or a build comes after three numbers": "three numbers",
-    "Cargo separates comparators by commas": "commas",
-    "Cargo takes * without numbers before it only alone": "wildcard alone",
-    "Cargo takes no ||; npm does": "no bars to Cargo",
-    "Cargo takes no leading v; npm does": "no v to Cargo",
-    "Cargo takes no hyphen ranges; npm does": "no hyphen range to Cargo",
-    "npm takes no version above 256 characters, and no build identifier above 250": "lengths of npm",
-    "npm separates comparators by spaces; Cargo takes commas": "no comma to npm",
-    "the crate takes no commas; Cargo does": "no comma to the crate",
-    "the crate takes no leading v; npm does": "no v to the crate",
-    "numbers and raised bounds are at most 2^64 - 1": "limit",
-    "npm's numbers and raised bounds are at most 2^53 - 1": "limit of npm",
+    None: "",
+    "leading-zero": ", leading zero",
+    "not-three-numbers": ", three numbers",
+    "cargo-commas": ", commas",
+    "cargo-wildcard": ", wildcard alone",
+    "cargo-bars": ", no bars to Cargo",
+    "cargo-v": ", no v to Cargo",
+    "cargo-hyphen": ", no hyphen range to Cargo",
+    "npm-length": ", lengths of npm",
+    "npm-comma": ", no comma to npm",
+    "crate-comma": ", no comma to the crate",
+    "crate-v": ", no v to the crate",
+    "limit": ", limit",
+    "npm-limit": ", limit of npm",
 }
-# The rules for pre-releases that mean what is asked. None is the default too.
-_RULES_OF_MEANT: Dict[str, Tuple[Optional[PreReleases], ...]] = {
-    "meant": (None, PreReleases.DEFAULT),
-    "meant-with-all": (PreReleases.INCLUDED,),
-}
+# Which pre-releases a row includes.
+_RULES_OF_MEANT = {"meant": PreReleases.DEFAULT, "meant-with-all": PreReleases.INCLUDED}
+# How the table names the errors of ranges.
+_NAMES = {False: "not-a-range", True: "number-too-large"}
 
 
 def fits_npm(version: str) -> bool:
@@ -63,17 +63,19 @@ class Table(unittest.TestCase):
             is_sum = row.call.startswith(_SUM)
             call = row.call[len(_SUM) :] if is_sum else row.call
             answered = answer(call, row.text, row.steps)
-            if answered is None or (is_sum and answered.endswith("(")):
-                counts["passed over"] += 1
+            if answered is None or (is_sum and answered == "no version"):
+                counts["not checked"] += 1
                 continue
-            wanted = row.wanted[: len(answered)] if answered.endswith("(") else row.wanted
             shown = checksum(answered) if is_sum else answered
-            self.assertEqual(shown, wanted, (row.call, row.text[:200]))
+            self.assertEqual(shown, row.wanted, (row.call, row.text[:200]))
             counts[call] += 1
-        self.assertGreater(sum(counts.values()) - counts["passed over"], 4500, counts)
+        self.assertGreater(sum(counts.values()) - counts["not checked"], 5500, counts)
         self.assertGreater(min(counts[call] for call in ("version", "cargo", "npm")), 50)
         self.assertGreater(min(counts[call] for call in ("cargo-exact", "npm-exact")), 90)
         self.assertGreater(min(counts[call] for call in ("mean-cargo", "mean-npm")), 90)
+        for rule in ("releases", "stated", "mean"):
+            for what, count in (("set", 80), ("pair", 150), ("whole", 100), ("whole-pair", 50)):
+                self.assertGreater(counts[f"{what}-{rule}-npm"], count)
 
 
 class Tools(unittest.TestCase):
@@ -81,22 +83,22 @@ class Tools(unittest.TestCase):
 
     def test_rows(self) -> None:
         counts: Counts[Tuple[str, str]] = Counter()
-        for asked, tool, row in rows_of_tools():
-            asked = asked.removeprefix(_SUM)
+        for function, tool, row in rows_of_tools():
+            function = function.removeprefix(_SUM)
             with self.subTest(call=row.call, text=row.text[:200], steps=row.steps):
                 dialect = _DIALECTS_OF_RANGES[tool]
-                if asked == _NO_RANGE:
+                if function == _NO_RANGE:
                     self.check_no_range(row.text, dialect, row.wanted)
-                elif asked == _REFUSED:
+                elif function == _REFUSED:
                     self.check_refusal(row.text, dialect, row.wanted)
-                elif asked == _VERSION:
+                elif function == _VERSION:
                     self.check_version(row.call, row.text, dialect, row.wanted)
-                elif asked in _RULES_OF_MEANT:
-                    rules = _RULES_OF_MEANT[asked]
-                    self.check_meaning(row.text, dialect, rules, row.steps.split(" "), row.wanted)
+                elif function in _RULES_OF_MEANT:
+                    rule = _RULES_OF_MEANT[function]
+                    self.check_meaning(row.text, dialect, rule, row.steps.split(" "), row.wanted)
                 else:
                     self.check_rewriting(row.text, dialect, row.wanted)
-            counts[tool, asked] += 1
+            counts[tool, function] += 1
         for tool in _DIALECTS_OF_TOOLS:
             self.assertGreater(counts[tool, "rewritten"], 80)
             self.assertGreaterEqual(counts[tool, "meant"], 50)
@@ -108,68 +110,72 @@ class Tools(unittest.TestCase):
             self.assertGreaterEqual(counts[tool, _NO_RANGE], 69)
 
     def check_refusal(self, text: str, dialect: Dialect, wanted: str) -> None:
-        """Where and why a text is no version; the table has the place in bytes."""
+        """Where and why a string is no version; the table has the offset in bytes."""
         try:
-            parse_version(text, dialect)
+            parse_version(text, dialect=dialect)
             answered = "a version"
         except VersionError as error:
-            assert error.offset is not None and error.reason is not None
+            assert error.offset is not None and error.reason is not None and error.hint
             words = _REASONS.get(error.reason, error.reason.replace("-", " "))
             answered = f"{len(text[: error.offset].encode())}: {words}"
         self.assertEqual(answered, wanted)
 
     def check_no_range(self, text: str, dialect: Dialect, wanted: str) -> None:
-        """Where and why a text gives no range, and the hint."""
+        """Where and why a string is no range."""
         try:
-            parse_range(text, dialect)
+            parse_range(text, dialect=dialect)
             answered = "a range"
         except RangeError as error:
-            assert error.offset is not None
-            words = "" if error.hint is None else f", {_HINTS[error.hint]}"
-            place = len(text[: error.offset].encode())
-            answered = f"{place}: {error.name.replace('-', ' ')}{words}"
+            assert error.offset is not None and (error.hint is None) is (error.reason is None)
+            offset = len(text[: error.offset].encode())
+            name = _NAMES[is_too_large(error)].replace("-", " ")
+            answered = f"{offset}: {name}{_HINTS[error.reason]}"
         self.assertEqual(answered, wanted)
 
     def check_version(self, call: str, text: str, dialect: Dialect, wanted: str) -> None:
-        """The fields, or `none`; a long answer by its checksum."""
+        """The fields, or `none`; a long result by its checksum."""
         try:
-            answered = fields_of_version(parse_version(text, dialect))
-        except VersionError as error:
-            self.assertEqual(error.name, "not-a-version")
+            answered = fields_of_version(parse_version(text, dialect=dialect))
+        except VersionError:
             answered = "none"
         self.assertEqual(checksum(answered) if call.startswith(_SUM) else answered, wanted)
 
     def check_rewriting(self, text: str, dialect: Dialect, wanted: str) -> None:
-        """In a tool's dialect bounds are exact, whatever is asked for."""
+        """In a tool's dialect bounds are exact, whatever is given."""
         for exact in (False, True):
             try:
-                self.assertEqual(str(parse_range(text, dialect, exact)), wanted)
+                answered = str(parse_range(text, dialect=dialect, exact=exact))
+                self.assertEqual(answered, wanted)
+                self.assertEqual(str(Range(text, dialect=dialect).comparators), wanted)
             except RangeError as error:
-                self.assertEqual(error.name, wanted)
+                self.assertEqual(_NAMES[is_too_large(error)], wanted)
 
     def check_meaning(
-        self,
-        text: str,
-        dialect: Dialect,
-        rules: Tuple[Optional[PreReleases], ...],
-        versions: List[str],
-        wanted: str,
+        self, text: str, dialect: Dialect, rule: PreReleases, versions: List[str], wanted: str
     ) -> None:
-        """By rules that mean the same, and of the releases among them. Versions whose numbers are
+        """Of the pre-releases of a rule, and of the releases among them. Versions whose numbers are
         too large for npm are left out."""
         try:
-            chosen = [Filter(text, dialect, rule) for rule in rules]
-            releases = Filter(text, dialect, PreReleases.EXCLUDED)
+            chosen = Range(text, dialect=dialect, pre_releases=rule)
+            releases = Range(text, dialect=dialect, pre_releases="excluded")
         except RangeError as error:
-            self.assertEqual(error.name, wanted)
+            self.assertEqual(_NAMES[is_too_large(error)], wanted)
             return
         means, *meant = wanted.split(" ")
         self.assertEqual(means, "means")
         if dialect is Dialect.NPM:
             versions, meant = ([it for it in them if fits_npm(it)] for them in (versions, meant))
-        for each in chosen:
-            self.assertEqual(each.kept(versions), meant)
-        without = [it for it in meant if not parse_version(it, dialect).pre]
-        self.assertEqual(releases.kept(versions), without)
+        self.assertEqual(chosen.filter(versions), meant)
+        if rule is PreReleases.DEFAULT:
+            self.assertEqual(Range(text, dialect=dialect).filter(versions), meant)
+        without = [it for it in meant if not parse_version(it, dialect=dialect).pre]
+        self.assertEqual(releases.filter(versions), without)
         for version in versions:
-            self.assertIs(meets(text, version, dialect, rules[0]), version in meant)
+            is_meant = version in meant
+            self.assertIs(version in chosen, is_meant)
+            self.assertIs(satisfies(version, text, dialect=dialect, pre_releases=rule), is_meant)
+        highest = chosen.highest(versions)
+        self.assertIn(highest, meant or [None])
+        parsed = [parse_version(it, dialect=dialect) for it in meant]
+        if highest is not None:
+            self.assertEqual(parse_version(highest, dialect=dialect), max(parsed))

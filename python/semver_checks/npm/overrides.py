@@ -9,10 +9,10 @@ from collections import deque
 from dataclasses import dataclass, field
 from typing import Dict, Iterator, List, Optional, Tuple
 
-from semver_parser import Filter, RangeError, Dialect
+from semver_parser import Dialect
 
 from ..files import Entry, WrongShape, object_at, text_at
-from ..judging import is_met
+from ..judging import is_met, is_range
 from .lock import Ask, Packages, is_top, package_at
 from .specs import may_overlap, name_and_rest
 
@@ -61,10 +61,8 @@ def name_and_range(key: str, where: str) -> Tuple[str, str]:
     within = within.strip() or ANY
     if not name:
         raise WrongShape(f": {where} names no package")
-    try:
-        Filter(within, Dialect.NPM)
-    except RangeError:
-        raise WrongShape(f": {where} has no range after its name") from None
+    if not is_range(within, Dialect.NPM):
+        raise WrongShape(f": {where} has no range after its name")
     return name, within
 
 

@@ -4,7 +4,7 @@ import re
 from typing import List, NamedTuple, Optional, Tuple
 from urllib.parse import unquote
 
-from semver_parser import RangeError, Dialect, compare_ranges
+from semver_parser import Dialect, Range, RangeError
 
 from ..judging import NO_VERSION, SKIPPED, is_met
 
@@ -82,7 +82,7 @@ def may_overlap(spec: str, within: str) -> bool:
     """Whether two ranges have a version in common, or may have one, since one of them isn't
     read."""
     try:
-        return compare_ranges(spec, within, Dialect.NPM).overlaps
+        return not Range(spec, dialect="npm").isdisjoint(Range(within, dialect="npm"))
     except RangeError:
         return True
 

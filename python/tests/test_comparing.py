@@ -1,27 +1,24 @@
-"""The least version that a range means, and how two ranges compare, by each dialect and rule."""
+"""The lowest version of a range, and how two ranges compare, by each dialect and rule."""
 
 import pickle
 import unittest
 from typing import Optional, Tuple
 
 from semver_parser import (
-    Compat,
-    PreReleases,
-    RangeError,
     Dialect,
+    PreReleases,
+    Range,
+    RangeError,
     Version,
-    VersionSet,
     compare_ranges,
-    least,
 )
-from semver_parser.errors import raise_error
 
 OF_CRATE = (PreReleases.EXCLUDED, PreReleases.DEFAULT, PreReleases.INCLUDED)
 CRATE = (Dialect.CRATE_CARGO, Dialect.CRATE_NPM)
 
-# A range by the crate in npm mode, and the least version by each rule: releases alone, as stated,
-# and all.
-LEAST = [
+# A range by the crate in npm mode, and its lowest version by each rule: without pre-releases, with
+# the default ones, and with all.
+LOWEST = [
     ("^1.2.3", ("1.2.3", "1.2.3", "1.2.3")),
     ("", ("0.0.0", "0.0.0", "0.0.0")),
     ("3.x || ^1.2 || >=2", ("1.2.0", "1.2.0", "1.2.0")),
@@ -42,9 +39,9 @@ LEAST = [
 MOST = str(2**64 - 1)
 LAST = ".".join([MOST] * 3)
 
-# A range, and its least version among releases alone, and by the rule that the dialect takes where
-# none is named. They follow from what docs/MEANING.md has of each dialect.
-LEAST_BY_DIALECT = [
+# A range, and its lowest version without pre-releases, and with the default ones. They follow from
+# what docs/MEANING.md has of each dialect.
+LOWEST_BY_DIALECT = [
     (Dialect.CARGO, "1.2", ("1.2.0", "1.2.0")),
     (Dialect.CARGO, ">1.2", ("1.3.0", "1.3.0")),
     (Dialect.CARGO, "^1.2.3-beta", ("1.2.3", "1.2.3-beta")),
@@ -106,7 +103,7 @@ ALIKE = [
     (f">={LAST}", f">{LAST}", (LAST, None, None)),
 ]
 
-# The same by each rule: releases alone, as stated, and all.
+# The same by each rule: without pre-releases, with the default ones, and with all.
 BY_RULE = [
     ("^1.2.0", ">=1.4.0", (*2 * (("1.2.0", "2.0.0", "1.4.0"),), ("1.2.0", "2.0.0-0", "1.4.0"))),
     ("~1.2.0", "^1.2.0", (*2 * ((None, "1.3.0", "1.2.0"),), (None, "1.3.0-0", "1.2.0"))),
@@ -133,26 +130,21 @@ BY_RULE = [
 ]
 
 
-class ComparedTest(unittest.TestCase):
+class Comparing(unittest.TestCase):
     def compares(
-        self,
-        old: str,
-        new: str,
-        dialect: Dialect,
-        rule: Optional[PreReleases],
-        wanted: Three,
+        self, old: str, new: str, dialect: Dialect, rule: PreReleases, wanted: Three
     ) -> None:
         """What is lost one way round is gained the other way round."""
         lost, gained, shared = wanted
-        for one, other, told in ((old, new, wanted), (new, old, (gained, lost, shared))):
+        for one, other, parts in ((old, new, wanted), (new, old, (gained, lost, shared))):
             with self.subTest(old=one, new=other, dialect=dialect, rule=rule):
-                answered = compare_ranges(one, other, dialect, rule)
-                sets = (answered.lost, answered.gained, answered.shared)
-                them = [it.least for it in sets]
-                self.assertEqual(tuple(it and str(it) for it in them), told)
-                self.assertIs(answered.overlaps, shared is not None)
-                self.assertIs(answered.is_within, told[0] is None)
-                self.assertIs(answered.means_same, lost is None and gained is None)
+                compared = compare_ranges(one, other, dialect=dialect, pre_releases=rule)
+                ranges = (compared.lost, compared.gained, compared.shared)
+                lowest = [it.lowest_version for it in ranges]
+                self.assertEqual(tuple(it and str(it) for it in lowest), parts)
+                self.assertIs(compared.overlaps, shared is not None)
+                self.assertIs(compared.is_subset, parts[0] is None)
+                self.assertIs(compared.is_equal, lost is None and gained is None)
 
     def test_rules(self) -> None:
         for dialect in CRATE:
@@ -164,110 +156,103 @@ class ComparedTest(unittest.TestCase):
                     self.compares(old, new, dialect, rule, wanted)
 
     def test_dialects(self) -> None:
-        for dialect, old, new, (alone, taken) in COMPARED_BY_DIALECT:
+        for dialect, old, new, (alone, default) in COMPARED_BY_DIALECT:
             self.compares(old, new, dialect, PreReleases.EXCLUDED, alone)
-            self.compares(old, new, dialect, None, taken)
-            self.compares(old, new, dialect, PreReleases.DEFAULT, taken)
+            self.compares(old, new, dialect, PreReleases.DEFAULT, default)
 
     def test_defaults(self) -> None:
-        cargo = compare_ranges("1.2.3", b"^1.2.3")
+        cargo = compare_ranges("1.2.3", b"^1.2.3", dialect="cargo")
         self.assertEqual((bool(cargo.lost), bool(cargo.gained)), (False, False))
-        self.assertEqual(cargo.shared, VersionSet("1.2.3"))
-        npm = compare_ranges("1.2.3", "^1.2.3", Dialect.NPM)
+        self.assertEqual(cargo.shared, Range("1.2.3", dialect="cargo"))
+        npm = compare_ranges("1.2.3", "^1.2.3", dialect="npm")
         self.assertEqual(str(npm.gained), ">=1.2.4 <2.0.0")
         self.assertEqual((bool(npm.lost), str(npm.shared)), (False, "=1.2.3"))
-        self.assertFalse(compare_ranges("1.2", "^1.2").gained)
-        self.assertFalse(compare_ranges("<2.0.0", "<2.0.0-0").lost)
+        self.assertFalse(compare_ranges("1.2", "^1.2", dialect="cargo").gained)
+        self.assertFalse(compare_ranges("<2.0.0", "<2.0.0-0", dialect="cargo").lost)
+
+    def test_is_a_value(self) -> None:
+        compared = compare_ranges("^1.2", ">=1.4", dialect="npm")
+        again = pickle.loads(pickle.dumps(compared))
+        self.assertEqual((again, hash(again)), (compared, hash(compared)))
+        self.assertEqual(compare_ranges("^1.2.0", ">=1.4.0", dialect="npm"), compared)
 
     def test_sizes(self) -> None:
         for length in (50, 170, 200, 100_000):
-            texts = ["1.2.3-" + letter * length for letter in "ab"]
-            compared = compare_ranges(f"={texts[0]}", f"={texts[1]}")
-            self.assertEqual([str(compared.lost.least), str(compared.gained.least)], texts)
+            strings = ["1.2.3-" + letter * length for letter in "ab"]
+            compared = compare_ranges(f"={strings[0]}", f"={strings[1]}", dialect="cargo")
+            lowest = [str(it.lowest_version) for it in (compared.lost, compared.gained)]
+            self.assertEqual(lowest, strings)
         many = [f"={number}.0.0" for number in range(2000)]
-        compared = compare_ranges("||".join(many), "||".join(many[1998::-1]), Dialect.NPM)
+        compared = compare_ranges("||".join(many), "||".join(many[1998::-1]), dialect="npm")
         self.assertEqual((str(compared.lost), bool(compared.gained)), ("=1999.0.0", False))
         self.assertEqual(str(compared.shared), " || ".join(many[:1999]))
 
     def test_errors(self) -> None:
         raised_bound = f"<={MOST}"
-        for old, new, which, name in [
-            ("^", "^1", "old", "not-a-range"),
-            ("^1", "^", "new", "not-a-range"),
-            ("^", "|", "old", "not-a-range"),
-            (b"\xff", "^1", "old", "not-utf8"),
-            ("^1", "\ud800", "new", "not-utf8"),
-            (raised_bound, b"\xff", "old", "number-too-large"),
-            ("*", raised_bound, "new", "number-too-large"),
+        for old, new, index, reasons in [
+            ("^", "^1", 0, (None,)),
+            ("^1", "^", 1, (None,)),
+            ("^", "|", 0, (None,)),
+            (b"\xff", "^1", 0, ("not-utf8",)),
+            ("^1", "\ud800", 1, ("not-utf8",)),
+            (raised_bound, b"\xff", 0, ("limit", "npm-limit")),
+            ("*", raised_bound, 1, ("limit", "npm-limit")),
         ]:
             for dialect in Dialect:
                 with self.assertRaises(RangeError) as raised:
-                    compare_ranges(old, new, dialect)
-                told = raised.exception
-                text = old if which == "old" else new
-                self.assertEqual((told.which, told.name, told.text), (which, name, text))
-                again = pickle.loads(pickle.dumps(told))
-                self.assertEqual((again.which, str(again)), (which, str(told)))
-        with self.assertRaisesRegex(RangeError, r"^not a range, in the new range: 'v1' \(Cargo takes no"):
-            compare_ranges("^1", "v1")
-        with self.assertRaises(MemoryError):
-            raise_error(19, range="^1")
+                    compare_ranges(old, new, dialect=dialect)
+                error = raised.exception
+                self.assertEqual((error.index, error.string), (index, (old, new)[index]))
+                self.assertIn(error.reason, reasons)
+                again = pickle.loads(pickle.dumps(error))
+                self.assertEqual((again.index, str(again)), (index, str(error)))
+        message = r"^invalid range, index 1: 'v1' \(offset 0: Cargo takes no leading v; npm does\)$"
+        with self.assertRaisesRegex(RangeError, message):
+            compare_ranges("^1", "v1", dialect="cargo")
         with self.assertRaises(RangeError) as alone:
-            least("v1")
-        self.assertIsNone(alone.exception.which)
+            Range("v1", dialect="cargo")
+        self.assertIsNone(alone.exception.index)
 
     def test_types(self) -> None:
-        for arguments in ((1, "1"), ("1", None), ("1", "1", "npm"), ("1", "1", Dialect.NPM, 1)):
+        for old, new in ((1, "1"), ("1", None), ("^", None), (None, "^")):
             with self.assertRaises(TypeError):
-                compare_ranges(*arguments)  # type: ignore[arg-type]
+                compare_ranges(old, new, dialect="npm")
+        with self.assertRaises(TypeError):
+            compare_ranges("1", "1", "npm")
 
 
-class LeastTest(unittest.TestCase):
+class LowestVersion(unittest.TestCase):
     def test_rules(self) -> None:
-        for range, wanted in LEAST:
-            for rule, text in zip(OF_CRATE, wanted):
-                self.has_least(range, Dialect.CRATE_NPM, rule, text)
+        for string, wanted in LOWEST:
+            for rule, lowest in zip(OF_CRATE, wanted):
+                self.has_lowest(string, Dialect.CRATE_NPM, rule, lowest)
 
-    def has_least(
-        self, range: str, dialect: Dialect, rule: Optional[PreReleases], wanted: Optional[str]
+    def has_lowest(
+        self, string: str, dialect: Dialect, rule: PreReleases, wanted: Optional[str]
     ) -> None:
-        with self.subTest(range=range, dialect=dialect, rule=rule):
-            answered = least(range, dialect, rule)
-            self.assertEqual(None if answered is None else str(answered), wanted)
+        with self.subTest(range=string, dialect=dialect, rule=rule):
+            lowest = Range(string, dialect=dialect, pre_releases=rule).lowest_version
+            self.assertEqual(None if lowest is None else str(lowest), wanted)
 
     def test_dialects(self) -> None:
-        for dialect, range, (alone, taken) in LEAST_BY_DIALECT:
-            self.has_least(range, dialect, PreReleases.EXCLUDED, alone)
-            self.has_least(range, dialect, None, taken)
-            self.has_least(range, dialect, PreReleases.DEFAULT, taken)
+        for dialect, string, (alone, default) in LOWEST_BY_DIALECT:
+            self.has_lowest(string, dialect, PreReleases.EXCLUDED, alone)
+            self.has_lowest(string, dialect, PreReleases.DEFAULT, default)
 
-    def test_defaults(self) -> None:
-        self.assertEqual(least(b"^1.2.3-rc"), Version(1, 2, 3, ("rc",)))
-        self.assertEqual(least("<2.0.0"), Version(0, 0, 0))
+    def test_is_a_version(self) -> None:
+        one = Range(b"^1.2.3-rc", dialect="cargo")
+        self.assertEqual(one.lowest_version, Version(1, 2, 3, ("rc",)))
+        self.assertEqual(Range("<2.0.0", dialect="cargo").lowest_version, Version(0, 0, 0))
 
-    def test_errors(self) -> None:
-        for range, name in [("v1", "not-a-range"), (b"\xff", "not-utf8"), ("\ud800", "not-utf8")]:
-            with self.assertRaises(RangeError) as raised:
-                least(range)
-            self.assertEqual((raised.exception.name, raised.exception.text), (name, range))
+    def test_limits(self) -> None:
         for dialect in (Dialect.CARGO, Dialect.CRATE_CARGO, Dialect.NPM):
             with self.assertRaises(RangeError) as raised:
-                least("0.0.18446744073709551615", dialect)
-            self.assertEqual(raised.exception.name, "number-too-large")
-        self.assertEqual(
-            least("0.0.18446744073709551615", Dialect.CRATE_NPM), Version(0, 0, 2**64 - 1)
-        )
-        self.assertEqual(least("0.0.9007199254740991", Dialect.NPM), Version(0, 0, 2**53 - 1))
-
-    def test_types(self) -> None:
-        with self.assertRaises(TypeError):
-            least(1)  # type: ignore[arg-type]
-        with self.assertRaises(TypeError):
-            least("1", "npm")  # type: ignore[arg-type]
-        with self.assertRaises(TypeError):
-            least("1", Dialect.NPM, 1)  # type: ignore[arg-type]
-        with self.assertRaises(TypeError):
-            least("1", Compat.NPM)  # type: ignore[arg-type]
+                Range("0.0.18446744073709551615", dialect=dialect)
+            self.assertIn(raised.exception.reason, ("limit", "npm-limit"))
+        crate = Range("0.0.18446744073709551615", dialect="crate-npm")
+        self.assertEqual(crate.lowest_version, Version(0, 0, 2**64 - 1))
+        npm = Range("0.0.9007199254740991", dialect="npm")
+        self.assertEqual(npm.lowest_version, Version(0, 0, 2**53 - 1))
 
 
 if __name__ == "__main__":

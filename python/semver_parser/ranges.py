@@ -1,0 +1,333 @@
+"""Ranges that are read once."""
+
+import ctypes
+from typing import Any, Callable, Iterable, List, Literal, Optional, Tuple, TypeVar, final
+
+from . import sets
+from .comparators import RangeSet, parse_range
+from .errors import RangeError, VersionError
+from .interface import INVALID_VERSION, OK, CString
+from .library import LIBRARY
+from .options import AnyDialect, AnyPreReleases, Dialect, PreReleases, dialect_of, pre_releases_of
+from .statuses import check
+from .strings import String, c_string, c_strings
+from .versions import AnyVersion, Version, string_of, version_of
+
+Invalid = Literal["raise", "skip"]
+"""What is done with strings that are no version: `raise` raises `VersionError`, `skip` skips
+them."""
+
+_Given = TypeVar("_Given", bound=AnyVersion)
+
+_NOTHING = "<0.0.0-0"
+
+
+@final
+class Range:
+    """The versions that satisfy a range, by a dialect and by which pre-releases do.
+
+    >>> npm = Range("^1.2 || 3.x", dialect="npm")
+    >>> "1.9.0" in npm, npm.filter(["1.3.0", "2.0.0", "3.0.0"])
+    (True, ['1.3.0', '3.0.0'])
+    >>> npm.highest(["v1.10.0", "v1.9.0", "latest"], invalid="skip")
+    'v1.10.0'
+
+    Versions are strings, read by the same dialect, or `Version`s. Build metadata is ignored.
+
+    `|`, `&` and `-` make the range of the versions that are in one or the other, in both, or in the
+    first alone; `<=`, `<`, `>=`, `>` and `isdisjoint` compare two as sets; these raise `ValueError`
+    if the options of both differ. A range is true if it has a version.
+
+    >>> str(npm & Range(">=1.4.0", dialect="npm"))
+    '>=1.4.0 <2.0.0 || >=3.0.0 <4.0.0'
+
+    Two ranges are equal if they have the same options and the same versions, whatever their
+    strings. Ranges are immutable; they can be pickled, and used by many threads at once.
+
+    Raises `RangeError` if the string is no range of the dialect.
+    """
+
+    __slots__ = ("_set", "_dialect", "_pre_releases", "_string", "__weakref__")
+
+    _set: sets.Set
+    _dialect: Dialect
+    _pre_releases: PreReleases
+    _string: Optional[str]
+
+    def __new__(
+        cls, range: String, *, dialect: AnyDialect, pre_releases: AnyPreReleases = "default"
+    ) -> "Range":
+        made = sets.set_of_range(range, dialect_of(dialect), pre_releases_of(pre_releases))
+        return _of_set(made, range.decode("utf-8") if isinstance(range, bytes) else range)
+
+    @property
+    def dialect(self) -> Dialect:
+        """The dialect of the range and of versions."""
+        return self._dialect
+
+    @property
+    def pre_releases(self) -> PreReleases:
+        """Which pre-releases satisfy the range."""
+        return self._pre_releases
+
+    # ---- which versions are in it
+
+    def __contains__(self, version: AnyVersion) -> bool:
+        """Returns whether a version is in the range. Raises `VersionError` if it is invalid."""
+        string, contains = string_of(version), ctypes.c_bool()
+        status = LIBRARY.semver_parser_set_contains(self._set, c_string(string), contains, None)
+        if status == INVALID_VERSION:
+            raise VersionError(string, self._dialect)
+        check(status)
+        return contains.value
+
+    def filter(self, versions: Iterable[_Given], *, invalid: Invalid = "raise") -> List[_Given]:
+        """Returns the versions that are in the range, in their order and with repeats.
+
+        An invalid version raises `VersionError`, whose `index` is its index among the versions; by
+        `invalid="skip"` it isn't in the range. A value of another type raises `TypeError`.
+        """
+        is_skipping, given = _is_skipping(invalid), _listed(versions)
+        strings = _strings(given)
+        contains = self._contains_each(strings, c_strings(strings), is_skipping)
+        return [it for it, is_in in zip(given, contains) if is_in]
+
+    def highest(
+        self, versions: Iterable[_Given], *, invalid: Invalid = "raise"
+    ) -> Optional[_Given]:
+        """Returns the highest of the versions that are in the range, by precedence and the first of
+        equal ones, or None if none is. Invalid versions are treated as in `filter`."""
+        return self._found(LIBRARY.semver_parser_set_highest, versions, invalid)
+
+    def lowest(self, versions: Iterable[_Given], *, invalid: Invalid = "raise") -> Optional[_Given]:
+        """Returns the lowest of them, as `highest` the highest."""
+        return self._found(LIBRARY.semver_parser_set_lowest, versions, invalid)
+
+    def _found(
+        self, function: Callable[..., int], versions: Iterable[_Given], invalid: Invalid
+    ) -> Optional[_Given]:
+        """What a function finds among versions, after those that are invalid are refused."""
+        is_skipping, given, index = _is_skipping(invalid), _listed(versions), ctypes.c_size_t()
+        strings = _strings(given)
+        array = c_strings(strings)
+        if not is_skipping:
+            self._contains_each(strings, array, is_skipping)
+        check(function(self._set, array, len(array), index))
+        return given[index.value] if index.value < len(given) else None
+
+    def _contains_each(
+        self, strings: List[String], array: "ctypes.Array[CString]", is_skipping: bool
+    ) -> Iterable[bool]:
+        """Whether each of some versions, which the array has too, is in the range."""
+        contains, statuses = (ctypes.c_bool * len(array))(), (ctypes.c_int * len(array))()
+        check(
+            LIBRARY.semver_parser_set_contains_each(
+                self._set, array, len(array), contains, statuses
+            )
+        )
+        if not is_skipping and any(statuses):
+            index = next(at for at, status in enumerate(statuses) if status != OK)
+            raise VersionError(strings[index], self._dialect, index)
+        return contains
+
+    @property
+    def lowest_version(self) -> Optional[Version]:
+        """The lowest version of all that are in the range, by precedence among all versions with
+        numbers up to 2**64 - 1, without build metadata; None if it has none.
+
+        >>> str(Range(">1.2", dialect="npm").lowest_version)
+        '1.3.0'
+        """
+        printed = sets.printed(LIBRARY.semver_parser_set_lowest_version, self._set)
+        return version_of(printed) if printed else None
+
+    # ---- two ranges
+
+    def _has_options_of(self, other: "Range") -> bool:
+        return (self._dialect, self._pre_releases) == (other._dialect, other._pre_releases)
+
+    def _set_beside(self, other: "Range") -> sets.Set:
+        """The set of another range of the same options."""
+        if not self._has_options_of(other):
+            raise ValueError(
+                f"two ranges of different options: {_options_text(self)}; {_options_text(other)}"
+            )
+        return other._set
+
+    def _combined(self, function: Callable[..., int], other: object) -> "Range":
+        if not isinstance(other, Range):
+            return NotImplemented
+        return _of_set(sets.combined(function, self._set, self._set_beside(other)), None)
+
+    def __or__(self, other: object) -> "Range":
+        """Returns the range of the versions of one or the other."""
+        return self._combined(LIBRARY.semver_parser_set_union, other)
+
+    def __and__(self, other: object) -> "Range":
+        """Returns the range of the versions of both."""
+        return self._combined(LIBRARY.semver_parser_set_intersection, other)
+
+    def __sub__(self, other: object) -> "Range":
+        """Returns the range of the versions that only the first has."""
+        return self._combined(LIBRARY.semver_parser_set_difference, other)
+
+    def __le__(self, other: object) -> bool:
+        """Returns whether each version of the range is in the other."""
+        if not isinstance(other, Range):
+            return NotImplemented
+        is_subset = LIBRARY.semver_parser_set_is_subset
+        return sets.holds(is_subset, self._set, self._set_beside(other))
+
+    def __ge__(self, other: object) -> bool:
+        """Returns whether each version of the other is in the range."""
+        if not isinstance(other, Range):
+            return NotImplemented
+        return other <= self
+
+    def __lt__(self, other: object) -> bool:
+        """Returns whether `<=` holds, and the other has more versions."""
+        if not isinstance(other, Range):
+            return NotImplemented
+        return self <= other and self != other
+
+    def __gt__(self, other: object) -> bool:
+        """Returns whether `>=` holds, and the range has more versions."""
+        if not isinstance(other, Range):
+            return NotImplemented
+        return other < self
+
+    def isdisjoint(self, other: "Range") -> bool:
+        """Returns whether no version is in both."""
+        if not isinstance(other, Range):
+            raise TypeError(f"expected a Range, not {type(other).__name__}")
+        return not self & other
+
+    def __bool__(self) -> bool:
+        """Returns whether some version is in the range."""
+        return not LIBRARY.semver_parser_set_is_empty(self._set)
+
+    def __eq__(self, other: object) -> bool:
+        """Returns whether both have the same options and the same versions."""
+        if not isinstance(other, Range):
+            return NotImplemented
+        if not self._has_options_of(other):
+            return False
+        return sets.holds(LIBRARY.semver_parser_set_equal, self._set, other._set)
+
+    def __hash__(self) -> int:
+        return hash(sets.saved(self._set))
+
+    # ---- how it is printed, copied and pickled
+
+    @property
+    def comparators(self) -> RangeSet:
+        """The plain comparators to which the range is rewritten, with exact bounds; of a combined
+        range those of its releases. For pre-releases ask the range.
+
+        >>> str(Range("^1.2", dialect="npm").comparators)
+        '>=1.2.0 <2.0.0-0'
+        """
+        if self._string is not None:
+            return parse_range(self._string, dialect=self._dialect, exact=True)
+        # By this dialect each printed range has the releases that it was printed of.
+        found = parse_range(self.printed_releases, dialect=Dialect.CRATE_NPM, exact=True)
+        return found.with_compat(self._dialect.compat)
+
+    @property
+    def printed_releases(self) -> str:
+        """The releases of the range as a range of npm: `*` for all, `<0.0.0-0` for none.
+
+        >>> Range("^1.2", dialect="cargo").printed_releases
+        '>=1.2.0 <2.0.0'
+        """
+        return sets.printed(LIBRARY.semver_parser_set_to_string, self._set, False)
+
+    @property
+    def printed_pre_releases(self) -> str:
+        """The pre-releases of the range as a range, to be compared by precedence.
+
+        >>> Range("^1.2.3-rc", dialect="cargo").printed_pre_releases
+        '>=1.2.3-rc <1.2.4-0'
+        """
+        return sets.printed(LIBRARY.semver_parser_set_to_string, self._set, True)
+
+    def __str__(self) -> str:
+        """Returns the string that the range was made of. A combined range has its releases, and its
+        pre-releases if there are some."""
+        if self._string is not None:
+            return self._string
+        pre_releases = self.printed_pre_releases
+        if pre_releases == _NOTHING:
+            return self.printed_releases
+        return f"{self.printed_releases}, pre-releases {pre_releases}"
+
+    def __repr__(self) -> str:
+        """Returns an expression for the range. A combined range may have none, and then it is
+        between `<` and `>`."""
+        string = str(self)
+        if self._string is None and self._dialect is Dialect.CARGO:
+            string = string.replace(" ", ", ")
+        if self._string is not None or self._is_range_of(string):
+            return f"Range({string!r}, {_options_text(self)})"
+        return f"<Range {str(self)!r}, {_options_text(self)}>"
+
+    def _is_range_of(self, string: str) -> bool:
+        """Whether it is the range that a string has by the same options."""
+        try:
+            made = Range(string, dialect=self._dialect, pre_releases=self._pre_releases)
+        except RangeError:
+            return False
+        return made == self
+
+    def __copy__(self) -> "Range":
+        return self
+
+    def __deepcopy__(self, memo: object) -> "Range":
+        return self
+
+    def __reduce__(self) -> Tuple[Any, ...]:
+        return _loaded, (sets.saved(self._set), self._string)
+
+
+def _of_set(made: sets.Set, string: Optional[str]) -> Range:
+    """The range of a set."""
+    range = object.__new__(Range)
+    range._set, range._string = made, string
+    range._dialect, range._pre_releases = sets.options_of(made)
+    return range
+
+
+def _loaded(data: bytes, string: Optional[str]) -> Range:
+    """The range of a pickle."""
+    return _of_set(sets.loaded(data), string)
+
+
+def _options_text(range: Range) -> str:
+    """The options of a range, as they are written in a call."""
+    dialect = f"dialect={range.dialect.value!r}"
+    if range.pre_releases is PreReleases.DEFAULT:
+        return dialect
+    return f"{dialect}, pre_releases={range.pre_releases.value!r}"
+
+
+def _is_skipping(invalid: Invalid) -> bool:
+    """Whether invalid versions are skipped."""
+    if invalid not in ("raise", "skip"):
+        raise ValueError(f"invalid is 'raise' or 'skip', not {invalid!r}")
+    return invalid == "skip"
+
+
+def _listed(versions: Iterable[_Given]) -> List[_Given]:
+    """The versions that are given."""
+    if isinstance(versions, (str, bytes)):
+        raise TypeError("expected an iterable of versions, not one string")
+    return list(versions)
+
+
+def _strings(given: List[_Given]) -> List[String]:
+    """The strings of versions."""
+    for index, it in enumerate(given):
+        if not isinstance(it, (str, bytes, Version)):
+            what = type(it).__name__
+            raise TypeError(f"expected str, bytes or Version, not {what}, at index {index}")
+    return [string_of(it) for it in given]

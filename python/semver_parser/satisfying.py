@@ -1,0 +1,41 @@
+"""Whether one version satisfies one range."""
+
+import ctypes
+
+from .errors import RangeError, VersionError
+from .interface import INVALID_RANGE, INVALID_VERSION, NUMBER_TOO_LARGE
+from .library import LIBRARY
+from .options import AnyDialect, AnyPreReleases, c_options, dialect_of, pre_releases_of
+from .statuses import check
+from .strings import String, c_string
+from .versions import AnyVersion, string_of
+
+
+def satisfies(
+    version: AnyVersion,
+    range: String,
+    *,
+    dialect: AnyDialect,
+    pre_releases: AnyPreReleases = "default",
+) -> bool:
+    """Returns whether a version satisfies a range. Build metadata is ignored.
+
+    >>> satisfies("1.9.0", "^1.2", dialect="npm")
+    True
+    >>> satisfies("1.9.0", "1.2.3", dialect="npm"), satisfies("1.9.0", "1.2.3", dialect="cargo")
+    (False, True)
+
+    For one range and many versions a `Range` is faster. Raises `VersionError` if the version is
+    invalid, and else `RangeError` if the range is.
+    """
+    chosen, string = dialect_of(dialect), string_of(version)
+    options, answer = c_options(chosen, pre_releases_of(pre_releases)), ctypes.c_bool()
+    status = LIBRARY.semver_parser_satisfies(
+        c_string(string), c_string(range), options, answer, None
+    )
+    if status == INVALID_VERSION:
+        raise VersionError(string, chosen)
+    if status in (INVALID_RANGE, NUMBER_TOO_LARGE):
+        raise RangeError(range, chosen)
+    check(status)
+    return answer.value

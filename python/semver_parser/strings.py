@@ -1,0 +1,49 @@
+"""Strings of versions and ranges, and those that the library makes."""
+
+import ctypes
+from typing import List, Union
+
+from .interface import CString
+from .library import LIBRARY
+
+String = Union[str, bytes]
+"""A version or a range as a string; `bytes` are UTF-8."""
+
+
+def encoded(string: String) -> bytes:
+    """Returns the bytes of a string. If a `str` can't be encoded, the library refuses them."""
+    if isinstance(string, str):
+        return string.encode("utf-8", "surrogatepass")
+    if isinstance(string, bytes):
+        return string
+    raise TypeError(f"expected str or bytes, not {type(string).__name__}")
+
+
+def c_string(string: String) -> CString:
+    """Returns a string as the library takes it."""
+    data = encoded(string)
+    return CString(data, len(data))
+
+
+def c_strings(strings: List[String]) -> "ctypes.Array[CString]":
+    """Returns an array of strings as the library takes it."""
+    array = (CString * len(strings))()
+    for item, string in zip(array, strings):
+        item.data = data = encoded(string)
+        item.length = len(data)
+    return array
+
+
+def index_of(string: String, offset: int) -> int:
+    """Returns the index in a string of what is at an offset in its bytes."""
+    if isinstance(string, bytes):
+        return offset
+    return len(encoded(string)[:offset].decode("utf-8", "surrogatepass"))
+
+
+def taken(printed: ctypes.c_char_p) -> str:
+    """Returns a string that the library made, and frees that; of null an empty one."""
+    try:
+        return (printed.value or b"").decode("ascii")
+    finally:
+        LIBRARY.semver_parser_string_free(printed)

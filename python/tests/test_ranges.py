@@ -1,0 +1,387 @@
+"""Ranges as sets: what two have, how they compare, and how they are printed, copied and kept."""
+
+import copy
+import gc
+import os
+import pickle
+import subprocess
+import sys
+import unittest
+from typing import Tuple
+
+from semver_parser import (
+    Compat,
+    Dialect,
+    PreReleases,
+    Range,
+    RangeError,
+    RangeSet,
+    Version,
+    VersionError,
+    parse_range,
+    parse_version,
+)
+
+NPM, CRATE = Dialect.NPM, Dialect.CRATE_CARGO
+INCLUDED, EXCLUDED = PreReleases.INCLUDED, PreReleases.EXCLUDED
+
+# A range, a dialect, a rule, and the releases and pre-releases that it has.
+PRINTED = [
+    ("^1.2", Dialect.CARGO, EXCLUDED, ">=1.2.0 <2.0.0", "<0.0.0-0"),
+    ("*", NPM, EXCLUDED, "*", "<0.0.0-0"),
+    (">2 <1", NPM, INCLUDED, "<0.0.0-0", "<0.0.0-0"),
+    (">1.2.3 <2.0.0-0", CRATE, INCLUDED, ">=1.2.4 <2.0.0", ">=1.2.4-0 <2.0.0-0"),
+    ("=1.2.3-a || =2.0.0", CRATE, INCLUDED, "=2.0.0", "=1.2.3-a"),
+]
+
+# Two ranges of the crate, of releases only, and what is in one or the other, in both, and only in
+# the first.
+COMBINED = [
+    (">=1.0.0 <1.5.0", ">=1.2.0 <2.0.0", ">=1.0.0 <2.0.0", ">=1.2.0 <1.5.0", ">=1.0.0 <1.2.0"),
+    ("=1.2.3", "3.x", "=1.2.3 || >=3.0.0 <4.0.0", "<0.0.0-0", "=1.2.3"),
+    ("*", ">=2.0.0", "*", ">=2.0.0", "<2.0.0"),
+]
+
+# Ranges of which each is within all that come after it, and has fewer versions.
+NESTED = ["<0.0.0", "=1.2.3", "~1.2.0", "^1.0.0", ">=1.0.0", "*"]
+
+
+def releases_of(string: str) -> Range:
+    return Range(string, dialect=CRATE, pre_releases=EXCLUDED)
+
+
+def combinations() -> Tuple[Range, ...]:
+    """Ranges that were made of two."""
+    one, other = Range("^1.2.3-rc", dialect="npm"), Range(">=1.4.0 || 3.x", dialect="npm")
+    return (one | other, one & other, one - other, other - one, one - one)
+
+
+class Combining(unittest.TestCase):
+    def test_combines(self) -> None:
+        for first, second, union, both, alone in COMBINED:
+            a, b = releases_of(first), releases_of(second)
+            made = (a | b, a & b, a - b)
+            self.assertEqual([str(it) for it in made], [union, both, alone])
+            self.assertEqual(list(made), [releases_of(it) for it in (union, both, alone)])
+            self.assertEqual((b | a, b & a), made[:2])
+            self.assertIs(a.isdisjoint(b), both == "<0.0.0-0")
+            self.assertIs(b.isdisjoint(a), both == "<0.0.0-0")
+            for it in made:
+                self.assertEqual((it.dialect, it.pre_releases), (CRATE, EXCLUDED))
+                self.assertIs(bool(it), str(it) != "<0.0.0-0")
+
+    def test_compares(self) -> None:
+        ranges = [releases_of(it) for it in NESTED]
+        for at, one in enumerate(ranges):
+            for after, other in enumerate(ranges):
+                self.assertIs(one < other, at < after)
+                self.assertIs(one <= other, at <= after)
+                self.assertIs(one > other, at > after)
+                self.assertIs(one >= other, at >= after)
+                self.assertIs(one == other, at == after)
+        one, other = releases_of("^1.0.0"), releases_of("^2.0.0")
+        self.assertFalse(one < other or one <= other or one > other or one >= other)
+
+    def test_equal(self) -> None:
+        first, second = releases_of(">=1.0.0 <2.0.0 || >=2.0.0 <3.0.0"), releases_of(">=1 <3.0.0")
+        self.assertEqual((first, hash(first)), (second, hash(second)))
+        self.assertTrue(first <= second and second <= first)
+        self.assertFalse(first < second or first > second)
+        for other in ("1", None, 1, parse_range("1", dialect=CRATE)):
+            self.assertNotEqual(first, other)
+        self.assertTrue(first)
+        self.assertFalse(first - second)
+        self.assertEqual(len({first, second, releases_of("1.x")}), 2)
+
+    def test_options_are_part_of_equality(self) -> None:
+        """So equal ranges return the same: `v1.2.3` is a version of npm alone."""
+        made = [
+            Range("^1.2.3", dialect=dialect, pre_releases=rule)
+            for dialect in Dialect
+            for rule in PreReleases
+        ]
+        self.assertEqual(len(set(made)), 12)
+        for at, one in enumerate(made):
+            for after, other in enumerate(made):
+                self.assertIs(one == other, at == after)
+                self.assertIs(pickle.loads(pickle.dumps(one)) == other, at == after)
+                if at != after:
+                    self.check_refusals(one, other)
+
+    def check_refusals(self, one: Range, other: Range) -> None:
+        """Two ranges of different options aren't combined."""
+        for call in (
+            lambda: one | other,
+            lambda: one & other,
+            lambda: one - other,
+            lambda: one <= other,
+            lambda: one < other,
+            lambda: one >= other,
+            lambda: one > other,
+            lambda: one.isdisjoint(other),
+        ):
+            with self.assertRaisesRegex(ValueError, "^two ranges of different options: dialect='"):
+                call()
+
+    def test_other_types(self) -> None:
+        one = Range("1", dialect="npm")
+        for other in ("1", None, 1, parse_range("1", dialect="npm")):
+            for call in (
+                lambda: one | other,
+                lambda: one & other,
+                lambda: one - other,
+                lambda: one <= other,
+                lambda: one < other,
+                lambda: one >= other,
+                lambda: one > other,
+                lambda: one.isdisjoint(other),
+            ):
+                with self.assertRaises(TypeError):
+                    call()
+        for wrong in (None, 1, bytearray(b"1"), Version(1, 2, 3), one):
+            with self.assertRaises(TypeError):
+                Range(wrong, dialect="npm")
+        with self.assertRaises(RangeError):
+            Range("v1.2.3", dialect="cargo")
+
+    def test_combined_ranges_contain(self) -> None:
+        both = Range("^1.2.0", dialect="npm") & Range(">=1.4.0", dialect="npm")
+        self.assertIn("v1.9.0", both)
+        self.assertNotIn("1.2.0", both)
+        self.assertEqual(both, Range(">=1.4.0 <2.0.0", dialect="npm"))
+        self.assertEqual(both.filter(["1.3.0", "1.4.0", "2.0.0"]), ["1.4.0"])
+        self.assertEqual(both.highest(["1.5.0", "1.4.0", "2.0.0"]), "1.5.0")
+
+
+class Containing(unittest.TestCase):
+    def test_contains(self) -> None:
+        made = Range("^1.2.3-rc.2", dialect="npm")
+        for version, wanted in [
+            ("1.2.3-rc.10+b", True),
+            (" v1.9.0", True),
+            (b"1.2.3-rc.1", False),
+            ("1.3.0-rc", False),
+            (parse_version("1.2.3-rc.2", dialect="npm"), True),
+        ]:
+            self.assertIs(version in made, wanted)
+        with self.assertRaises(VersionError) as caught:
+            "1.2" in made
+        self.assertEqual(caught.exception.reason, "not-three-numbers")
+
+    def test_long(self) -> None:
+        string = " || ".join(f"={at}.0.0-{'a' * 50}{at}" for at in range(40))
+        made = Range(string, dialect=CRATE)
+        self.assertEqual(made.printed_pre_releases, string)
+        self.assertIn(f"39.0.0-{'a' * 50}39", made)
+
+    def test_is_no_container_of_other_things(self) -> None:
+        made = Range("*", dialect="npm")
+        for call in (iter, len, list):
+            with self.assertRaises(TypeError):
+                call(made)
+
+
+class Printing(unittest.TestCase):
+    def test_prints(self) -> None:
+        for string, dialect, rule, releases, pre_releases in PRINTED:
+            made = Range(string, dialect=dialect, pre_releases=rule)
+            printed = (made.printed_releases, made.printed_pre_releases)
+            self.assertEqual(printed, (releases, pre_releases))
+
+    def test_string(self) -> None:
+        for string in ("^1.2", " 1.x  ||2 ", "=1.2.3-a"):
+            self.assertEqual(str(Range(string, dialect="npm")), string)
+            self.assertEqual(str(Range(string.encode(), dialect="npm")), string)
+        self.assertEqual(str(Range("\u00a01".encode(), dialect="npm")), "\u00a01")
+        one = Range("=1.2.3-a", dialect=CRATE)
+        self.assertEqual(str(one & one), "<0.0.0-0, pre-releases =1.2.3-a")
+        self.assertEqual(str(one - one), "<0.0.0-0")
+
+    def test_repr(self) -> None:
+        for made, wanted in (
+            (Range("^1", dialect=NPM), "Range('^1', dialect='npm')"),
+            (Range(b"1", dialect="cargo"), "Range('1', dialect='cargo')"),
+            (
+                Range("1 - 2", dialect="crate-npm", pre_releases="included"),
+                "Range('1 - 2', dialect='crate-npm', pre_releases='included')",
+            ),
+        ):
+            self.assertEqual(repr(made), wanted)
+            self.assertEqual(eval(repr(made)), made)
+        for dialect in Dialect:
+            for rule in PreReleases:
+                for string in ("^1.2", "=1.2.3-a", "*", ">=1.2.3-a"):
+                    one = Range(string, dialect=dialect, pre_releases=rule)
+                    self.check_repr(one & one)
+
+    def check_repr(self, made: Range) -> None:
+        """An expression for the range, or something else between `<` and `>`."""
+        if repr(made).startswith("<"):
+            self.assertEqual(repr(made)[: len("<Range '")], "<Range '")
+        else:
+            self.assertEqual(eval(repr(made)), made)
+
+    def test_repr_of_combined(self) -> None:
+        one, other = Range("^1.2.0", dialect="npm"), Range(">=1.4.0", dialect="npm")
+        self.assertEqual(repr(one & other), "Range('>=1.4.0 <2.0.0', dialect='npm')")
+        one, other = Range("^1.2.0", dialect="cargo"), Range(">=1.4.0", dialect="cargo")
+        self.assertEqual(repr(one & other), "Range('>=1.4.0, <2.0.0', dialect='cargo')")
+        one = Range("=1.2.3-a", dialect="npm")
+        wanted = "<Range '<0.0.0-0, pre-releases =1.2.3-a', dialect='npm'>"
+        self.assertEqual(repr(one & one), wanted)
+
+    def test_comparators(self) -> None:
+        """Of a string its own, and of a combined range those of its releases."""
+        for dialect in Dialect:
+            for string in ("^1.2", "=1.2.3-a", "*"):
+                made = Range(string, dialect=dialect)
+                wanted = parse_range(string, dialect=dialect, exact=True)
+                self.assertEqual(made.comparators, wanted)
+        cargo = Range("^1.2", dialect="cargo") - Range("=1.4.2", dialect="cargo")
+        self.assertEqual(str(cargo.comparators), ">=1.2.0 <1.4.2 || >=1.4.3 <2.0.0")
+        self.assertIs(cargo.comparators.compat, Compat.CARGO)
+        self.assertIs(cargo.comparators.ranges[0].compat, Compat.CARGO)
+        npm = Range("*", dialect="npm")
+        self.assertEqual(str((npm & npm).comparators), ">=0.0.0")
+        self.assertIsInstance((npm - npm).comparators, RangeSet)
+
+
+class Keeping(unittest.TestCase):
+    """Ranges as values, and the memory of their sets."""
+
+    def test_pickles(self) -> None:
+        made = Range("^1.2.3-rc || 2.x", dialect="npm", pre_releases="included")
+        for protocol in range(pickle.HIGHEST_PROTOCOL + 1):
+            for one in (made, *combinations()):
+                again = pickle.loads(pickle.dumps(one, protocol))
+                self.assertEqual((again, hash(again)), (one, hash(one)))
+                self.assertEqual((str(again), repr(again)), (str(one), repr(one)))
+                self.assertEqual(again.dialect, one.dialect)
+                self.assertEqual(again.pre_releases, one.pre_releases)
+                self.assertEqual(again.lowest_version, one.lowest_version)
+
+    def test_other_pickles(self) -> None:
+        load, (data, string) = Range("^1.2", dialect="npm").__reduce__()
+        self.assertEqual(str(load(data, string)), "^1.2")
+        for wrong in (b"", data[:-1], data + b"\0", b"x" + data[1:], data[:6] + b"\x09" + data[7:]):
+            with self.assertRaisesRegex(ValueError, "^no saved range$"):
+                load(wrong, string)
+
+    def test_copies(self) -> None:
+        for one in (Range("^1", dialect="npm"), *combinations()):
+            for again in (copy.copy(one), copy.deepcopy(one), copy.deepcopy([one])[0]):
+                self.assertIs(again, one)
+        with self.assertRaises(TypeError):
+            pickle.dumps(one._set)
+        with self.assertRaises(TypeError):
+            copy.copy(one._set)
+
+    def test_immutable(self) -> None:
+        made = Range("^1", dialect="npm")
+        for name in ("dialect", "pre_releases", "lowest_version", "comparators", "another"):
+            with self.assertRaises(AttributeError):
+                setattr(made, name, None)
+        made.__init__("^2", dialect="cargo")
+        self.assertEqual(repr(made), "Range('^1', dialect='npm')")
+
+    def test_memory_is_freed(self) -> None:
+        """The memory of this process doesn't grow by ranges that nothing has any more."""
+        string = " || ".join(f"={at}.0.0" for at in range(2000))
+
+        def pages() -> int:
+            with open("/proc/self/statm") as file:
+                return int(file.read().split()[1])
+
+        def make(count: int) -> None:
+            for _ in range(count):
+                one = Range(string, dialect="npm")
+                self.assertTrue(pickle.loads(pickle.dumps(one & one)) and str(one - one))
+                self.assertTrue(one.comparators.ranges)
+
+        make(5)
+        before = pages()
+        make(60)
+        self.assertLess(pages() - before, 2000)
+
+    def test_out_of_memory(self) -> None:
+        """A range that there is no memory for."""
+        self.check_run(
+            "import resource\n"
+            "from semver_parser import Range, compare_ranges, parse_range\n"
+            "string = ' || '.join(f'={at}.0.0' for at in range(300_000))\n"
+            "size = int(open('/proc/self/statm').read().split()[0]) * resource.getpagesize()\n"
+            "resource.setrlimit(resource.RLIMIT_AS, 2 * (size + 20_000_000,))\n"
+            "for call in (Range, parse_range):\n"
+            "    try: call(string, dialect='npm')\n"
+            "    except MemoryError: pass\n"
+            "    else: print('too much memory')\n"
+            "print('1.2.3' in Range('^1', dialect='npm'))\n"
+        )
+
+    def test_cycles(self) -> None:
+        """A range that is in a cycle is usable in what ends the cycle."""
+        said = []
+
+        class InCycle:
+            def __init__(self) -> None:
+                self.itself, self.range = self, Range("^1", dialect="npm")
+
+            def __del__(self) -> None:
+                said.append("1.2.3" in self.range and str(self.range.lowest_version))
+
+        for _ in range(20):
+            InCycle()
+        gc.collect()
+        self.assertEqual(said, 20 * ["1.0.0"])
+
+    def check_run(self, code: str) -> None:
+        """A program ends without error."""
+        ended = subprocess.run([sys.executable, "-c", code], capture_output=True, text=True)
+        self.assertEqual((ended.stdout, ended.stderr, ended.returncode), ("True\n", "", 0))
+
+    def test_end_of_the_interpreter(self) -> None:
+        """Ranges are usable there, and are freed without error."""
+        self.check_run(
+            "import atexit, sys\n"
+            "from semver_parser import Range\n"
+            "class Late:\n"
+            "    def __init__(self):\n"
+            "        self.itself, self.range = self, Range('^1', dialect='npm')\n"
+            "    def __del__(self):\n"
+            "        assert '1.2.3' in self.range and self.range & self.range\n"
+            "kept = [Range('^1', dialect='npm'), Late()]\n"
+            "kept.append(kept)\n"
+            "sys.kept = [Range('^2', dialect='npm'), Late()]\n"
+            "atexit.register(lambda one: print('1.2.3' in one), kept[0])\n"
+        )
+
+    def test_end_while_threads_run(self) -> None:
+        self.check_run(
+            "import threading, time\n"
+            "from semver_parser import Range\n"
+            "def run():\n"
+            "    while True: Range('^1', dialect='npm').filter(['1.2.3'] * 100)\n"
+            "for _ in range(4): threading.Thread(target=run, daemon=True).start()\n"
+            "time.sleep(0.1)\n"
+            "print(True)\n"
+        )
+
+    def test_fork(self) -> None:
+        """Each of two processes has its own set, and frees it."""
+        made = Range("^1.2", dialect="npm")
+        child = os.fork()
+        if child == 0:
+            status = 1
+            try:
+                both = made & Range(">=1.4.0", dialect="npm")
+                is_right = "1.9.0" in made and both.filter(["1.3.0", "1.4.0"]) == ["1.4.0"]
+                del both, made
+                gc.collect()
+                status = int(not is_right)
+            finally:
+                os._exit(status)
+        _, status = os.waitpid(child, 0)
+        self.assertEqual(status, 0)
+        self.assertIn("1.9.0", made)
+        del made
+        gc.collect()

@@ -1,0 +1,496 @@
+"""Which versions satisfy a range by each dialect and each rule for pre-releases, in order and with
+repeats, and the highest and lowest of them."""
+
+import operator
+import threading
+import unittest
+from functools import partial
+from typing import List, Optional, Tuple
+
+from semver_parser import (
+    Compat,
+    Dialect,
+    PreReleases,
+    Range,
+    RangeError,
+    Version,
+    VersionError,
+    compare_ranges,
+    parse_range,
+    parse_version,
+    precedence,
+    satisfies,
+)
+from semver_parser.interface import INVALID_ARGUMENT, OK, COptions
+from semver_parser.library import LIBRARY
+from semver_parser.options import c_options, dialect_number
+from semver_parser.strings import c_string
+
+# The versions of the standard's section 11, from the lowest to the highest.
+ORDERED = [
+    "1.0.0-alpha",
+    "1.0.0-alpha.1",
+    "1.0.0-alpha.beta",
+    "1.0.0-beta",
+    "1.0.0-beta.2",
+    "1.0.0-beta.11",
+    "1.0.0-rc.1",
+    "1.0.0",
+    "2.0.0",
+    "2.1.0",
+    "2.1.1",
+]
+
+# In the order in which the tables below have what satisfies.
+DIALECTS = (Dialect.CARGO, Dialect.NPM, Dialect.CRATE_CARGO, Dialect.CRATE_NPM)
+RULES = (PreReleases.EXCLUDED, PreReleases.DEFAULT, PreReleases.INCLUDED)
+
+# Of docs/MEANING.md, "Which dialect?" and what it has of each tool: a range, a version, and whether
+# it satisfies by each dialect, in the order above and with the default pre-releases; None if the
+# string is no range.
+BY_DIALECT = [
+    ("1.2.3", "1.9.0", (True, False, True, False)),
+    ("1.2", "1.9.0", (True, False, False, False)),
+    (">1.2", "1.2.9", (False, False, True, True)),
+    (">=1.2.3, <2", "1.9.0", (True, None, None, None)),
+    ("1.2 || 3", "3.9.0", (None, True, True, True)),
+    ("v1.2.3", "1.2.3", (None, True, None, None)),
+    ("^v1", "1.9.0", (None, True, None, None)),
+    ("1.2.3\n", "1.2.3", (None, True, None, None)),
+    ("* || =1.0.0-a", "1.0.0-a", (None, False, True, True)),
+    ("=1.2 >=1.2.3-a", "1.2.3-b", (None, True, True, True)),
+    ("=1.2, >=1.2.3-a", "1.2.3-b", (False, None, None, None)),
+    ("<1.0 >=1.0.0-a", "1.0.0-b", (None, False, True, True)),
+    ("<1.0, >=1.0.0-a", "1.0.0-b", (False, None, None, None)),
+    ("^1.2, >=1.2.0-a", "1.2.0-b", (True, None, None, None)),
+    ("^1.2.3-beta", "1.2.3-rc", (True, True, True, True)),
+    ("^1.2.3-beta", "1.3.0-rc", (False, False, False, False)),
+]
+
+# Of docs/MEANING.md, "Three rules for pre-releases": range, version, and by which rules it
+# satisfies.
+THREE_RULES = [
+    ("^1.2.3-beta.4", "1.9.0", (True, True, True)),
+    ("^1.2.3-beta.4", "1.2.3-rc", (False, True, True)),
+    ("^1.2.3-beta.4", "1.3.0-rc", (False, False, True)),
+    (">=1.2.3 <1.2.4-rc", "1.2.4-a", (False, True, True)),
+    ("=2.0.1-a || >=2.0.0", "2.0.1-b", (False, False, True)),
+    ("1.2.3-a - 2", "1.2.3-b", (False, True, True)),
+    ("1.2.3-a - 2", "2.0.0-b", (False, False, True)),
+    ("~1.2.*-a", "1.2.1-b", (False, False, True)),
+    ("<2.0.0", "2.0.0-alpha", (False, False, True)),
+]
+
+
+class Satisfying(unittest.TestCase):
+    def test_rules(self) -> None:
+        for string, version, wanted in THREE_RULES:
+            for rule, is_wanted in zip(RULES, wanted):
+                for dialect in (Dialect.CRATE_NPM, Dialect.CRATE_CARGO):
+                    with self.subTest(range=string, version=version, rule=rule):
+                        by = {"dialect": dialect, "pre_releases": rule}
+                        self.assertIs(satisfies(version, string, **by), is_wanted)
+                        chosen = Range(string, **by)
+                        parsed = parse_version(version, dialect=dialect)
+                        for one in (version, version.encode(), parsed):
+                            self.assertIs(one in chosen, is_wanted)
+                            self.assertEqual(chosen.filter([one]), [one] if is_wanted else [])
+
+    def check_dialect(
+        self, string: str, version: str, dialect: Dialect, wanted: Optional[bool]
+    ) -> None:
+        """Whether a version satisfies with the default pre-releases, and with none."""
+        if wanted is None:
+            for rule in PreReleases:
+                with self.assertRaises(RangeError):
+                    Range(string, dialect=dialect, pre_releases=rule)
+                with self.assertRaises(RangeError):
+                    satisfies(version, string, dialect=dialect, pre_releases=rule)
+            return
+        self.assertIs(satisfies(version, string, dialect=dialect), wanted)
+        for chosen in (
+            Range(string, dialect=dialect),
+            Range(string, dialect=dialect, pre_releases=PreReleases.DEFAULT),
+            Range(string, dialect=dialect.value, pre_releases="default"),
+        ):
+            self.assertIs(version in chosen, wanted)
+            self.assertEqual(chosen.filter([version, version]), 2 * [version] if wanted else [])
+            self.assertEqual(chosen.highest([version]), version if wanted else None)
+            self.assertEqual(chosen.lowest([version]), version if wanted else None)
+        alone = wanted and "-" not in version
+        self.assertIs(satisfies(version, string, dialect=dialect, pre_releases="excluded"), alone)
+
+    def test_dialects(self) -> None:
+        for string, version, wanted in BY_DIALECT:
+            for dialect, is_wanted in zip(DIALECTS, wanted):
+                with self.subTest(range=string, version=version, dialect=dialect):
+                    self.check_dialect(string, version, dialect, is_wanted)
+
+    def test_releases_satisfy_the_comparators(self) -> None:
+        """A release satisfies a range if it satisfies its comparators, by each dialect."""
+        for string, version, wanted in BY_DIALECT:
+            for dialect, is_wanted in zip(DIALECTS, wanted):
+                if is_wanted is not None and "-" not in version:
+                    for exact in (False, True):
+                        printed = str(parse_range(string, dialect=dialect, exact=exact))
+                        self.assertIs(satisfies(version, printed, dialect="crate-npm"), is_wanted)
+
+    def test_errors(self) -> None:
+        """A version is refused first."""
+        for call in (
+            lambda version, string: satisfies(version, string, dialect="cargo"),
+            lambda version, string: version in Range(string, dialect="cargo"),
+        ):
+            with self.assertRaises(RangeError) as of_range:
+                call("1.0.0", "v1")
+            self.assertEqual(of_range.exception.string, "v1")
+            self.assertIs(of_range.exception.dialect, Dialect.CARGO)
+            with self.assertRaises(VersionError) as of_version:
+                call(b"1.2.3\xff", "^1")
+            self.assertEqual(of_version.exception.string, b"1.2.3\xff")
+        with self.assertRaises(VersionError):
+            satisfies("v1", "v1", dialect="cargo")
+
+    def test_versions_made_by_hand(self) -> None:
+        self.assertTrue(satisfies(Version(1, 2, 3, (5,)), "=1.2.3-5", dialect="cargo"))
+        made = Version(1, 2, 3, (), ("05", "b-c"))
+        self.assertTrue(satisfies(made, "=1.2.3", dialect="cargo"))
+
+    def test_other_types(self) -> None:
+        for version, string in ((1, "1"), ("1.2.3", None), (None, "1"), ("1.2.3", b"1"[0])):
+            with self.assertRaises(TypeError):
+                satisfies(version, string, dialect="npm")
+        with self.assertRaises(TypeError):
+            satisfies("1.2.3", Range("1", dialect="npm"), dialect="npm")
+        with self.assertRaises(TypeError):
+            1 in Range("^1", dialect="npm")
+
+
+class Options(unittest.TestCase):
+    """Each function that takes options takes the same, and nothing else."""
+
+    CALLS = (
+        partial(satisfies, "1.2.3", "^1"),
+        partial(Range, "^1"),
+        partial(compare_ranges, "^1", "^1.2"),
+    )
+    OF_DIALECT = (partial(parse_version, "1.2.3"), partial(parse_range, "^1"), *CALLS)
+
+    def test_each(self) -> None:
+        for dialect in Dialect:
+            for call in self.OF_DIALECT:
+                self.assertEqual(call(dialect=dialect), call(dialect=dialect.value))
+            for rule in PreReleases:
+                for call in self.CALLS:
+                    one = call(dialect=dialect, pre_releases=rule)
+                    self.assertEqual(one, call(dialect=dialect.value, pre_releases=rule.value))
+        values = ["cargo", "npm", "crate-cargo", "crate-npm"]
+        self.assertEqual([it.value for it in Dialect], values)
+        self.assertEqual([it.value for it in PreReleases], ["default", "included", "excluded"])
+
+    def test_default(self) -> None:
+        for dialect in Dialect:
+            one = Range("1", dialect=dialect)
+            self.assertIs(one.dialect, dialect)
+            self.assertIs(one.pre_releases, PreReleases.DEFAULT)
+            self.assertEqual(one, Range("1", dialect=dialect, pre_releases="default"))
+        self.assertTrue(satisfies("1.2.3-rc", "^1.2.3-beta", dialect="cargo"))
+        self.assertFalse(satisfies("1.3.0-rc", "^1.2.3-beta", dialect="cargo"))
+
+    def test_dialect_is_required_by_name(self) -> None:
+        for call in self.OF_DIALECT:
+            with self.assertRaisesRegex(TypeError, "dialect"):
+                call()
+            with self.assertRaises(TypeError):
+                call("npm")
+
+    def test_other_dialects(self) -> None:
+        for call in self.OF_DIALECT:
+            for wrong in (1, True, None, b"npm", Compat.NPM, PreReleases.DEFAULT):
+                with self.assertRaisesRegex(TypeError, "^dialect is a Dialect or one of 'cargo', "):
+                    call(dialect=wrong)
+            for wrong in ("", "NPM", "yarn", "cargo "):
+                with self.assertRaisesRegex(ValueError, "^dialect is one of 'cargo', 'npm', "):
+                    call(dialect=wrong)
+
+    def test_other_rules(self) -> None:
+        for call in self.CALLS:
+            for wrong in (1, True, None, b"default", Dialect.NPM):
+                with self.assertRaisesRegex(TypeError, "^pre_releases is a PreReleases or one of "):
+                    call(dialect="npm", pre_releases=wrong)
+            for wrong in ("", "stated", "Default"):
+                with self.assertRaisesRegex(ValueError, "^pre_releases is one of 'default', "):
+                    call(dialect="npm", pre_releases=wrong)
+
+    def test_numbers_of_the_library(self) -> None:
+        """Each number is one of an option, and beside these there is none."""
+        for dialect in Dialect:
+            for rule in PreReleases:
+                self.assertEqual(self.status(c_options(dialect, rule)), OK)
+            for number in (-1, len(PreReleases)):
+                options = COptions(dialect_number(dialect), number)
+                self.assertEqual(self.status(options), INVALID_ARGUMENT)
+        for number in (-1, len(Dialect)):
+            self.assertEqual(self.status(COptions(number, 0)), INVALID_ARGUMENT)
+
+    def status(self, options: COptions) -> int:
+        """The status that the library returns."""
+        flag = LIBRARY.semver_parser_satisfies.argtypes[3]._type_()
+        strings = (c_string("1.0.0"), c_string("1"))
+        status: int = LIBRARY.semver_parser_satisfies(*strings, options, flag, None)
+        return status
+
+
+class Filtered(unittest.TestCase):
+    def test_order_and_repeats(self) -> None:
+        chosen = Range("^1.2", dialect="cargo")
+        given = ["1.5.0", b"1.2.0", Version(1, 3, 0), "2.0.0", "1.5.0", "1.5.0+b"]
+        wanted = ["1.5.0", b"1.2.0", Version(1, 3, 0), "1.5.0", "1.5.0+b"]
+        filtered = chosen.filter(given)
+        self.assertEqual(filtered, wanted)
+        self.assertIs(filtered[2], given[2])
+        self.assertEqual(chosen.filter([]), [])
+        self.assertEqual(chosen.filter(iter(given)), wanted)
+        self.assertIsNone(chosen.highest([]))
+
+    def test_errors(self) -> None:
+        given = ["1.2.0", "1.2", "\ud800", "1.2.3/", "1.4.0"]
+        for dialect in Dialect:
+            chosen = Range("^1.2", dialect=dialect)
+            for call in (chosen.filter, chosen.highest, chosen.lowest):
+                with self.assertRaises(VersionError) as caught:
+                    call(given)
+                error = caught.exception
+                self.assertEqual((error.string, error.index), ("1.2", 1))
+                self.assertIs(error.dialect, dialect)
+            self.assertEqual(chosen.highest(given, invalid="skip"), "1.4.0")
+            self.assertEqual(chosen.lowest(given, invalid="skip"), "1.2.0")
+        chosen = Range("~1.2", dialect="cargo")
+        self.assertEqual(chosen.filter(given, invalid="skip"), ["1.2.0"])
+        with self.assertRaises(VersionError) as alone:
+            "1.2" in chosen
+        self.assertIsNone(alone.exception.index)
+
+    def test_other_values(self) -> None:
+        chosen = Range("^1", dialect="cargo")
+        for call in (chosen.filter, chosen.highest, chosen.lowest):
+            for invalid in ("raise", "skip"):
+                with self.assertRaisesRegex(TypeError, "NoneType, at index 2$"):
+                    call(["1.2.3", "x", None], invalid=invalid)
+                for one in ("1.2.3", b"1.2.3"):
+                    with self.assertRaises(TypeError):
+                        call(one, invalid=invalid)
+            for wrong in ("", "ignore", None, True):
+                with self.assertRaisesRegex(ValueError, "^invalid is 'raise' or 'skip', not "):
+                    call([], invalid=wrong)
+            with self.assertRaises(TypeError):
+                call([], "skip")
+
+    def test_dialects(self) -> None:
+        """The versions are read by the dialect of the range, as docs/GRAMMAR.md has them."""
+        of_crate = (Dialect.CRATE_CARGO, Dialect.CRATE_NPM)
+        for string, has in (
+            ("1.0.0--a", (Dialect.CARGO, Dialect.NPM)),
+            ("1.0.0-01", of_crate),
+            ("v1.2.3", (Dialect.NPM,)),
+            (" 1.2.3 ", (Dialect.NPM, *of_crate)),
+            ("\u00a01.2.3", (Dialect.NPM,)),
+            ("9007199254740992.0.0", (Dialect.CARGO, *of_crate)),
+        ):
+            for dialect in Dialect:
+                with self.subTest(string=string, dialect=dialect):
+                    chosen = Range(">=1.0.0-0", dialect=dialect)
+                    if dialect in has:
+                        self.assertIn(string, chosen)
+                        self.assertTrue(satisfies(string, ">=1.0.0-0", dialect=dialect))
+                        self.assertEqual(chosen.filter(["0.1.0", string]), [string])
+                        self.assertEqual(chosen.highest(["0.1.0", string]), string)
+                        continue
+                    for call in (
+                        chosen.__contains__,
+                        lambda it, by=dialect: satisfies(it, ">=1.0.0-0", dialect=by),
+                    ):
+                        with self.assertRaises(VersionError):
+                            call(string)
+                    for call in (chosen.filter, chosen.highest, chosen.lowest):
+                        with self.assertRaises(VersionError) as caught:
+                            call(["0.1.0", string])
+                        self.assertEqual(caught.exception.index, 1)
+                    self.assertEqual(chosen.filter([string, "1.2.3"], invalid="skip"), ["1.2.3"])
+
+    def test_canaries(self) -> None:
+        """Versions whose pre-release begins with a hyphen, as npm and Cargo have them."""
+        canary = "6.2.0--canary.14175.ab12.0"
+        given = ["6.2.0--canary.9.0", canary, "6.2.0--canary.14175.ab12", "6.2.1--canary.1"]
+        given.append("5.0.0")
+        for dialect in (Dialect.CARGO, Dialect.NPM):
+            chosen = Range("^6.2.0--canary.10", dialect=dialect)
+            self.assertEqual(chosen.filter(given), [canary, given[2]])
+            self.assertEqual(chosen.highest(given), canary)
+            self.assertEqual(chosen.lowest(given), given[2])
+            made = [parse_version(it, dialect=dialect) for it in given]
+            self.assertEqual(chosen.highest(made), made[1])
+            self.assertEqual(chosen.highest([*given, "6.2.0"]), "6.2.0")
+            self.assertEqual(Range("^6.2.0", dialect=dialect).filter(given), [])
+            self.assertEqual(Range("=" + canary, dialect=dialect).highest(given), canary)
+        for dialect in (Dialect.CRATE_CARGO, Dialect.CRATE_NPM):
+            chosen = Range("^6.2.0--canary.10", dialect=dialect)
+            with self.assertRaises(VersionError) as caught:
+                chosen.highest(given)
+            self.assertEqual(caught.exception.reason, "empty-identifier")
+            self.assertEqual(caught.exception.index, 0)
+            self.assertEqual(chosen.filter([*given, "6.2.0"], invalid="skip"), ["6.2.0"])
+
+    def test_many(self) -> None:
+        given = [f"1.{minor}.0" for minor in range(100_000)]
+        self.assertEqual(Range("^1.50000", dialect="cargo").filter(given), given[50_000:])
+        self.assertEqual(Range("1.x", dialect="cargo").highest(given), given[-1])
+        self.assertEqual(Range("1.x", dialect="cargo").lowest(given), given[0])
+
+
+class Highest(unittest.TestCase):
+    def test_highest_and_lowest(self) -> None:
+        def both(string: str, versions: List[str], dialect: Dialect = Dialect.CARGO) -> object:
+            chosen = Range(string, dialect=dialect)
+            return chosen.highest(versions), chosen.lowest(versions)
+
+        self.assertEqual(both("*", ORDERED[::-1]), ("2.1.1", "1.0.0"))
+        self.assertEqual(both("^1", ORDERED), ("1.0.0", "1.0.0"))
+        self.assertEqual(both("<1.0.0-rc.1", ORDERED), ("1.0.0-beta.11", "1.0.0-alpha"))
+        self.assertEqual(both("^3", ORDERED), (None, None))
+        self.assertEqual(both("^3", []), (None, None))
+        given = ["1.9.0", "1.10.0", "1.2.0"]
+        self.assertEqual(both("1", given, Dialect.NPM), ("1.10.0", "1.2.0"))
+
+    def test_order_of_the_standard(self) -> None:
+        """The order of section 11, by the library."""
+        every = Range("*", dialect="cargo", pre_releases="included")
+        for at, lower in enumerate(ORDERED):
+            for higher in ORDERED[at + 1 :]:
+                for both in ([lower, higher], [higher, lower]):
+                    self.assertEqual(every.highest(both), higher)
+                    self.assertEqual(every.lowest(both), lower)
+
+    def test_first_of_equal_ones(self) -> None:
+        given: List[object] = ["1.2.0+a", b"1.2.0+b", Version(1, 2, 0)]
+        chosen = Range("^1", dialect="cargo")
+        self.assertEqual(chosen.highest(["1.0.0", *given]), "1.2.0+a")
+        self.assertEqual(chosen.lowest(["1.3.0", *given]), "1.2.0+a")
+        given.reverse()
+        self.assertIs(chosen.highest(given), given[0])
+        self.assertIs(chosen.lowest(given), given[0])
+
+
+class Precedence(unittest.TestCase):
+    def test_precedence(self) -> None:
+        versions = [parse_version(it, dialect="cargo") for it in ORDERED]
+        self.assertEqual(sorted(reversed(versions), key=precedence), versions)
+        for lower, higher in zip(versions, versions[1:]):
+            self.assertLess(precedence(lower), precedence(higher))
+
+    def goes_as_comparators(self, ends: List[str], dialects: Tuple[Dialect, ...]) -> None:
+        """The order of the keys is that of the comparators."""
+        versions = [f"1.2.3{end}" for end in ends]
+        for dialect in dialects:
+            keys = {it: precedence(parse_version(it, dialect=dialect)) for it in versions}
+            for one in versions:
+                for other in versions:
+                    if "-01" in other or "+" in other:
+                        continue  # a range has it as another identifier, or drops it
+                    below = Range(f"<{other}", dialect=dialect, pre_releases="included")
+                    self.assertIs(keys[one] < keys[other], one in below, (one, other, dialect))
+
+    def test_precedence_is_the_library_s(self) -> None:
+        """For identifiers of all kinds."""
+        ends = ["", "-0", "-1", "-10", "-2", "-a", "-A", "-a-b", "-a.0", "-a.a", "-a.0.0", "-a+b"]
+        largest = f"-{2**64 - 1}"
+        hyphens = ["--", "--a", "--1", "-a-", "-a--b", "-a.-", "---"]
+        of_crate = (Dialect.CRATE_CARGO, Dialect.CRATE_NPM)
+        self.goes_as_comparators([*ends, largest, "-01"], of_crate)
+        self.goes_as_comparators([*ends, largest, *hyphens], (Dialect.CARGO, Dialect.NPM))
+
+    def test_numbers_of_any_size(self) -> None:
+        """Identifiers of digits are numbers, and below others, as section 11 has it."""
+        numbers = ["9", str(2**64 - 1), str(2**64), "9" * 20, "1" + "0" * 20, "1" + "0" * 5000]
+        strings = [f"1.2.3-{it}" for it in (*numbers, "0a", "a")]
+        versions = [parse_version(it, dialect="cargo") for it in strings]
+        self.assertEqual(sorted(reversed(versions)), versions)
+
+    def test_other_types(self) -> None:
+        for value in ("1.2.3", b"1.2.3", (1, 2, 3), 1, None):
+            with self.assertRaises(TypeError):
+                precedence(value)
+            with self.assertRaises(TypeError):
+                sorted([Version(1, 2, 3), value], key=precedence)
+
+    def test_build_metadata_is_ignored(self) -> None:
+        one, other = Version(1, 0, 0, ("a",), (1,)), Version(1, 0, 0, ("a",), (2,))
+        self.assertEqual(precedence(one), precedence(other))
+        self.assertTrue(one <= other and other <= one and one >= other and other >= one)
+        self.assertFalse(one < other or one > other or one == other)
+        self.assertIs(min(one, other), one)
+        self.assertIs(max(other, one), other)
+        self.assertEqual(sorted([other, one]), [other, one])
+
+    def test_order(self) -> None:
+        versions = [parse_version(it, dialect="npm") for it in ORDERED]
+        self.assertEqual(sorted(reversed(versions)), versions)
+        self.assertEqual((min(versions), max(versions)), (versions[0], versions[-1]))
+        for at, one in enumerate(versions):
+            for after, other in enumerate(versions):
+                self.assertIs(one < other, at < after)
+                self.assertIs(one <= other, at <= after)
+                self.assertIs(one > other, at > after)
+                self.assertIs(one >= other, at >= after)
+
+    def test_order_of_other_types(self) -> None:
+        version = Version(1, 2, 3)
+        for value in ("1.2.3", (1, 2, 3), 1, None):
+            for compare in (operator.lt, operator.le, operator.gt, operator.ge):
+                with self.assertRaises(TypeError):
+                    compare(version, value)
+                with self.assertRaises(TypeError):
+                    compare(value, version)
+            self.assertNotEqual(version, value)
+
+
+class Threads(unittest.TestCase):
+    def run_all(self, threads: List[threading.Thread]) -> None:
+        for thread in threads:
+            thread.start()
+        for thread in threads:
+            thread.join()
+
+    def test_ranges_of_each(self) -> None:
+        """Calls from several threads return each its own."""
+        wrong: List[object] = []
+
+        def call(number: int) -> None:
+            mine = [f"{number}.{minor}.0-rc.{minor}" for minor in range(50)]
+            for _ in range(40):
+                string = f"^{number}.10.0-rc"
+                chosen = Range(string, dialect="crate-npm", pre_releases="included")
+                if chosen.filter(mine) != mine[10:] or chosen.highest(mine) != mine[-1]:
+                    wrong.append(number)
+                if [str(parse_version(it, dialect="crate-npm")) for it in mine] != mine:
+                    wrong.append(number)
+
+        self.run_all([threading.Thread(target=call, args=(number,)) for number in range(1, 9)])
+        self.assertEqual(wrong, [])
+
+    def test_one_range(self) -> None:
+        """One range is used by several threads, which combine it and let go of it."""
+        wrong: List[object] = []
+        given = [f"1.{minor}.0" for minor in range(50)]
+        shared = Range("^1.10", dialect="npm")
+
+        def call(number: int) -> None:
+            for _ in range(200):
+                upper = shared & Range(f">=1.{10 + number}", dialect="npm")
+                if upper.filter(given) != given[10 + number :] or "1.5.0" in shared:
+                    wrong.append(number)
+                if hash(shared | upper) != hash(shared) or str(shared.lowest_version) != "1.10.0":
+                    wrong.append(number)
+
+        self.run_all([threading.Thread(target=call, args=(number,)) for number in range(8)])
+        self.assertEqual(wrong, [])
