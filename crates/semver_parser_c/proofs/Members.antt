@@ -1,4 +1,4 @@
--- serves: semver_parser_c::membership::semver_parser_proved_highest
+-- serves: semver_parser_c::laws::one_memberships
 -- The highest of the members of a set among the first of many strings.
 use Rattle.std.proofs.Common.{◌≡◌, ◌≢◌, ◌↔◌, ◌⊎◌, ◌∙◌, ◌<◌, ◌+◌, ℕ, Bool, true, false, List, Option, Some, None, MatchOption, option_map, true≢false, arith, inl, inr}
 use Rattle.std.proofs.Common.{rules, sym, ap, subst, ⊎_elim, length, get_or, Less, Greater}

@@ -1,4 +1,4 @@
--- serves: semver_parser_c::laws::one_satisfaction
+-- serves: semver_parser_c::laws::one_parsed_version
 -- Two ends of a call with the same conditions are one.
 use Rattle.std.proofs.Common.{◌≡◌, ◌≢◌, ◌⊎◌, ◌∙◌, ◌↔◌, ℤ, Bool, List, arith, inl, inr, subst, sym, true, true≢false, ap, ⊎_elim}
 use Rattle.std.proofs.Common.{to_z, of_z, w32}
