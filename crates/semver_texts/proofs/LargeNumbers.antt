@@ -204,7 +204,7 @@ canonical (b ∷ t) e small = record {
   small = small;
 }
 
-number_some : (t : Text) → is_number t ≡ true → 0 < length t
+pub number_some : (t : Text) → is_number t ≡ true → 0 < length t
 number_some [] e = cc
 number_some (b ∷ t) e = omega arith
 
