@@ -12,6 +12,7 @@ ghost use Rattle.version_sets.specs.Releases.{release_value};
 ghost use Rattle.version_sets.specs.VersionSets.{has, Fits, IsNormal};
 ghost use Rattle.version_sets.specs.Steps.Places.{set_of};
 
+use crate::pre_release::PreRelease;
 use crate::release::Release;
 use crate::{each, switches};
 use semver_parser::laws;
@@ -29,7 +30,7 @@ pub struct VersionSet {
     /// The switches of the releases.
     pub(crate) releases: Vec<Release>,
     /// The switches of the pre-releases. Each has a pre-release.
-    pub(crate) pre_releases: Vec<Version>,
+    pub(crate) pre_releases: Vec<PreRelease>,
 }
 
 impl Model for VersionSet {
@@ -54,7 +55,7 @@ impl VersionSet {
     }
 
     /// The set with these switches, which are in the normal form. It does not allocate.
-    pub(crate) fn of_switches(releases: Vec<Release>, pre_releases: Vec<Version>) -> VersionSet
+    pub(crate) fn of_switches(releases: Vec<Release>, pre_releases: Vec<PreRelease>) -> VersionSet
         requires { IsNormal (set_of releases.items pre_releases.items) }
         ensures { result ≡ set_of releases.items pre_releases.items }
     {
@@ -85,6 +86,9 @@ impl VersionSet {
     // Answer: equation.
     /// Whether a version is in the set: 1.9.0+b5 is in that of `^1.2.0`, and 2.0.0 isn't. It takes
     /// time in the logarithm of the number of switches, and no memory.
+    ///
+    /// An identifier of digits from 2^64 on is a text here, as the version keeps it. By Cargo and
+    /// npm it is a number, as [`VersionSet::has_outline`] reads it.
     pub fn has(&self, version: &Version) -> bool
         ensures has { result ≡ has self.now (version_value version.now).plain }
         // The numbers of a version fit 64 bits.
@@ -99,7 +103,7 @@ impl VersionSet {
         if is_release {
             return self.has_release(release);
         }
-        switches::has(&self.pre_releases, version)
+        switches::has_version(&self.pre_releases, version)
     }
 
     // Answer: equation.
