@@ -1,7 +1,7 @@
 //! Switches of pre-releases.
 
 ghost use Rattle.std.specs.Prelude.{◌≡◌, [], map, IfOk};
-ghost use Rattle.semver_texts.specs.Digits.{as_kept, identifier_by, identifiers_by, plain_kept};
+ghost use Rattle.semver_texts.specs.Digits.{as_kept, identifier_by, identifiers_by, plain_by, plain_kept};
 ghost use Rattle.semver_parser.specs.Outlines.{version_of};
 ghost use Rattle.semver_parser.specs.Precedence.{precedence};
 ghost use Rattle.semver_parser.specs.VersionViews.{identifier_value, version_value};
@@ -32,17 +32,17 @@ impl PreRelease {
         ByDigits::of(self.version.pre.as_slice(), self.digits)
     }
 
-    /// How it compares by precedence with a version, whose identifiers are as they are kept.
+    /// How it compares by precedence with a version, whose identifiers of digits alone are read so.
     #[inline(always)]
-    pub(crate) fn compare_version(&self, version: &Version) -> Ordering
-        ensures { result
-            ≡ precedence (pre_release_place self.now) (version_place version.now) }
+    pub(crate) fn compare_version(&self, version: &Version, digits: Digits) -> Ordering
+        ensures { result ≡ precedence (pre_release_place self.now)
+            (plain_by digits (version_place version.now)) }
     {
         compare(
             (self.version.major, self.version.minor, self.version.patch),
             self.pre(),
             (version.major, version.minor, version.patch),
-            version.pre.as_slice(),
+            ByDigits::of(version.pre.as_slice(), digits),
         )
     }
 

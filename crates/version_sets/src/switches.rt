@@ -3,6 +3,7 @@
 ghost use Rattle.std.specs.Prelude.{◌≡◌, ◌%◌, map, nat_eq};
 ghost use Rattle.std.specs.Ordering.{eq_by_cmp};
 ghost use Rattle.std.specs.Cmp.Lexicographic.{pointwise};
+ghost use Rattle.semver_texts.specs.Digits.{plain_by};
 ghost use Rattle.semver_parser.specs.Outlines.{version_of};
 ghost use Rattle.semver_parser.specs.Precedence.{precedence};
 ghost use Rattle.version_sets.specs.Steps.Places.{pre_release_place, version_place};
@@ -13,6 +14,7 @@ use crate::pre_release::PreRelease;
 use crate::release::Release;
 use crate::switch::Switch;
 use semver_parser::version::{Outline, Version};
+use semver_texts::grammar::Digits;
 
 /// Whether an odd number of the switches are at or below a place. It takes time in the logarithm of
 /// their number, and no memory.
@@ -23,14 +25,14 @@ pub(crate) fn has<T: Switch>(switches: &[T], place: &T) -> bool
     is_odd(switches.partition_point(|switch| switch.compare(place).is_le()))
 }
 
-/// Whether an odd number of the switches are at or below a version, whose identifiers are as they
-/// are kept. It takes time in the logarithm of their number, and no memory.
-pub(crate) fn has_version(switches: &[PreRelease], version: &Version) -> bool
+/// Whether an odd number of the switches are at or below a version, whose identifiers of digits
+/// alone are read so. It takes time in the logarithm of their number, and no memory.
+pub(crate) fn has_version(switches: &[PreRelease], version: &Version, digits: Digits) -> bool
     requires { IsIncreasing precedence (map pre_release_place switches.now) }
     ensures { result ≡ switched precedence (map pre_release_place switches.now)
-        (version_place version.now) }
+        (plain_by digits (version_place version.now)) }
 {
-    is_odd(switches.partition_point(|switch| switch.compare_version(version).is_le()))
+    is_odd(switches.partition_point(|switch| switch.compare_version(version, digits).is_le()))
 }
 
 /// So many switches of releases are asked one by one, which is quicker than a search among them.
