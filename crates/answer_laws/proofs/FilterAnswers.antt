@@ -5,14 +5,17 @@ use Rattle.std.proofs.Common.{true≢false}
 use Rattle.std.specs.Cmp.{IsTotalOrder}
 use Rattle.std.specs.List.{AllByRecursion}
 use Rattle.std.specs.Ordering.{ordering_reverse}
-use Rattle.semver_parser.specs.Outlines.{outline_after}
+use Rattle.semver_texts.specs.Digits.{digits_in}
+use Rattle.semver_parser.specs.Outlines.{OutlineValue, IsOutlineIn, kept_version_of, outline_after}
 use Rattle.semver_parser.specs.Precedence.{precedence}
 use Rattle.semver_parser.specs.Texts.{Text}
 use Rattle.semver_parser.specs.ToolVersions.{SpellsIn}
 use Rattle.semver_parser.specs.declared.version.Grammar.{Grammar}
 use Rattle.semver_parser.specs.Versions.{VersionValue}
+use Rattle.semver_parser.specs.VersionViews.{version_value}
+use Rattle.semver_parser.specs.declared.version.Version.{Version}
 use Rattle.release_filter.specs.Extremes.{IsBelow, IsGreatest, IsNotAbove, HasNone}
-use Rattle.release_filter.specs.Filters.{FilterValue, passes}
+use Rattle.release_filter.specs.Filters.{FilterValue, passes, read_by}
 use Rattle.release_filter.specs.Judging.{IsJudged}
 use Rattle.release_filter.specs.declared.judging.Judged.{Judged}
 use Rattle.release_filter.specs.declared.judging.Judged.TheVariants.{NoVersion, DoesNotPass, Passes}
@@ -39,7 +42,24 @@ module _ (same : (grammar : Grammar) (v w : VersionValue) (text : Text) → Spel
   one_judged DoesNotPass (Passes o) p q = absurd (true≢false (sym (q.1 p.0.0 p.0.1) ∙ p.1 p.0.0 p.0.1))
   one_judged (Passes o) NoVersion p q = absurd (q (p.0.0, p.0.1))
   one_judged (Passes o) DoesNotPass p q = absurd (true≢false (sym (p.1 q.0.0 q.0.1) ∙ q.1 q.0.0 q.0.1))
-  one_judged (Passes o) (Passes o') p q = ap Passes (p.0.2 ∙ ap (outline_after _) (same grammar p.0.0 q.0.0 text p.0.1 q.0.1) ∙ sym q.0.2)
+  one_judged (Passes o) (Passes o') p q = ap Passes (p.0.2 ∙ ap (outline_after (digits_in grammar) _) (same grammar p.0.0 q.0.0 text p.0.1 q.0.1) ∙ sym q.0.2)
+
+-- two answers about one text, each as the text is kept, are one
+module _ (filter : FilterValue) (text : Text) (Test : VersionValue → Type 0) where
+  abbrev pub IsFound : Option Version → Type 0
+  IsFound x = (v : VersionValue) → (option_map (read_by filter) x ≡ Some v) ↔ (SpellsIn filter.grammar v text × Test v)
+
+  abbrev pub IsKept : Option Version → Type 0
+  IsKept x = IfSome x (λ version. (o : OutlineValue) → IsOutlineIn filter.grammar text o → version_value version ≡ kept_version_of o)
+
+  pub one_found : (x y : Option Version) → IsFound x → IsKept x → IsFound y → IsKept y
+      → option_map version_value x ≡ option_map version_value y
+  one_found None None f k g h = refl
+  one_found None (Some w) f k g h = let no = (f _).1 ((g _).0 refl) in cc
+  one_found (Some v) None f k g h = let no = (g _).1 ((f _).0 refl) in cc
+  one_found (Some v) (Some w) f k g h =
+      let is : IsOutlineIn filter.grammar text _ = (read_by filter v, ((f _).0 refl).0, refl) in
+      ap Some (k _ is ∙ sym (h _ is))
 
 module _ {X : Type 0} (total : IsTotalOrder precedence) (Has : X → VersionValue → Type 0) where
   -- one that an item after it isn't above isn't below that

@@ -5,14 +5,16 @@ use Rattle.std.specs.Cmp.{IsTotalOrder}
 use Rattle.std.specs.Ordering.{ordering_reverse}
 use Rattle.std.specs.declared.cmp.Ordering.{Ordering}
 use Rattle.std.specs.declared.cmp.Ordering.TheVariants.{Less, Equal, Greater}
+use Rattle.semver_texts.specs.Digits.{plain_kept}
 use Rattle.semver_parser.specs.Precedence.{precedence}
 use Rattle.semver_parser.specs.Versions.{PlainVersion}
 use Rattle.semver_parser.specs.VersionViews.{version_value}
 use Rattle.semver_parser.specs.declared.version.Version.{Version}
 use Rattle.version_sets.specs.VersionSets.{SetValue, Fits, IsIn, IsLeast, IsRelease, HasNone}
-use Rattle.version_sets.specs.Comparisons.{TellsLeast}
+use Rattle.version_sets.specs.Comparisons.{IsLeastOf, TellsLeast}
 use Rattle.version_sets.specs.Releases.{release_value}
 use Rattle.version_sets.specs.declared.Release.{Release}
+use Rattle.answer_laws.proofs.SameSets.{plainly}
 
 module _ (total : IsTotalOrder precedence) (exact : (v w : PlainVersion) → (precedence v w ≡ Equal) ↔ (v ≡ w)) where
   -- of which neither is below the other
@@ -27,12 +29,12 @@ module _ (total : IsTotalOrder precedence) (exact : (v w : PlainVersion) → (pr
   pub one_least : (IsOne : PlainVersion → Type 0) (x y : Option Version) → TellsLeast IsOne x → TellsLeast IsOne y
       → option_map version_value x ≡ option_map version_value y
   one_least IsOne None None p q = refl
-  one_least IsOne None (Some w) p q = absurd (p _ q.is_one)
-  one_least IsOne (Some v) None p q = absurd (q _ p.is_one)
+  one_least IsOne None (Some w) p q = absurd (p _ q.1.is_one)
+  one_least IsOne (Some v) None p q = absurd (q _ p.1.is_one)
   one_least IsOne (Some v) (Some w) p q =
-      let plain = level _ _ (q.lowest _ p.is_one) (p.lowest _ q.is_one) in
-      let build = p.no_build ∙ sym q.no_build in
-      ap Some (λ i. record { plain = plain i; build = build i })
+      let plain : p.0.plain ≡ q.0.plain = level _ _ (q.1.lowest _ p.1.is_one) (p.1.lowest _ q.1.is_one) in
+      let build : p.0.build ≡ q.0.build = p.1.no_build ∙ sym q.1.no_build in
+      ap Some (p.2 ∙ (λ i. record { plain = plain_kept (plain i); build = build i }) ∙ sym q.2)
 
   pub one_least_release : (set : SetValue) (x y : Option Release) → IfSome x (λ r. IsLeast IsRelease set (release_value r))
       → (x ≡ None) ↔ HasNone IsRelease set → IfSome y (λ r. IsLeast IsRelease set (release_value r))
@@ -45,11 +47,14 @@ module _ (total : IsTotalOrder precedence) (exact : (v w : PlainVersion) → (pr
       ap Some (λ i. record { major = (e i).major; minor = (e i).minor; patch = (e i).patch })
 
 -- what the clauses of `least` say, as one of `compare` does
-pub least_of : (set : SetValue) (x : Option Version) → IfSome x (λ v. IsLeast Fits set (version_value v).plain)
+pub least_of : (set : SetValue) (x : Option Version)
+    → IfSome x (λ version. (v : PlainVersion) × IsLeast Fits set v × ((version_value version).plain ≡ plain_kept v))
     → IfSome x (λ v. (version_value v).build ≡ []) → (x ≡ None) ↔ HasNone Fits set → TellsLeast (λ v. Fits v × IsIn v set) x
 least_of set None least no_build none = λ v one. none.0 refl v one.0 one.1
-least_of set (Some v) least no_build none = record {
-  is_one = (least.is_of_kind, least.is_in);
-  no_build = no_build;
-  lowest = λ w one. least.lowest w one.0 one.1;
-}
+least_of set (Some version) (v, least, is) no_build none =
+    let tells : IsLeastOf (λ v. Fits v × IsIn v set) (plainly v) = record {
+      is_one = (least.is_of_kind, least.is_in);
+      no_build = refl;
+      lowest = λ w one. least.lowest w one.0 one.1;
+    } in
+    (plainly v, tells, λ i. record { plain = is i; build = no_build i })

@@ -9,6 +9,7 @@ ghost use Rattle.answer_laws.specs.SameSets.{AreAlike, comparison_value};
 
 use semver_parser::version::{Outline, Version};
 use semver_parser::{Compat, RangeError, RangeSet, laws};
+use semver_texts::grammar::Digits;
 use std::alloc::{AllocError, Global};
 use tool_ranges::meaning::{self, Meaning};
 use tool_ranges::{cargo, npm};
@@ -133,6 +134,21 @@ pub fn one_of_set(alloc: Global, set: &RangeSet, pre_releases: PreReleases) -> M
 {
     let first = VersionSet::of_set(alloc, set, pre_releases);
     let second = VersionSet::of_set(alloc, set, pre_releases);
+    answers_are_alike(&first, &second);
+    (first, second)
+}
+
+/// `VersionSet::of_set_by` has one answer.
+pub fn one_of_set_by(
+    alloc: Global,
+    set: &RangeSet,
+    pre_releases: PreReleases,
+    digits: Digits,
+) -> Made
+    ensures one { AreOne alloc_error itself result.0 result.1 }
+{
+    let first = VersionSet::of_set_by(alloc, set, pre_releases, digits);
+    let second = VersionSet::of_set_by(alloc, set, pre_releases, digits);
     answers_are_alike(&first, &second);
     (first, second)
 }

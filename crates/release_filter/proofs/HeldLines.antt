@@ -9,9 +9,8 @@ use Rattle.std.specs.Prelude.{option_to_list}
 use Rattle.semver_parser.specs.Precedence.{precedence}
 use Rattle.semver_parser.specs.Texts.{Text}
 use Rattle.semver_parser.specs.Versions.{PlainVersion}
-use Rattle.semver_parser.specs.VersionViews.{version_value}
-use Rattle.semver_parser.specs.declared.version.Version.{Version}
-use Rattle.release_filter.specs.Steps.Taking.{Concludes, kept_value}
+use Rattle.release_filter.specs.declared.precedence.ReadVersion.{ReadVersion}
+use Rattle.release_filter.specs.Steps.Taking.{Concludes, kept_value, read_plain}
 use Rattle.release_filter.specs.Wanted.{AnswersBy, HeldValue, HoldsBy, IsBest, IsStableSort, KeptValue, ended_text, order_of}
 use Rattle.release_filter.specs.Wanted.{text_of}
 use Rattle.release_filter.specs.declared.wanted.KeptLine.{KeptLine}
@@ -25,7 +24,7 @@ use Rattle.std.proofs.lemmas.Grind.{common_steps}
 
 -- whether a version is better than the best so far, as it is told
 abbrev pub Tells : Wanted → Option KeptLine → PlainVersion → Bool → Type 0
-Tells w best v told = MatchOption best (told ≡ true) (λ b. (told ≡ true) ↔ (order_of w (version_value b.version).plain v ≡ Less))
+Tells w best v told = MatchOption best (told ≡ true) (λ b. (told ≡ true) ↔ (order_of w (read_plain b.version) v ≡ Less))
 
 abbrev pub best_list : Option KeptLine → List KeptValue
 best_list best = option_to_list (option_map kept_value best)
@@ -35,7 +34,7 @@ pub stays : IsTotalOrder precedence → (w : Wanted) (best : Option KeptLine) (k
 stays total w None k told tells e = cc
 stays total w (Some b) k told tells e =
     not_better (order_of w) (kept_value b) k
-    (isnt_over (order_of w) (total_of w total) k.version (version_value b.version).plain (λ less. not_both (tells.1 less) e))
+    (isnt_over (order_of w) (total_of w total) k.version (read_plain b.version) (λ less. not_both (tells.1 less) e))
 
 pub replaces : (w : Wanted) (best : Option KeptLine) (k : KeptValue) (told : Bool) → Tells w best k.version told → told ≡ true
     → IsBest (order_of w) (best_list best ++ k ∷ []) (Some k)
@@ -43,9 +42,9 @@ replaces w None k told tells e = better_one (order_of w) None k tt
 replaces w (Some b) k told tells e = better_one (order_of w) (Some (kept_value b)) k (tells.0 e, tt)
 
 -- the line that is held then
-pub made_best : (dest : Option KeptLine) (version : Version) (bytes : Vec ℕ Global) (line : Text)
+pub made_best : (dest : Option KeptLine) (version : ReadVersion) (bytes : Vec ℕ Global) (line : Text)
     → dest ≡ Some (record { version = version; bytes = bytes }) → bytes.items ≡ line
-    → option_map kept_value dest ≡ Some (record { version = (version_value version).plain; line = line })
+    → option_map kept_value dest ≡ Some (record { version = read_plain version; line = line })
 made_best dest version bytes line is items = cc
 
 -- ---- what is held
@@ -72,7 +71,7 @@ AppendsSome lines count old new =
 -- ---- the best of two
 
 pub stays_with : IsTotalOrder precedence → (w : Wanted) (best last : Option KeptLine) (k : KeptLine) (told : Bool) → last ≡ Some k
-    → Tells w best (version_value k.version).plain told → told ≡ false
+    → Tells w best (read_plain k.version) told → told ≡ false
     → IsBest (order_of w) (best_list best ++ best_list last) (option_map kept_value best)
 stays_with total w best last k told is tells e =
     rw is (stays total w best (kept_value k) told tells e)

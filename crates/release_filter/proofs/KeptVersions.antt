@@ -15,7 +15,9 @@ use Rattle.semver_parser.specs.declared.version.Grammar.{Grammar}
 use Rattle.semver_parser.specs.declared.version.Version.{Version}
 use Rattle.version_sets.specs.declared.PreReleases.{PreReleases}
 use Rattle.version_sets.specs.VersionSets.{SetValue, has, Fits}
-use Rattle.release_filter.specs.Filters.{FilterValue, passes}
+use Rattle.semver_texts.specs.Digits.{plain_by}
+use Rattle.semver_texts.specs.declared.grammar.Digits.{Digits}
+use Rattle.release_filter.specs.Filters.{FilterValue, digits_of, passes, read_by}
 use Rattle.release_filter.proofs.Passing.{some_is}
 use Rattle.std.proofs.lemmas.Grind.{common_steps}
 
@@ -167,6 +169,16 @@ keeps_next f xs places ys old kept i d b inside same is before =
 -- the answer on a version is whether it passes
 pub judged_at : (filter : FilterValue) (set : SetValue) (rule : PreReleases) (grammar : Grammar) (versions : List Version)
     (answers : List Bool) (i : ℕ) (d : Bool) → record { set = set; pre_releases = rule; grammar = grammar } ≡ filter
-    → answers ≡ map (λ v. has set (version_value v).plain) versions → AllByRecursion (λ v. Fits (version_value v).plain) versions
-    → i < length versions → (e : Version) → get_or answers i d ≡ passes filter (version_value (get_or versions i e))
-judged_at filter set rule grammar versions answers i d view told fit inside e = grind (arith, common_steps)
+    → (digits : Digits) → digits ≡ digits_of filter
+    → answers ≡ map (λ v. has set (plain_by digits (version_value v).plain)) versions
+    → AllByRecursion (λ v. Fits (version_value v).plain) versions
+    → i < length versions → (e : Version) → get_or answers i d ≡ passes filter (read_by filter (get_or versions i e))
+judged_at filter set rule grammar versions answers i d view digits is told fit inside e =
+    judged_so filter set rule grammar versions answers i d view
+    (told ∙ ap (λ x. map (λ v. has set (plain_by x (version_value v).plain)) versions) is) fit inside e
+  where
+    judged_so : (filter : FilterValue) (set : SetValue) (rule : PreReleases) (grammar : Grammar) (versions : List Version)
+        (answers : List Bool) (i : ℕ) (d : Bool) → record { set = set; pre_releases = rule; grammar = grammar } ≡ filter
+        → answers ≡ map (λ v. has set (read_by filter v).plain) versions → AllByRecursion (λ v. Fits (version_value v).plain) versions
+        → i < length versions → (e : Version) → get_or answers i d ≡ passes filter (read_by filter (get_or versions i e))
+    judged_so filter set rule grammar versions answers i d view told fit inside e = grind (arith, common_steps)

@@ -14,8 +14,7 @@ use Rattle.std.specs.Prelude.{◌&&◌}
 use Rattle.std.specs.declared.cmp.Ordering.{Ordering}
 use Rattle.semver_parser.specs.Precedence.{precedence}
 use Rattle.semver_parser.specs.Versions.{PlainVersion}
-use Rattle.semver_parser.specs.VersionViews.{version_value}
-use Rattle.release_filter.specs.Steps.Taking.{kept_value}
+use Rattle.release_filter.specs.Steps.Taking.{kept_value, read_plain}
 use Rattle.release_filter.specs.Wanted.{IsStableSort, KeptValue}
 use Rattle.release_filter.specs.declared.wanted.KeptLine.{KeptLine}
 use Rattle.release_filter.proofs.HeldLines.{seen_lines}
@@ -25,7 +24,7 @@ use Rattle.release_filter.proofs.Tests.{filter-same}
 
 -- the version of a line but for the build
 abbrev pub plain_of : Bor KeptLine → PlainVersion
-plain_of line = (version_value line.now.version).plain
+plain_of line = read_plain line.now.version
 
 -- whether a line is below another
 abbrev pub is_below : Bor KeptLine → Bor KeptLine → Bool

@@ -3,6 +3,8 @@ use Rattle.std.specs.Prelude.{◌≡◌, ◌≢◌, List, ◌∷◌, ◌++◌, I
 use Rattle.std.specs.List.{AllByRecursion}
 use Rattle.std.specs.declared.cmp.Ordering.{Ordering}
 use Rattle.std.specs.declared.cmp.Ordering.TheVariants.{Less, Greater}
+use Rattle.semver_texts.specs.Digits.{version_by}
+use Rattle.semver_texts.specs.declared.grammar.Digits.{Digits}
 use Rattle.semver_parser.specs.Versions.{PlainVersion, VersionValue}
 use Rattle.semver_parser.specs.VersionViews.{version_value}
 use Rattle.semver_parser.specs.declared.version.Version.{Version}
@@ -38,6 +40,7 @@ module _ {X : Type 0} (Has : X → VersionValue → Type 0) where
   abbrev pub HasNone : List X → Type 0
   HasNone items = AllByRecursion (λ x. (w : VersionValue) → ¬ (Has x w)) items
 
--- the version is this value, and passes a test
-abbrev pub IsOneThat : (VersionValue → Bool) → Version → VersionValue → Type 0
-IsOneThat test version v = (version_value version ≡ v) × IsTrue (test v)
+-- the version, whose identifiers of digits alone are read so, is this value, and passes a test
+abbrev pub IsOneThat : Digits → (VersionValue → Bool) → Version → VersionValue → Type 0
+IsOneThat digits test version v =
+    (version_by digits (version_value version) ≡ v) × IsTrue (test v)

@@ -5,11 +5,10 @@ ghost use Rattle.std.specs.Prelude.{None};
 ghost use Rattle.semver_parser.specs.RangeTexts.{RefusesExactly};
 ghost use Rattle.semver_parser.specs.RangeTree.{SetTree, Spells};
 ghost use Rattle.semver_parser.specs.Versions.{VersionValue};
-ghost use Rattle.semver_parser.specs.VersionViews.{version_value};
 ghost use Rattle.version_sets.specs.PreReleaseRules.{meant_with};
 ghost use Rattle.version_sets.specs.VersionSets.{IsNormal};
 ghost use Rattle.release_filter.specs.KeptReleases.{kept_releases};
-ghost use Rattle.release_filter.specs.Filters.{passes};
+ghost use Rattle.release_filter.specs.Filters.{digits_of, passes, read_by};
 ghost use Rattle.release_filter.specs.Extremes.{HasNone, IsGreatest, IsOneThat};
 
 use crate::precedence;
@@ -113,11 +112,13 @@ impl Filter {
     }
 
     // Answer: equation.
-    /// Whether a version passes. Its build doesn't count. It does not allocate.
+    /// Whether a version passes. Its build doesn't count, and an identifier of digits alone from
+    /// 2^64 on, which it keeps as a text, is what the filter's dialect says: a number to Cargo and
+    /// npm. It does not allocate.
     pub fn meets(&self, version: &Version) -> bool
-        ensures meets { result ≡ passes self.now (version_value version.now) }
+        ensures meets { result ≡ passes self.now (read_by self.now version.now) }
     {
-        self.versions.has(version)
+        self.versions.has_by(version, self.grammar.digits())
     }
 
     // Answer: law answer_laws::filters::one_greatest.
@@ -127,10 +128,13 @@ impl Filter {
     /// allocate.
     pub fn greatest<'v>(&self, versions: &'v [Version]) -> Option<&'v Version>
         ensures greatest { IfSome result (λ version.
-            IsGreatest (IsOneThat (passes self.now)) versions.now version.now) }
-        ensures none { (result ≡ None) ↔ HasNone (IsOneThat (passes self.now)) versions.now }
+            IsGreatest (IsOneThat (digits_of self.now) (passes self.now)) versions.now
+            version.now) }
+        ensures none { (result ≡ None)
+            ↔ HasNone (IsOneThat (digits_of self.now) (passes self.now)) versions.now }
     {
         laws::precedence_is_total();
+        let digits = self.grammar().digits();
         let mut greatest: Option<&Version> = None;
         for version in versions {
             if !self.meets(version) {
@@ -138,7 +142,7 @@ impl Filter {
             }
             match greatest {
                 Some(other) => {
-                    if precedence::is_above(version, other) {
+                    if precedence::is_above(version, other, digits) {
                         greatest = Some(version);
                     }
                 }

@@ -1,12 +1,13 @@
 //! What a filter says of a version text.
 
 ghost use Rattle.std.specs.Prelude.{◌≡◌, ◌↔◌, ◌<◌, ◌⊎◌, [], length, option_map, false};
-ghost use Rattle.std.specs.Prelude.{IfOk, IfErr, IsTrue, Some, None, Result};
+ghost use Rattle.std.specs.Prelude.{IfOk, IfErr, IfSome, IsTrue, Some, None, Result};
+ghost use Rattle.semver_parser.specs.Outlines.{IsOutlineIn, OutlineValue, kept_version_of};
 ghost use Rattle.semver_parser.specs.Texts.{Text};
 ghost use Rattle.semver_parser.specs.Versions.{VersionValue};
 ghost use Rattle.semver_parser.specs.ToolVersions.{SpellsIn};
 ghost use Rattle.semver_parser.specs.VersionViews.{version_value};
-ghost use Rattle.release_filter.specs.Filters.{passes};
+ghost use Rattle.release_filter.specs.Filters.{passes, read_by};
 ghost use Rattle.release_filter.specs.Judging.{IsJudged};
 ghost use Rattle.release_filter.specs.Steps.Outlined.{IsOutlined};
 
@@ -80,8 +81,11 @@ impl Filter {
         // Unless memory ran out, a version is answered exactly where the text spells it, and it
         // passes.
         ensures exact { (v : VersionValue) → IfOk result (λ found.
-            (option_map version_value found ≡ Some v)
+            (option_map (read_by self.now) found ≡ Some v)
             ↔ (SpellsIn self.now.grammar v text.now × IsTrue (passes self.now v))) }
+        // The version is as it is kept: an identifier of digits from 2^64 on is its text.
+        ensures kept { IfOk result (λ found. IfSome found (λ version. (o : OutlineValue)
+            → IsOutlineIn self.now.grammar text.now o → version_value version ≡ kept_version_of o)) }
         // Unless memory ran out, no version is answered exactly where the text spells none that
         // passes.
         ensures none { IfOk result (λ found. (found ≡ None)

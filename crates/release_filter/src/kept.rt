@@ -1,8 +1,7 @@
 //! Those of a list of versions that pass a filter.
 
 ghost use Rattle.std.specs.Prelude.{◌≡◌, ◌≤◌, ◌++◌, length, map, filter, Any, IfOk, IfErr, IsTrue};
-ghost use Rattle.semver_parser.specs.VersionViews.{version_value};
-ghost use Rattle.release_filter.specs.Filters.{passes};
+ghost use Rattle.release_filter.specs.Filters.{passes, read_by};
 
 use crate::filter::Filter;
 use semver_parser::version::Version;
@@ -24,10 +23,10 @@ impl Filter {
         versions: &'v [Version],
     ) -> Result<Vec<&'v Version>, AllocError>
         ensures kept { IfOk result (λ kept. map (λ v. v.now) kept.items
-            ≡ filter (λ v. passes self.now (version_value v)) versions.now) }
+            ≡ filter (λ v. passes self.now (read_by self.now v)) versions.now) }
         // Memory runs out only where some version passes.
         ensures out_of_memory { IfErr result (λ _.
-            Any (λ v. IsTrue (passes self.now (version_value v))) versions.now) }
+            Any (λ v. IsTrue (passes self.now (read_by self.now v))) versions.now) }
     {
         let mut kept = Vec::new(alloc);
         let mut rest = versions;
@@ -50,13 +49,14 @@ impl Filter {
         requires { length versions.now ≤ 64 }
         ensures kept { IfOk result (λ _. map (λ v. v.now) kept.new.items
             ≡ map (λ v. v.now) kept.old.items
-            ++ filter (λ v. passes self.now (version_value v)) versions.now) }
+            ++ filter (λ v. passes self.now (read_by self.now v)) versions.now) }
         ensures out_of_memory { IfErr result (λ _.
-            Any (λ v. IsTrue (passes self.now (version_value v))) versions.now) }
+            Any (λ v. IsTrue (passes self.now (read_by self.now v))) versions.now) }
     {
         let mut passes = [false; AT_ONCE];
         let passes = &mut passes[..versions.len()];
-        self.versions.has_each(versions, passes);
+        self.versions
+            .has_each_by(versions, self.grammar().digits(), passes);
         let mut places = [0u8; AT_ONCE];
         let mut count = 0;
         for at in 0..versions.len() {

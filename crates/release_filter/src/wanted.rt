@@ -6,18 +6,17 @@ ghost use Rattle.std.specs.Option.{option_map};
 ghost use Rattle.std.specs.declared.cmp.Ordering.TheVariants.{Less};
 ghost use Rattle.semver_parser.specs.Texts.{Text};
 ghost use Rattle.semver_parser.specs.Versions.{PlainVersion};
-ghost use Rattle.semver_parser.specs.VersionViews.{version_value};
 ghost use Rattle.release_filter.specs.Steps.Taking.{Concludes, Outlines, PassesAs, held_value};
-ghost use Rattle.release_filter.specs.Steps.Taking.{kept_value, verdict_of};
+ghost use Rattle.release_filter.specs.Steps.Taking.{kept_value, read_plain, verdict_of};
 ghost use Rattle.release_filter.specs.Wanted.{AnswerAllocates, Holds, IsBest, IsStableSort};
 ghost use Rattle.release_filter.specs.Wanted.{KeptValue, emptied, ended, ended_text, kept_as};
 ghost use Rattle.release_filter.specs.Wanted.{order_of, text_of};
 
 use crate::judging::Judged;
 use crate::line_texts::without_last;
-use crate::precedence;
+use crate::precedence::ReadVersion;
 use semver_parser::laws;
-use semver_parser::version::{self, Outline, Version};
+use semver_parser::version::{Outline, Version};
 use std::alloc::{AllocError, Global};
 use std::mem;
 
@@ -39,7 +38,7 @@ pub enum Wanted {
 /// A kept line, and its version without the build.
 #[derive(Drop)]
 pub(crate) struct KeptLine {
-    pub(crate) version: Version,
+    pub(crate) version: ReadVersion,
     pub(crate) bytes: Vec<u8>,
 }
 
@@ -99,11 +98,16 @@ impl Held {
     }
 
     /// Holds a line if it is better than the best so far.
-    fn hold_best(&mut self, alloc: Global, version: Version, line: &[u8]) -> Result<(), AllocError>
+    fn hold_best(
+        &mut self,
+        alloc: Global,
+        version: ReadVersion,
+        line: &[u8],
+    ) -> Result<(), AllocError>
         ensures best { IfOk result (λ _. (best : Option KeptValue)
             × IsBest (order_of self.old.wanted)
             (option_to_list (option_map kept_value self.old.best)
-            ++ record { version = (version_value version).plain; line = line.now } ∷ []) best
+            ++ record { version = read_plain version; line = line.now } ∷ []) best
             × (held_value self.new ≡ record (held_value self.old) { best = best })) }
         ensures unchanged { IfErr result (λ _. held_value self.new ≡ held_value self.old) }
     {
@@ -121,10 +125,10 @@ impl Held {
     }
 
     /// Holds a line if it is better than the best so far, and takes its memory with it.
-    pub(crate) fn hold_whole(&mut self, alloc: Global, version: Version, line: &mut Vec<u8>)
+    pub(crate) fn hold_whole(&mut self, alloc: Global, version: ReadVersion, line: &mut Vec<u8>)
         ensures best { (best : Option KeptValue) × IsBest (order_of self.old.wanted)
             (option_to_list (option_map kept_value self.old.best)
-            ++ record { version = (version_value version).plain; line = line.old.items } ∷ []) best
+            ++ record { version = read_plain version; line = line.old.items } ∷ []) best
             × (held_value self.new ≡ record (held_value self.old) { best = best }) }
     {
         laws::precedence_is_total();
@@ -225,7 +229,7 @@ impl Held {
         if let Some(last) = last {
             lines.push(last)?;
         }
-        lines.sort_by(|line, other| version::cmp_precedence(&line.version, &other.version))?;
+        lines.sort_by(|line, other| line.version.compare(&other.version))?;
         append_ended(lines.as_slice(), kept)?;
         Ok(())
     }
@@ -241,15 +245,15 @@ impl Held {
 
 /// Whether a version is to be taken in place of the best so far: it is above that, or, if the least
 /// is wanted, below it.
-fn is_better(wanted: Wanted, version: &Version, best: &Option<KeptLine>) -> bool
+fn is_better(wanted: Wanted, version: &ReadVersion, best: &Option<KeptLine>) -> bool
     ensures { MatchOption best.now (result ≡ true) (λ best. (result ≡ true)
-        ↔ (order_of wanted (version_value best.version).plain (version_value version.now).plain
+        ↔ (order_of wanted (read_plain best.version) (read_plain version.now)
         ≡ Less)) }
 {
     match (best, wanted) {
         (None, _) => true,
-        (Some(best), Wanted::Least) => precedence::is_above(&best.version, version),
-        (Some(best), _) => precedence::is_above(version, &best.version),
+        (Some(best), Wanted::Least) => best.version.is_above(version),
+        (Some(best), _) => version.is_above(&best.version),
     }
 }
 
@@ -305,16 +309,20 @@ fn kept_line(alloc: Global, outline: &Outline<'_>, line: &[u8]) -> Result<KeptLi
 
 /// The version of an outline, without its build.
 #[inline(always)]
-pub(crate) fn without_build(alloc: Global, outline: &Outline<'_>) -> Result<Version, AllocError>
+pub(crate) fn without_build(alloc: Global, outline: &Outline<'_>) -> Result<ReadVersion, AllocError>
     ensures { (plain : PlainVersion) → Outlines outline.now plain → IfOk result (λ version.
-        (version_value version).plain ≡ plain) }
+        read_plain version ≡ plain) }
 {
-    Ok(Version {
+    let version = Version {
         major: outline.major(),
         minor: outline.minor(),
         patch: outline.patch(),
         pre: outline.pre_identifiers(alloc)?,
         build: Vec::new(alloc),
+    };
+    Ok(ReadVersion {
+        version,
+        digits: outline.digits(),
     })
 }
 

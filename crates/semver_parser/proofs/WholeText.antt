@@ -28,6 +28,7 @@ use Rattle.semver_tokens.proofs.TokenLists.{same_tokens, decimal_is_run}
 use Rattle.semver_tokens.proofs.ReadingSteps.{same_front, reads_once}
 use Rattle.semver_tokens.proofs.IdentifierSteps.{identifier_is_read}
 use Rattle.semver_tokens.proofs.IdentifierTexts.{pieces, pieces_text, IsPlaced, each_placed}
+use Rattle.semver_texts.proofs.LargeNumbers.{small_numeral}
 use Rattle.semver_texts.proofs.Lists.{Passes, all_more, all_apart, passes_append, passes_apart, joined_pass}
 use Rattle.semver_texts.proofs.Runs.{run_is_part}
 use Rattle.semver_texts.proofs.SpelledVersions.{part_text}
@@ -90,7 +91,7 @@ trimmed v text w =
     })
 
 printable_identifier : (id : IdentifierValue) (text : List ℕ) → SpellsIdentifier id text → IsPrintableIdentifier id
-printable_identifier (numeric n) text w = (w.0, refl)
+printable_identifier (numeric n) text w = (w.0, small_numeral n w.0)
 printable_identifier (alphanumeric kept) text w = (refl, w.1, w.2)
 
 printable_identifiers : (ids : List IdentifierValue) (texts : List (List ℕ)) → AllZip SpellsIdentifier ids texts

@@ -69,11 +69,11 @@ number_part (b ∷ t) e = digit_part_bytes (b ∷ t) (grind arith)
 
 -- an identifier's text is a part that is kept as the identifier
 identifier_part : (i : IdentifierValue) → is_kept i ≡ true → is_part (identifier_text i) ≡ true
-identifier_part (numeric n) e = number_part (decimal n) (decimal_number n e)
+identifier_part (numeric n) e = rw e (number_part (decimal n) (decimal_number n e))
 identifier_part (alphanumeric t) e = grind arith
 
 identifier_kept : (i : IdentifierValue) → is_kept i ≡ true → kept (identifier_text i) ≡ i
-identifier_kept (numeric n) e = rw (decimal_digits n e, decimal_value n e, e)
+identifier_kept (numeric n) e = rw e (rw (decimal_digits n e, decimal_value n e, e))
 identifier_kept (alphanumeric t) e = grind arith
 
 identifiers_parts : (is : List IdentifierValue) → list_all is_kept is ≡ true → list_all is_part (map identifier_text is) ≡ true

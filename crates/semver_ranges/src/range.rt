@@ -91,9 +91,13 @@ impl fmt::Display for Identifier {
 
     /// Writes the decimal, or the text itself: `Numeric(4)` as `4`, `AlphaNumeric("beta")` as
     /// `beta`. It does not allocate, and its only error is the writer's.
+    #[tactic(auto, using(semver_texts::proofs::LargeNumbers::small_numeral))]
     fn fmt<W: fmt::Write>(&self, f: &mut fmt::Formatter<W>) -> fmt::Result {
         match self {
-            Identifier::Numeric(number) => write!(f, "{number}"),
+            Identifier::Numeric(number) => {
+                let number = *number;
+                write!(f, "{number}")
+            }
             Identifier::AlphaNumeric(text) => write!(f, "{text}"),
         }
     }

@@ -1,5 +1,6 @@
 pub mod DottedParts
 pub mod Joins
+pub mod LargeNumbers
 pub mod Lists
 pub mod Numerals
 pub mod Numbers

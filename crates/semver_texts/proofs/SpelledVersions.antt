@@ -6,17 +6,23 @@ use Rattle.std.specs.Prelude.{IsTrue}
 use Rattle.std.specs.Char.{is_ascii_alphanumeric}
 use Rattle.std.specs.List.{AllByRecursion, AllZip, join_with_byte, list_all}
 use Rattle.std.proofs.lemmas.List.Folds.{list_all-map}
-use Rattle.semver_texts.specs.Texts.{Text, IsRun, has_no_leading_zero, is_part, is_part_byte, marked}
+use Rattle.std.specs.Str.Parse.{digits_value}
+use Rattle.std.proofs.lemmas.Bool.{and_parts}
+use Rattle.semver_texts.specs.Digits.{any_size, version_by}
+use Rattle.semver_texts.specs.Texts.{Text, IsRun, has_no_leading_zero, is_large, is_number, is_part, is_part_byte, marked}
+use Rattle.semver_texts.specs.declared.grammar.Digits.TheVariants.{AnySize}
 use Rattle.semver_texts.specs.Versions.{IdentifierValue, numeric, alphanumeric, VersionValue, numbers}
-use Rattle.semver_texts.specs.PrintedText.{identifier_text, version_text}
+use Rattle.semver_texts.specs.PrintedText.{identifier_text, numeral, version_text}
 use Rattle.semver_texts.specs.VersionGrammar.{IsIdentifierText, SpellsCore, SpellsIdentifier, SpellsPart}
 use Rattle.semver_texts.specs.ToolVersions.{AreWhiteSpaces, IsKeptAs, SpellsNpm, SpellsSemver, characters}
-use Rattle.semver_texts.proofs.Lists.{Passes, all_more, joined_pass}
+use Rattle.semver_texts.proofs.LargeNumbers.{is_number_of, no_number, number_numeral, small_numeral}
+use Rattle.semver_texts.proofs.Lists.{Passes, all_more, by_test, joined_pass}
+use Rattle.semver_texts.proofs.Numbers.{digits_value_number}
 
 -- ---- what prints
 
 kept_text : (id : IdentifierValue) (text : Text) → IsKeptAs id text → text ≡ identifier_text id
-kept_text (numeric n) text w = w.1
+kept_text (numeric n) text w = number_numeral text w.0 ∙ ap numeral w.1
 kept_text (alphanumeric kept) text w = w.0
 
 pub kept_texts : (ids : List IdentifierValue) (texts : List Text) → AllZip IsKeptAs ids texts → texts ≡ map identifier_text ids
@@ -26,7 +32,7 @@ kept_texts (id ∷ ids) [] all = absurd all
 kept_texts (id ∷ ids) (t ∷ texts) all = (λ i. kept_text id t all.0 i ∷ kept_texts ids texts all.1 i)
 
 spelled_text : (id : IdentifierValue) (text : Text) → SpellsIdentifier id text → text ≡ identifier_text id
-spelled_text (numeric n) text w = w.1
+spelled_text (numeric n) text w = w.1 ∙ sym (small_numeral n w.0)
 spelled_text (alphanumeric kept) text w = w.0
 
 pub spelled_texts : (ids : List IdentifierValue) (texts : List Text) → AllZip SpellsIdentifier ids texts
@@ -96,28 +102,33 @@ runs_are_part ((b ∷ run) ∷ next ∷ runs) some each =
 pub identifier_is_part : (t : Text) → IsIdentifierText t → is_part t ≡ true
 identifier_is_part t w = subst (λ t. is_part t ≡ true) (sym w.joined) (runs_are_part w.runs w.some w.each)
 
-spelled_kept : (id : IdentifierValue) (text : Text) → SpellsIdentifier id text → IsKeptAs id text
-spelled_kept (numeric n) text w = w
-spelled_kept (alphanumeric kept) text w = (w.0, identifier_is_part kept w.1, w.2)
+-- what spells an identifier is kept as it, with digits of any size
+spelled_kept : (id : IdentifierValue) (text : Text) → SpellsIdentifier id text → IsKeptAs (any_size id) text
+spelled_kept (numeric n) text w =
+    let number = is_number_of text (n, w.0, w.1) in (number, digits_value_number text n w.0 w.1)
+spelled_kept (alphanumeric kept) text w =
+    by_test (is_large kept)
+    (λ large. rw large (subst (λ t. is_number t ≡ true) (sym w.0) (and_parts (is_number kept) _ large).0, ap (digits_value 10) w.0))
+    (λ small. rw small (w.0, identifier_is_part kept w.1, no_number kept small w.2))
 
-pub spelled_kept_all : (ids : List IdentifierValue) (texts : List Text) → AllZip SpellsIdentifier ids texts → AllZip IsKeptAs ids texts
+pub spelled_kept_all : (ids : List IdentifierValue) (texts : List Text) → AllZip SpellsIdentifier ids texts
+    → AllZip IsKeptAs (map any_size ids) texts
 spelled_kept_all [] [] all = tt
 spelled_kept_all [] (t ∷ texts) all = absurd all
 spelled_kept_all (id ∷ ids) [] all = absurd all
 spelled_kept_all (id ∷ ids) (t ∷ texts) all = (spelled_kept id t all.0, spelled_kept_all ids texts all.1)
 
 pub core_is_semver : (v : VersionValue) (text : Text) → SpellsCore v text
-    → IsTrue (list_all (λ id. has_no_leading_zero (identifier_text id)) v.plain.pre) → SpellsSemver v text
+    → IsTrue (list_all (λ id. has_no_leading_zero (identifier_text id)) v.plain.pre) → SpellsSemver (version_by AnySize v) text
 core_is_semver v text w no_zeros =
-    let pre = spelled_kept_all v.plain.pre w.pre.texts w.pre.each in
     record {
       pre_texts = w.pre.texts;
       build_texts = w.build.texts;
       major = w.major;
       minor = w.minor;
       patch = w.patch;
-      pre = pre;
-      no_zeros = ap (list_all has_no_leading_zero) (kept_texts v.plain.pre w.pre.texts pre)
+      pre = spelled_kept_all v.plain.pre w.pre.texts w.pre.each;
+      no_zeros = ap (list_all has_no_leading_zero) (spelled_texts v.plain.pre w.pre.texts w.pre.each)
           ∙ list_all-map has_no_leading_zero identifier_text v.plain.pre ∙ no_zeros;
       build = spelled_kept_all v.build w.build.texts w.build.each;
       spelled = w.spelled ∙ (λ i. join_with_byte 46 (map decimal (numbers v.plain)) ++ w.pre.joined i ++ w.build.joined i)

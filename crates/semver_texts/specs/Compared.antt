@@ -2,14 +2,17 @@
 use Rattle.std.specs.Prelude.{ℕ, List, [], Option, Some, None}
 use Rattle.std.specs.Borrow.{Bor}
 use Rattle.std.specs.List.{slice_split}
+use Rattle.std.specs.Str.Parse.{digits_value}
 use Rattle.semver_texts.specs.Texts.{Text, is_dot}
 use Rattle.semver_texts.specs.Versions.{IdentifierValue, PlainVersion, numeric, alphanumeric}
 use Rattle.semver_texts.specs.declared.precedence.IdentifierRef.{IdentifierRef}
-use Rattle.semver_texts.specs.declared.precedence.IdentifierRef.TheVariants.{Numeric, AlphaNumeric}
+use Rattle.semver_texts.specs.declared.precedence.IdentifierRef.TheVariants.{Numeric, LargeNumeric}
+use Rattle.semver_texts.specs.declared.precedence.IdentifierRef.TheVariants.{AlphaNumeric}
 
 -- an identifier
 abbrev pub ref_value : IdentifierRef → IdentifierValue
 ref_value (Numeric n) = numeric n
+ref_value (LargeNumeric number) = numeric (digits_value 10 number.digits.now)
 ref_value (AlphaNumeric text) = alphanumeric text.now
 
 -- the texts between the dots of what is left of a text

@@ -7,3 +7,4 @@ pub mod VersionGrammar
 pub mod VersionViews
 pub mod Precedence
 pub mod Compared
+pub mod Digits

@@ -1,15 +1,26 @@
 -- The printed text of identifiers and versions.
 use Prim.Native.Char.{code}
-use Rattle.std.specs.Prelude.{◌++◌, map, codes}
-use Rattle.std.specs.List.{join_with_byte}
+use Rattle.std.specs.Prelude.{ℕ, ◌+◌, ◌^◌, ◌++◌, Bool, true, false, nat_lt, map, codes}
 use Rattle.std.specs.Fmt.{decimal}
+use Rattle.std.specs.Int.Digits.{digits_of}
+use Rattle.std.specs.List.{join_with_byte}
 use Rattle.semver_texts.specs.Texts.{Text, marked}
 use Rattle.semver_texts.specs.Versions.{IdentifierValue, numeric, alphanumeric, PlainVersion}
 use Rattle.semver_texts.specs.Versions.{VersionValue, numbers}
 
+-- the canonical decimal of a number, whether it is below 2^64 or not: `decimal` is that of a number
+-- of up to 64 digits
+abbrev pub numeral_by : Bool → ℕ → Text
+numeral_by true n = decimal n
+numeral_by false n = map (λ digit. code "0" + digit) (digits_of 10 n)
+
+-- the canonical decimal of a number of any size
+abbrev pub numeral : ℕ → Text
+numeral n = numeral_by (nat_lt n (2 ^ 64)) n
+
 -- an identifier's text: the decimal, or the text itself
 abbrev pub identifier_text : IdentifierValue → Text
-identifier_text (numeric n) = decimal n
+identifier_text (numeric n) = numeral n
 identifier_text (alphanumeric t) = t
 
 -- the text of a version without build: three numbers joined by dots; then, where there is one, `-`

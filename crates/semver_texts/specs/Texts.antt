@@ -1,10 +1,11 @@
 -- Texts as their bytes, and how they are joined.
 use Prim.Native.Char.{code}
 use Rattle.std.specs.Prelude.{◌≡◌, ℕ, ◌^◌, ◌<◌, Bool, true, false, ◌||◌, ◌==◌, List, [], ◌∷◌, ◌++◌}
-use Rattle.std.specs.Prelude.{◌&&◌, not, length, map, slice_index, IsTrue, decimal}
+use Rattle.std.specs.Prelude.{◌&&◌, not, nat_lt, length, map, slice_index, IsTrue, decimal}
 use Rattle.std.specs.Char.{is_ascii_alphanumeric, is_ascii_digit}
 use Rattle.std.specs.List.{AllByRecursion, join_with_byte, list_all, slice_split}
 use Rattle.std.specs.Str.{all_ascii_digits}
+use Rattle.std.specs.Str.Parse.{digits_value}
 
 -- a text, as its bytes
 abbrev pub Text : Type 0
@@ -29,6 +30,10 @@ abbrev pub is_number : Text → Bool
 is_number [] = false
 is_number (first ∷ rest) =
     all_ascii_digits (first ∷ rest) && (is_empty rest || not (first == code "0"))
+
+-- a number of 2^64 or more
+abbrev pub is_large : Text → Bool
+is_large t = is_number t && not (nat_lt (digits_value 10 t) (2 ^ 64))
 
 -- whether a part is a number without leading zeros, where it is digits alone
 abbrev pub has_no_leading_zero : Text → Bool

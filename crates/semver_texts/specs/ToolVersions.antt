@@ -6,7 +6,8 @@ use Rattle.std.specs.Prelude.{[], ◌∷◌, ◌++◌, map, IsTrue, codes, decim
 use Rattle.std.specs.Char.{is_ascii_digit}
 use Rattle.std.specs.Int.{is_in_range}
 use Rattle.std.specs.List.{AllZip, concat, count_by, join_with_byte, list_all, prefix_len}
-use Rattle.semver_texts.specs.Texts.{Text, IsNumber, has_no_leading_zero, is_part, marked}
+use Rattle.std.specs.Str.Parse.{digits_value}
+use Rattle.semver_texts.specs.Texts.{Text, has_no_leading_zero, is_number, is_part, marked}
 use Rattle.semver_texts.specs.Versions.{IdentifierValue, numeric, alphanumeric, VersionValue}
 use Rattle.semver_texts.specs.Versions.{numbers}
 use Rattle.semver_texts.specs.VersionGrammar.{SpellsVersion}
@@ -14,11 +15,12 @@ use Rattle.semver_texts.specs.declared.grammar.Grammar.{Grammar}
 use Rattle.semver_texts.specs.declared.grammar.Grammar.TheVariants.{Crate, Cargo, Npm}
 
 -- the text is kept as the identifier: one or more letters, digits and hyphens (SemVer 2.0.0,
--- sections 9 and 10). The canonical decimal of a number below 2^64 is kept as that number, any
+-- sections 9 and 10). Digits without a leading zero are kept as their number, whatever its size, any
 -- other text as it is
 abbrev pub IsKeptAs : IdentifierValue → Text → Type 0
-IsKeptAs (numeric n) text = (n < 2 ^ 64) × (text ≡ decimal n)
-IsKeptAs (alphanumeric kept) text = (text ≡ kept) × IsTrue (is_part kept) × ¬ (IsNumber kept)
+IsKeptAs (numeric n) text = IsTrue (is_number text) × (digits_value 10 text ≡ n)
+IsKeptAs (alphanumeric kept) text =
+    (text ≡ kept) × IsTrue (is_part kept) × (is_number kept ≡ false)
 
 -- the text is the version as SemVer 2.0.0 writes it: three numbers below 2^64 joined by dots, `-`
 -- and the identifiers of the pre-release, of which none of digits alone has a leading zero, `+` and

@@ -194,7 +194,7 @@ fn has_no_leading_zero(part: &[u8]) -> bool
 
 /// Whether each byte is a digit.
 #[inline(always)]
-fn are_digits(part: &[u8]) -> bool
+pub(crate) fn are_digits(part: &[u8]) -> bool
     ensures { result ≡ list_all is_ascii_digit part.now }
 {
     part.iter().all(|byte| byte.is_ascii_digit())

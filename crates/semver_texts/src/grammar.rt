@@ -1,5 +1,8 @@
 //! The grammars that range texts and version texts are read by.
 
+ghost use Rattle.std.specs.Prelude.{◌≡◌};
+ghost use Rattle.semver_texts.specs.Digits.{digits_in};
+
 /// A grammar of version texts and range texts.
 #[derive(Clone, Copy, PartialEq, Eq)]
 pub enum Grammar {
@@ -9,4 +12,28 @@ pub enum Grammar {
     Cargo,
     /// npm's, as node-semver 7 reads without options.
     Npm,
+}
+
+/// What an identifier of digits alone is from 2^64 on. Below, it is a number.
+#[derive(Clone, Copy, Debug, PartialEq, Eq)]
+pub enum Digits {
+    /// A text, as `semver-parser` keeps it.
+    Kept,
+    /// A number, as in SemVer 2.0.0, Cargo and npm.
+    AnySize,
+}
+
+impl Grammar {
+    // Answer: equation.
+    /// How identifiers of digits alone are read: `Kept` by the crate's grammar, and `AnySize` by
+    /// the others.
+    #[inline(always)]
+    pub fn digits(self) -> Digits
+        ensures { result ≡ digits_in self }
+    {
+        match self {
+            Grammar::Crate => Digits::Kept,
+            Grammar::Cargo | Grammar::Npm => Digits::AnySize,
+        }
+    }
 }

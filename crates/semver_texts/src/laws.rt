@@ -3,12 +3,14 @@ ghost use Rattle.std.specs.Prelude.{◌≡◌, ◌↔◌, ◌^◌, ◌<◌, ◌�
 ghost use Rattle.std.specs.Cmp.{IsTotalOrder};
 ghost use Rattle.std.specs.List.{list_all};
 ghost use Rattle.std.specs.declared.cmp.Ordering.TheVariants.{Equal};
+ghost use Rattle.semver_texts.specs.Digits.{version_by};
 ghost use Rattle.semver_texts.specs.Precedence.{precedence};
 ghost use Rattle.semver_texts.specs.PrintedText.{identifier_text, version_text};
 ghost use Rattle.semver_texts.specs.Texts.{Text, has_no_leading_zero};
 ghost use Rattle.semver_texts.specs.ToolVersions.{SpellsNpm, SpellsSemver, characters};
 ghost use Rattle.semver_texts.specs.VersionGrammar.{SpellsCore};
 ghost use Rattle.semver_texts.specs.Versions.{PlainVersion, VersionValue};
+ghost use Rattle.semver_texts.specs.declared.grammar.Digits.TheVariants.{AnySize};
 
 /// Precedence is a total order, and two versions are equal in it exactly if they are the same.
 pub fn precedence_is_total()
@@ -34,9 +36,10 @@ pub fn semver_texts_are_printed()
 {}
 
 /// A version of the crate without white space is one of SemVer 2.0.0 if none of its pre-release
-/// identifiers of digits alone has a leading zero.
+/// identifiers of digits alone has a leading zero. Those from 2^64 on, which the crate keeps as
+/// texts, are numbers there.
 pub fn crate_versions_are_semver()
     ensures { (v : VersionValue) (text : Text) → SpellsCore v text
         → IsTrue (list_all (λ id. has_no_leading_zero (identifier_text id)) v.plain.pre)
-        → SpellsSemver v text }
+        → SpellsSemver (version_by AnySize v) text }
 {}

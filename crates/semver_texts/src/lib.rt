@@ -8,6 +8,7 @@ pub mod decimals;
 pub mod dotted;
 pub mod grammar;
 pub mod identifiers;
+pub mod large_number;
 pub mod laws;
 pub mod precedence;
 pub mod printing;

@@ -7,14 +7,17 @@ ghost use Rattle.semver_texts.specs.Texts.{is_empty};
 ghost use Rattle.semver_texts.specs.Versions.{IdentifierValue};
 ghost use Rattle.semver_texts.specs.VersionViews.{version_value};
 
+use crate::large_number::LargeNumber;
 use crate::version::Version;
 use std::cmp::Ordering;
 
 /// An identifier of a pre-release as it is compared.
 #[derive(Clone, Copy)]
 pub enum IdentifierRef<'a> {
-    /// A number.
+    /// A number below 2^64.
     Numeric(u64),
+    /// A greater number.
+    LargeNumeric(LargeNumber<'a>),
     /// Any other text, by its bytes.
     AlphaNumeric(&'a [u8]),
 }
@@ -122,8 +125,13 @@ fn compare_identifiers(first: IdentifierRef<'_>, other: IdentifierRef<'_>) -> Or
 {
     match (first, other) {
         (IdentifierRef::Numeric(number), IdentifierRef::Numeric(bound)) => number.cmp(&bound),
-        (IdentifierRef::Numeric(_), IdentifierRef::AlphaNumeric(_)) => Ordering::Less,
-        (IdentifierRef::AlphaNumeric(_), IdentifierRef::Numeric(_)) => Ordering::Greater,
+        (IdentifierRef::Numeric(_), _) => Ordering::Less,
         (IdentifierRef::AlphaNumeric(text), IdentifierRef::AlphaNumeric(bound)) => text.cmp(bound),
+        (IdentifierRef::AlphaNumeric(_), _) => Ordering::Greater,
+        (IdentifierRef::LargeNumeric(_), IdentifierRef::Numeric(_)) => Ordering::Greater,
+        (IdentifierRef::LargeNumeric(number), IdentifierRef::LargeNumeric(bound)) => {
+            number.compare(&bound)
+        }
+        (IdentifierRef::LargeNumeric(_), IdentifierRef::AlphaNumeric(_)) => Ordering::Less,
     }
 }

@@ -95,9 +95,13 @@ impl fmt::Display for Identifier {
     /// writer's.
     ///
     /// `Numeric(7)` is written as `7`, `AlphaNumeric("alpha1")` as `alpha1`.
+    #[tactic(auto, using(crate::proofs::LargeNumbers::small_numeral))]
     fn fmt<W: fmt::Write>(&self, f: &mut fmt::Formatter<W>) -> fmt::Result {
         match self {
-            Identifier::Numeric(number) => write!(f, "{number}"),
+            Identifier::Numeric(number) => {
+                let number = *number;
+                write!(f, "{number}")
+            }
             Identifier::AlphaNumeric(text) => write!(f, "{text}"),
         }
     }

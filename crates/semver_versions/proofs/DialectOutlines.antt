@@ -8,17 +8,19 @@ use Rattle.std.specs.List.{AllZip, join_with_byte, prefix_len}
 use Rattle.std.proofs.lemmas.Bool.Decides.{nat_tests}
 use Rattle.std.proofs.lemmas.List.{take_at, drop_at}
 use Rattle.semver_texts.specs.Texts.{Text, is_space, marked}
-use Rattle.semver_texts.specs.ToolVersions.{IsKeptAs, IsVersionTextIn, SpellsIn, before_numbers}
+use Rattle.semver_texts.specs.Digits.{digits_in}
+use Rattle.semver_texts.specs.declared.grammar.Digits.{Digits}
+use Rattle.semver_texts.specs.declared.grammar.Digits.TheVariants.{Kept}
+use Rattle.semver_texts.specs.ToolVersions.{IsVersionTextIn, SpellsIn, before_numbers}
 use Rattle.semver_texts.specs.Versions.{IdentifierValue, VersionValue}
 use Rattle.semver_texts.specs.VersionGrammar.{SpellsVersion}
 use Rattle.semver_texts.specs.declared.grammar.Grammar.{Grammar}
 use Rattle.semver_texts.specs.declared.grammar.Grammar.TheVariants.{Crate}
 use Rattle.semver_texts.proofs.Lists.{prefix_is}
-use Rattle.semver_texts.proofs.SpelledVersions.{kept_texts}
 use Rattle.semver_versions.specs.Outlines.{OutlineValue, IsOutlineIn, IsOutlineOf, StandsAt, after_mark, dotted_text, outline_after}
 use Rattle.semver_versions.specs.Outlines.{version_of}
-use Rattle.semver_versions.specs.Steps.Reading.{IsOutlinedBy}
-use Rattle.semver_versions.proofs.KeptTexts.{dotted_kept, kept_is}
+use Rattle.semver_versions.specs.Steps.Reading.{IsKeptBy, IsOutlinedBy}
+use Rattle.semver_versions.proofs.KeptTexts.{dotted_kept, kept_is, kept_texts}
 use Rattle.semver_versions.proofs.ReadTexts.{Digit, crate_before, crate_read, digit_begins, front_len, front_of, front_then}
 use Rattle.semver_versions.proofs.ReadTexts.{one_version_in, read_of, three}
 use Rattle.semver_versions.proofs.ReadVersions.{its_numbers}
@@ -26,23 +28,25 @@ use Rattle.semver_versions.proofs.ReadVersions.{its_numbers}
 -- ---- the version that an outline is of
 
 -- it is the version whose outline it is
-after_is : (before : ℕ) (v : VersionValue) (ts us : List Text) → AllZip IsKeptAs v.plain.pre ts → AllZip IsKeptAs v.build us
-    → v ≡ version_of (outline_after before v)
-after_is before v ts us pre build =
-    let pre_is : v.plain.pre ≡ (version_of (outline_after before v)).plain.pre = kept_is v.plain.pre _
-    (dotted_kept v.plain.pre ts pre).1 in
-    let build_is : v.build ≡ (version_of (outline_after before v)).build = kept_is v.build _ (dotted_kept v.build us build).1 in
-    (λ i. record {
-      plain = record { major = v.plain.major; minor = v.plain.minor; patch = v.plain.patch; pre = pre_is i };
-      build = build_is i;
-    })
+module _ (digits : Digits) where
+  after_is : (before : ℕ) (v : VersionValue) (ts us : List Text) → AllZip (IsKeptBy digits) v.plain.pre ts
+      → AllZip (IsKeptBy digits) v.build us → v ≡ version_of (outline_after digits before v)
+  after_is before v ts us pre build =
+      let pre_is : v.plain.pre ≡ (version_of (outline_after digits before v)).plain.pre = kept_is digits v.plain.pre _
+      (dotted_kept digits v.plain.pre ts pre).1 in
+      let build_is : v.build ≡ (version_of (outline_after digits before v)).build = kept_is digits v.build _
+      (dotted_kept digits v.build us build).1 in
+      (λ i. record {
+        plain = record { major = v.plain.major; minor = v.plain.minor; patch = v.plain.patch; pre = pre_is i };
+        build = build_is i;
+      })
 
 pub outlined_version : (d : Grammar) (before : ℕ) (o : OutlineValue) (u v : VersionValue) (text : Text) → SpellsIn d u text
-    → o ≡ outline_after before u → SpellsIn d v text → v ≡ version_of o
+    → o ≡ outline_after (digits_in d) before u → SpellsIn d v text → v ≡ version_of o
 outlined_version d before o u v text a is b =
     let read = (read_of d v text b).2 in
-    after_is before v read.pre_texts read.build_texts read.pre read.build
-    ∙ ap version_of (ap (outline_after before) (one_version_in d v u text b a) ∙ sym is)
+    after_is (digits_in d) before v read.pre_texts read.build_texts read.pre read.build
+    ∙ ap version_of (ap (outline_after (digits_in d) before) (one_version_in d v u text b a) ∙ sym is)
 
 pub its_version_in : (d : Grammar) (o : OutlineValue) (v : VersionValue) (text : Text) → IsOutlineIn d text o → SpellsIn d v text
     → v ≡ version_of o
@@ -64,8 +68,8 @@ spaces_before v text w =
 
 pub same_outline : (o : OutlineValue) (text : Text) → IsOutlineIn Crate text o ↔ IsOutlineOf text o
 same_outline o text = (
-  λ is. (is.0, is.1, is.2 ∙ ap (λ k. outline_after k is.0) (sym (spaces_before is.0 text is.1))),
-  λ is. (is.0, is.1, is.2 ∙ ap (λ k. outline_after k is.0) (spaces_before is.0 text is.1)),
+  λ is. (is.0, is.1, is.2 ∙ ap (λ k. outline_after Kept k is.0) (sym (spaces_before is.0 text is.1))),
+  λ is. (is.0, is.1, is.2 ∙ ap (λ k. outline_after Kept k is.0) (spaces_before is.0 text is.1)),
 )
 
 -- ---- where its parts are
@@ -83,14 +87,15 @@ stands mark place (b ∷ part) lead rest text whole at =
     regroup a b c = simp append_assoc
 
 -- the identifiers of a part are after their mark, which is at the place
-part_stands : (mark place : ℕ) (ids : List IdentifierValue) (ts : List Text) (lead rest text : Text) → AllZip IsKeptAs ids ts
+part_stands : (digits : Digits) (mark place : ℕ) (ids : List IdentifierValue) (ts : List Text) (lead rest text : Text)
+    → AllZip (IsKeptBy digits) ids ts
     → text ≡ lead ++ (marked (mark ∷ []) ts ++ rest) → place ≡ length lead
     → StandsAt (after_mark place (dotted_text ids)) (dotted_text ids) text
-part_stands mark place [] [] lead rest text all whole at = refl
-part_stands mark place [] (t ∷ ts) lead rest text all whole at = absurd all
-part_stands mark place (id ∷ ids) [] lead rest text all whole at = absurd all
-part_stands mark place (id ∷ ids) (t ∷ ts) lead rest text all whole at =
-    rw (dotted_kept (id ∷ ids) (t ∷ ts) all).0 (stands mark place (join_with_byte 46 (t ∷ ts)) lead rest text whole at)
+part_stands digits mark place [] [] lead rest text all whole at = refl
+part_stands digits mark place [] (t ∷ ts) lead rest text all whole at = absurd all
+part_stands digits mark place (id ∷ ids) [] lead rest text all whole at = absurd all
+part_stands digits mark place (id ∷ ids) (t ∷ ts) lead rest text all whole at =
+    rw (dotted_kept digits (id ∷ ids) (t ∷ ts) all).0 (stands mark place (join_with_byte 46 (t ∷ ts)) lead rest text whole at)
 
 to_pre : (a b c : Text) → a ++ (b ++ c) ≡ (a ++ b) ++ c
 to_pre a b c = simp append_assoc
@@ -108,15 +113,15 @@ both_stand d text o (v, spells, e) =
     let at = front_len d text read.0 read.1 (digit_begins (its_numbers w)) in
     let pre = marked (codes "-") w.pre_texts in
     rw e (
-      part_stands 45 _ v.plain.pre w.pre_texts (front ++ three v) (marked (codes "+") w.build_texts ++ w.after) text w.pre
+      part_stands (digits_in d) 45 _ v.plain.pre w.pre_texts (front ++ three v) (marked (codes "+") w.build_texts ++ w.after) text w.pre
           (whole ∙ to_pre front (three v) (pre ++ (marked (codes "+") w.build_texts ++ w.after)))
           (omega (arith, at, length-append front (three v))),
-      part_stands 43 _ v.build w.build_texts (front ++ (three v ++ pre)) w.after text w.build
+      part_stands (digits_in d) 43 _ v.build w.build_texts (front ++ (three v ++ pre)) w.after text w.build
           (whole ∙ to_build front (three v) pre (marked (codes "+") w.build_texts ++ w.after))
           (omega (
             arith,
             at,
-            ap (λ ts. length (three v ++ marked (codes "-") ts)) (kept_texts v.plain.pre w.pre_texts w.pre),
+            ap (λ ts. length (three v ++ marked (codes "-") ts)) (kept_texts (digits_in d) v.plain.pre w.pre_texts w.pre),
             length-append front (three v ++ pre),
           )),
     )
@@ -128,7 +133,7 @@ module _ (d : Grammar) (text : Text) where
   exactly_in None none o = (λ e. cc, λ w. absurd (none (w.0, w.1)))
   exactly_in (Some found) is o = (
     λ e. subst (IsOutlineIn d text) (same e) is,
-    λ w. rw (is.2 ∙ ap (outline_after _) (one_version_in d is.0 w.0 text is.1 w.1) ∙ sym w.2),
+    λ w. rw (is.2 ∙ ap (outline_after (digits_in d) _) (one_version_in d is.0 w.0 text is.1 w.1) ∙ sym w.2),
   )
     where
       same : {x y : OutlineValue} → Some x ≡ Some y → x ≡ y

@@ -1,29 +1,34 @@
 -- serves: semver_versions::laws::one_version
 -- Texts of letters, digits and hyphens, the identifiers that they are kept as, and such texts between dots.
 use Rattle.std.proofs.Common.{◌≡◌, ℕ, ◌<◌, ◌≤◌, ◌+◌, ◌^◌, Bool, true, false, List, [], ◌∷◌, ◌++◌, length, map, arith, ap, sym, refl}
-use Rattle.std.proofs.Common.{◌∙◌, subst, decimal, length-append}
-use Rattle.std.specs.Prelude.{◌==◌, ◌&&◌, nat_lt, slice_index}
+use Rattle.std.proofs.Common.{◌∙◌, subst, length-append}
+use Rattle.std.specs.Prelude.{◌==◌, ◌&&◌, nat_lt, if◌then◌else◌, slice_index}
+use Rattle.std.specs.Char.{is_ascii_digit}
 use Rattle.std.specs.List.{All, AllByRecursion, AllZip, join_with_byte, list_all, slice_split}
 use Rattle.std.specs.Str.Parse.{digits_value}
 use Rattle.std.proofs.lemmas.Bool.{and_parts}
 use Rattle.std.proofs.lemmas.Bool.Decides.{nat_tests}
-use Rattle.std.proofs.lemmas.Fmt.{decimal_injective}
 use Rattle.std.proofs.lemmas.Grind.{common_steps}
 use Rattle.std.proofs.lemmas.List.Elements.{All-nil, All-cons}
 use Rattle.std.proofs.lemmas.List.Splits.{join_with_byte-slice_split, length-slice_split, slice_split_none, slice_split_at}
-use Rattle.semver_texts.specs.Texts.{Text, cut_at_dots, is_dot, is_number, is_part, is_part_byte, marked}
+use Rattle.semver_texts.specs.Digits.{any_size, identifier_by, identifiers_by}
+use Rattle.semver_texts.specs.PrintedText.{identifier_text, numeral}
+use Rattle.semver_texts.specs.Texts.{Text, IsNumber, cut_at_dots, is_dot, is_large, is_number, is_part, is_part_byte, marked}
 use Rattle.semver_texts.specs.ToolVersions.{IsKeptAs}
 use Rattle.semver_texts.specs.Versions.{IdentifierValue, numeric, alphanumeric}
 use Rattle.semver_texts.specs.VersionGrammar.{IsIdentifierText, SpellsIdentifier}
+use Rattle.semver_texts.specs.declared.grammar.Digits.{Digits}
+use Rattle.semver_texts.specs.declared.grammar.Digits.TheVariants.{Kept, AnySize}
 use Rattle.semver_texts.specs.declared.dotted.Hyphens.{Hyphens}
 use Rattle.semver_texts.specs.declared.dotted.Hyphens.TheVariants.{Any, BetweenRuns}
 use Rattle.semver_texts.proofs.Lists.{Passes, all_more, by_test, each_passes}
 use Rattle.semver_texts.proofs.PartRuns.{joined_cut}
-use Rattle.semver_texts.proofs.Numbers.{IsCanonical, canonical_from_IsNumber, decimal_canonical}
-use Rattle.semver_texts.proofs.SpelledVersions.{all_passes, identifier_is_part, kept_texts}
-use Rattle.semver_texts.proofs.Runs.{run_is_part, decimal_is_run}
+use Rattle.semver_texts.proofs.LargeNumbers.{canonical, is_number_of, number_numeral, number_some}
+use Rattle.semver_texts.proofs.Numbers.{IsNumber-from_canonical, all_digits, canonical_from_IsNumber, decimal_canonical}
+use Rattle.semver_texts.proofs.Numbers.{digits_value_number}
+use Rattle.semver_texts.proofs.SpelledVersions.{all_passes, identifier_is_part}
 use Rattle.semver_versions.specs.Outlines.{identifier_of, dotted_text}
-use Rattle.semver_versions.specs.Steps.Reading.{AreIdentifiers}
+use Rattle.semver_versions.specs.Steps.Reading.{AreIdentifiers, IsKeptBy}
 
 -- ---- one text
 
@@ -35,59 +40,116 @@ pub part_bytes : (t : Text) → is_part t ≡ true → IsPartText t
 part_bytes [] e = cc
 part_bytes (b ∷ t) e = (omega arith, each_passes is_part_byte (b ∷ t) e)
 
-is_a_part : (t : Text) → IsPartText t → is_part t ≡ true
-is_a_part [] w = absurd (omega (arith, w.0))
-is_a_part (b ∷ t) w = all_passes is_part_byte (b ∷ t) w.1
+-- the text of the identifier that a text is kept as
+text_of_kept : (digits : Digits) (t : Text) → identifier_text (identifier_by digits (identifier_of t)) ≡ t
+text_of_kept digits t =
+    by_test (is_number t)
+    (λ number. by_test (nat_lt (digits_value 10 t) (2 ^ 64))
+    (λ small. rw (number, small) (of_number digits (digits_value 10 t) ∙ sym (number_numeral t number)))
+    (λ large. rw (number, large) (of_text digits (rw (number, large) refl))))
+    (λ other. rw other (of_text_alone digits (rw other refl)))
+  where
+    of_number : (digits : Digits) (n : ℕ) → identifier_text (identifier_by digits (numeric n)) ≡ numeral n
+    of_number Kept n = refl
+    of_number AnySize n = refl
 
-kept_part : (id : IdentifierValue) (t : Text) → IsKeptAs id t → is_part t ≡ true
-kept_part (numeric n) t w =
-    let run = decimal_is_run n w.0 in
-    is_a_part t (subst IsPartText (sym w.1) (run.0, all_more run_is_part (decimal n) run.1))
-kept_part (alphanumeric kept) t w = subst (λ x. is_part x ≡ true) (sym w.0) w.1
+    of_text : (digits : Digits) → is_large t ≡ true → identifier_text (identifier_by digits (alphanumeric t)) ≡ t
+    of_text Kept large = refl
+    of_text AnySize large = rw large (sym (number_numeral t (and_parts (is_number t) _ large).0))
 
-kept_spelled : (id : IdentifierValue) (t : Text) → IsKeptAs id t → IsIdentifierText t → SpellsIdentifier id t
-kept_spelled (numeric n) t w is = w
-kept_spelled (alphanumeric kept) t w is = (w.0, subst IsIdentifierText w.0 is, w.2)
+    of_text_alone : (digits : Digits) → is_large t ≡ false → identifier_text (identifier_by digits (alphanumeric t)) ≡ t
+    of_text_alone Kept other = refl
+    of_text_alone AnySize other = rw other refl
 
-pub kept_spelled_all : (ids : List IdentifierValue) (ts : List Text) → AllZip IsKeptAs ids ts → AllByRecursion IsIdentifierText ts
+-- digits of any size are their number, and other texts themselves
+of_any_size : (t : Text) → any_size (identifier_of t) ≡ (if is_number t then numeric (digits_value 10 t) else alphanumeric t)
+of_any_size t =
+    by_test (is_number t)
+    (λ number. by_test (nat_lt (digits_value 10 t) (2 ^ 64))
+    (λ small. rw (number, small) refl)
+    (λ large. rw (number, large) (rw (number, large) refl)))
+    (λ other. rw other (rw other refl))
+
+-- what SemVer 2.0.0 keeps
+number_part : (t : Text) → is_number t ≡ true → is_part t ≡ true
+number_part [] e = cc
+number_part (b ∷ t) e =
+    all_passes is_part_byte (b ∷ t) (all_more digit_part (b ∷ t) (all_digits (b ∷ t) (and_parts _ _ e).0))
+  where
+    digit_part : (b : ℕ) → is_ascii_digit b ≡ true → is_part_byte b ≡ true
+    digit_part b h = grind (arith, nat_tests)
+
+kept_any : (id : IdentifierValue) (t : Text) → IsKeptAs id t → IsKeptBy AnySize id t
+kept_any (numeric n) t w = (number_part t w.0, sym (of_any_size t ∙ rw (w.0, w.1) refl))
+kept_any (alphanumeric kept) t w =
+    let is = sym w.0 in (
+      subst (λ x. is_part x ≡ true) is w.1,
+      subst (λ x. alphanumeric kept ≡ any_size (identifier_of x)) is (sym (of_any_size kept ∙ rw w.2 refl)),
+    )
+
+any_kept : (id : IdentifierValue) (t : Text) → IsKeptBy AnySize id t → IsKeptAs id t
+any_kept id t w = subst (λ x. IsKeptAs x t) (sym (w.1 ∙ of_any_size t)) (by_test (is_number t)
+    (λ number. rw number (number, refl))
+    (λ other. rw other (refl, w.0, other)))
+
+pub kept_any_all : (ids : List IdentifierValue) (ts : List Text) → AllZip IsKeptAs ids ts → AllZip (IsKeptBy AnySize) ids ts
+kept_any_all [] [] all = tt
+kept_any_all [] (t ∷ ts) all = absurd all
+kept_any_all (id ∷ ids) [] all = absurd all
+kept_any_all (id ∷ ids) (t ∷ ts) all = (kept_any id t all.0, kept_any_all ids ts all.1)
+
+pub any_kept_all : (ids : List IdentifierValue) (ts : List Text) → AllZip (IsKeptBy AnySize) ids ts → AllZip IsKeptAs ids ts
+any_kept_all [] [] all = tt
+any_kept_all [] (t ∷ ts) all = absurd all
+any_kept_all (id ∷ ids) [] all = absurd all
+any_kept_all (id ∷ ids) (t ∷ ts) all = (any_kept id t all.0, any_kept_all ids ts all.1)
+
+-- and what the crate's grammar spells
+number_spelled : (t : Text) → (is_number t && nat_lt (digits_value 10 t) (2 ^ 64)) ≡ true → IsNumber t
+number_spelled t y =
+    let both = and_parts _ _ y in
+    IsNumber-from_canonical t (number_some t both.0) (canonical t both.0 (grind (arith, nat_tests, common_steps)))
+
+pub spelled_kept : (id : IdentifierValue) (t : Text) → SpellsIdentifier id t → IsKeptBy Kept id t
+spelled_kept (numeric n) t w =
+    let number = is_number_of t (n, w.0, w.1) in
+    let value = digits_value_number t n w.0 w.1 in
+    (number_part t number, rw (number, value, small n w.0) refl)
+  where
+    small : (n : ℕ) → n < 2 ^ 64 → nat_lt n (2 ^ 64) ≡ true
+    small n below = grind (arith, nat_tests)
+spelled_kept (alphanumeric kept) t w = (
+  subst (λ x. is_part x ≡ true) (sym w.0) (identifier_is_part kept w.1),
+  subst (λ x. alphanumeric kept ≡ identifier_of x) (sym w.0) (by_test (is_number kept && nat_lt (digits_value 10 kept) (2 ^ 64))
+      (λ y. absurd (w.2 (number_spelled kept y)))
+      (λ n. rw n refl)),
+)
+
+kept_spelled : (id : IdentifierValue) (t : Text) → IsKeptBy Kept id t → IsIdentifierText t → SpellsIdentifier id t
+kept_spelled id t w is = subst (λ x. SpellsIdentifier x t) (sym w.1) (by_test (is_number t && nat_lt (digits_value 10 t) (2 ^ 64))
+    (λ y. let both = and_parts _ _ y in
+    let c = canonical t both.0 (grind (arith, nat_tests, common_steps)) in
+    rw y (c.small, sym (decimal_canonical t (number_some t both.0) c)))
+    (λ n. rw n (
+      refl,
+      is,
+      λ number. let c = canonical_from_IsNumber t number in
+          let is_one = is_number_of t number in
+          let small = c.small in grind (arith, nat_tests, common_steps),
+    )))
+
+pub spelled_kept_all : (ids : List IdentifierValue) (ts : List Text) → AllZip SpellsIdentifier ids ts → AllZip (IsKeptBy Kept) ids ts
+spelled_kept_all [] [] all = tt
+spelled_kept_all [] (t ∷ ts) all = absurd all
+spelled_kept_all (id ∷ ids) [] all = absurd all
+spelled_kept_all (id ∷ ids) (t ∷ ts) all = (spelled_kept id t all.0, spelled_kept_all ids ts all.1)
+
+pub kept_spelled_all : (ids : List IdentifierValue) (ts : List Text) → AllZip (IsKeptBy Kept) ids ts → AllByRecursion IsIdentifierText ts
     → AllZip SpellsIdentifier ids ts
 kept_spelled_all [] [] all each = tt
 kept_spelled_all [] (t ∷ ts) all each = absurd all
 kept_spelled_all (id ∷ ids) [] all each = absurd all
 kept_spelled_all (id ∷ ids) (t ∷ ts) all each = (kept_spelled id t all.0 each.0, kept_spelled_all ids ts all.1 each.1)
-
-pub same_kept : (id other : IdentifierValue) (t : Text) → IsKeptAs id t → IsKeptAs other t → id ≡ other
-same_kept (numeric n) (numeric m) t a b = rw (decimal_injective n m a.0 b.0 (sym a.1 ∙ b.1))
-same_kept (numeric n) (alphanumeric kept) t a b = absurd (b.2 (n, a.0, sym b.0 ∙ a.1))
-same_kept (alphanumeric kept) (numeric m) t a b = absurd (a.2 (m, b.0, sym a.0 ∙ b.1))
-same_kept (alphanumeric kept) (alphanumeric other) t a b = ap alphanumeric (sym a.0 ∙ b.0)
-
-canonical : (t : Text) → is_number t ≡ true → digits_value 10 t < 2 ^ 64 → IsCanonical t
-canonical [] e small = cc
-canonical (b ∷ t) e small = record {
-  digits = (and_parts _ _ e).0;
-  no_leading_zero = λ z. grind (arith, nat_tests, common_steps);
-  small = small;
-}
-
-number_is : (t : Text) → IsCanonical t → 0 < length t → is_number t ≡ true
-number_is [] c some = absurd (omega (arith, some))
-number_is (b ∷ []) c some = let d = c.digits in grind (arith, nat_tests, common_steps)
-number_is (b ∷ next ∷ t) c some =
-    let d = c.digits in let z = c.no_leading_zero in grind (arith, nat_tests, common_steps)
-
-kept_as_of : (t : Text) → is_part t ≡ true → IsKeptAs (identifier_of t) t
-kept_as_of t e = by_test (is_number t && nat_lt (digits_value 10 t) (2 ^ 64))
-    (λ y. let both = and_parts _ _ y in
-    let c = canonical t both.0 (grind (arith, nat_tests, common_steps)) in
-    rw y (c.small, sym (decimal_canonical t (part_bytes t e).0 c)))
-    (λ n. rw n (
-      refl,
-      e,
-      λ number. let c = canonical_from_IsNumber t number in
-          let is = number_is t c (part_bytes t e).0 in
-          let small = c.small in grind (arith, nat_tests, common_steps),
-    ))
 
 -- ---- texts between dots
 
@@ -95,22 +157,37 @@ parts_bytes : (ts : List Text) → list_all is_part ts ≡ true → AllByRecursi
 parts_bytes [] e = tt
 parts_bytes (t ∷ ts) e = let both = and_parts (is_part t) _ e in (part_bytes t both.0, parts_bytes ts both.1)
 
-pub kept_parts : (ids : List IdentifierValue) (ts : List Text) → AllZip IsKeptAs ids ts → list_all is_part ts ≡ true
-kept_parts [] [] all = refl
-kept_parts [] (t ∷ ts) all = absurd all
-kept_parts (id ∷ ids) [] all = absurd all
-kept_parts (id ∷ ids) (t ∷ ts) all = rw (kept_part id t all.0, kept_parts ids ts all.1) refl
+module _ (digits : Digits) where
+  pub kept_parts : (ids : List IdentifierValue) (ts : List Text) → AllZip (IsKeptBy digits) ids ts → list_all is_part ts ≡ true
+  kept_parts [] [] all = refl
+  kept_parts [] (t ∷ ts) all = absurd all
+  kept_parts (id ∷ ids) [] all = absurd all
+  kept_parts (id ∷ ids) (t ∷ ts) all = rw (all.0.0, kept_parts ids ts all.1) refl
 
-pub all_kept : (ts : List Text) → list_all is_part ts ≡ true → AllZip IsKeptAs (map identifier_of ts) ts
-all_kept [] e = tt
-all_kept (t ∷ ts) e = let both = and_parts (is_part t) _ e in (kept_as_of t both.0, all_kept ts both.1)
+  pub kept_texts : (ids : List IdentifierValue) (ts : List Text) → AllZip (IsKeptBy digits) ids ts → ts ≡ map identifier_text ids
+  kept_texts [] [] all = refl
+  kept_texts [] (t ∷ ts) all = absurd all
+  kept_texts (id ∷ ids) [] all = absurd all
+  kept_texts (id ∷ ids) (t ∷ ts) all =
+      (λ i. (sym (text_of_kept digits t) ∙ ap identifier_text (sym all.0.1)) i ∷ kept_texts ids ts all.1 i)
 
-pub kept_is : (ids : List IdentifierValue) (ts : List Text) → AllZip IsKeptAs ids ts → ids ≡ map identifier_of ts
-kept_is [] [] all = refl
-kept_is [] (t ∷ ts) all = absurd all
-kept_is (id ∷ ids) [] all = absurd all
-kept_is (id ∷ ids) (t ∷ ts) all =
-    (λ i. same_kept id (identifier_of t) t all.0 (kept_as_of t (kept_part id t all.0)) i ∷ kept_is ids ts all.1 i)
+pub all_kept : (digits : Digits) (ts : List Text) → list_all is_part ts ≡ true
+    → AllZip (IsKeptBy digits) (identifiers_by digits (map identifier_of ts)) ts
+all_kept Kept [] e = tt
+all_kept Kept (t ∷ ts) e = let both = and_parts (is_part t) _ e in ((both.0, refl), all_kept Kept ts both.1)
+all_kept AnySize [] e = tt
+all_kept AnySize (t ∷ ts) e = let both = and_parts (is_part t) _ e in ((both.0, refl), all_kept AnySize ts both.1)
+
+pub kept_is : (digits : Digits) (ids : List IdentifierValue) (ts : List Text) → AllZip (IsKeptBy digits) ids ts
+    → ids ≡ identifiers_by digits (map identifier_of ts)
+kept_is Kept [] [] all = refl
+kept_is Kept [] (t ∷ ts) all = absurd all
+kept_is Kept (id ∷ ids) [] all = absurd all
+kept_is Kept (id ∷ ids) (t ∷ ts) all = (λ i. all.0.1 i ∷ kept_is Kept ids ts all.1 i)
+kept_is AnySize [] [] all = refl
+kept_is AnySize [] (t ∷ ts) all = absurd all
+kept_is AnySize (id ∷ ids) [] all = absurd all
+kept_is AnySize (id ∷ ids) (t ∷ ts) all = (λ i. all.0.1 i ∷ kept_is AnySize ids ts all.1 i)
 
 pub identifiers_are_parts : (ts : List Text) → AllByRecursion IsIdentifierText ts → list_all is_part ts ≡ true
 identifiers_are_parts [] all = refl
@@ -153,15 +230,16 @@ parts_cut (t ∷ ts) e =
     let each = parts_bytes (t ∷ ts) e in
     some_cut (join_with_byte 46 (t ∷ ts)) (joined_some t ts each.0.0) ∙ split_joined t ts each
 
--- the text of identifiers is the one that they are kept from
-pub kept_dotted : (ids : List IdentifierValue) (t : Text) → AllZip IsKeptAs ids (cut_at_dots t) → t ≡ dotted_text ids
-kept_dotted ids t all = sym (joined_cut t) ∙ ap (join_with_byte 46) (kept_texts ids _ all)
+module _ (digits : Digits) where
+  -- the text of identifiers is the one that they are kept from
+  pub kept_dotted : (ids : List IdentifierValue) (t : Text) → AllZip (IsKeptBy digits) ids (cut_at_dots t) → t ≡ dotted_text ids
+  kept_dotted ids t all = sym (joined_cut t) ∙ ap (join_with_byte 46) (kept_texts digits ids _ all)
 
-pub dotted_kept : (ids : List IdentifierValue) (ts : List Text) → AllZip IsKeptAs ids ts → (dotted_text ids ≡ join_with_byte 46 ts)
-    × AllZip IsKeptAs ids (cut_at_dots (dotted_text ids))
-dotted_kept ids ts all =
-    let is : dotted_text ids ≡ join_with_byte 46 ts = ap (join_with_byte 46) (sym (kept_texts ids ts all)) in
-    (is, subst (AllZip IsKeptAs ids) (sym (ap cut_at_dots is ∙ parts_cut ts (kept_parts ids ts all))) all)
+  pub dotted_kept : (ids : List IdentifierValue) (ts : List Text) → AllZip (IsKeptBy digits) ids ts
+      → (dotted_text ids ≡ join_with_byte 46 ts) × AllZip (IsKeptBy digits) ids (cut_at_dots (dotted_text ids))
+  dotted_kept ids ts all =
+      let is : dotted_text ids ≡ join_with_byte 46 ts = ap (join_with_byte 46) (sym (kept_texts digits ids ts all)) in
+      (is, subst (AllZip (IsKeptBy digits) ids) (sym (ap cut_at_dots is ∙ parts_cut ts (kept_parts digits ids ts all))) all)
 
 -- ---- parts after their mark
 

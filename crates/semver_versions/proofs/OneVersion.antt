@@ -5,24 +5,24 @@ use Rattle.std.specs.Prelude.{slice_index}
 use Rattle.semver_texts.specs.Texts.{BeginsWithNumbers, is_part_byte, is_space}
 use Rattle.semver_texts.specs.Versions.{IdentifierValue, VersionValue}
 use Rattle.semver_texts.specs.VersionGrammar.{SpellsIdentifier, SpellsPart, SpellsCore, SpellsVersion}
+use Rattle.semver_texts.specs.declared.grammar.Digits.TheVariants.{Kept}
 use Rattle.semver_texts.specs.declared.grammar.Grammar.TheVariants.{Crate}
 use Rattle.semver_texts.proofs.Lists.{Passes, all_more, marked_passes}
-use Rattle.semver_texts.proofs.SpelledVersions.{spelled_kept_all}
 use Rattle.semver_versions.proofs.DialectOutlines.{no_space}
 use Rattle.semver_versions.proofs.ReadTexts.{crate_read, digit_begins, one_version_in}
-use Rattle.semver_versions.proofs.KeptTexts.{begins_marked, kept_parts, part_bytes, same_kept}
+use Rattle.semver_versions.proofs.KeptTexts.{begins_marked, kept_parts, part_bytes, spelled_kept, spelled_kept_all}
 use Rattle.semver_texts.proofs.Lists.{each_passes}
 use Rattle.semver_versions.proofs.ReadVersions.{marked_rest, its_numbers}
 use Rattle.semver_texts.specs.Texts.{is_part}
 
 pub same_identifier : (id other : IdentifierValue) (text : List ℕ) → SpellsIdentifier id text → SpellsIdentifier other text → id ≡ other
 same_identifier id other text a b =
-    same_kept id other text (spelled_kept_all (id ∷ []) (text ∷ []) (a, tt)).0 (spelled_kept_all (other ∷ []) (text ∷ []) (b, tt)).0
+    (spelled_kept id text a).1 ∙ sym (spelled_kept other text b).1
 
 pub part_passes : (p : ℕ → Bool) → ((b : ℕ) → is_part_byte b ≡ true → p b ≡ true) → p 46 ≡ true → (mark : ℕ) → p mark ≡ true
     → (ids : List IdentifierValue) (text : List ℕ) → SpellsPart (mark ∷ []) ids text → Passes p text
 part_passes p more dot mark here ids text w =
-    let each = each_passes is_part w.texts (kept_parts ids w.texts (spelled_kept_all ids w.texts w.each)) in
+    let each = each_passes is_part w.texts (kept_parts Kept ids w.texts (spelled_kept_all ids w.texts w.each)) in
     subst (Passes p) (sym w.joined)
     (marked_passes p dot mark here w.texts (all_more (λ t is. all_more more t (part_bytes t is).1) w.texts each))
 

@@ -2,13 +2,17 @@
 -- The version that an outline of the crate's dialect is of.
 use Rattle.std.proofs.Common.{◌≡◌, ◌<◌, ℕ, List, [], ◌∷◌, length, map, sym, refl, ap, ◌∙◌, arith, inl, inr, ⊎_elim, ◌⊎◌}
 use Rattle.std.specs.Prelude.{◌==◌, ◌↔◌, Option, Some, None, Result, Ok, Err, IfErr, IfOk, IfSome}
+use Rattle.std.proofs.lemmas.List.{length-map}
+use Rattle.semver_texts.specs.Digits.{any_size, identifiers_by, version_by}
 use Rattle.semver_texts.specs.Texts.{Text, cut_at_dots, is_empty}
+use Rattle.semver_texts.specs.declared.grammar.Digits.{Digits}
+use Rattle.semver_texts.specs.declared.grammar.Digits.TheVariants.{Kept, AnySize}
 use Rattle.semver_texts.specs.VersionGrammar.{SpellsVersion}
 use Rattle.semver_texts.specs.Versions.{IdentifierValue, VersionValue}
 use Rattle.semver_texts.specs.declared.grammar.Grammar.TheVariants.{Crate}
 use Rattle.std.proofs.lemmas.Bool.Decides.{nat_tests}
 use Rattle.semver_texts.proofs.PartRuns.{pieces}
-use Rattle.semver_versions.specs.Outlines.{OutlineValue, IsOutlineAfter, identifier_of, version_of}
+use Rattle.semver_versions.specs.Outlines.{OutlineValue, IsOutlineAfter, identifier_of, kept_version_of, version_of}
 use Rattle.semver_versions.proofs.DialectOutlines.{outlined_version}
 use Rattle.semver_versions.proofs.ReadTexts.{one_version_in}
 
@@ -19,29 +23,54 @@ module _ (before : ℕ) (text : Text) (v : VersionValue) (w : SpellsVersion v te
 
 -- ---- it has identifiers exactly where their text isn't empty
 
-pub none_where_empty : (t : Text) → (length t == 0) ≡ is_empty (map identifier_of (cut_at_dots t))
-none_where_empty [] = refl
-none_where_empty (b ∷ t) = rw (pieces (b ∷ t)) (grind (arith, nat_tests))
+-- as many, however digits are read
+by_length : (digits : Digits) (ids : List IdentifierValue) → length (identifiers_by digits ids) ≡ length ids
+by_length Kept ids = refl
+by_length AnySize ids = length-map ids any_size
 
-empty_where : (t : Text) (ids : List IdentifierValue) → ids ≡ map identifier_of (cut_at_dots t) → (t ≡ []) ↔ (ids ≡ [])
-empty_where [] ids is = (λ e. is, λ e. refl)
-empty_where (b ∷ t) ids is = (λ e. cc, λ e. let none = sym e ∙ is ∙ ap (map identifier_of) (pieces (b ∷ t)) in cc)
+by_none : (digits : Digits) → identifiers_by digits [] ≡ []
+by_none Kept = refl
+by_none AnySize = refl
 
-some_where : (t : Text) (ids : List IdentifierValue) → ids ≡ map identifier_of (cut_at_dots t) → 0 < length t → 0 < length ids
-some_where [] ids is some = absurd (omega (arith, some))
-some_where (b ∷ t) ids is some = omega (arith, ap length (is ∙ ap (map identifier_of) (pieces (b ∷ t))))
+by_empty : (digits : Digits) (ids : List IdentifierValue) → is_empty (identifiers_by digits ids) ≡ is_empty ids
+by_empty Kept ids = refl
+by_empty AnySize [] = refl
+by_empty AnySize (id ∷ ids) = refl
+
+pub none_where_empty : (digits : Digits) (t : Text)
+    → (length t == 0) ≡ is_empty (identifiers_by digits (map identifier_of (cut_at_dots t)))
+none_where_empty digits [] = sym (by_empty digits [])
+none_where_empty digits (b ∷ t) =
+    rw (by_empty digits (map identifier_of (cut_at_dots (b ∷ t)))) (rw (pieces (b ∷ t)) (grind (arith, nat_tests)))
+
+some_where : (digits : Digits) (t : Text) (ids : List IdentifierValue) → ids ≡ identifiers_by digits (map identifier_of (cut_at_dots t))
+    → 0 < length t → 0 < length ids
+some_where digits [] ids is some = absurd (omega (arith, some))
+some_where digits (b ∷ t) ids is some =
+    omega (
+      arith,
+      ap length is,
+      by_length digits (map identifier_of (cut_at_dots (b ∷ t))),
+      ap (λ ts. length (map identifier_of ts)) (pieces (b ∷ t)),
+    )
+
+empty_where : (digits : Digits) (t : Text) (ids : List IdentifierValue) → ids ≡ identifiers_by digits (map identifier_of (cut_at_dots t))
+    → (t ≡ []) ↔ (ids ≡ [])
+empty_where digits [] ids is = (λ e. is ∙ by_none digits, λ e. refl)
+empty_where digits (b ∷ t) ids is =
+    (λ e. cc, λ e. absurd (omega (arith, ap length e, some_where digits (b ∷ t) ids is (omega arith))))
 
 module _ (text : Text) (v : VersionValue) (w : SpellsVersion v text) where
   pub no_pre_release : (found : Option OutlineValue) → IfSome found (λ o. SpellsVersion (version_of o) text)
       → IfSome found (λ o. (o.pre ≡ []) ↔ (v.plain.pre ≡ []))
   no_pre_release None is = tt
   no_pre_release (Some o) is =
-      empty_where o.pre v.plain.pre (ap (λ (u : VersionValue). u.plain.pre) (one_version_in Crate v (version_of o) text w is))
+      empty_where o.digits o.pre v.plain.pre (ap (λ (u : VersionValue). u.plain.pre) (one_version_in Crate v (version_of o) text w is))
 
   pub no_build : (found : Option OutlineValue) → IfSome found (λ o. SpellsVersion (version_of o) text)
       → IfSome found (λ o. (o.build ≡ []) ↔ (v.build ≡ []))
   no_build None is = tt
-  no_build (Some o) is = empty_where o.build v.build (ap (λ (u : VersionValue). u.build) (one_version_in Crate v (version_of o) text w is))
+  no_build (Some o) is = empty_where o.digits o.build v.build (ap (λ (u : VersionValue). u.build) (one_version_in Crate v (version_of o) text w is))
 
 pub has_some : (before : ℕ) (text : Text) (o : OutlineValue) → IsOutlineAfter before text o → (0 < length o.pre) ⊎ (0 < length o.build)
     → (v : VersionValue) × SpellsVersion v text × ((0 < length v.plain.pre) ⊎ (0 < length v.build))
@@ -49,8 +78,8 @@ has_some before text o is some =
     let e = its_version before text is.0 is.1 o is in (
       is.0,
       is.1,
-      ⊎_elim (λ pre. inl (some_where o.pre is.0.plain.pre (ap (λ (u : VersionValue). u.plain.pre) e) pre))
-          (λ build. inr (some_where o.build is.0.build (ap (λ (u : VersionValue). u.build) e) build)) some,
+      ⊎_elim (λ pre. inl (some_where o.digits o.pre is.0.plain.pre (ap (λ (u : VersionValue). u.plain.pre) e) pre))
+          (λ build. inr (some_where o.digits o.build is.0.build (ap (λ (u : VersionValue). u.build) e) build)) some,
     )
 
 -- ---- the result of it
@@ -71,3 +100,13 @@ exactly text u spells v = (
   where
     same : {u w : VersionValue} → Some u ≡ Some w → u ≡ w
     same e = cc
+
+-- an outline of the crate's dialect keeps digits as they are
+pub kept_of : (before : ℕ) (text : Text) (v : VersionValue) → SpellsVersion v text → (o : OutlineValue) → IsOutlineAfter before text o
+    → v ≡ kept_version_of o
+kept_of before text v w o is =
+    its_version before text v w o is ∙ ap (λ digits. version_by digits (kept_version_of o)) (ap (λ (x : OutlineValue). x.digits) is.2)
+
+-- what is read so of what is kept, of a result
+pub if_ok_by : {A E K V : Type 0} (f : K → V) (g : A → K) (k : K) (r : Result A E) → IfOk r (λ x. g x ≡ k) → IfOk r (λ x. f (g x) ≡ f k)
+if_ok_by f g k r is = if_ok_more r (λ x e. ap f e) is

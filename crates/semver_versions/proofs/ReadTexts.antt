@@ -4,7 +4,7 @@ use Rattle.std.proofs.Common.{codes, ◌≡◌, inl, inr, ⊎_elim, ℕ, ◌+◌
 use Rattle.std.proofs.Common.{refl, ◌∙◌, arith, ap, sym, subst, append_assoc, append-nil, length-append, decimal, map, one-add}
 use Rattle.std.specs.Prelude.{◌==◌, ◌↔◌, IsTrue, is_some, not, Option, Some, None, slice_index}
 use Rattle.std.specs.Char.{is_ascii_digit}
-use Rattle.std.specs.List.{join_with_byte, list_all}
+use Rattle.std.specs.List.{AllZip, join_with_byte, list_all}
 use Rattle.std.proofs.lemmas.Bool.{eqb-true}
 use Rattle.std.proofs.lemmas.Bool.Decides.{nat_tests}
 use Rattle.std.proofs.lemmas.List.Sums.{count_by-le-length, sum_by-cons}
@@ -13,17 +13,18 @@ use Rattle.semver_texts.specs.Texts.{Text, BeginsWithNumbers, has_no_leading_zer
 use Rattle.semver_texts.specs.ToolVersions.{AreWhiteSpaces, SpellsIn, SpellsSemver, before_numbers, characters, goes_on}
 use Rattle.semver_texts.specs.Versions.{VersionValue, numbers}
 use Rattle.semver_texts.specs.VersionGrammar.{SpellsVersion}
+use Rattle.semver_texts.specs.Digits.{digits_in}
+use Rattle.semver_texts.specs.declared.grammar.Digits.TheVariants.{AnySize}
 use Rattle.semver_texts.specs.declared.grammar.Grammar.{Grammar}
 use Rattle.semver_texts.specs.declared.grammar.Grammar.TheVariants.{Crate, Cargo, Npm}
 use Rattle.semver_texts.proofs.Lists.{Passes, all_more, passes_append, joined_pass}
 use Rattle.semver_texts.proofs.Numbers.{all_digits, canonical_decimal}
-use Rattle.semver_texts.proofs.SpelledVersions.{spelled_kept_all}
 use Rattle.semver_versions.specs.AnyLength.{IsVersionAtAnyLength, SpellsAtAnyLength}
 use Rattle.semver_versions.specs.Outlines.{OutlineValue}
 use Rattle.semver_versions.specs.Steps.Reading.{AreAround, AreIdentifiers, IsBefore, IsOutlinedAt, IsOutlinedBy, IsOutlinedFrom}
-use Rattle.semver_versions.specs.Steps.Reading.{IsRead, IsShort, IsSign, NumbersFit, ZerosFit, around_size, hyphens_of}
+use Rattle.semver_versions.specs.Steps.Reading.{IsKeptBy, IsRead, IsShort, IsSign, NumbersFit, ZerosFit, around_size, hyphens_of}
 use Rattle.semver_versions.proofs.CutIdentifiers.{spelled_are}
-use Rattle.semver_versions.proofs.KeptTexts.{kept_parts, kept_spelled_all}
+use Rattle.semver_versions.proofs.KeptTexts.{any_kept_all, kept_any_all, kept_parts, kept_spelled_all, spelled_kept_all}
 use Rattle.semver_versions.proofs.ReadVersions.{its_numbers, one_read}
 use Rattle.semver_versions.proofs.WhiteSpaces.{around_spaces, is_outer, no_size, none_around, nothing_around, outer_bytes, same_around}
 use Rattle.semver_versions.proofs.WhiteSpaces.{spaces_around}
@@ -148,7 +149,7 @@ abbrev pub IsReadOf : Grammar → VersionValue → Text → Type 0
 IsReadOf d v text = (rest : Text) × IsBefore d text rest × IsRead d v rest
 
 module _ (d : Grammar) (each : (ts : List Text) → list_all is_part ts ≡ true → AreIdentifiers (hyphens_of d) ts)
-    (zeros : (ts : List Text) → list_all has_no_leading_zero ts ≡ true → ZerosFit d ts) where
+    (zeros : (ts : List Text) → list_all has_no_leading_zero ts ≡ true → ZerosFit d ts) (any : digits_in d ≡ AnySize) where
   semver_read : (v : VersionValue) (core after : Text) → SpellsSemver v core → NumbersFit d v.plain.major v.plain.minor v.plain.patch
       → AreAround d after → IsRead d v (core ++ after)
   semver_read v core after w fits around = record {
@@ -159,11 +160,11 @@ module _ (d : Grammar) (each : (ts : List Text) → list_all is_part ts ≡ true
     minor = w.minor;
     patch = w.patch;
     fits = fits;
-    pre = w.pre;
-    pre_each = each w.pre_texts (kept_parts v.plain.pre _ w.pre);
+    pre = subst (λ x. AllZip (IsKeptBy x) v.plain.pre w.pre_texts) (sym any) (kept_any_all v.plain.pre _ w.pre);
+    pre_each = each w.pre_texts (kept_parts AnySize v.plain.pre w.pre_texts (kept_any_all v.plain.pre _ w.pre));
     zeros = zeros w.pre_texts w.no_zeros;
-    build = w.build;
-    build_each = each w.build_texts (kept_parts v.build _ w.build);
+    build = subst (λ x. AllZip (IsKeptBy x) v.build w.build_texts) (sym any) (kept_any_all v.build _ w.build);
+    build_each = each w.build_texts (kept_parts AnySize v.build w.build_texts (kept_any_all v.build _ w.build));
     around = around;
     whole = ap (λ t. t ++ after) w.spelled ∙ to_right (three v) (marked (codes "-") w.pre_texts) (marked (codes "+") w.build_texts) after;
   }
@@ -175,16 +176,16 @@ core_then : {d : Grammar} {v : VersionValue} {rest : Text} (w : IsRead d v rest)
 core_then {v = v} w = w.whole ∙ sym (to_right (three v) (marked (codes "-") w.pre_texts) (marked (codes "+") w.build_texts) w.after)
 
 semver_core : {d : Grammar} {v : VersionValue} {rest : Text} (w : IsRead d v rest) → list_all has_no_leading_zero w.pre_texts ≡ true
-    → SpellsSemver v (core_of w)
-semver_core w no_zeros = record {
+    → digits_in d ≡ AnySize → SpellsSemver v (core_of w)
+semver_core {v = v} w no_zeros any = record {
   pre_texts = w.pre_texts;
   build_texts = w.build_texts;
   major = w.major;
   minor = w.minor;
   patch = w.patch;
-  pre = w.pre;
+  pre = any_kept_all v.plain.pre _ (subst (λ x. AllZip (IsKeptBy x) v.plain.pre w.pre_texts) any w.pre);
   no_zeros = no_zeros;
-  build = w.build;
+  build = any_kept_all v.build _ (subst (λ x. AllZip (IsKeptBy x) v.build w.build_texts) any w.build);
   spelled = refl;
 }
 
@@ -226,10 +227,10 @@ pub read_any : (d : Grammar) (v : VersionValue) (text : Text) → SpellsAtAnyLen
 read_any Crate v text w = (w.core ++ w.after, crate_before w, crate_read w)
 read_any Cargo v text w =
     let read = subst (IsRead Cargo v) (append-nil text)
-    (semver_read Cargo (λ ts h. h) (λ ts h. h) v text [] w tt (none_around Cargo)) in
+    (semver_read Cargo (λ ts h. h) (λ ts h. h) refl v text [] w tt (none_around Cargo)) in
     (text, at_front Cargo text (digit_begins (its_numbers read)), read)
 read_any Npm v text w =
-    let read = semver_read Npm (λ ts h. h) (λ ts h. h) v w.core w.after w.spells (w.major, w.minor, w.patch)
+    let read = semver_read Npm (λ ts h. h) (λ ts h. h) refl v w.core w.after w.spells (w.major, w.minor, w.patch)
     (white_spaces w.after w.spaces_after) in
     let digit = digit_begins (its_numbers read) in (
       w.core ++ w.after,
@@ -268,7 +269,7 @@ spells_any Cargo v text rest at w =
     subst (SpellsSemver v)
     (sym (at.4 ∙ (λ i. nothing_around at.0 at.2 i ++ (at.3 i ++ rest)) ∙ core_then w
     ∙ ap (λ t. core_of w ++ t) (nothing_around w.after w.around) ∙ append-nil (core_of w)))
-    (semver_core w w.zeros)
+    (semver_core w w.zeros refl)
 spells_any Npm v text rest at w = record {
   before = at.0;
   sign = at.1;
@@ -276,7 +277,7 @@ spells_any Npm v text rest at w = record {
   after = w.after;
   spaces_before = are_white_spaces at.0 at.2;
   is_sign = ⊎_elim (λ e. inr e) (λ e. inl e.0) at.3;
-  spells = semver_core w w.zeros;
+  spells = semver_core w w.zeros refl;
   spaces_after = are_white_spaces w.after w.around;
   major = w.fits.0;
   minor = w.fits.1;

@@ -1,6 +1,6 @@
 -- serves: semver_versions::laws::one_version
 -- A version in parts: its numbers, the identifiers after their marks, and what may be after it.
-use Rattle.std.proofs.Common.{◌≡◌, ℕ, ◌+◌, ◌≤◌, true, false, [], ◌∷◌, ◌++◌, length, map, arith, ap, sym, refl, ◌∙◌}
+use Rattle.std.proofs.Common.{◌≡◌, ℕ, ◌+◌, ◌≤◌, true, false, List, [], ◌∷◌, ◌++◌, length, map, arith, ap, sym, refl, ◌∙◌}
 use Rattle.std.proofs.Common.{subst, length-append, codes, decimal}
 use Rattle.std.specs.Prelude.{◌==◌, Some, None, slice_index}
 use Rattle.std.specs.Char.{is_ascii_digit}
@@ -10,19 +10,19 @@ use Rattle.std.proofs.lemmas.Bool.Decides.{nat_tests}
 use Rattle.semver_texts.specs.Texts.{Text, BeginsWithNumbers, cut_at_dots, is_dotted_byte, marked}
 use Rattle.semver_texts.specs.Versions.{VersionValue}
 use Rattle.semver_texts.specs.PrintedText.{identifier_text}
-use Rattle.semver_texts.specs.ToolVersions.{IsKeptAs}
+use Rattle.semver_texts.specs.Digits.{digits_in, identifiers_by}
+use Rattle.semver_texts.specs.declared.grammar.Digits.{Digits}
 use Rattle.semver_texts.specs.declared.grammar.Grammar.{Grammar}
 use Rattle.semver_texts.specs.declared.grammar.Grammar.TheVariants.{Crate, Cargo, Npm}
 use Rattle.semver_texts.specs.Steps.DottedParts.{marked_part}
 use Rattle.semver_texts.proofs.DottedParts.{found_same}
 use Rattle.semver_texts.proofs.Numbers.{same_numbers}
-use Rattle.semver_texts.proofs.SpelledVersions.{kept_texts}
 use Rattle.semver_versions.specs.Outlines.{after_mark, identifier_of, outline_after, version_of}
-use Rattle.semver_versions.specs.Steps.Reading.{AreAround, AreIdentifiers, AreParts, IsOutlinedAt, IsRead, NumbersFit, ZerosFit, hyphens_of}
+use Rattle.semver_versions.specs.Steps.Reading.{AreAround, AreIdentifiers, AreParts, IsKeptBy, IsOutlinedAt, IsRead, NumbersFit, ZerosFit, hyphens_of}
 use Rattle.semver_versions.specs.Steps.Reading.{outline_with}
 use Rattle.semver_versions.proofs.CutIdentifiers.{part_found, part_is}
 use Rattle.semver_versions.proofs.KeptTexts.{all_kept, are_parts, begins_marked, kept_dotted, kept_is, kept_parts, no_identifiers}
-use Rattle.semver_versions.proofs.KeptTexts.{parts_cut}
+use Rattle.semver_versions.proofs.KeptTexts.{kept_texts, parts_cut}
 use Rattle.semver_versions.proofs.WhiteSpaces.{is_outer, none_around, outer_bytes}
 
 -- ---- what may be after a version begins with no byte of it
@@ -106,21 +106,24 @@ parts_fit d rest pre build w =
 
 -- ---- a version, from its numbers and its parts
 
-abbrev pub version_with : ℕ → ℕ → ℕ → Text → Text → VersionValue
-version_with major minor patch pre build = version_of (outline_with major minor patch 0 pre build)
+abbrev pub version_with : Digits → ℕ → ℕ → ℕ → Text → Text → VersionValue
+version_with digits major minor patch pre build = version_of (outline_with digits major minor patch 0 pre build)
 
 module _ (d : Grammar) (text rest pre build : Text) (major minor patch : ℕ) (n : BeginsWithNumbers text major minor patch rest)
     (w : AreParts d rest pre build) where
-  pre_kept : AllZip IsKeptAs (map identifier_of (cut_at_dots pre)) (cut_at_dots pre)
-  pre_kept = all_kept (cut_at_dots pre) (are_parts (hyphens_of d) _ w.pre_each)
+  abbrev digits : Digits
+  digits = digits_in d
 
-  build_kept : AllZip IsKeptAs (map identifier_of (cut_at_dots build)) (cut_at_dots build)
-  build_kept = all_kept (cut_at_dots build) (are_parts (hyphens_of d) _ w.build_each)
+  pre_kept : AllZip (IsKeptBy digits) (identifiers_by digits (map identifier_of (cut_at_dots pre))) (cut_at_dots pre)
+  pre_kept = all_kept digits (cut_at_dots pre) (are_parts (hyphens_of d) _ w.pre_each)
+
+  build_kept : AllZip (IsKeptBy digits) (identifiers_by digits (map identifier_of (cut_at_dots build))) (cut_at_dots build)
+  build_kept = all_kept digits (cut_at_dots build) (are_parts (hyphens_of d) _ w.build_each)
 
   abbrev three : Text
   three = join_with_byte 46 (map decimal (major ∷ minor ∷ patch ∷ []))
 
-  is_read : NumbersFit d major minor patch → IsRead d (version_with major minor patch pre build) text
+  is_read : NumbersFit d major minor patch → IsRead d (version_with digits major minor patch pre build) text
   is_read fits = record {
     pre_texts = cut_at_dots pre;
     build_texts = cut_at_dots build;
@@ -139,18 +142,19 @@ module _ (d : Grammar) (text rest pre build : Text) (major minor patch : ℕ) (n
   }
 
   its_outline : (before numbers_end : ℕ) → numbers_end + length rest ≡ before + length text
-      → outline_with major minor patch numbers_end pre build ≡ outline_after before (version_with major minor patch pre build)
+      → outline_with digits major minor patch numbers_end pre build
+      ≡ outline_after digits before (version_with digits major minor patch pre build)
   its_outline before numbers_end at =
-      let ids = map identifier_of (cut_at_dots pre) in
-      let pre_is = kept_dotted ids pre pre_kept in
-      let build_is = kept_dotted (map identifier_of (cut_at_dots build)) build build_kept in
+      let ids = identifiers_by digits (map identifier_of (cut_at_dots pre)) in
+      let pre_is = kept_dotted digits ids pre pre_kept in
+      let build_is = kept_dotted digits (identifiers_by digits (map identifier_of (cut_at_dots build))) build build_kept in
       let place : numbers_end ≡ before + length three = omega (arith, at, ap length n.split, length-append three rest) in
       let part : Text = marked (codes "-") (map identifier_text ids) in
       let place_after : numbers_end + length (marked (codes "-") (cut_at_dots pre)) ≡ before + length (three ++ part) =
       omega (
         arith,
         place,
-        ap (λ ts. length (marked (codes "-") ts)) (kept_texts ids (cut_at_dots pre) pre_kept),
+        ap (λ ts. length (marked (codes "-") ts)) (kept_texts digits ids (cut_at_dots pre) pre_kept),
         length-append three part,
       ) in
       (λ i. record {
@@ -161,12 +165,13 @@ module _ (d : Grammar) (text rest pre build : Text) (major minor patch : ℕ) (n
         build = build_is i;
         pre_offset = after_mark (place i) (pre_is i);
         build_offset = after_mark (place_after i) (build_is i);
+        digits = digits;
       })
 
   pub has_outline : NumbersFit d major minor patch → (before numbers_end : ℕ) → numbers_end + length rest ≡ before + length text
-      → IsOutlinedAt d before text (Some (outline_with major minor patch numbers_end pre build))
+      → IsOutlinedAt d before text (Some (outline_with digits major minor patch numbers_end pre build))
   has_outline fits before numbers_end at =
-      (version_with major minor patch pre build, is_read fits, its_outline before numbers_end at)
+      (version_with digits major minor patch pre build, is_read fits, its_outline before numbers_end at)
 
 -- no parts, where nothing follows the numbers
 pub no_parts : (d : Grammar) (text : Text) → (length text == 0) ≡ true → AreParts d text [] []
@@ -198,10 +203,10 @@ module _ {d : Grammar} {v : VersionValue} {text : Text} (w : IsRead d v text) wh
   build_of = join_with_byte 46 w.build_texts
 
   pre_cut : cut_at_dots pre_of ≡ w.pre_texts
-  pre_cut = parts_cut w.pre_texts (kept_parts v.plain.pre _ w.pre)
+  pre_cut = parts_cut w.pre_texts (kept_parts (digits_in d) v.plain.pre _ w.pre)
 
   build_cut : cut_at_dots build_of ≡ w.build_texts
-  build_cut = parts_cut w.build_texts (kept_parts v.build _ w.build)
+  build_cut = parts_cut w.build_texts (kept_parts (digits_in d) v.build _ w.build)
 
   pub its_numbers : BeginsWithNumbers text v.plain.major v.plain.minor v.plain.patch marked_rest
   its_numbers = record {
@@ -223,12 +228,11 @@ module _ {d : Grammar} {v : VersionValue} {text : Text} (w : IsRead d v text) wh
     split = rw (pre_cut, build_cut) refl;
   }
 
-  it_is : v ≡ version_with v.plain.major v.plain.minor v.plain.patch pre_of build_of
+  it_is : v ≡ version_with (digits_in d) v.plain.major v.plain.minor v.plain.patch pre_of build_of
   it_is =
-      let pre_is : v.plain.pre ≡ map identifier_of (cut_at_dots pre_of) =
-      kept_is v.plain.pre _ w.pre ∙ ap (map identifier_of) (sym pre_cut) in
-      let build_is : v.build ≡ map identifier_of (cut_at_dots build_of) =
-      kept_is v.build _ w.build ∙ ap (map identifier_of) (sym build_cut) in
+      let by = λ (ts : List Text). identifiers_by (digits_in d) (map identifier_of ts) in
+      let pre_is : v.plain.pre ≡ by (cut_at_dots pre_of) = kept_is (digits_in d) v.plain.pre _ w.pre ∙ ap by (sym pre_cut) in
+      let build_is : v.build ≡ by (cut_at_dots build_of) = kept_is (digits_in d) v.build _ w.build ∙ ap by (sym build_cut) in
       (λ i. record {
         plain = record { major = v.plain.major; minor = v.plain.minor; patch = v.plain.patch; pre = pre_is i };
         build = build_is i;
@@ -254,4 +258,4 @@ one_read d v u text a b =
     let first = found_same (sym (found_pre d _ _ _ parts) ∙ found_pre d _ _ _ (its_parts b)) in
     let second = found_same (sym (found_build d _ _ _ parts) ∙ ap (marked_part (hyphens_of d) 43) first.1
     ∙ found_build d _ _ _ (its_parts b)) in
-    it_is a ∙ (λ i. version_with (same.0 i) (same.1 i) (same.2 i) (first.0 i) (second.0 i)) ∙ sym (it_is b)
+    it_is a ∙ (λ i. version_with (digits_in d) (same.0 i) (same.1 i) (same.2 i) (first.0 i) (second.0 i)) ∙ sym (it_is b)

@@ -5,15 +5,19 @@ use Rattle.std.specs.Prelude.{◌≡◌, ℕ, suc, ◌+◌, ◌^◌, ◌&&◌, n
 use Rattle.std.specs.Prelude.{length, map, take, drop, decimal}
 use Rattle.std.specs.List.{join_with_byte, prefix_len}
 use Rattle.std.specs.Str.Parse.{digits_value}
+use Rattle.semver_texts.specs.Digits.{digits_in, version_by}
 use Rattle.semver_texts.specs.Texts.{Text, cut_at_dots, is_number, is_space}
 use Rattle.semver_texts.specs.ToolVersions.{SpellsIn, before_numbers}
 use Rattle.semver_texts.specs.Versions.{IdentifierValue, numeric, alphanumeric, VersionValue}
 use Rattle.semver_texts.specs.Versions.{numbers}
+use Rattle.semver_texts.specs.declared.grammar.Digits.{Digits}
+use Rattle.semver_texts.specs.declared.grammar.Digits.TheVariants.{Kept}
 use Rattle.semver_texts.specs.declared.grammar.Grammar.{Grammar}
 use Rattle.semver_texts.specs.PrintedText.{identifier_text, plain_text}
 use Rattle.semver_texts.specs.VersionGrammar.{SpellsVersion}
 
--- three numbers, two texts, and how many bytes are before each of these
+-- three numbers, two texts, how many bytes are before each of these, and how identifiers of digits
+-- alone are read
 pub record OutlineValue : Type 0 where
   pub major : ℕ
   pub minor : ℕ
@@ -22,6 +26,7 @@ pub record OutlineValue : Type 0 where
   pub build : Text
   pub pre_offset : ℕ
   pub build_offset : ℕ
+  pub digits : Digits
 
 -- the text of identifiers: each as it prints, joined by dots; empty where there are none
 abbrev pub dotted_text : List IdentifierValue → Text
@@ -35,8 +40,8 @@ after_mark place (byte ∷ part) = suc place
 -- the outline of a version that is after so many bytes: its numbers, and the texts of its
 -- identifiers, each after its mark; that of the pre-release is after the numbers, and that of
 -- the build after the version without it
-abbrev pub outline_after : ℕ → VersionValue → OutlineValue
-outline_after before v = record {
+abbrev pub outline_after : Digits → ℕ → VersionValue → OutlineValue
+outline_after digits before v = record {
   major = v.plain.major;
   minor = v.plain.minor;
   patch = v.plain.patch;
@@ -46,12 +51,13 @@ outline_after before v = record {
       (before + length (join_with_byte (code ".") (map decimal (numbers v.plain))))
       (dotted_text v.plain.pre);
   build_offset = after_mark (before + length (plain_text v.plain)) (dotted_text v.build);
+  digits = digits;
 }
 
 -- it is the outline of a version that the text spells and that is after so many bytes
 abbrev pub IsOutlineAfter : ℕ → Text → OutlineValue → Type 0
 IsOutlineAfter before text o =
-    (v : VersionValue) × SpellsVersion v text × (o ≡ outline_after before v)
+    (v : VersionValue) × SpellsVersion v text × (o ≡ outline_after Kept before v)
 
 -- it is the outline of a version that the text spells, after the white space at its front
 abbrev pub IsOutlineOf : Text → OutlineValue → Type 0
@@ -60,16 +66,16 @@ IsOutlineOf text o = IsOutlineAfter (prefix_len is_space text) text o
 -- it is the outline of a version that the text spells in a dialect
 abbrev pub IsOutlineIn : Grammar → Text → OutlineValue → Type 0
 IsOutlineIn grammar text o = (v : VersionValue) × SpellsIn grammar v text
-    × (o ≡ outline_after (before_numbers text) v)
+    × (o ≡ outline_after (digits_in grammar) (before_numbers text) v)
 
 -- the identifier that a text of letters, digits and hyphens is kept as
 abbrev pub identifier_of : Text → IdentifierValue
 identifier_of part = if is_number part && nat_lt (digits_value 10 part) (2 ^ 64)
     then numeric (digits_value 10 part) else alphanumeric part
 
--- the version that an outline is of
-abbrev pub version_of : OutlineValue → VersionValue
-version_of o = record {
+-- the version that an outline is of, as it is kept
+abbrev pub kept_version_of : OutlineValue → VersionValue
+kept_version_of o = record {
   plain = record {
     major = o.major;
     minor = o.minor;
@@ -78,6 +84,10 @@ version_of o = record {
   };
   build = map identifier_of (cut_at_dots o.build);
 }
+
+-- the version that an outline is of
+abbrev pub version_of : OutlineValue → VersionValue
+version_of o = version_by o.digits (kept_version_of o)
 
 -- the part is in the text at the offset
 abbrev pub StandsAt : ℕ → Text → Text → Type 0

@@ -2,20 +2,22 @@
 
 ghost use Rattle.std.specs.Prelude.{◌≡◌, ◌⊎◌, ◌<◌, ◌+◌, ◌^◌, ℕ, [], ◌∷◌, codes, length, map, not};
 ghost use Rattle.std.specs.Prelude.{IfOk, IfErr};
+ghost use Rattle.semver_texts.specs.Digits.{identifiers_by, plain_by, version_by};
 ghost use Rattle.semver_texts.specs.Texts.{Text, cut_at_dots, is_empty, marked};
 ghost use Rattle.semver_texts.specs.Versions.{VersionValue};
 ghost use Rattle.semver_texts.specs.Precedence.{precedence};
 ghost use Rattle.semver_texts.specs.VersionGrammar.{SpellsVersion};
 ghost use Rattle.semver_texts.specs.VersionViews.{identifier_value, version_value};
 ghost use Rattle.semver_versions.specs.Outlines.{IsOutlineOf, after_mark};
-ghost use Rattle.semver_versions.specs.Outlines.{version_of};
+ghost use Rattle.semver_versions.specs.Outlines.{kept_version_of, version_of};
 ghost use Rattle.semver_versions.specs.Steps.Reading.{ArePartTexts, outline_with};
 
 use crate::comparing::InVersions;
 use crate::identifiers::identifiers;
 use semver_texts::dotted::text_of_parts;
-use semver_texts::identifiers::Joined;
-use semver_texts::precedence::compare;
+use semver_texts::grammar::Digits;
+use semver_texts::identifiers::{ByDigits, Joined};
+use semver_texts::precedence::{Identifiers, compare};
 use semver_texts::version::{Identifier, Version};
 use std::alloc::{AllocError, Global};
 use std::cmp::Ordering;
@@ -32,6 +34,7 @@ pub struct Outline<'t> {
     pub(crate) build: &'t str,
     pub(crate) before_pre: usize,
     pub(crate) before_build: usize,
+    pub(crate) digits: Digits,
 }
 
 impl<'t> Model for Outline<'t> {
@@ -48,6 +51,7 @@ impl<'t> Model for Outline<'t> {
       build = o.build.now;
       pre_offset = o.before_pre;
       build_offset = o.before_build;
+      digits = o.digits;
     } };
 
     ghost invariant = { λ o. ArePartTexts o.pre.now × ArePartTexts o.build.now };
@@ -136,7 +140,29 @@ impl<'t> Outline<'t> {
     }
 
     // Answer: equation.
-    /// The identifiers of the pre-release: `"rc"` and 4 of `1.2.3-rc.4+5aedf`.
+    /// What an identifier of digits alone is from 2^64 on, by the dialect that the text was read
+    /// by: a text as `semver-parser` keeps it, or a number.
+    #[inline(always)]
+    pub fn digits(&self) -> Digits
+        ensures { result ≡ self.now.digits }
+    {
+        self.digits
+    }
+
+    // Answer: equation.
+    /// The identifiers of the pre-release, as they are compared: they are read while they are
+    /// taken. It does not allocate.
+    #[inline(always)]
+    pub fn compared_pre(&self) -> ByDigits<Joined<'t, InVersions>>
+        ensures { ⟦<ByDigits<Joined<'t, InVersions>> as Identifiers<'t>>⟧.left result
+            ≡ (version_of self.now).plain.pre }
+    {
+        ByDigits::of(Joined::of(self.pre.as_bytes(), InVersions), self.digits)
+    }
+
+    // Answer: equation.
+    /// The identifiers of the pre-release: `"rc"` and 4 of `1.2.3-rc.4+5aedf`. Digits from 2^64 on
+    /// are kept as a text.
     ///
     /// Memory is asked for where there are some: for their list, and for each that isn't a number.
     /// `Err` is out of memory.
@@ -147,8 +173,11 @@ impl<'t> Outline<'t> {
             → SpellsVersion v text
             → IfOk result (λ ids. map identifier_value ids.items ≡ v.plain.pre) }
         // So of the version that the outline is of.
+        ensures kept { IfOk result (λ ids.
+            map identifier_value ids.items ≡ (kept_version_of self.now).plain.pre) }
         ensures of_version { IfOk result (λ ids.
-            map identifier_value ids.items ≡ (version_of self.now).plain.pre) }
+            identifiers_by self.now.digits (map identifier_value ids.items)
+            ≡ (version_of self.now).plain.pre) }
         ensures out_of_memory { IfErr result (λ _. 0 < length self.now.pre) }
     {
         identifiers(alloc, self.pre.as_bytes())
@@ -164,8 +193,11 @@ impl<'t> Outline<'t> {
             → SpellsVersion v text
             → IfOk result (λ ids. map identifier_value ids.items ≡ v.build) }
         // So of the version that the outline is of.
+        ensures kept { IfOk result (λ ids.
+            map identifier_value ids.items ≡ (kept_version_of self.now).build) }
         ensures of_version { IfOk result (λ ids.
-            map identifier_value ids.items ≡ (version_of self.now).build) }
+            identifiers_by self.now.digits (map identifier_value ids.items)
+            ≡ (version_of self.now).build) }
         ensures out_of_memory { IfErr result (λ _. 0 < length self.now.build) }
     {
         identifiers(alloc, self.build.as_bytes())
@@ -183,8 +215,10 @@ impl<'t> Outline<'t> {
         ensures version { IfOk result (λ version. (text : Text) → IsOutlineOf text self.now
             → SpellsVersion (version_value version) text) }
         // It is the version that the outline is of.
+        ensures kept { IfOk result (λ version.
+            version_value version ≡ kept_version_of self.now) }
         ensures of_version { IfOk result (λ version.
-            version_value version ≡ version_of self.now) }
+            version_by self.now.digits (version_value version) ≡ version_of self.now) }
         ensures out_of_memory { IfErr result
             (λ _. (0 < length self.now.pre) ⊎ (0 < length self.now.build)) }
     {
@@ -200,7 +234,8 @@ impl<'t> Outline<'t> {
     // Answer: equation.
     /// How the version of this outline compares with another by precedence (SemVer 2.0.0, section
     /// 11), as `version::cmp_precedence` says of two versions: the outline of
-    /// `1.2.3-rc.4+5aedf` is `Less` than 1.2.3-rc.11. Builds don't count. It does not allocate.
+    /// `1.2.3-rc.4+5aedf` is `Less` than 1.2.3-rc.11. Builds don't count. Identifiers of digits
+    /// alone are read by the outline's dialect, on both sides. It does not allocate.
     #[inline(always)]
     pub fn cmp_precedence(&self, version: &Version) -> Ordering
         // It is that of the version of each text that has this outline.
@@ -208,14 +243,14 @@ impl<'t> Outline<'t> {
             → SpellsVersion v text
             → result ≡ precedence v.plain (version_value version.now).plain }
         // So of the version that the outline is of.
-        ensures of_version { result
-            ≡ precedence (version_of self.now).plain (version_value version.now).plain }
+        ensures of_version { result ≡ precedence (version_of self.now).plain
+            (plain_by self.now.digits (version_value version.now).plain) }
     {
         compare(
             (self.major, self.minor, self.patch),
-            Joined::of(self.pre.as_bytes(), InVersions),
+            self.compared_pre(),
             (version.major, version.minor, version.patch),
-            version.pre.as_slice(),
+            ByDigits::of(version.pre.as_slice(), self.digits),
         )
     }
 }
@@ -248,12 +283,14 @@ pub(crate) fn with_parts<'t>(
     numbers_end: usize,
     pre: &'t [u8],
     build: &'t [u8],
+    digits: Digits,
 ) -> Outline<'t>
     requires pre { ArePartTexts pre.now }
     requires build { ArePartTexts build.now }
     requires fits { numbers_end + (length (marked (codes "-") (cut_at_dots pre.now))
         + length (marked (codes "+") (cut_at_dots build.now))) < 2 ^ 64 }
-    ensures { result ≡ outline_with major minor patch numbers_end pre.now build.now }
+    ensures { result ≡ outline_with digits major minor patch numbers_end pre.now
+        build.now }
 {
     let pre_end = numbers_end + marked_len(pre);
     Outline {
@@ -264,5 +301,6 @@ pub(crate) fn with_parts<'t>(
         build: text_of_parts(build),
         before_pre: after_mark_at(numbers_end, pre),
         before_build: after_mark_at(pre_end, build),
+        digits,
     }
 }

@@ -230,7 +230,15 @@ fn with_rest(
         → IsOutlinedAt grammar before text result }
 {
     let (pre, build) = parts(rest, grammar)?;
-    Some(with_parts(major, minor, patch, numbers_end, pre, build))
+    Some(with_parts(
+        major,
+        minor,
+        patch,
+        numbers_end,
+        pre,
+        build,
+        grammar.digits(),
+    ))
 }
 
 /// The outline of the version whose numbers are known, how many bytes there are up to their end,
@@ -254,7 +262,7 @@ fn after_numbers(
         return None;
     }
     if rest.is_empty() {
-        return Some(with_parts(major, minor, patch, numbers_end, &[], &[]));
+        return Some(with_parts(major, minor, patch, numbers_end, &[], &[], grammar.digits()));
     }
     with_rest(major, minor, patch, numbers_end, rest, grammar)
 }

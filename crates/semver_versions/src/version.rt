@@ -19,7 +19,7 @@ ghost use Rattle.semver_versions.specs.Outlines.{OutlineValue, StandsAt, version
 
 pub use crate::outlines::Outline;
 use crate::reader;
-pub use semver_texts::grammar::Grammar;
+pub use semver_texts::grammar::{Digits, Grammar};
 pub use semver_texts::precedence::cmp_precedence;
 pub use semver_texts::version::{Identifier, Version};
 use std::alloc::{AllocError, Global};

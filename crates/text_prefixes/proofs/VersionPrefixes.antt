@@ -6,13 +6,16 @@ use Rattle.std.specs.List.{AllByRecursion, AllZip, join_with_byte, list_all}
 use Rattle.std.specs.Str.{IsUtf8}
 use Rattle.std.proofs.lemmas.Bool.{and_parts, and_from}
 use Rattle.semver_texts.specs.Texts.{Text, has_no_leading_zero, is_part, is_space, marked}
-use Rattle.semver_texts.specs.ToolVersions.{AreWhiteSpaces, IsVersionTextIn, SpellsSemver, is_white_space}
+use Rattle.semver_texts.specs.Digits.{identifiers_by}
+use Rattle.semver_texts.specs.ToolVersions.{AreWhiteSpaces, IsKeptAs, IsVersionTextIn, SpellsSemver, is_white_space}
 use Rattle.semver_texts.specs.VersionGrammar.{IsIdentifierText, SpellsIdentifier}
-use Rattle.semver_texts.specs.Versions.{VersionValue, numbers}
+use Rattle.semver_texts.specs.Versions.{IdentifierValue, VersionValue, numbers}
+use Rattle.semver_texts.specs.declared.grammar.Digits.TheVariants.{Kept, AnySize}
 use Rattle.semver_texts.specs.declared.grammar.Grammar.{Grammar}
 use Rattle.semver_texts.specs.declared.grammar.Grammar.TheVariants.{Crate, Cargo, Npm}
 use Rattle.semver_versions.proofs.CutIdentifiers.{spelled_are}
-use Rattle.semver_versions.proofs.KeptTexts.{all_kept, identifiers_are_parts, kept_parts, kept_spelled_all}
+use Rattle.semver_versions.proofs.KeptTexts.{all_kept, any_kept_all, identifiers_are_parts, kept_any_all, kept_parts}
+use Rattle.semver_versions.proofs.KeptTexts.{kept_spelled_all}
 use Rattle.semver_texts.proofs.Lists.{each_passes}
 use Rattle.semver_versions.specs.Outlines.{identifier_of}
 use Rattle.semver_versions.specs.AnyLength.{IsVersionAtAnyLength}
@@ -82,13 +85,19 @@ semver_prefixes : (limit : ℕ) → 0 < limit → limit ≤ 2 ^ 64 → Completes
 semver_prefixes limit some large = same (three (IsBelow limit) IsPre IsBuild (number limit some large) pre build) (IsSemverBelow limit)
     to from
   where
+    any : List Text → List IdentifierValue
+    any ts = identifiers_by AnySize (map identifier_of ts)
+
+    parts : (ids : List IdentifierValue) (ts : List Text) → AllZip IsKeptAs ids ts → list_all is_part ts ≡ true
+    parts ids ts kept = kept_parts AnySize ids ts (kept_any_all ids ts kept)
+
     to : (t : Text) → IsThree (IsBelow limit) IsPre IsBuild t → IsSemverBelow limit t
     to t w =
         let pres = parts_from has_no_leading_zero w.pre w.pre_each in
         record {
           v = record {
-            plain = record { major = w.a_is.0; minor = w.b_is.0; patch = w.c_is.0; pre = map identifier_of w.pre };
-            build = map identifier_of w.build;
+            plain = record { major = w.a_is.0; minor = w.b_is.0; patch = w.c_is.0; pre = any w.pre };
+            build = any w.build;
           };
           spells = record {
             pre_texts = w.pre;
@@ -96,9 +105,10 @@ semver_prefixes limit some large = same (three (IsBelow limit) IsPre IsBuild (nu
             major = omega arith;
             minor = omega arith;
             patch = omega arith;
-            pre = all_kept w.pre pres.0;
+            pre = any_kept_all (any w.pre) w.pre (all_kept AnySize w.pre pres.0);
             no_zeros = pres.1;
-            build = all_kept w.build (parts_from (λ t. true) w.build w.build_each).0;
+            build = any_kept_all (any w.build) w.build
+                (all_kept AnySize w.build (parts_from (λ t. true) w.build w.build_each).0);
             spelled = in_decimals limit IsPre IsBuild t w;
           };
           major = w.a_is.1;
@@ -116,8 +126,8 @@ semver_prefixes limit some large = same (three (IsBelow limit) IsPre IsBuild (nu
       a_is = (w.v.plain.major, w.major, refl);
       b_is = (w.v.plain.minor, w.minor, refl);
       c_is = (w.v.plain.patch, w.patch, refl);
-      pre_each = parts_to has_no_leading_zero s.pre_texts (kept_parts w.v.plain.pre s.pre_texts s.pre) s.no_zeros;
-      build_each = parts_to (λ t. true) s.build_texts (kept_parts w.v.build s.build_texts s.build) (all_true s.build_texts);
+      pre_each = parts_to has_no_leading_zero s.pre_texts (parts w.v.plain.pre s.pre_texts s.pre) s.no_zeros;
+      build_each = parts_to (λ t. true) s.build_texts (parts w.v.build s.build_texts s.build) (all_true s.build_texts);
       whole = s.spelled;
     }
 
@@ -240,7 +250,7 @@ crate =
         )
       where
         spelled : (ts : List Text) → AllByRecursion IsIdentifierText ts → AllZip SpellsIdentifier (map identifier_of ts) ts
-        spelled ts each = kept_spelled_all (map identifier_of ts) ts (all_kept ts (identifiers_are_parts ts each)) each
+        spelled ts each = kept_spelled_all (map identifier_of ts) ts (all_kept Kept ts (identifiers_are_parts ts each)) each
 
     from : (t : Text) → IsVersionTextIn Crate t → Seq (Passing is_space) (Seq CrateCore (Passing is_space)) t
     from t (v, w) =

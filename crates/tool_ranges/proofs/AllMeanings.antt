@@ -1,6 +1,6 @@
 -- serves: tool_ranges::meaning::read
 -- Where each pre-release within the bounds counts, the comparators of a text mean what it means.
-use Rattle.std.proofs.Common.{◌≡◌, ℕ, Bool, true, false, ◌&&◌, ◌==◌, if◌then◌else◌, List, [], ◌∷◌, length, refl, sym, ◌∙◌}
+use Rattle.std.proofs.Common.{◌≡◌, ℕ, Bool, true, false, ◌&&◌, ◌==◌, if◌then◌else◌, List, [], ◌∷◌, length, map, refl, sym, ap, ◌∙◌}
 use Rattle.std.proofs.Math.Bool.{and-true, and-false, or-false}
 use Rattle.std.proofs.lemmas.List.Folds.{list_all-append}
 use Rattle.std.specs.List.{list_all, flat_map}
@@ -17,7 +17,7 @@ use Rattle.semver_ranges.specs.declared.range.Compat.{Compat}
 use Rattle.semver_ranges.specs.declared.range.Compat.TheVariants.{Cargo, Npm}
 use Rattle.semver_ranges.specs.RangeTree.{Form, bare, equal, less, at_most, greater, at_least, tilde, caret, PartialTree, one, two, three}
 use Rattle.semver_ranges.specs.RangeTree.{is_wildcard, Simple, RangeTree, empty, hyphen, simples, SetTree}
-use Rattle.semver_ranges.specs.Partials.{filled, stated, states_nothing, pre_release}
+use Rattle.semver_ranges.specs.Partials.{filled, stated, states_nothing}
 use Rattle.semver_ranges.specs.Terms.{left_side, right_side}
 use Rattle.semver_ranges.specs.OwnMeaning.{agrees, meets_stated}
 use Rattle.semver_ranges.specs.ExactBounds.{lowest_pre_release, exact_bound}
@@ -29,6 +29,8 @@ use Rattle.semver_ranges.proofs.Rows.{Step, Shape, exact_row}
 use Rattle.semver_ranges.proofs.SetMeanings.{stated_shape}
 use Rattle.semver_ranges.proofs.Tables.{begun_stated, nothing_is}
 use Rattle.semver_ranges.proofs.Tests.{list_any-mapped}
+use Rattle.tool_ranges.specs.AnySize.{comparator_any, range_any, set_any}
+use Rattle.tool_ranges.proofs.AnySizes.{one_range_any, pre_any, written_for_any}
 use Rattle.tool_ranges.specs.AllPreReleases.{meets_counted, meets_one, meets_requirement_with_all, meets_left}
 use Rattle.tool_ranges.specs.AllPreReleases.{meets_range_with_all, meets_npm_with_all}
 use Rattle.tool_ranges.specs.CargoGrammar.{is_of_cargo, SpellsComparators}
@@ -152,14 +154,21 @@ module _ (v : PlainVersion) where
   any_row mode form (Shape.three x y w) p none every = row_three mode form x y w p
 
   -- ---- npm
-  simple_meets : (s : Simple) → list_all (meets_comparator v) (written_for Lowest Npm s) ≡ meets_one Npm s v
-  simple_meets s = any_row Npm s.form (stated_shape s.partial) (pre_release s.partial) (λ n. rw n refl) (λ _. row_none s.form)
+  simple_meets : (s : Simple) → list_all (meets_comparator v) (map comparator_any (written_for Lowest Npm s)) ≡ meets_one Npm s v
+  simple_meets s = ap (list_all (meets_comparator v)) (written_for_any Npm s)
+      ∙ any_row Npm s.form (stated_shape s.partial) (pre_any s.partial) (λ n. rw n refl) (λ _. row_none s.form)
+
+  each_meets : (ss : List Simple)
+      → list_all (meets_comparator v) (flat_map (λ s. map comparator_any (written_for Lowest Npm s)) ss)
+      ≡ list_all (λ s. meets_one Npm s v) ss
+  each_meets [] = refl
+  each_meets (s ∷ ss) = list_all-append (meets_comparator v) (map comparator_any (written_for Lowest Npm s))
+      (flat_map (λ s. map comparator_any (written_for Lowest Npm s)) ss)
+      ∙ (λ i. simple_meets s i && each_meets ss i)
 
   simples_meet : (ss : List Simple)
-      → list_all (meets_comparator v) (flat_map (written_for Lowest Npm) ss) ≡ list_all (λ s. meets_one Npm s v) ss
-  simples_meet [] = refl
-  simples_meet (s ∷ ss) = list_all-append (meets_comparator v) (written_for Lowest Npm s) (flat_map (written_for Lowest Npm) ss)
-      ∙ (λ i. simple_meets s i && simples_meet ss i)
+      → list_all (meets_comparator v) (map comparator_any (flat_map (written_for Lowest Npm) ss)) ≡ list_all (λ s. meets_one Npm s v) ss
+  simples_meet ss = ap (list_all (meets_comparator v)) (one_range_any (written_for Lowest Npm) ss) ∙ each_meets ss
 
   from_stated : {s : List ℕ} → Shape s → (length s == 3) ≡ true
       → is_ge (precedence v (filled s lowest_pre_release)) ≡ is_ge (against s v)
@@ -187,7 +196,7 @@ module _ (v : PlainVersion) where
   none_met p y = let e = nothing_is (stated p) y in rw e (refl, refl)
 
   range_meets : (r : RangeTree)
-      → list_all (meets_comparator v) (flat_map (written_for Lowest Npm) (yielded Lowest r)) ≡ meets_range_with_all r v
+      → list_all (meets_comparator v) (map comparator_any (flat_map (written_for Lowest Npm) (yielded Lowest r))) ≡ meets_range_with_all r v
   range_meets empty = simples_meet (wildcard ∷ [])
   range_meets (simples first others) = simples_meet (first ∷ others)
   range_meets (hyphen left right) = by_test (states_nothing right)
@@ -198,14 +207,19 @@ module _ (v : PlainVersion) where
       (λ m. rw (n, m) (simples_meet (left_side (begun_as Lowest left) ∷ right_side right ∷ [])
       ∙ (λ i. left_meets left i && and-true (meets_one Npm (right_side right) v) i))))
 
-  pub npm_meant : (tree : SetTree) → meets_set v (set_begun Lowest tree) ≡ meets_npm_with_all tree v
-  npm_meant tree = list_any-mapped (meets_range v) (λ r. meets_range_with_all r v) (range_begun Lowest) range_meets tree
+  pub npm_meant : (tree : SetTree) → meets_set v (set_any (set_begun Lowest tree)) ≡ meets_npm_with_all tree v
+  npm_meant tree =
+      list_any-mapped (meets_range v) (λ r. meets_range v (range_any r)) range_any (λ r. refl) (set_begun Lowest tree).ranges
+      ∙ list_any-mapped (λ r. meets_range v (range_any r)) (λ r. meets_range_with_all r v) (range_begun Lowest) range_meets tree
 
   -- ---- Cargo
-  one_meets : (s : Simple) → is_of_cargo s ≡ true → list_all (meets_comparator v) (judging_one All s) ≡ meets_one Cargo (as_read s) v
-  one_meets s e = any_row Cargo (as_read s).form (stated_shape s.partial) (pre_release s.partial) (λ n. rw n refl)
+  one_meets : (s : Simple) → is_of_cargo s ≡ true
+      → list_all (meets_comparator v) (map comparator_any (judging_one All s)) ≡ meets_one Cargo (as_read s) v
+  one_meets s e = ap (list_all (meets_comparator v)) (written_for_any Cargo (as_read s))
+      ∙ any_row Cargo (as_read s).form (stated_shape s.partial) (pre_any s.partial) (λ n. rw n refl)
       (λ none. rw (every_equal s e none) row_every)
 
   pub cargo_meant : (tree : List Simple) (t : Text) → SpellsComparators tree t
-      → meets_set v (judging All tree) ≡ meets_requirement_with_all tree v
-  cargo_meant tree t h = or-false _ ∙ all_meet v (judging_one All) (λ s. meets_one Cargo (as_read s) v) one_meets tree t h
+      → meets_set v (set_any (judging All tree)) ≡ meets_requirement_with_all tree v
+  cargo_meant tree t h = or-false _ ∙ ap (list_all (meets_comparator v)) (one_range_any (judging_one All) tree)
+      ∙ all_meet v (λ s. map comparator_any (judging_one All s)) (λ s. meets_one Cargo (as_read s) v) one_meets tree t h

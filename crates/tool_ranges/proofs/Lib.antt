@@ -3,6 +3,7 @@ mod FoundComparators
 mod RequirementSteps
 mod RequirementLaws
 mod RequirementPrinted
+mod AnySizes
 mod ReadMeanings
 mod ReadRows
 mod PreReleaseMeanings

@@ -14,7 +14,7 @@ use Rattle.semver_ranges.specs.RangeTree.{Form, bare, equal, less, at_most, grea
 use Rattle.semver_texts.specs.Texts.{is_empty}
 use Rattle.semver_texts.specs.Precedence.{precedence, pre_cmp}
 use Rattle.semver_texts.specs.Versions.{numbers, IdentifierValue, PlainVersion}
-use Rattle.semver_ranges.specs.Partials.{filled, leading_place, pre_release, zero_version}
+use Rattle.semver_ranges.specs.Partials.{filled, leading_place, stated, zero_filled, zero_version}
 use Rattle.semver_ranges.specs.Terms.{Term, of_simple, of_nothing, terms}
 use Rattle.semver_ranges.specs.OwnMeaning.{agrees, agrees_past_zeros}
 use Rattle.semver_ranges.specs.RewritingTable.{PlainComparator, cell, comparator, up, written_cell}
@@ -32,6 +32,8 @@ use Rattle.tool_ranges.specs.NpmTable.{rewritten_npm}
 use Rattle.tool_ranges.specs.Steps.NpmReading.{is_from_zero}
 use Rattle.version_sets.specs.SetRanges.{is_at_least}
 use Rattle.tool_ranges.proofs.ReadMeanings.{step, after, not_less, no_lower, is_less}
+use Rattle.tool_ranges.specs.AnySize.{set_any}
+use Rattle.tool_ranges.proofs.AnySizes.{any_table, asks_any, pre_any, release_set, table_any, written_any, written_any_is}
 use Rattle.tool_ranges.proofs.ToolRows.{npm_table}
 
 abbrev pub written_by : Form → List ℕ → List IdentifierValue → List PlainComparator
@@ -163,8 +165,9 @@ module _ (v : PlainVersion) where
   any_row form (Shape.two x y) p none = rw (none refl) (row_two form x y)
   any_row form (Shape.three x y w) p none = row_three form x y w p
 
-  pub simple_passes : (s : Simple) → list_all passes (written_in Npm s) ≡ meets_one (of_simple s) v
-  simple_passes s = any_row s.form (stated_shape s.partial) (pre_release s.partial) (λ n. rw n refl)
+  pub simple_passes : (s : Simple) → list_all passes (written_any Npm s) ≡ meets_one (of_simple s) v
+  simple_passes s = ap (list_all passes) (written_any_is Npm s)
+      ∙ any_row s.form (stated_shape s.partial) (pre_any s.partial) (λ n. rw n refl)
 
 module _ (v : PlainVersion) (release : v.pre ≡ []) where
   is_release : is_empty v.pre ≡ true
@@ -177,8 +180,8 @@ module _ (v : PlainVersion) (release : v.pre ≡ []) where
       rw (y, at_least_is c.op parts.0) (release_ge v release c.version parts.1))
       (λ n. rw n refl)
 
-  simple_meets : (s : Simple) → list_all (meets_comparator v) (written_in Npm s) ≡ meets_one (of_simple s) v
-  simple_meets s = list_all-same (meets_comparator v) (passes v) same_test (written_in Npm s) ∙ simple_passes v s
+  simple_meets : (s : Simple) → list_all (meets_comparator v) (written_any Npm s) ≡ meets_one (of_simple s) v
+  simple_meets s = list_all-same (meets_comparator v) (passes v) same_test (written_any Npm s) ∙ simple_passes v s
 
   -- a release meets what asks nothing
   met : (form : Form) {s : List ℕ} → Shape s → (p : List IdentifierValue) → asks_nothing_by form (is_empty s) (is_zero (filled s p)) ≡ true
@@ -195,7 +198,8 @@ module _ (v : PlainVersion) (release : v.pre ≡ []) where
   met _ (Shape.three x y w) p e = cc
 
   term_met : (term : Term) → asks_nothing term ≡ true → meets_one term v ≡ true
-  term_met (of_simple s) e = met s.form (stated_shape s.partial) (pre_release s.partial) e
+  term_met (of_simple s) e = met s.form (stated_shape s.partial) (pre_any s.partial)
+      (asks_any s.form (stated s.partial) (zero_filled s.partial) ∙ e)
   term_met of_nothing e = refl
 
   abbrev all_met : RangeTree → Bool
@@ -209,5 +213,10 @@ module _ (v : PlainVersion) (release : v.pre ≡ []) where
         counted : (r : RangeTree) → (all_met r && counts_in r v) ≡ all_met r
         counted r = rw is_release (and-true _)
 
+  pub npm_meets_any : (tree : SetTree) → meets_set v (set_any (rewritten_npm tree)) ≡ meets_npm tree v
+  npm_meets_any tree =
+      ap (meets_set v) (table_any (written_in Npm) Npm tree)
+      ∙ set_meets_by (any_table npm_table) Npm v (λ term. meets_one term v) simple_meets (from_zero v release) tree ∙ some_range tree
+
   pub npm_meets : (tree : SetTree) → meets_set v (rewritten_npm tree) ≡ meets_npm tree v
-  npm_meets tree = set_meets_by npm_table Npm v (λ term. meets_one term v) simple_meets (from_zero v release) tree ∙ some_range tree
+  npm_meets tree = sym (release_set v (rewritten_npm tree) is_release) ∙ npm_meets_any tree

@@ -16,9 +16,9 @@ use Rattle.semver_ranges.specs.RangeTree.{Form, bare, equal, less, at_most, grea
 use Rattle.semver_texts.specs.Texts.{is_empty}
 use Rattle.semver_texts.specs.Precedence.{pre_cmp}
 use Rattle.semver_texts.specs.Versions.{numbers, IdentifierValue, PlainVersion}
-use Rattle.semver_ranges.specs.Partials.{filled, pre_release}
+use Rattle.semver_ranges.specs.Partials.{filled, pre_release, stated, zero_filled}
 use Rattle.semver_ranges.specs.Terms.{Term, of_simple, terms}
-use Rattle.semver_ranges.specs.RewritingTable.{PlainComparator, PlainRange, PlainSet, comparator, up, range_by, written_cell}
+use Rattle.semver_ranges.specs.RewritingTable.{PlainComparator, PlainRange, PlainSet, comparator, up, range_by, set_by, written_cell}
 use Rattle.semver_ranges.specs.RewritingTable.{Cell, from_zero, below_zero, against, below, between, cell}
 use Rattle.semver_ranges.specs.ExactBounds.{lowest_pre_release, exact_bound}
 use Rattle.semver_ranges.specs.Meeting.{meets_comparator, meets_set}
@@ -34,8 +34,12 @@ use Rattle.tool_ranges.specs.ToolTable.{is_greater, states_some, ends_at, writte
 use Rattle.tool_ranges.specs.NpmMeaning.{is_zero, asks_nothing_by, asks_nothing, is_every_release, meets_one, meets_npm}
 use Rattle.tool_ranges.specs.NpmTable.{rewritten_npm}
 use Rattle.tool_ranges.specs.Steps.NpmReading.{is_from_zero, has_no_other, others_of, others_in, is_meant}
+use Rattle.semver_texts.specs.declared.grammar.Digits.TheVariants.{AnySize}
+use Rattle.version_sets.proofs.DigitLaws.{by_empty}
+use Rattle.tool_ranges.specs.AnySize.{set_any}
+use Rattle.tool_ranges.proofs.AnySizes.{any_table, asks_any, pre_any, table_any, written_any, written_any_is}
 use Rattle.tool_ranges.proofs.ToolRows.{npm_table}
-use Rattle.tool_ranges.proofs.NpmMeanings.{written_by, none_is, passes, lowest_ge, simple_passes, npm_meets}
+use Rattle.tool_ranges.proofs.NpmMeanings.{written_by, none_is, passes, lowest_ge, simple_passes, npm_meets_any}
 use Rattle.std.proofs.lemmas.Grind.{common_steps}
 
 -- tests of what is left by a filter
@@ -76,9 +80,11 @@ row_asks form (Shape.one x) p none = search rules
 row_asks form (Shape.two x y) p none = search rules
 row_asks form (Shape.three x y w) p none = search rules
 
-range_asks : (r : RangeTree) → list_all is_from_zero (range_by (written_in Npm) r) ≡ is_every_release r
-range_asks r = range_holds npm_table is_from_zero asks_nothing
-    (λ s. row_asks s.form (stated_shape s.partial) (pre_release s.partial) (λ n. rw n refl)) refl r
+range_asks : (r : RangeTree) → list_all is_from_zero (range_by (written_any Npm) r) ≡ is_every_release r
+range_asks r = range_holds (any_table npm_table) is_from_zero asks_nothing
+    (λ s. ap (list_all is_from_zero) (written_any_is Npm s)
+    ∙ row_asks s.form (stated_shape s.partial) (pre_any s.partial) (λ n. rw n refl)
+    ∙ asks_any s.form (stated s.partial) (zero_filled s.partial)) refl r
 
 -- a version at the numbers of a bound isn't below what is not above its pre-release
 not_at : {g : Ordering → Ordering} {e m : Bool} → Step g e m → (o : Ordering) → is_ge o ≡ true → (is_lt (g o) && not m) ≡ is_lt (g o)
@@ -143,17 +149,20 @@ module _ (v : PlainVersion) where
   any_tells form (Shape.two x y) p none = rw (none refl) (row_silent form (x ∷ y ∷ []))
   any_tells form (Shape.three x y w) p none = row_tells form x y w p
 
-  simple_tells : (s : Simple) → list_all silent (written_in Npm s) ≡ (meets_one (of_simple s) v && not (states (of_simple s)))
-  simple_tells s = any_tells s.form (stated_shape s.partial) (pre_release s.partial) (λ n. rw n refl)
+  simple_tells : (s : Simple) → list_all silent (written_any Npm s) ≡ (meets_one (of_simple s) v && not (states (of_simple s)))
+  simple_tells s = ap (list_all silent) (written_any_is Npm s)
+      ∙ any_tells s.form (stated_shape s.partial) (pre_any s.partial) (λ n. rw n refl)
+      ∙ (λ i. list_all (passes v) (sym (written_any_is Npm s) i)
+      && not (not (by_empty AnySize (pre_release s.partial) i) && pointwise nat_eq (numbers v) (stated s.partial)))
       ∙ ap (λ b. b && not (states (of_simple s))) (simple_passes v s)
 
-  range_tells : (r : RangeTree) → let cs : List PlainComparator = range_by (written_in Npm) r in
+  range_tells : (r : RangeTree) → let cs : List PlainComparator = range_by (written_any Npm) r in
       (list_all (passes v) cs && (is_empty v.pre || list_any (has_pre_release_at v) cs))
       ≡ (list_all (λ term. meets_one term v) (terms r) && counts_in r v)
-  range_tells r = some_of_all (passes v) (has_pre_release_at v) (is_empty v.pre) (range_by (written_in Npm) r)
+  range_tells r = some_of_all (passes v) (has_pre_release_at v) (is_empty v.pre) (range_by (written_any Npm) r)
       ∙ rw (
-        range_holds npm_table (passes v) (λ term. meets_one term v) (simple_passes v) refl r,
-        range_holds npm_table silent (λ term. meets_one term v && not (states term)) simple_tells refl r,
+        range_holds (any_table npm_table) (passes v) (λ term. meets_one term v) (simple_passes v) refl r,
+        range_holds (any_table npm_table) silent (λ term. meets_one term v && not (states term)) simple_tells refl r,
       ) (sym (some_of_all (λ term. meets_one term v) states (is_empty v.pre) (terms r)))
 
   -- 0.0.0 has no pre-release
@@ -179,17 +188,20 @@ module _ (v : PlainVersion) where
   where_each_is_asked set n = rw n refl
 
   releases_mean : (tree : SetTree) → list_any is_every_release tree ≡ true
-      → (is_empty v.pre && meets_set v (rewritten_npm tree)) ≡ is_empty v.pre
+      → (is_empty v.pre && meets_set v (set_any (rewritten_npm tree))) ≡ is_empty v.pre
   releases_mean tree y = by_test (is_empty v.pre)
-      (λ e. let met = npm_meets v (none_is v.pre e) tree in rw (e, met, y, e) refl)
+      (λ e. let met = npm_meets_any v (none_is v.pre e) tree in rw (e, met, y, e) refl)
       (λ n. rw n refl)
 
-  pub meant : (tree : SetTree) → is_meant (rewritten_npm tree) v ≡ meets_npm tree v
+  pub meant : (tree : SetTree) → is_meant (set_any (rewritten_npm tree)) v ≡ meets_npm tree v
   meant tree =
-      let asked : list_any has_no_other (rewritten_npm tree).ranges ≡ list_any is_every_release tree =
+      let set = set_by (written_any Npm) Npm tree in
+      let whole : set_any (rewritten_npm tree) ≡ set = table_any (written_in Npm) Npm tree in
+      let asked : list_any has_no_other set.ranges ≡ list_any is_every_release tree =
       list_any-mapped has_no_other is_every_release _ range_asks tree in
-      by_test (list_any is_every_release tree)
-      (λ y. rw (asked, y) (releases_mean tree y))
+      ap (λ s. is_meant s v) whole
+      ∙ by_test (list_any is_every_release tree)
+      (λ y. rw (asked, y) (ap (λ s. is_empty v.pre && meets_set v s) (sym whole) ∙ releases_mean tree y))
       (λ n. rw (asked, n)
-      (list_any-mapped (meets_range_as_stated v) _ others_of others_mean (rewritten_npm tree).ranges
+      (list_any-mapped (meets_range_as_stated v) _ others_of others_mean set.ranges
       ∙ list_any-mapped _ _ _ range_tells tree))

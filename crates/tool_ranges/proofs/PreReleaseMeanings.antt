@@ -16,7 +16,7 @@ use Rattle.semver_ranges.specs.Terms.{of_simple}
 use Rattle.semver_texts.specs.Texts.{is_empty}
 use Rattle.semver_texts.specs.Precedence.{pre_cmp}
 use Rattle.semver_texts.specs.Versions.{numbers, IdentifierValue, PlainVersion}
-use Rattle.semver_ranges.specs.Partials.{filled, kept, pre_parts, pre_release}
+use Rattle.semver_ranges.specs.Partials.{filled, kept, pre_parts, pre_release, stated, zero_filled}
 use Rattle.semver_ranges.specs.ExactBounds.{lowest_pre_release}
 use Rattle.semver_ranges.specs.Meeting.{meets_comparator, meets_range, meets_set}
 use Rattle.semver_ranges.specs.StatedPreReleases.{states_pre_release_at}
@@ -24,6 +24,8 @@ use Rattle.semver_ranges.proofs.Rows.{Step, Tail, same, past, floor, numbers_ste
 use Rattle.semver_ranges.proofs.SetMeanings.{stated_shape}
 use Rattle.semver_texts.proofs.Lists.{by_test}
 use Rattle.version_sets.specs.VersionSets.{Fits}
+use Rattle.tool_ranges.specs.AnySize.{comparator_any, set_any}
+use Rattle.tool_ranges.proofs.AnySizes.{counting_any, judged_any, one_range_any, pre_any}
 use Rattle.tool_ranges.specs.CargoMeaning.{has_wildcard, as_read, meets_by_count, meets_one}
 use Rattle.tool_ranges.specs.declared.cargo.judging.JudgedVersions.TheVariants.{PreReleases}
 use Rattle.tool_ranges.specs.Steps.CargoPreReleases.{below_all, counting, counting_one, greatest, judged_by_count, judging, judging_one}
@@ -137,17 +139,22 @@ module _ (v : PlainVersion) (small : Fits v) (pre : is_empty v.pre ≡ false) wh
   any_judges form (Shape.two x y) p named = judges_two form x y p named
   any_judges form (Shape.three x y w) p named = exact_row v Cargo form (Shape.three x y w) p
 
-  one_judges : (s : Simple) → list_all (meets_comparator v) (judging_one PreReleases s) ≡ meets_one s v
-  one_judges s = any_judges (as_read s).form (stated_shape s.partial) (pre_release s.partial) (never_bare (has_wildcard s.partial) s.form)
+  one_judges : (s : Simple) → list_all (meets_comparator v) (map comparator_any (judging_one PreReleases s)) ≡ meets_one s v
+  one_judges s =
+      ap (list_all (meets_comparator v)) (judged_any (as_read s).form (stated s.partial) (zero_filled s.partial))
+      ∙ any_judges (as_read s).form (stated_shape s.partial) (pre_any s.partial) (never_bare (has_wildcard s.partial) s.form)
 
   all_judge : (tree : List Simple)
-      → list_all (meets_comparator v) (flat_map (judging_one PreReleases) tree) ≡ list_all (λ s. meets_one s v) tree
+      → list_all (meets_comparator v) (flat_map (λ s. map comparator_any (judging_one PreReleases s)) tree)
+      ≡ list_all (λ s. meets_one s v) tree
   all_judge [] = refl
-  all_judge (s ∷ others) = list_all-append (meets_comparator v) (judging_one PreReleases s) (flat_map (judging_one PreReleases) others)
+  all_judge (s ∷ others) = list_all-append (meets_comparator v) (map comparator_any (judging_one PreReleases s))
+      (flat_map (λ s. map comparator_any (judging_one PreReleases s)) others)
       ∙ (λ i. one_judges s i && all_judge others i)
 
-  pub judged : (tree : List Simple) → meets_set v (judging PreReleases tree) ≡ list_all (λ s. meets_one s v) tree
-  judged tree = or-false _ ∙ all_judge tree
+  pub judged : (tree : List Simple) → meets_set v (set_any (judging PreReleases tree)) ≡ list_all (λ s. meets_one s v) tree
+  judged tree =
+      or-false _ ∙ ap (list_all (meets_comparator v)) (one_range_any (judging_one PreReleases) tree) ∙ all_judge tree
 
 -- ---- the pre-releases that count
 
@@ -185,5 +192,5 @@ module _ (v : PlainVersion) where
       ∙ both (not (is_empty v.pre)) (states_pre_release_at (of_simple s) v) (list_any (λ s. states_pre_release_at (of_simple s) v) others)
 
   pub counted : (tree : List Simple)
-      → meets_set v (counting tree) ≡ (not (is_empty v.pre) && list_any (λ s. states_pre_release_at (of_simple s) v) tree)
-  counted tree = all_count tree
+      → meets_set v (set_any (counting tree)) ≡ (not (is_empty v.pre) && list_any (λ s. states_pre_release_at (of_simple s) v) tree)
+  counted tree = ap (meets_set v) (counting_any tree) ∙ all_count tree

@@ -20,13 +20,16 @@ use Rattle.semver_ranges.specs.RangeTree.{PartialTree, is_wildcard}
 use Rattle.semver_texts.specs.Texts.{Text, is_empty}
 use Rattle.semver_texts.specs.Precedence.{pre_cmp}
 use Rattle.semver_texts.specs.Versions.{IdentifierValue, PlainVersion}
-use Rattle.semver_ranges.specs.Partials.{filled, stated, states_nothing, pre_release}
+use Rattle.semver_ranges.specs.Partials.{filled, stated, states_nothing}
 use Rattle.semver_ranges.specs.RewritingTable.{PlainComparator, cell, comparator, up, written_cell}
 use Rattle.semver_ranges.specs.ExactBounds.{lowest_pre_release}
 use Rattle.semver_ranges.specs.Meeting.{meets_comparator, meets_set}
 use Rattle.semver_ranges.proofs.Rows.{Step, Shape, exact_row}
 use Rattle.semver_ranges.proofs.SetMeanings.{stated_shape}
 use Rattle.semver_texts.proofs.Lists.{by_test}
+use Rattle.std.proofs.Common.{map}
+use Rattle.tool_ranges.specs.AnySize.{comparator_any}
+use Rattle.tool_ranges.proofs.AnySizes.{one_range_any, pre_any, release_set, written_any_is}
 use Rattle.tool_ranges.specs.CargoGrammar.{is_one, is_of_cargo, SpellsComparators}
 use Rattle.tool_ranges.specs.CargoMeaning.{has_wildcard, named, as_read, meets_by_count, meets_one, meets_requirement}
 use Rattle.tool_ranges.specs.CargoTable.{written_one, rewritten_requirement}
@@ -214,8 +217,9 @@ every_equal s e none = elim (or_cases _ (not (states_nothing s.partial)) (and_pa
   wild (three a b c pre build) o none = cc
 
 one_meets : (v : PlainVersion) (s : Simple) → v.pre ≡ [] → is_of_cargo s ≡ true
-    → list_all (meets_comparator v) (written_one s) ≡ meets_one s v
-one_meets v s release e = any_row v release (as_read s).form (stated_shape s.partial) (pre_release s.partial) (λ n. rw n refl)
+    → list_all (meets_comparator v) (map comparator_any (written_one s)) ≡ meets_one s v
+one_meets v s release e = ap (list_all (meets_comparator v)) (written_any_is Cargo (as_read s))
+    ∙ any_row v release (as_read s).form (stated_shape s.partial) (pre_any s.partial) (λ n. rw n refl)
     (never_bare (has_wildcard s.partial) s.form) (every_equal s e)
 
 module _ (v : PlainVersion) (written : Simple → List PlainComparator) (meets : Simple → Bool)
@@ -231,6 +235,9 @@ module _ (v : PlainVersion) (written : Simple → List PlainComparator) (meets :
 pub requirement_meets : (v : PlainVersion) (tree : List Simple) (t : Text) → v.pre ≡ [] → SpellsComparators tree t
     → meets_set v (rewritten_requirement tree) ≡ meets_requirement tree v
 requirement_meets v tree t release h =
-    or-false _ ∙ all_meet v written_one (λ s. meets_one s v) (λ s e. one_meets v s release e) tree t h ∙ sym (and-true _)
+    sym (release_set v (rewritten_requirement tree) (ap is_empty release))
+    ∙ or-false _ ∙ ap (list_all (meets_comparator v)) (one_range_any written_one tree)
+    ∙ all_meet v (λ s. map comparator_any (written_one s)) (λ s. meets_one s v) (λ s e. one_meets v s release e) tree t h
+    ∙ sym (and-true _)
     ∙ ap (λ b. list_all (λ s. meets_one s v) tree && b) (sym (ap (λ q. is_empty q || list_any
     (λ s. states_pre_release_at (of_simple s) v) tree) release))

@@ -13,6 +13,8 @@ use Rattle.semver_texts.specs.Texts.{Text, is_empty}
 use Rattle.semver_texts.specs.Versions.{PlainVersion}
 use Rattle.semver_texts.proofs.Lists.{by_test}
 use Rattle.version_sets.specs.VersionSets.{Fits}
+use Rattle.tool_ranges.specs.AnySize.{range_any, set_any}
+use Rattle.tool_ranges.proofs.AnySizes.{release_set}
 use Rattle.tool_ranges.specs.CargoGrammar.{SpellsComparators}
 use Rattle.tool_ranges.specs.CargoMeaning.{meets_requirement}
 use Rattle.tool_ranges.specs.CargoTable.{rewritten_requirement}
@@ -41,21 +43,21 @@ of_pre_release true x a p m s is counts means = cc
 of_pre_release false x a p m s is counts means = cc
 
 pub all_meant : (v : PlainVersion) (tree : List Simple) (t : Text) → Fits v → SpellsComparators tree t
-    → ((is_empty v.pre && meets_set v (rewritten_requirement tree))
-    || (meets_set v (judging PreReleases tree) && meets_set v (counting tree)))
+    → ((is_empty v.pre && meets_set v (set_any (rewritten_requirement tree)))
+    || (meets_set v (set_any (judging PreReleases tree)) && meets_set v (set_any (counting tree))))
     ≡ meets_requirement tree v
 all_meant v tree t small h = by_test (is_empty v.pre)
     (λ y. of_release _ _ _ _ _ _ y (counted v tree)
-    (requirement_meets v tree t (none_of v.pre y) h))
+    (release_set v (rewritten_requirement tree) y ∙ requirement_meets v tree t (none_of v.pre y) h))
     (λ n. of_pre_release _ _ _ _ _ _ n (counted v tree) (judged v small n tree))
 
 -- where none counts, the releases alone
 pub releases_meant : (v : PlainVersion) (tree : List Simple) (t : Text) → Fits v → SpellsComparators tree t
-    → flat_map counting_one tree ≡ [] → (is_empty v.pre && meets_set v (rewritten_requirement tree)) ≡ meets_requirement tree v
+    → flat_map counting_one tree ≡ [] → (is_empty v.pre && meets_set v (set_any (rewritten_requirement tree))) ≡ meets_requirement tree v
 releases_meant v tree t small h none =
     sym (or-false _)
-    ∙ ap (λ b. (is_empty v.pre && meets_set v (rewritten_requirement tree)) || b)
-    (sym (ap (λ b. meets_set v (judging PreReleases tree) && b) (ap (λ (rs : List PlainRange). list_any (meets_range v) rs) none)
+    ∙ ap (λ b. (is_empty v.pre && meets_set v (set_any (rewritten_requirement tree))) || b)
+    (sym (ap (λ b. meets_set v (set_any (judging PreReleases tree)) && b) (ap (λ (rs : List PlainRange). list_any (meets_range v) (map range_any rs)) none)
     ∙ and-false _))
     ∙ all_meant v tree t small h
 

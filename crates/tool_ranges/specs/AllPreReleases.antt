@@ -14,9 +14,10 @@ use Rattle.semver_ranges.specs.declared.range.Compat.TheVariants.{Cargo, Npm}
 use Rattle.semver_ranges.specs.RangeTree.{Form, less, at_most, greater, at_least, tilde, caret}
 use Rattle.semver_ranges.specs.RangeTree.{PartialTree, Simple, RangeTree, empty, hyphen, simples}
 use Rattle.semver_ranges.specs.RangeTree.{SetTree}
-use Rattle.semver_ranges.specs.Partials.{stated, zero_filled}
+use Rattle.semver_ranges.specs.Partials.{stated}
 use Rattle.semver_ranges.specs.Terms.{right_side}
 use Rattle.semver_ranges.specs.OwnMeaning.{agrees, agrees_past_zeros, meets_form}
+use Rattle.tool_ranges.specs.AnySize.{zero_filled_any}
 use Rattle.tool_ranges.specs.CargoMeaning.{against, as_read}
 
 -- fewer than three numbers stated: by as many numbers of the version. By precedence are Cargo's `<`
@@ -49,7 +50,7 @@ meets_counted mode form s z v =
     if length s == 3 then meets_three mode form s z v else meets_few mode form s z v
 
 abbrev pub meets_one : Compat → Simple → PlainVersion → Bool
-meets_one mode s v = meets_counted mode s.form (stated s.partial) (zero_filled s.partial) v
+meets_one mode s v = meets_counted mode s.form (stated s.partial) (zero_filled_any s.partial) v
 
 -- whether a version meets a requirement: each comparator
 abbrev pub meets_requirement_with_all : List Simple → PlainVersion → Bool
@@ -57,7 +58,7 @@ meets_requirement_with_all tree v = list_all (λ s. meets_one Cargo (as_read s) 
 
 -- whether a version meets a range of npm. The left side of a hyphen range begins with its numbers
 abbrev pub meets_left : PartialTree → PlainVersion → Bool
-meets_left p v = is_from_numbers (stated p) (zero_filled p) v
+meets_left p v = is_from_numbers (stated p) (zero_filled_any p) v
 
 abbrev pub meets_range_with_all : RangeTree → PlainVersion → Bool
 meets_range_with_all empty v = true

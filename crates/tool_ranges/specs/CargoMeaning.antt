@@ -11,10 +11,11 @@ use Rattle.semver_texts.specs.Texts.{is_empty}
 use Rattle.semver_texts.specs.Versions.{numbers, PlainVersion}
 use Rattle.semver_ranges.specs.RangeTree.{Form, bare, equal, less, at_most, greater, at_least}
 use Rattle.semver_ranges.specs.RangeTree.{caret, PartialTree, Simple, components, is_wildcard}
-use Rattle.semver_ranges.specs.Partials.{stated, zero_filled}
+use Rattle.semver_ranges.specs.Partials.{stated}
 use Rattle.semver_ranges.specs.Terms.{of_simple}
 use Rattle.semver_ranges.specs.OwnMeaning.{agrees_past_zeros, meets_form}
 use Rattle.semver_ranges.specs.StatedPreReleases.{states_pre_release_at}
+use Rattle.tool_ranges.specs.AnySize.{zero_filled_any}
 
 -- whether some component is a wildcard
 abbrev pub has_wildcard : PartialTree → Bool
@@ -54,7 +55,8 @@ meets_by_count form (a ∷ b ∷ c ∷ rest) z v = meets_form Cargo form (a ∷ 
 
 -- whether a version meets a comparator
 abbrev pub meets_one : Simple → PlainVersion → Bool
-meets_one s v = meets_by_count (as_read s).form (stated s.partial) (zero_filled s.partial) v
+meets_one s v =
+    meets_by_count (as_read s).form (stated s.partial) (zero_filled_any s.partial) v
 
 -- whether a version counts: a release does, and a pre-release where some comparator states its
 -- three numbers and a pre-release

@@ -1,5 +1,6 @@
 pub mod CargoGrammar
 pub mod CargoMeaning
+pub mod AnySize
 pub mod CargoTable
 pub mod ToolTable
 pub mod NpmGrammar

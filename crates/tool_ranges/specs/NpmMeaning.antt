@@ -14,6 +14,7 @@ use Rattle.semver_ranges.specs.Terms.{Term, of_simple, of_nothing, terms}
 use Rattle.semver_ranges.specs.OwnMeaning.{agrees, agrees_past_zeros}
 use Rattle.semver_ranges.specs.RewritingTable.{up}
 use Rattle.semver_ranges.specs.StatedPreReleases.{counts_in}
+use Rattle.tool_ranges.specs.AnySize.{zero_filled_any}
 use Rattle.tool_ranges.specs.CargoMeaning.{against}
 
 -- 0.0.0, below which npm doesn't look
@@ -58,7 +59,8 @@ meets_by_count form (a ∷ b ∷ c ∷ rest) z v = meets_three_stated form (a �
 
 -- whether a version meets a term
 abbrev pub meets_one : Term → PlainVersion → Bool
-meets_one (of_simple s) v = meets_by_count s.form (stated s.partial) (zero_filled s.partial) v
+meets_one (of_simple s) v =
+    meets_by_count s.form (stated s.partial) (zero_filled_any s.partial) v
 meets_one of_nothing v = true
 
 -- whether npm asks nothing of a version by a term: the empty range, `>=0.0.0`, and what states no

@@ -3,6 +3,7 @@
 
 ghost use Rattle.std.specs.Prelude.{◌≡◌, true, length};
 ghost use Rattle.std.specs.Ordering.{is_ge};
+ghost use Rattle.semver_texts.specs.Digits.{plain_by};
 ghost use Rattle.semver_texts.specs.Precedence.{precedence};
 ghost use Rattle.semver_texts.specs.Texts.{is_empty};
 ghost use Rattle.semver_texts.specs.Versions.{numbers};
@@ -18,18 +19,21 @@ ghost use Rattle.tool_ranges.specs.ToolTable.{states_some};
 use semver_parser::version::Outline;
 use semver_ranges::comparing::InRanges;
 use semver_ranges::partial::{Partial, PartialKind};
-use semver_texts::identifiers::Joined;
+use semver_texts::grammar::Digits;
+use semver_texts::identifiers::{ByDigits, Joined};
 use semver_texts::precedence::compare;
 use semver_versions::comparing::InVersions;
 use std::cmp::Ordering;
 
-/// The numbers of a version, and the identifiers of its pre-release joined by dots.
+/// The numbers of a version, the identifiers of its pre-release joined by dots, and how those of
+/// digits alone are read.
 #[derive(Clone, Copy)]
 pub(crate) struct Asked<'t> {
     major: u64,
     minor: u64,
     patch: u64,
     pre: &'t [u8],
+    digits: Digits,
 }
 
 impl<'t> Asked<'t> {
@@ -44,6 +48,7 @@ impl<'t> Asked<'t> {
             minor: version.minor(),
             patch: version.patch(),
             pre: version.pre().as_bytes(),
+            digits: version.digits(),
         }
     }
 
@@ -56,27 +61,31 @@ impl<'t> Asked<'t> {
             minor: 0,
             patch: 0,
             pre: &[],
+            digits: Digits::Kept,
         }
     }
 
     /// Whether it has no pre-release.
     #[inline(always)]
+    #[tactic(auto, using(version_sets::proofs::DigitLaws::by_empty))]
     pub(crate) fn is_release(&self) -> bool
         ensures { result ≡ is_empty (asked_of self.now).pre }
     {
         self.pre.is_empty()
     }
 
-    /// How it compares with the zero-filled version of a partial by precedence.
+    /// How it compares by precedence with the zero-filled version of a partial, whose identifiers
+    /// of digits alone are read so.
     #[inline(always)]
-    pub(crate) fn precedence(&self, partial: &Partial<'_>) -> Ordering
-        ensures { result ≡ precedence (asked_of self.now) (version_of partial.now) }
+    pub(crate) fn precedence(&self, partial: &Partial<'_>, digits: Digits) -> Ordering
+        ensures { result
+            ≡ precedence (asked_of self.now) (plain_by digits (version_of partial.now)) }
     {
         compare(
             (self.major, self.minor, self.patch),
-            Joined::of(self.pre, InVersions),
+            ByDigits::of(Joined::of(self.pre, InVersions), self.digits),
             (partial.major(), partial.minor(), partial.patch()),
-            Joined::of(partial.pre(), InRanges),
+            ByDigits::of(Joined::of(partial.pre(), InRanges), digits),
         )
     }
 

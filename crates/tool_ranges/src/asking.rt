@@ -2,6 +2,7 @@
 //! precedence against the zero-filled version of the term, and by the numbers that it states.
 
 ghost use Rattle.std.specs.Prelude.{◌≡◌, [], true};
+ghost use Rattle.semver_texts.specs.Digits.{plain_by};
 ghost use Rattle.semver_texts.specs.Texts.{is_empty};
 ghost use Rattle.semver_ranges.specs.OwnMeaning as own;
 ghost use Rattle.semver_ranges.specs.Partials.{zero_version};
@@ -10,24 +11,25 @@ ghost use Rattle.semver_ranges.specs.Steps.PartialViews.{stated_of, version_of};
 ghost use Rattle.tool_ranges.specs.AllPreReleases as all;
 ghost use Rattle.tool_ranges.specs.CargoMeaning as cargo;
 ghost use Rattle.tool_ranges.specs.NpmMeaning as npm;
-ghost use Rattle.tool_ranges.specs.Steps.Asking.{asked_of};
+ghost use Rattle.tool_ranges.specs.Steps.Asking.{asked_of, read_any};
 ghost use Rattle.tool_ranges.specs.ToolTable.{states_some};
 
 use crate::asked::Asked;
 use semver_ranges::Compat;
 use semver_ranges::grammar::{Form, Simple};
 use semver_ranges::partial::{Partial, PartialKind};
+use semver_texts::grammar::Digits;
 
 /// As Cargo reads it, which pre-releases count aside.
 #[inline(always)]
 pub(crate) fn meets_cargo(simple: &Simple<'_>, version: &Asked<'_>) -> bool
     ensures { result ≡ cargo.meets_by_count (form_of simple.now.form) (stated_of simple.now.partial)
-        (version_of simple.now.partial) (asked_of version.now) }
+        (read_any simple.now.partial) (asked_of version.now) }
 {
     match simple.partial.kind() {
         PartialKind::XRangeOnly => version.is_release(),
         PartialKind::MajorOnly | PartialKind::MajorMinor => meets_some_of_cargo(simple, version),
-        PartialKind::MajorMinorPatch => meets_form(simple, Compat::Cargo, version),
+        PartialKind::MajorMinorPatch => meets_form(simple, Compat::Cargo, version, Digits::AnySize),
     }
 }
 
@@ -53,7 +55,7 @@ fn meets_some_of_cargo(simple: &Simple<'_>, version: &Asked<'_>) -> bool
 #[inline(always)]
 pub(crate) fn meets_npm(simple: &Simple<'_>, version: &Asked<'_>) -> bool
     ensures { result ≡ npm.meets_by_count (form_of simple.now.form) (stated_of simple.now.partial)
-        (version_of simple.now.partial) (asked_of version.now) }
+        (read_any simple.now.partial) (asked_of version.now) }
 {
     match simple.partial.kind() {
         PartialKind::XRangeOnly => !matches!(simple.form, Form::Less | Form::Greater),
@@ -67,7 +69,7 @@ pub(crate) fn meets_npm(simple: &Simple<'_>, version: &Asked<'_>) -> bool
 fn meets_some_of_npm(simple: &Simple<'_>, version: &Asked<'_>) -> bool
     requires { states_some (stated_of simple.now.partial) ≡ true }
     ensures { result ≡ npm.meets_some_stated (form_of simple.now.form)
-        (stated_of simple.now.partial) (version_of simple.now.partial) (asked_of version.now) }
+        (stated_of simple.now.partial) (read_any simple.now.partial) (asked_of version.now) }
 {
     let partial = &simple.partial;
     match simple.form {
@@ -86,26 +88,27 @@ fn meets_some_of_npm(simple: &Simple<'_>, version: &Asked<'_>) -> bool
 #[inline(always)]
 fn meets_three_of_npm(simple: &Simple<'_>, version: &Asked<'_>) -> bool
     ensures { result ≡ npm.meets_three_stated (form_of simple.now.form)
-        (stated_of simple.now.partial) (version_of simple.now.partial) (asked_of version.now) }
+        (stated_of simple.now.partial) (read_any simple.now.partial) (asked_of version.now) }
 {
     let partial = &simple.partial;
     match simple.form {
-        Form::Less => version.precedence(partial).is_lt(),
-        Form::AtMost => version.precedence(partial).is_le(),
-        Form::Greater => version.precedence(partial).is_gt(),
+        Form::Less => version.precedence(partial, Digits::AnySize).is_lt(),
+        Form::AtMost => version.precedence(partial, Digits::AnySize).is_le(),
+        Form::Greater => version.precedence(partial, Digits::AnySize).is_gt(),
         Form::AtLeast => is_from(partial, version),
         Form::Tilde => is_from(partial, version) && version.agrees_on_two(partial),
         Form::Caret => is_from(partial, version) && version.agrees_past_zeros(partial),
-        Form::Bare | Form::Equal => version.precedence(partial).is_eq(),
+        Form::Bare | Form::Equal => version.precedence(partial, Digits::AnySize).is_eq(),
     }
 }
 
 /// Not below the zero-filled version; any version where that is 0.0.0.
 #[inline(always)]
+#[tactic(auto, using(crate::proofs::AnySizes::zero_any))]
 fn is_from(partial: &Partial<'_>, version: &Asked<'_>) -> bool
-    ensures { result ≡ npm.is_from (version_of partial.now) (asked_of version.now) }
+    ensures { result ≡ npm.is_from (read_any partial.now) (asked_of version.now) }
 {
-    is_zero(partial) || version.precedence(partial).is_ge()
+    is_zero(partial) || version.precedence(partial, Digits::AnySize).is_ge()
 }
 
 /// Whether the zero-filled version is 0.0.0.
@@ -123,14 +126,14 @@ pub(crate) fn is_zero(partial: &Partial<'_>) -> bool
 #[inline(always)]
 pub(crate) fn meets_all(simple: &Simple<'_>, compat: Compat, version: &Asked<'_>) -> bool
     ensures { result ≡ all.meets_counted compat (form_of simple.now.form)
-        (stated_of simple.now.partial) (version_of simple.now.partial) (asked_of version.now) }
+        (stated_of simple.now.partial) (read_any simple.now.partial) (asked_of version.now) }
 {
     if simple.partial.states_three() {
         return meets_three_of_all(simple, compat, version);
     }
     let partial = &simple.partial;
     match (compat, simple.form) {
-        (Compat::Cargo, Form::Less) => version.precedence(partial).is_lt(),
+        (Compat::Cargo, Form::Less) => version.precedence(partial, Digits::AnySize).is_lt(),
         (Compat::Npm, Form::Less) => version.against(partial).is_lt(),
         (_, Form::AtMost) => version.against(partial).is_le(),
         (_, Form::Greater) => version.against(partial).is_gt(),
@@ -139,7 +142,7 @@ pub(crate) fn meets_all(simple: &Simple<'_>, compat: Compat, version: &Asked<'_>
             version.against(partial).is_ge() && version.agrees_past_zeros(partial)
         }
         (Compat::Npm, Form::Tilde) => {
-            (partial.states_nothing() || version.precedence(partial).is_ge())
+            (partial.states_nothing() || version.precedence(partial, Digits::AnySize).is_ge())
                 && version.agrees(partial)
         }
         _ => version.agrees(partial),
@@ -150,25 +153,26 @@ pub(crate) fn meets_all(simple: &Simple<'_>, compat: Compat, version: &Asked<'_>
 #[inline(always)]
 fn meets_three_of_all(simple: &Simple<'_>, compat: Compat, version: &Asked<'_>) -> bool
     ensures { result ≡ all.meets_three compat (form_of simple.now.form)
-        (stated_of simple.now.partial) (version_of simple.now.partial) (asked_of version.now) }
+        (stated_of simple.now.partial) (read_any simple.now.partial) (asked_of version.now) }
 {
     let partial = &simple.partial;
     match (compat, simple.form) {
         (Compat::Npm, Form::Caret) if partial.major() == 0 => {
             is_from_numbers(partial, version) && version.agrees_past_zeros(partial)
         }
-        _ => meets_form(simple, compat, version),
+        _ => meets_form(simple, compat, version, Digits::AnySize),
     }
 }
 
 /// Not below the zero-filled version; where that has no pre-release, not below its numbers.
 #[inline(always)]
+#[tactic(auto, using(version_sets::proofs::DigitLaws::by_empty))]
 fn is_from_numbers(partial: &Partial<'_>, version: &Asked<'_>) -> bool
-    ensures { result ≡ all.is_from_numbers (stated_of partial.now) (version_of partial.now)
+    ensures { result ≡ all.is_from_numbers (stated_of partial.now) (read_any partial.now)
         (asked_of version.now) }
 {
     if partial.has_pre_release() {
-        version.precedence(partial).is_ge()
+        version.precedence(partial, Digits::AnySize).is_ge()
     } else {
         version.against(partial).is_ge()
     }
@@ -182,22 +186,23 @@ pub(crate) fn meets_crate(simple: &Simple<'_>, compat: Compat, version: &Asked<'
         (stated_of simple.now.partial) (version_of simple.now.partial) (asked_of version.now) }
 {
     if !simple.partial.states_nothing() {
-        return meets_form(simple, compat, version);
+        return meets_form(simple, compat, version, Digits::Kept);
     }
     match simple.form {
-        Form::Less | Form::Greater => version.precedence(&simple.partial).is_lt(),
-        _ => version.precedence(&simple.partial).is_ge(),
+        Form::Less | Form::Greater => version.precedence(&simple.partial, Digits::Kept).is_lt(),
+        _ => version.precedence(&simple.partial, Digits::Kept).is_ge(),
     }
 }
 
-/// Some number stated, by the crate.
+/// Some number stated, by the crate, whose identifiers of digits alone are read so.
 #[inline(always)]
-fn meets_form(simple: &Simple<'_>, compat: Compat, version: &Asked<'_>) -> bool
+fn meets_form(simple: &Simple<'_>, compat: Compat, version: &Asked<'_>, digits: Digits) -> bool
     ensures { result ≡ own.meets_form compat (form_of simple.now.form)
-        (stated_of simple.now.partial) (version_of simple.now.partial) (asked_of version.now) }
+        (stated_of simple.now.partial) (plain_by digits (version_of simple.now.partial))
+        (asked_of version.now) }
 {
     let partial = &simple.partial;
-    let order = version.precedence(partial);
+    let order = version.precedence(partial, digits);
     let states_three = partial.states_three();
     match (simple.form, compat) {
         (Form::Bare, Compat::Cargo) if states_three => {

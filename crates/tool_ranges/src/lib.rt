@@ -1,6 +1,7 @@
 //! Range texts as Cargo and npm themselves read them, which differs from the port's two modes.
 #![tactic(auto)]
 
+mod any_size;
 mod asked;
 mod asking;
 pub mod cargo;

@@ -8,6 +8,7 @@ use Rattle.std.specs.List.{AllByRecursion}
 use Rattle.std.specs.Ordering.{is_ge}
 use Rattle.semver_parser.specs.Versions.{PlainVersion, IdentifierValue}
 use Rattle.semver_parser.specs.Precedence.{precedence}
+use Rattle.version_sets.specs.declared.pre_release.PreRelease.{PreRelease}
 use Rattle.version_sets.specs.declared.release.Release.{Release}
 use Rattle.version_sets.specs.Releases.{release_value}
 use Rattle.version_sets.specs.Steps.Places.{set_of, version_place}
@@ -46,7 +47,7 @@ pub two_switches : (from to : Release) (v : PlainVersion)
 two_switches from to v = two_at from to v.major v.minor v.patch v.pre
 
 -- the set that has these two switches alone has what lies between them
-pub between_two : (rs items : List Release) (ps : List Version) (n : ℕ) (set : SetValue) (vs : List Version) (d e : Release)
+pub between_two : (rs items : List Release) (ps : List PreRelease) (n : ℕ) (set : SetValue) (vs : List Version) (d e : Release)
     → 2 ≤ length rs → length rs < 3 → rs ≡ items → true ≡ (n == 0) → n ≡ length ps → set_of items ps ≡ set
     → map (λ v. is_release_between (get_or rs 0 d) (Some (get_or rs 1 e)) (version_place v)) vs ≡ map (λ v. has set (version_place v)) vs
 between_two [] items ps n set vs d e low high is none long told = absurd (omega arith)

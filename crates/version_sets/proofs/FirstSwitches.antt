@@ -4,6 +4,7 @@ use Rattle.std.proofs.Common.{arith, ◌≡◌, ◌≢◌, ◌↔◌, Bool, true
 use Rattle.std.proofs.Common.{sym, ap, ◌∙◌, subst, true≢false, Less, Option, Some, None, map, Bor}
 use Rattle.std.specs.Option.{option_copied}
 use Rattle.std.specs.Prelude.{MatchOption, IfSome, slice_get, option_map}
+use Rattle.semver_texts.specs.Digits.{plain_kept}
 use Rattle.semver_parser.specs.VersionViews.{version_value}
 use Rattle.semver_parser.specs.declared.version.Version.{Version}
 use Rattle.version_sets.specs.Comparisons.{TellsLeast, IsLeastOf, LeastIsPreRelease, IsInFirstAlone, IsInBoth}
@@ -125,19 +126,19 @@ first_copied {X = X} f o xs ys e is = after o ∙ ap (option_map f) e ∙ ap (λ
 
 -- what is told of it as a version without a build
 pub record IsTold (set : SetValue) (least : Option Version) : Type 0 where
-  pub is_least : IfSome least (λ v. IsLeast Fits set (version_value v).plain)
+  pub is_least : IfSome least (λ v. (p : PlainVersion) × IsLeast Fits set p × ((version_value v).plain ≡ plain_kept p))
   pub no_build : IfSome least (λ v. (version_value v).build ≡ [])
   pub none : (least ≡ None) ↔ HasNone Fits set
 
 pub is_told : (set : SetValue) (o : Option PlainVersion) → TellsPlain Fits set o → (least : Option Version)
-    → option_map version_value least ≡ option_map without_build o → IsTold set least
+    → option_map version_value least ≡ option_map (λ v. without_build (plain_kept v)) o → IsTold set least
 is_told set None told None e = record { is_least = tt; no_build = tt; none = (λ _. told, λ _. refl) }
 is_told set None told (Some v) e = absurd (cc)
 is_told set (Some w) told None e = absurd (cc)
 is_told set (Some w) told (Some v) e =
-    let same : version_value v ≡ without_build w = cc in
+    let same : version_value v ≡ without_build (plain_kept w) = cc in
     record {
-      is_least = subst (λ (u : VersionValue). IsLeast Fits set u.plain) (sym same) told;
+      is_least = (w, told, ap (λ (u : VersionValue). u.plain) same);
       no_build = ap (λ (u : VersionValue). u.build) same;
       none = (λ n. cc, λ none. absurd (none w told.is_in.0 told.is_in));
     }
@@ -154,7 +155,12 @@ module _ (how : Combination) (a b : SetValue) (s : IsNormal a) (t : IsNormal b) 
   -- what is told of a combination
   pub kept_least : (least : Option Version) → IsTold (combined_sets how a b) least → TellsLeast (IsKept how a b) least
   kept_least None told = λ v kept. told.none.0 refl v kept.0 (kept.0, has-combined how a b s t v ∙ kept.1)
-  kept_least (Some version) told = kept_least_of (version_value version) told.no_build told.is_least
+  kept_least (Some version) told =
+      let w : VersionValue = without_build told.is_least.0 in (
+        w,
+        kept_least_of w refl told.is_least.1,
+        λ i. record { plain = told.is_least.2 i; build = told.no_build i },
+      )
 
   -- a first pre-release that is the least of both kinds is the least of what is kept
   pub kept_pre_release : (p : PlainVersion) → slice_get (combined_sets how a b).pre_releases 0 ≡ Some p
@@ -192,3 +198,19 @@ module _ (a b : SetValue) where
 
   pub shared_pre_release : LeastIsPreRelease (IsKept Intersection a b) → LeastIsPreRelease (IsInBoth a b)
   shared_pre_release = the_same _ _ kept_both both_kept
+
+  -- so with what is told of them
+  tells_same : (P Q : PlainVersion → Type 0) → ((v : PlainVersion) → P v → Q v) → ((v : PlainVersion) → Q v → P v)
+      → (least : Option Version) → TellsLeast P least → TellsLeast Q least
+  tells_same P Q f g None none = λ v q. none v (g v q)
+  tells_same P Q f g (Some version) (v, l, kept) = (
+    v,
+    record { is_one = f v.plain l.is_one; no_build = l.no_build; lowest = λ w q. l.lowest w (g w q) },
+    kept,
+  )
+
+  pub alone_tells : (least : Option Version) → TellsLeast (IsKept Difference a b) least → TellsLeast (IsInFirstAlone a b) least
+  alone_tells = tells_same _ _ kept_alone alone_kept
+
+  pub shared_tells : (least : Option Version) → TellsLeast (IsKept Intersection a b) least → TellsLeast (IsInBoth a b) least
+  shared_tells = tells_same _ _ kept_both both_kept

@@ -9,25 +9,26 @@ use Rattle.std.proofs.lemmas.List.{length-drop, length-map, length-take}
 use Rattle.std.proofs.Math.Seq.{drop-append_seam, drop-nil, take-append_seam}
 use Rattle.std.specs.List.{AllByRecursion, flat_map, list_all}
 use Rattle.semver_parser.specs.Outlines.{dotted_text}
-use Rattle.semver_parser.specs.Partials.{fits_u64, kept}
+use Rattle.semver_parser.specs.Partials.{kept}
 use Rattle.semver_parser.specs.Precedence.{precedence}
-use Rattle.semver_parser.specs.PrintedRanges.{is_printable_version}
 use Rattle.semver_parser.specs.Texts.{Text, cut_at_dots, is_empty}
-use Rattle.semver_parser.specs.declared.version.Version.{Version}
-use Rattle.semver_parser.specs.Versions.{IdentifierValue, PlainVersion, numbers}
+use Rattle.version_sets.specs.declared.pre_release.PreRelease.{PreRelease}
+use Rattle.semver_parser.specs.Versions.{IdentifierValue, PlainVersion}
 use Rattle.version_sets.specs.declared.flat.FlatSwitch.{FlatSwitch}
 use Rattle.version_sets.specs.declared.release.Release.{Release}
 use Rattle.version_sets.specs.Releases.{release_value}
-use Rattle.version_sets.specs.Steps.Places.{set_of, version_place}
-use Rattle.version_sets.specs.Flat.{IsFlat, IsPrintable, flat_from, flat_switches, pre_text}
+use Rattle.version_sets.specs.Steps.Places.{set_of, pre_release_place}
+use Rattle.version_sets.specs.Flat.{IsFlat, IsPrintable, digits_code, flat_from, flat_switches, is_printable_switch, pre_text}
 use Rattle.version_sets.specs.Switches.{IsIncreasing}
 use Rattle.version_sets.specs.VersionSets.{IsNormal, IsPreRelease, IsRelease, SetValue}
 use Rattle.version_sets.specs.Steps.FlatForms.{IsFormed}
 use Rattle.version_sets.specs.Steps.FlatViews.{HasSmallNumbers, are_placed, flat_set, have_texts, headed, is_flat}
 use Rattle.version_sets.specs.Steps.FlatViews.{is_flat_list}
-use Rattle.version_sets.specs.Steps.FlatViews.{switch_value, text_at}
+use Rattle.version_sets.specs.Steps.FlatViews.{digits_of_code, switch_value, text_at}
 use Rattle.version_sets.proofs.FlatLists.{AreRead, AreWritten, are_printable, are_read, are_written, increasing_are, they_increase}
-use Rattle.version_sets.proofs.FlatTexts.{some_text}
+use Rattle.semver_texts.specs.Digits.{identifiers_by}
+use Rattle.version_sets.proofs.DigitLaws.{by_empty, by_none}
+use Rattle.version_sets.proofs.FlatTexts.{code_prints, some_text}
 
 -- ---- of one kind
 
@@ -42,12 +43,18 @@ no_text s = ap (take s.pre_length) (drop-nil s.pre_offset) ∙ take_none s.pre_l
 pub release_is : (s : FlatSwitch)
     → ◌≡◌ {A = PlainVersion} (record { major = s.major; minor = s.minor; patch = s.patch; pre = [] }) (switch_value [] s)
 release_is s =
-    λ i. record { major = s.major; minor = s.minor; patch = s.patch; pre = map kept (cut_at_dots (sym (no_text s) i)) }
+    λ i. record {
+      major = s.major;
+      minor = s.minor;
+      patch = s.patch;
+      pre = (sym (by_none (digits_of_code s.digits))
+          ∙ ap (λ t. identifiers_by (digits_of_code s.digits) (map kept (cut_at_dots t))) (sym (no_text s))) i;
+    }
 
 are_releases : (ss : List FlatSwitch) → AllByRecursion HasSmallNumbers ss → AllByRecursion IsRelease (map (switch_value []) ss)
 are_releases [] small = tt
 are_releases (s ∷ ss) small =
-    ((small.0, ap (λ t. is_empty (map kept (cut_at_dots t))) (no_text s)), are_releases ss small.1)
+    ((small.0, by_empty (digits_of_code s.digits) _ ∙ ap (λ t. is_empty (map kept (cut_at_dots t))) (no_text s)), are_releases ss small.1)
 
 -- there are identifiers where there is a text
 some_pre : (ids : List IdentifierValue) → 0 < length (dotted_text ids) → is_empty ids ≡ false
@@ -117,6 +124,7 @@ module _ (rs ps : List FlatSwitch) (bytes : Text) (small_rs : AllByRecursion Has
       patch = sym (length-map ps (switch_value bytes)) i;
       pre_offset = 0;
       pre_length = 0;
+      digits = 0;
     } ∷ (sym read_rs.switches i ++ sym read_ps.switches i));
     its_bytes = sym read_ps.texts;
   }
@@ -127,15 +135,15 @@ length_flat : (at : ℕ) (vs : List PlainVersion) → length (flat_from at vs) �
 length_flat at [] = refl
 length_flat at (v ∷ vs) = ap suc (length_flat (at + length (pre_text v)) vs)
 
-releases_print : (vs : List PlainVersion) → AllByRecursion IsRelease vs → list_all is_printable_version vs ≡ true
+releases_print : (vs : List PlainVersion) → AllByRecursion IsRelease vs → list_all is_printable_switch vs ≡ true
 releases_print [] all = refl
 releases_print (v ∷ vs) all = rw (prints v all.0) (releases_print vs all.1)
   where
-    prints : (v : PlainVersion) → IsRelease v → is_printable_version v ≡ true
+    prints : (v : PlainVersion) → IsRelease v → is_printable_switch v ≡ true
     prints v is = at v.pre v.major v.minor v.patch is.0.0 is.0.1 is.0.2 is.1
       where
         at : (pre : List IdentifierValue) (a b c : ℕ) → a < 2 ^ 64 → b < 2 ^ 64 → c < 2 ^ 64 → is_empty pre ≡ true
-            → is_printable_version (record { major = a; minor = b; patch = c; pre = pre }) ≡ true
+            → is_printable_switch (record { major = a; minor = b; patch = c; pre = pre }) ≡ true
         at [] a b c x y z e = grind (arith, nat_tests)
         at (id ∷ pre) a b c x y z e = cc
 
@@ -147,14 +155,14 @@ no_texts (v ∷ vs) all = (λ i. none v.pre all.0.1 i ++ no_texts vs all.1 i)
     none [] e = refl
     none (id ∷ pre) e = cc
 
-texts_are : (at : ℕ) (vs : List PlainVersion) → AllByRecursion IsPreRelease vs → list_all is_printable_version vs ≡ true
+texts_are : (at : ℕ) (vs : List PlainVersion) → AllByRecursion IsPreRelease vs → list_all is_printable_switch vs ≡ true
     → have_texts (flat_from at vs) ≡ true
 texts_are at [] all prints = refl
 texts_are at (v ∷ vs) all prints =
-    let both = and_parts (is_printable_version v) _ prints in
-    let ids = (and_parts (list_all fits_u64 (numbers v)) _ both.0).1 in
+    let both = and_parts (is_printable_switch v) _ prints in
+    let ids = code_prints v both.0 in
     let some : nat_lt 0 (length (pre_text v)) ≡ true
-    = has (dotted_text v.pre) (λ none. not_empty v.pre (some_text v.pre ids none) all.0.1) in
+    = has (dotted_text v.pre) (λ none. not_empty v.pre (some_text (digits_of_code (digits_code v)) v.pre ids none) all.0.1) in
     rw some (texts_are (at + length (pre_text v)) vs all.1 both.1)
   where
     has : (t : Text) → (t ≡ [] → ⊥) → nat_lt 0 (length t) ≡ true
@@ -253,37 +261,37 @@ module _ (rs ps : List FlatSwitch) (bytes : Text) (switches : List FlatSwitch) (
 
 -- ---- a set that is written
 
-module _ (rs : List Release) (ps : List Version) (set : SetValue) (is : set_of rs ps ≡ set) (normal : IsNormal (set_of rs ps))
-    (prints : list_all is_printable_version (map version_place ps) ≡ true) where
+module _ (rs : List Release) (ps : List PreRelease) (set : SetValue) (is : set_of rs ps ≡ set) (normal : IsNormal (set_of rs ps))
+    (prints : list_all is_printable_switch (map pre_release_place ps) ≡ true) where
   -- the head, the releases and the pre-releases, one after the other
   pub written : (n m : ℕ) (none begun more all : List FlatSwitch) (start bytes : Text) → n ≡ length rs → m ≡ length ps → none ≡ []
-      → start ≡ [] → begun ≡ none ++ record { major = 1; minor = n; patch = m; pre_offset = 0; pre_length = 0 } ∷ []
-      → more ≡ begun ++ flat_from 0 (map release_value rs) → all ≡ more ++ flat_from (length start) (map version_place ps)
-      → bytes ≡ start ++ flat_map pre_text (map version_place ps) → IsFlat all bytes set
+      → start ≡ [] → begun ≡ none ++ record { major = 1; minor = n; patch = m; pre_offset = 0; pre_length = 0; digits = 0 } ∷ []
+      → more ≡ begun ++ flat_from 0 (map release_value rs) → all ≡ more ++ flat_from (length start) (map pre_release_place ps)
+      → bytes ≡ start ++ flat_map pre_text (map pre_release_place ps) → IsFlat all bytes set
   written n m none begun more all start bytes n_is m_is none_is start_is begun_is more_is all_is bytes_is =
       subst (IsFlat all bytes) is (record {
         normal = normal;
         printable = prints;
         its_switches = all_is
-            ∙ (λ i. more_is i ++ flat_from (length (start_is i)) (map version_place ps))
-            ∙ (λ i. (begun_is i ++ flat_from 0 (map release_value rs)) ++ flat_from 0 (map version_place ps))
-            ∙ (λ i. ((none_is i ++ record { major = 1; minor = first i; patch = second i; pre_offset = 0; pre_length = 0 } ∷ [])
-            ++ flat_from 0 (map release_value rs)) ++ flat_from 0 (map version_place ps));
-        its_bytes = bytes_is ∙ (λ i. start_is i ++ flat_map pre_text (map version_place ps));
+            ∙ (λ i. more_is i ++ flat_from (length (start_is i)) (map pre_release_place ps))
+            ∙ (λ i. (begun_is i ++ flat_from 0 (map release_value rs)) ++ flat_from 0 (map pre_release_place ps))
+            ∙ (λ i. ((none_is i ++ record { major = 1; minor = first i; patch = second i; pre_offset = 0; pre_length = 0; digits = 0 } ∷ [])
+            ++ flat_from 0 (map release_value rs)) ++ flat_from 0 (map pre_release_place ps));
+        its_bytes = bytes_is ∙ (λ i. start_is i ++ flat_map pre_text (map pre_release_place ps));
       })
     where
       first : n ≡ length (map release_value rs)
       first = n_is ∙ sym (length-map rs release_value)
 
-      second : m ≡ length (map version_place ps)
-      second = m_is ∙ sym (length-map ps version_place)
+      second : m ≡ length (map pre_release_place ps)
+      second = m_is ∙ sym (length-map ps pre_release_place)
 
 -- a set that has an identifier that isn't printable
-pub not_printable : (rs : List Release) (ps : List Version) (set : SetValue) → set_of rs ps ≡ set → (r : Bool)
-    → r ≡ list_all is_printable_version (map version_place ps) → r ≡ false → IsPrintable set → ⊥
+pub not_printable : (rs : List Release) (ps : List PreRelease) (set : SetValue) → set_of rs ps ≡ set → (r : Bool)
+    → r ≡ list_all is_printable_switch (map pre_release_place ps) → r ≡ false → IsPrintable set → ⊥
 not_printable rs ps set is r told none prints =
-    let same : list_all is_printable_version (map version_place ps) ≡ list_all is_printable_version set.pre_releases
-    = ap (λ (s : SetValue). list_all is_printable_version s.pre_releases) is in
+    let same : list_all is_printable_switch (map pre_release_place ps) ≡ list_all is_printable_switch set.pre_releases
+    = ap (λ (s : SetValue). list_all is_printable_switch s.pre_releases) is in
     true≢false (sym prints ∙ sym same ∙ sym told ∙ none)
 
 -- ---- data of two sets
@@ -298,5 +306,6 @@ one_set switches bytes a b of_a of_b =
       patch = sym (length_flat 0 a.pre_releases) i;
       pre_offset = 0;
       pre_length = 0;
+      digits = 0;
     } ∷ (rs ++ ps)) in
     sym (read_as rs ps bytes switches a is of_a) ∙ read_as rs ps bytes switches b is of_b

@@ -3,6 +3,7 @@ mod WalkLaws
 mod ClonedPlaces
 mod SearchLaws
 mod EachAnswer
+pub mod DigitLaws
 mod Lists
 mod SetLaws
 mod SpanLaws

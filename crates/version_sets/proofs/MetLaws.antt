@@ -7,7 +7,6 @@ use Rattle.std.proofs.lemmas.List.Folds.{list_all-map, list_all_more, list_any_m
 use Rattle.std.specs.List.{list_all, list_any}
 use Rattle.std.specs.Cmp.Lexicographic.{pointwise}
 use Rattle.std.specs.Prelude.{nat_eq}
-use Rattle.semver_parser.specs.RangeViews.{comparator_of}
 use Rattle.semver_parser.specs.StatedPreReleases.{has_pre_release_at}
 use Rattle.semver_parser.specs.declared.Comparator.{Comparator}
 use Rattle.version_sets.proofs.Lists.{list_any-map}
@@ -24,23 +23,24 @@ use Rattle.version_sets.specs.Steps.RangeRules.{states_pre_release}
 use Rattle.version_sets.proofs.BoundLaws.{against, same_numbers}
 use Rattle.version_sets.proofs.KindLaws.{lowest_pre}
 
--- one more comparator
-pub met_more : (v : PlainVersion) (cs : List Comparator) (i : ℕ) (d : Comparator) → i < length cs → d ≡ get_or cs i d
-    → list_all (meets_comparator v) (map comparator_of (take (i + 1) cs))
-    ≡ (list_all (meets_comparator v) (map comparator_of (take i cs)) && meets_comparator v (comparator_of d))
-met_more v cs i d l is =
-    list_all-map (meets_comparator v) comparator_of (take (i + 1) cs) ∙ list_all_more (λ c. meets_comparator v (comparator_of c)) cs i d l
-    ∙ ap₂ (λ a b. a && b) (sym (list_all-map (meets_comparator v) comparator_of (take i cs)))
-    (ap (λ c. meets_comparator v (comparator_of c)) (sym is))
+-- one more comparator, as it is seen
+module _ (seen : Comparator → PlainComparator) where
+  pub met_more : (v : PlainVersion) (cs : List Comparator) (i : ℕ) (d : Comparator) → i < length cs → d ≡ get_or cs i d
+      → list_all (meets_comparator v) (map seen (take (i + 1) cs))
+      ≡ (list_all (meets_comparator v) (map seen (take i cs)) && meets_comparator v (seen d))
+  met_more v cs i d l is =
+      list_all-map (meets_comparator v) seen (take (i + 1) cs) ∙ list_all_more (λ c. meets_comparator v (seen c)) cs i d l
+      ∙ ap₂ (λ a b. a && b) (sym (list_all-map (meets_comparator v) seen (take i cs)))
+      (ap (λ c. meets_comparator v (seen c)) (sym is))
 
-pub stated_more : (v : PlainVersion) (cs : List Comparator) (i : ℕ) (d : Comparator) → i < length cs → d ≡ get_or cs i d
-    → list_any (has_pre_release_at v) (map comparator_of (take (i + 1) cs))
-    ≡ (list_any (has_pre_release_at v) (map comparator_of (take i cs)) || has_pre_release_at v (comparator_of d))
-stated_more v cs i d l is =
-    list_any-map (has_pre_release_at v) comparator_of (take (i + 1) cs)
-    ∙ list_any_more (λ c. has_pre_release_at v (comparator_of c)) cs i d l
-    ∙ ap₂ (λ a b. a || b) (sym (list_any-map (has_pre_release_at v) comparator_of (take i cs)))
-    (ap (λ c. has_pre_release_at v (comparator_of c)) (sym is))
+  pub stated_more : (v : PlainVersion) (cs : List Comparator) (i : ℕ) (d : Comparator) → i < length cs → d ≡ get_or cs i d
+      → list_any (has_pre_release_at v) (map seen (take (i + 1) cs))
+      ≡ (list_any (has_pre_release_at v) (map seen (take i cs)) || has_pre_release_at v (seen d))
+  stated_more v cs i d l is =
+      list_any-map (has_pre_release_at v) seen (take (i + 1) cs)
+      ∙ list_any_more (λ c. has_pre_release_at v (seen c)) cs i d l
+      ∙ ap₂ (λ a b. a || b) (sym (list_any-map (has_pre_release_at v) seen (take i cs)))
+      (ap (λ c. has_pre_release_at v (seen c)) (sym is))
 
 -- what is added beside one more comparator
 pub added_more : (a m s h : Bool) → ((a || (m && s)) || (m && h)) ≡ (a || (m && (s || h)))

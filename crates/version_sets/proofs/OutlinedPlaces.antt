@@ -14,8 +14,8 @@ use Rattle.semver_parser.specs.ToolVersions.{SpellsIn}
 use Rattle.semver_parser.specs.VersionGrammar.{SpellsVersion}
 use Rattle.semver_parser.specs.Versions.{IdentifierValue, PlainVersion, VersionValue}
 use Rattle.semver_parser.specs.declared.version.Grammar.TheVariants.{Crate}
-use Rattle.semver_parser.specs.declared.version.Version.{Version}
-use Rattle.version_sets.specs.Steps.Places.{version_place}
+use Rattle.version_sets.specs.declared.pre_release.PreRelease.{PreRelease}
+use Rattle.version_sets.specs.Steps.Places.{pre_release_place}
 use Rattle.version_sets.specs.Switches.{switched, IsIncreasing}
 use Rattle.version_sets.specs.VersionSets.{SetValue, has}
 use Rattle.version_sets.proofs.SearchLaws.{is_passed, passed_before, reversed_ge}
@@ -57,26 +57,26 @@ of_texts set o same outlines answer told text v outlined spells =
 -- ---- a search among switches
 
 -- whether a switch is at or below a version
-abbrev pub is_reached : PlainVersion → Version → Bool
-is_reached v = is_passed precedence precedence_total version_place v
+abbrev pub is_reached : PlainVersion → PreRelease → Bool
+is_reached v = is_passed precedence precedence_total pre_release_place v
 
 -- the switches before a place are at or below the version, those from another on are above it
-abbrev pub IsNarrowed : PlainVersion → List Version → ℕ → ℕ → Type 0
+abbrev pub IsNarrowed : PlainVersion → List PreRelease → ℕ → ℕ → Type 0
 IsNarrowed v switches low high =
     AllWithin (λ s. is_reached v s ≡ true) switches 0 low × AllWithin (λ s. is_reached v s ≡ false) switches high (length switches)
 
-module _ (v : PlainVersion) (xs : List Version) where
-  module _ (increase : IsIncreasing precedence (map version_place xs)) (low high middle : ℕ) (known : IsNarrowed v xs low high)
-      (x : Version) (inside : middle < length xs) (is : x ≡ get_or xs middle x) (answer : Bool)
-      (told : answer ≡ is_ge (precedence v (version_place x))) where
-    at_middle : (d : Version) → is_reached v (get_or xs middle d) ≡ answer
+module _ (v : PlainVersion) (xs : List PreRelease) where
+  module _ (increase : IsIncreasing precedence (map pre_release_place xs)) (low high middle : ℕ) (known : IsNarrowed v xs low high)
+      (x : PreRelease) (inside : middle < length xs) (is : x ≡ get_or xs middle x) (answer : Bool)
+      (told : answer ≡ is_ge (precedence v (pre_release_place x))) where
+    at_middle : (d : PreRelease) → is_reached v (get_or xs middle d) ≡ answer
     at_middle d =
-        ap (is_reached v) (get_or_default xs middle d x inside ∙ sym is) ∙ sym (reversed_ge (precedence (version_place x) v))
-        ∙ ap is_ge (sym (precedence_total.antisymm v (version_place x))) ∙ sym told
+        ap (is_reached v) (get_or_default xs middle d x inside ∙ sym is) ∙ sym (reversed_ge (precedence (pre_release_place x) v))
+        ∙ ap is_ge (sym (precedence_total.antisymm v (pre_release_place x))) ∙ sym told
 
     pub narrowed_below : answer ≡ true → IsNarrowed v xs (middle + 1) high
     narrowed_below says = (
-      λ k d low high. passed_before precedence precedence_total version_place v xs increase k middle d (omega arith) inside
+      λ k d low high. passed_before precedence precedence_total pre_release_place v xs increase k middle d (omega arith) inside
           (at_middle d ∙ says),
       known.1,
     )
@@ -84,8 +84,8 @@ module _ (v : PlainVersion) (xs : List Version) where
     pub narrowed_above : answer ≡ false → IsNarrowed v xs low middle
     narrowed_above says = (known.0, λ k d low high. at k d low high (is_reached v (get_or xs k d)) refl)
       where
-        at : (k : ℕ) (d : Version) → middle ≤ k → k < length xs → (b : Bool) → is_reached v (get_or xs k d) ≡ b → b ≡ false
+        at : (k : ℕ) (d : PreRelease) → middle ≤ k → k < length xs → (b : Bool) → is_reached v (get_or xs k d) ≡ b → b ≡ false
         at k d low high true e =
-            absurd (true≢false (sym (passed_before precedence precedence_total version_place v xs increase middle k d low high e)
+            absurd (true≢false (sym (passed_before precedence precedence_total pre_release_place v xs increase middle k d low high e)
             ∙ at_middle d ∙ says))
         at k d low high false e = refl

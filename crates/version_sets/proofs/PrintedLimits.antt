@@ -10,10 +10,12 @@ use Rattle.semver_parser.specs.declared.Comparator.{Comparator}
 use Rattle.semver_parser.specs.declared.Op.{Op}
 use Rattle.semver_parser.specs.Partials.{fits_u64}
 use Rattle.semver_parser.specs.Precedence.{precedence}
-use Rattle.semver_parser.specs.PrintedRanges.{is_kept, is_printable_version}
+use Rattle.semver_texts.specs.declared.grammar.Digits.{Digits}
+use Rattle.semver_texts.specs.declared.grammar.Digits.TheVariants.{Kept, AnySize}
+use Rattle.semver_parser.specs.PrintedRanges.{is_printable_version}
 use Rattle.semver_parser.specs.RangeViews.{comparator_of}
-use Rattle.semver_parser.specs.Versions.{IdentifierValue, PlainVersion, numbers}
-use Rattle.version_sets.specs.Flat.{are_printable}
+use Rattle.semver_parser.specs.Versions.{IdentifierValue, numeric, PlainVersion, numbers}
+use Rattle.version_sets.specs.Flat.{are_printable, is_kept_by, prints_by}
 use Rattle.version_sets.specs.Steps.Spans.{narrowed_from, narrowed_to}
 use Rattle.version_sets.specs.Steps.SpanViews.{holds_at, with_zero}
 use Rattle.version_sets.proofs.HeldLimits.{narrowed_holds}
@@ -35,22 +37,25 @@ item_prints cs i c l is e =
     ap (λ c. is_printable_version (comparator_of c).version) is
     ∙ each_at (λ c. is_printable_version (comparator_of c).version) cs i c (sym (by_views cs) ∙ e) l
 
-pub narrowed_print : (op : Op) (from to at above x y : Option PlainVersion) → x ≡ narrowed_from precedence op from at above
-    → y ≡ narrowed_to precedence op to at above
-    → (holds_at is_printable_version from && holds_at is_printable_version to) ≡ true
-    → holds_at is_printable_version at ≡ true → holds_at is_printable_version above ≡ true
-    → (holds_at is_printable_version x && holds_at is_printable_version y) ≡ true
-narrowed_print op from to at above x y x_is y_is e a b =
-    let both = and_parts (holds_at is_printable_version from) (holds_at is_printable_version to) e in
-    rw (x_is, y_is) (narrowed_holds is_printable_version from to at above both.0 both.1 a b op)
+pub narrowed_print : (p : PlainVersion → Bool) (op : Op) (from to at above x y : Option PlainVersion)
+    → x ≡ narrowed_from precedence op from at above → y ≡ narrowed_to precedence op to at above
+    → (holds_at p from && holds_at p to) ≡ true → holds_at p at ≡ true → holds_at p above ≡ true → (holds_at p x && holds_at p y) ≡ true
+narrowed_print p op from to at above x y x_is y_is e a b =
+    let both = and_parts (holds_at p from) (holds_at p to) e in
+    rw (x_is, y_is) (narrowed_holds p from to at above both.0 both.1 a b op)
 
 -- so with the number 0 after it
-pub zero_prints : (v : PlainVersion) (added : Bool) → is_printable_version v ≡ true
-    → is_printable_version (record { major = v.major; minor = v.minor; patch = v.patch; pre = with_zero v.pre added }) ≡ true
-zero_prints v added e =
-    let both = and_parts (list_all fits_u64 (numbers v)) (list_all is_kept v.pre) e in
+pub zero_prints : (d : Digits) (v : PlainVersion) (added : Bool) → prints_by d v ≡ true
+    → prints_by d (record { major = v.major; minor = v.minor; patch = v.patch; pre = with_zero v.pre added }) ≡ true
+zero_prints d v added e =
+    let both = and_parts (list_all fits_u64 (numbers v)) (list_all (is_kept_by d) v.pre) e in
     rw (both.0) (keep v.pre added both.1)
   where
-    keep : (ids : List IdentifierValue) (added : Bool) → list_all is_kept ids ≡ true → list_all is_kept (with_zero ids added) ≡ true
-    keep ids true f = list_all-append is_kept ids _ ∙ rw f
-    keep ids false f = list_all-append is_kept ids _ ∙ rw f
+    zero_kept : (d : Digits) → is_kept_by d (numeric 0) ≡ true
+    zero_kept Kept = refl
+    zero_kept AnySize = refl
+
+    keep : (ids : List IdentifierValue) (added : Bool) → list_all (is_kept_by d) ids ≡ true
+        → list_all (is_kept_by d) (with_zero ids added) ≡ true
+    keep ids true f = list_all-append (is_kept_by d) ids _ ∙ rw (f, zero_kept d)
+    keep ids false f = list_all-append (is_kept_by d) ids _ ∙ rw f

@@ -3,8 +3,7 @@
 use Rattle.std.proofs.Common.{arith, ◌≡◌, ◌↔◌, Bool, true, false, ◌||◌, cond, List, [], ◌∷◌, refl, sym, ap, ap₂, ◌∙◌}
 use Rattle.std.proofs.lemmas.Bool.{and_parts}
 use Rattle.std.specs.List.{AllByRecursion, list_all}
-use Rattle.semver_parser.specs.PrintedRanges.{is_printable_version}
-use Rattle.version_sets.specs.Flat.{IsPrintable}
+use Rattle.version_sets.specs.Flat.{IsPrintable, is_printable_switch}
 use Rattle.semver_parser.specs.Texts.{is_empty}
 use Rattle.semver_parser.specs.Versions.{PlainVersion}
 use Rattle.semver_parser.specs.Precedence.{precedence}
@@ -124,13 +123,13 @@ by_second r s p q e f g = grind arith
 -- ---- printable identifiers
 
 abbrev Prints : PlainVersion → Type 0
-Prints v = is_printable_version v ≡ true
+Prints v = is_printable_switch v ≡ true
 
-each_prints : (vs : List PlainVersion) → list_all is_printable_version vs ≡ true → AllByRecursion Prints vs
+each_prints : (vs : List PlainVersion) → list_all is_printable_switch vs ≡ true → AllByRecursion Prints vs
 each_prints [] e = tt
-each_prints (v ∷ vs) e = let both = and_parts (is_printable_version v) _ e in (both.0, each_prints vs both.1)
+each_prints (v ∷ vs) e = let both = and_parts (is_printable_switch v) _ e in (both.0, each_prints vs both.1)
 
-all_print : (vs : List PlainVersion) → AllByRecursion Prints vs → list_all is_printable_version vs ≡ true
+all_print : (vs : List PlainVersion) → AllByRecursion Prints vs → list_all is_printable_switch vs ≡ true
 all_print [] each = refl
 all_print (v ∷ vs) each = rw each.0 (all_print vs each.1)
 

@@ -1,6 +1,7 @@
 -- What a comparison of two sets returns: the least of some versions, or that there is none.
 use Rattle.std.specs.Prelude.{◌≡◌, ◌≢◌, [], Option, Some, None}
 use Rattle.std.specs.declared.cmp.Ordering.TheVariants.{Less}
+use Rattle.semver_texts.specs.Digits.{plain_kept}
 use Rattle.semver_parser.specs.Versions.{PlainVersion, VersionValue}
 use Rattle.semver_parser.specs.Precedence.{precedence}
 use Rattle.semver_parser.specs.VersionViews.{version_value}
@@ -13,10 +14,17 @@ pub record IsLeastOf (IsOne : PlainVersion → Type 0) (v : VersionValue) : Type
   pub no_build : v.build ≡ []
   pub lowest : (w : PlainVersion) → IsOne w → precedence w v.plain ≢ Less
 
--- an answer that is the least of those asked for, and none exactly where there are none
+-- it is a version as it is kept: a number of 2^64 or more as its text
+abbrev pub IsKeptOf : VersionValue → Version → Type 0
+IsKeptOf v version =
+    version_value version ≡ record { plain = plain_kept v.plain; build = v.build }
+
+-- an answer that is the least of those asked for, as it is kept, and none exactly where there are
+-- none
 abbrev pub TellsLeast : (PlainVersion → Type 0) → Option Version → Type 0
 TellsLeast IsOne None = (v : PlainVersion) → ¬ IsOne v
-TellsLeast IsOne (Some version) = IsLeastOf IsOne (version_value version)
+TellsLeast IsOne (Some version) =
+    (v : VersionValue) × IsLeastOf IsOne v × IsKeptOf v version
 
 -- the least of those asked for is a pre-release
 abbrev pub LeastIsPreRelease : (PlainVersion → Type 0) → Type 0

@@ -4,5 +4,6 @@ pub mod VersionSets
 pub mod Comparisons
 pub mod PreReleaseRules
 pub mod SetRanges
+pub mod DigitViews
 pub mod Flat
 pub mod Steps

@@ -24,6 +24,9 @@ pub struct FlatSwitch {
     pub pre_offset: usize,
     /// How many bytes the identifiers of its pre-release have, joined by dots; 0 for a release.
     pub pre_length: usize,
+    /// 1 if an identifier of its pre-release is a number of 2^64 or more, so that those of digits
+    /// alone are numbers of any size; else 0.
+    pub digits: u64,
 }
 
 /// A set of versions as flat data, found to be in the normal form. [`FlatSet::read`] gives it.

@@ -4,13 +4,14 @@ ghost use Rattle.std.specs.Prelude.{◌≡◌, map};
 ghost use Rattle.semver_parser.specs.Outlines.{version_of};
 ghost use Rattle.semver_parser.specs.Precedence.{precedence};
 ghost use Rattle.version_sets.specs.Switches.{switched};
-ghost use Rattle.version_sets.specs.Steps.FlatViews.{asked_value, place_value};
+ghost use Rattle.version_sets.specs.Steps.FlatViews.{asked_value, digits_of_code, place_value};
 ghost use Rattle.version_sets.specs.Steps.FlatViews.{switch_value, text_at};
 
 use crate::flat::FlatSwitch;
 use semver_parser::version::Outline;
 use semver_ranges::comparing::InRanges;
-use semver_texts::identifiers::Joined;
+use semver_texts::grammar::Digits;
+use semver_texts::identifiers::{ByDigits, Joined};
 use semver_texts::precedence::compare;
 use semver_versions::comparing::InVersions;
 use std::cmp::Ordering;
@@ -22,6 +23,7 @@ pub(crate) struct Place<'t> {
     minor: u64,
     patch: u64,
     pre: &'t [u8],
+    digits: Digits,
 }
 
 impl<'t> Place<'t> {
@@ -34,6 +36,7 @@ impl<'t> Place<'t> {
             minor: outline.minor(),
             patch: outline.patch(),
             pre: outline.pre().as_bytes(),
+            digits: outline.digits(),
         }
     }
 
@@ -46,6 +49,7 @@ impl<'t> Place<'t> {
             minor: switch.minor,
             patch: switch.patch,
             pre: text_at(bytes, switch),
+            digits: digits_of_code(switch.digits),
         }
     }
 
@@ -55,10 +59,24 @@ impl<'t> Place<'t> {
     {
         compare(
             (self.major, self.minor, self.patch),
-            Joined::of(self.pre, InVersions),
+            ByDigits::of(Joined::of(self.pre, InVersions), self.digits),
             (switch.major, switch.minor, switch.patch),
-            Joined::of(text_at(bytes, switch), InRanges),
+            ByDigits::of(
+                Joined::of(text_at(bytes, switch), InRanges),
+                digits_of_code(switch.digits),
+            ),
         )
+    }
+}
+
+/// How the identifiers of a switch are read.
+pub(crate) fn digits_of_code(code: u64) -> Digits
+    ensures { result ≡ digits_of_code code }
+{
+    if code == 0 {
+        Digits::Kept
+    } else {
+        Digits::AnySize
     }
 }
 

@@ -1,21 +1,22 @@
 //! Flat data as a set, if it is one in the normal form. Nothing here allocates.
 
 ghost use Rattle.std.specs.Prelude.{◌≡◌, ◌≤◌, true, length, MatchOption};
-ghost use Rattle.std.specs.List.{AllByRecursion, list_all, slice_split};
+ghost use Rattle.std.specs.List.{AllByRecursion, list_all, list_any, slice_split};
+ghost use Rattle.semver_texts.specs.Compared.{ref_value};
 ghost use Rattle.semver_parser.specs.Texts.{cut_at_dots, is_dot, is_part, is_part_byte};
-ghost use Rattle.version_sets.specs.Flat.{IsFlat, flat_switches};
+ghost use Rattle.version_sets.specs.Flat.{IsFlat, flat_switches, is_large_number};
 ghost use Rattle.version_sets.specs.VersionSets.{SetValue};
 ghost use Rattle.version_sets.specs.Steps.FlatViews.{HasSmallNumbers, are_increasing, are_placed};
 ghost use Rattle.version_sets.specs.Steps.FlatViews.{have_texts, headed, is_below_first};
-ghost use Rattle.version_sets.specs.Steps.FlatViews.{is_flat, is_flat_list, is_placed, is_text};
+ghost use Rattle.version_sets.specs.Steps.FlatViews.{is_flat, is_flat_list, is_placed, is_text, is_told};
 
 use crate::flat::{FlatSet, FlatSwitch};
-use crate::flat_places::{Place, text_at};
+use crate::flat_places::{Place, digits_of_code, text_at};
 use semver_ranges::comparing::InRanges;
 use semver_texts::bytes::is_part_byte;
 use semver_texts::dotted::split_at_dot;
-use semver_texts::identifiers::Joined;
-use semver_texts::precedence::compare_pre_releases;
+use semver_texts::identifiers::{ByDigits, Joined};
+use semver_texts::precedence::{IdentifierRef, Identifiers, compare_pre_releases};
 use semver_versions::comparing::InVersions;
 
 /// The number of the format of flat data, which its head has as the first number.
@@ -58,7 +59,7 @@ fn kinds(switches: &[FlatSwitch]) -> Option<(&[FlatSwitch], &[FlatSwitch])>
     let [head, switches @ ..] = switches else {
         return None;
     };
-    if head.major != FORMAT || head.pre_offset != 0 || head.pre_length != 0 {
+    if head.major != FORMAT || head.pre_offset != 0 || head.pre_length != 0 || head.digits != 0 {
         return None;
     }
     if head.minor > switches.len() as u64 {
@@ -112,7 +113,49 @@ fn is_placed(switch: &FlatSwitch, at: usize, bytes: &[u8]) -> bool
     ensures small { HasSmallNumbers switch.now }
 {
     let own = *switch;
-    own.pre_offset == at && own.pre_length <= bytes.len() - at && is_text(text_at(bytes, switch))
+    own.pre_offset == at
+        && own.pre_length <= bytes.len() - at
+        && is_text(text_at(bytes, switch))
+        && is_told(switch, bytes)
+}
+
+/// Whether a switch says that its digits are read as numbers of any size exactly if it has to.
+fn is_told(switch: &FlatSwitch, bytes: &[u8]) -> bool
+    ensures { result ≡ is_told bytes.now switch.now }
+{
+    let read = Joined::of(text_at(bytes, switch), InRanges);
+    let has_large = has_large_number(ByDigits::of(read, digits_of_code(switch.digits)));
+    switch.digits == u64::from(has_large)
+}
+
+/// Whether some identifier is a number of 2^64 or more.
+pub(crate) fn has_large_number<'a, I: Identifiers<'a>>(identifiers: I) -> bool
+    ensures { result ≡ list_any is_large_number (I.left identifiers) }
+{
+    let mut rest = identifiers;
+    while let Some(first) = rest.next() {
+        if is_large(first) {
+            return true;
+        }
+    }
+    false
+}
+
+/// Whether an identifier is a number of 2^64 or more.
+fn is_large(identifier: IdentifierRef<'_>) -> bool
+    ensures { result ≡ is_large_number (ref_value identifier.entry) }
+{
+    match identifier {
+        IdentifierRef::LargeNumeric(number) => {
+            let _number = number;
+            true
+        }
+        IdentifierRef::Numeric(number) => {
+            let _number = number;
+            false
+        }
+        IdentifierRef::AlphaNumeric(_) => false,
+    }
 }
 
 /// Whether a text is that of identifiers, and none is a number with a zero before it: only such a

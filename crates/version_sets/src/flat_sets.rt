@@ -5,10 +5,11 @@ ghost use Rattle.std.specs.List.{AllByRecursion};
 ghost use Rattle.version_sets.specs.Releases.{release_value};
 ghost use Rattle.version_sets.specs.VersionSets.{HasSomeVersion};
 ghost use Rattle.version_sets.specs.Steps.FlatViews.{is_text, switch_value, text_at};
-ghost use Rattle.version_sets.specs.Steps.Places.{version_place};
+ghost use Rattle.version_sets.specs.Steps.Places.{pre_release_place};
 
 use crate::flat::{FlatSet, FlatSwitch};
 use crate::flat_places;
+use crate::pre_release::PreRelease;
 use crate::release::Release;
 use crate::version_set::VersionSet;
 use semver_parser::version::Version;
@@ -61,10 +62,10 @@ fn pre_releases_of(
     alloc: Global,
     switches: &[FlatSwitch],
     bytes: &[u8],
-) -> Result<Vec<Version>, AllocError>
+) -> Result<Vec<PreRelease>, AllocError>
     requires { AllByRecursion (λ s. is_text (text_at bytes.now s) ≡ true) switches.now }
     ensures versions { IfOk result (λ versions.
-        map version_place versions.items ≡ map (switch_value bytes.now) switches.now) }
+        map pre_release_place versions.items ≡ map (switch_value bytes.now) switches.now) }
     ensures some { IfErr result (λ _. 0 < length switches.now) }
 {
     let mut versions = Vec::new(alloc);
@@ -76,17 +77,21 @@ fn pre_releases_of(
     Ok(versions)
 }
 
-/// The version of a switch.
-fn version_of(alloc: Global, switch: &FlatSwitch, bytes: &[u8]) -> Result<Version, AllocError>
+/// The pre-release of a switch.
+fn version_of(alloc: Global, switch: &FlatSwitch, bytes: &[u8]) -> Result<PreRelease, AllocError>
     requires { is_text (text_at bytes.now switch.now) ≡ true }
     ensures { IfOk result (λ version.
-        version_place version ≡ switch_value bytes.now switch.now) }
+        pre_release_place version ≡ switch_value bytes.now switch.now) }
 {
-    Ok(Version {
+    let version = Version {
         major: switch.major,
         minor: switch.minor,
         patch: switch.patch,
         pre: identifiers(alloc, flat_places::text_at(bytes, switch))?,
         build: Vec::new(alloc),
+    };
+    Ok(PreRelease {
+        version,
+        digits: flat_places::digits_of_code(switch.digits),
     })
 }

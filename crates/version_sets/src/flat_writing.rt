@@ -4,18 +4,24 @@ ghost use Rattle.std.specs.Prelude.{◌≡◌, ◌++◌, ◌∷◌, [], Some, If
 ghost use Rattle.std.specs.Prelude.{length, map, string_bytes};
 ghost use Rattle.std.specs.List.{flat_map, list_all};
 ghost use Rattle.semver_parser.specs.Outlines.{dotted_text};
-ghost use Rattle.semver_parser.specs.PrintedRanges.{is_kept as kept, is_printable_version};
+ghost use Rattle.std.specs.Char.{is_ascii_digit};
+ghost use Rattle.semver_texts.specs.Compared.{ref_value};
+ghost use Rattle.semver_texts.specs.Texts.{is_large};
 ghost use Rattle.semver_parser.specs.VersionViews.{identifier_value};
 ghost use Rattle.version_sets.specs.Flat.{IsFlat, IsPrintable, flat_from, flat_switch, pre_text};
+ghost use Rattle.version_sets.specs.Flat.{is_kept_by, is_printable_switch};
 ghost use Rattle.version_sets.specs.Releases.{release_value};
-ghost use Rattle.version_sets.specs.Steps.Places.{version_place};
+ghost use Rattle.version_sets.specs.Steps.Places.{pre_release_place};
 
 use crate::flat::FlatSwitch;
-use crate::flat_reading::{FORMAT, is_part};
+use crate::flat_reading::{FORMAT, has_large_number, is_part};
+use crate::pre_release::PreRelease;
 use crate::release::Release;
 use crate::version_set::VersionSet;
-use semver_parser::version::{Identifier, Version};
+use semver_parser::version::Identifier;
 use semver_texts::decimals::number_of_digits;
+use semver_texts::grammar::Digits;
+use semver_texts::precedence::{IdentifierRef, Identifiers};
 use semver_texts::printing::write_joined;
 use std::alloc::{AllocError, Global};
 use std::fmt;
@@ -53,6 +59,7 @@ impl VersionSet {
             patch: self.pre_releases.len() as u64,
             pre_offset: 0,
             pre_length: 0,
+            digits: 0,
         })?;
         append_releases(&mut switches, &self.releases)?;
         append_pre_releases(&mut switches, &mut bytes, &self.pre_releases)?;
@@ -72,6 +79,7 @@ fn append_releases(switches: &mut Vec<FlatSwitch>, releases: &[Release]) -> Resu
             patch: release.patch,
             pre_offset: 0,
             pre_length: 0,
+            digits: 0,
         })?;
     }
     Ok(())
@@ -81,12 +89,12 @@ fn append_releases(switches: &mut Vec<FlatSwitch>, releases: &[Release]) -> Resu
 fn append_pre_releases(
     switches: &mut Vec<FlatSwitch>,
     bytes: &mut String,
-    versions: &[Version],
+    versions: &[PreRelease],
 ) -> Result<(), AllocError>
     ensures switches { OnOk result (switches.new.items ≡ switches.old.items
-        ++ flat_from (length (string_bytes bytes.old)) (map version_place versions.now)) }
+        ++ flat_from (length (string_bytes bytes.old)) (map pre_release_place versions.now)) }
     ensures texts { OnOk result (string_bytes bytes.new ≡ string_bytes bytes.old
-        ++ flat_map pre_text (map version_place versions.now)) }
+        ++ flat_map pre_text (map pre_release_place versions.now)) }
 {
     for version in versions {
         append(switches, bytes, version)?;
@@ -98,23 +106,24 @@ fn append_pre_releases(
 fn append(
     switches: &mut Vec<FlatSwitch>,
     bytes: &mut String,
-    version: &Version,
+    version: &PreRelease,
 ) -> Result<(), AllocError>
     ensures switches { OnOk result (switches.new.items ≡ switches.old.items
-        ++ flat_switch (length (string_bytes bytes.old)) (version_place version.now) ∷ []) }
+        ++ flat_switch (length (string_bytes bytes.old)) (pre_release_place version.now) ∷ []) }
     ensures texts { OnOk result (string_bytes bytes.new
-        ≡ string_bytes bytes.old ++ pre_text (version_place version.now)) }
+        ≡ string_bytes bytes.old ++ pre_text (pre_release_place version.now)) }
 {
     let pre_offset = bytes.as_bytes().len();
-    let pre_release = Dotted(&version.pre);
+    let pre_release = Dotted(&version.version.pre);
     write!(bytes, "{pre_release}")?;
     let pre_length = bytes.as_bytes().len() - pre_offset;
     switches.push(FlatSwitch {
-        major: version.major,
-        minor: version.minor,
-        patch: version.patch,
+        major: version.version.major,
+        minor: version.version.minor,
+        patch: version.version.patch,
         pre_offset,
         pre_length,
+        digits: u64::from(has_large_number(version.pre())),
     })?;
     Ok(())
 }
@@ -131,9 +140,9 @@ impl fmt::Display for Dotted<'_> {
     }
 }
 
-/// Whether each identifier of versions can be read back from its text.
-fn are_printable(versions: &[Version]) -> bool
-    ensures { result ≡ list_all is_printable_version (map version_place versions.now) }
+/// Whether each identifier of switches can be read back from its text.
+fn are_printable(versions: &[PreRelease]) -> bool
+    ensures { result ≡ list_all is_printable_switch (map pre_release_place versions.now) }
 {
     let mut rest = versions;
     while let [first, others @ ..] = rest {
@@ -145,41 +154,61 @@ fn are_printable(versions: &[Version]) -> bool
     true
 }
 
-/// Whether each identifier of a version's pre-release can be read back from its text. Its numbers
-/// fit, as those of each `Version`.
-fn is_printable(version: &Version) -> bool
-    ensures { result ≡ is_printable_version (version_place version.now) }
+/// Whether each identifier of a switch can be read back from its text, in one way or the other. Its
+/// numbers fit, as those of each `Version`.
+fn is_printable(version: &PreRelease) -> bool
+    ensures { result ≡ is_printable_switch (pre_release_place version.now) }
 {
-    let _numbers = Release::of(version);
-    are_kept(&version.pre)
+    let _numbers = Release::of(&version.version);
+    are_kept(version.pre(), Digits::Kept) || are_kept(version.pre(), Digits::AnySize)
 }
 
-/// Whether each identifier can be read back from its text.
-fn are_kept(identifiers: &[Identifier]) -> bool
-    ensures { result ≡ list_all kept (map identifier_value identifiers.now) }
+/// Whether each identifier can be read back from its text, if digits are read so.
+fn are_kept<'a, I: Identifiers<'a>>(identifiers: I, digits: Digits) -> bool
+    ensures { result ≡ list_all (is_kept_by digits) (I.left identifiers) }
 {
     let mut rest = identifiers;
-    while let [first, others @ ..] = rest {
-        if !is_kept(first) {
+    while let Some(first) = rest.next() {
+        if !is_kept(first, digits) {
             return false;
         }
-        rest = others;
     }
     true
 }
 
-/// Whether an identifier can be read back from its text.
-fn is_kept(identifier: &Identifier) -> bool
-    ensures { result ≡ kept (identifier_value identifier.now) }
+/// Whether an identifier can be read back from its text, if digits are read so.
+fn is_kept(identifier: IdentifierRef<'_>, digits: Digits) -> bool
+    ensures { result ≡ is_kept_by digits (ref_value identifier.entry) }
 {
     match identifier {
-        Identifier::Numeric(number) => {
-            let _number = *number;
+        IdentifierRef::Numeric(number) => {
+            let _number = number;
             true
         }
-        Identifier::AlphaNumeric(text) => {
-            let bytes = text.as_bytes();
-            is_part(bytes) && number_of_digits(bytes).is_none()
+        IdentifierRef::LargeNumeric(number) => {
+            let _number = number;
+            matches!(digits, Digits::AnySize)
+        }
+        IdentifierRef::AlphaNumeric(text) => {
+            let is_number = matches!(digits, Digits::AnySize) && is_large(text);
+            is_part(text) && number_of_digits(text).is_none() && !is_number
         }
     }
+}
+
+/// Whether a text is a number of 2^64 or more.
+fn is_large(text: &[u8]) -> bool
+    ensures { result ≡ is_large text.now }
+{
+    match text {
+        [b'1'..=b'9', ..] => are_digits(text) && number_of_digits(text).is_none(),
+        _ => false,
+    }
+}
+
+/// Whether each byte is a digit.
+fn are_digits(text: &[u8]) -> bool
+    ensures { result ≡ list_all is_ascii_digit text.now }
+{
+    text.iter().all(|byte| byte.is_ascii_digit())
 }

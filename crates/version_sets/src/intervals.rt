@@ -8,15 +8,20 @@ ghost use Rattle.semver_parser.specs.RangeViews.{comparator_of, identifier_of, r
 ghost use Rattle.semver_parser.specs.RewritingTable.{comparator as plain_comparator};
 ghost use Rattle.semver_parser.specs.Versions.{numeric, PlainVersion};
 ghost use Rattle.semver_parser.specs.VersionViews.{identifier_value};
+ghost use Rattle.semver_texts.specs.Digits.{as_kept, identifier_by, identifiers_by};
+ghost use Rattle.version_sets.specs.DigitViews.{comparator_kept, range_kept};
 ghost use Rattle.version_sets.specs.SetRanges.{interval, intervals, is_lowest, is_same_end};
+ghost use Rattle.version_sets.specs.SetRanges.{is_lowest_pre as lowest_pre};
+ghost use Rattle.version_sets.specs.Steps.Places.{pre_release_place};
 ghost use Rattle.version_sets.specs.SetRanges.{npm_range, bounds as plain_bounds};
 
+use crate::pre_release::PreRelease;
 use crate::release::{Release, next_numbers};
 use crate::set_ranges::is_lowest_pre;
 use crate::switch::Switch;
 use crate::with_zero::WithZero;
-use semver_parser::version::{self, Version};
-use semver_parser::{Comparator, Compat, Identifier, Op, Range};
+use semver_parser::{Comparator, Compat, Identifier, Op, Range, version};
+use semver_texts::grammar::Digits;
 use semver_texts::precedence::compare_pre_releases;
 use std::alloc::{AllocError, Global};
 
@@ -37,7 +42,7 @@ pub(crate) trait Bound: Switch {
     /// The comparator of an operator and its version. `Err` is out of memory.
     fn comparator(&self, alloc: Global, op: Op) -> Result<Comparator, AllocError>
         ensures { IfOk result (λ made.
-            comparator_of made ≡ plain_comparator op (Self.place self.now)) };
+            comparator_of made ≡ comparator_kept (plain_comparator op (Self.place self.now))) };
 }
 
 impl Bound for Release {
@@ -69,19 +74,27 @@ impl Bound for Release {
     }
 }
 
-impl Bound for Version {
+impl Bound for PreRelease {
     ghost use Rattle.version_sets.specs.SetRanges.{next_pre_release};
 
     ghost next_place = { next_pre_release };
 
     fn is_lowest(&self) -> bool {
-        self.major == 0 && self.minor == 0 && self.patch == 0 && is_lowest_pre(&self.pre)
+        let version = &self.version;
+        version.major == 0
+            && version.minor == 0
+            && version.patch == 0
+            && has_lowest_pre(&version.pre, self.digits)
     }
 
-    fn is_alone(&self, to: Option<&Version>) -> bool {
+    fn is_alone(&self, to: Option<&PreRelease>) -> bool {
         match to {
-            Some(to) => Release::of(to).compare(&Release::of(self)).is_eq()
-                && are_right_above(&to.pre, &self.pre),
+            Some(to) => {
+                Release::of(&to.version)
+                    .compare(&Release::of(&self.version))
+                    .is_eq()
+                    && are_right_above(to, self)
+            }
             None => false,
         }
     }
@@ -89,42 +102,58 @@ impl Bound for Version {
     fn comparator(&self, alloc: Global, op: Op) -> Result<Comparator, AllocError> {
         Ok(Comparator {
             op,
-            major: self.major,
-            minor: self.minor,
-            patch: self.patch,
-            pre: copied(alloc, &self.pre)?,
+            major: self.version.major,
+            minor: self.version.minor,
+            patch: self.version.patch,
+            pre: copied(alloc, &self.version.pre, self.digits)?,
         })
     }
 }
 
-/// Whether identifiers are those of another pre-release with the number 0 after them.
-fn are_right_above(identifiers: &[version::Identifier], below: &[version::Identifier]) -> bool
-    ensures { result ≡ is_eq (pre_cmp (map identifier_value identifiers.now)
-        (map identifier_value below.now ++ numeric 0 ∷ [])) }
+/// Whether identifiers that are read so are none, or the lowest, `0`.
+#[tactic(auto, using(crate::proofs::DigitLaws::lowest_by))]
+fn has_lowest_pre(identifiers: &[version::Identifier], digits: Digits) -> bool
+    ensures { result ≡ lowest_pre (identifiers_by digits (map identifier_value identifiers.now)) }
 {
-    let above = WithZero {
-        identifiers: below,
-        zero: true,
-    };
-    compare_pre_releases(identifiers, above).is_eq()
+    let _digits = digits;
+    is_lowest_pre(identifiers)
 }
 
-/// Identifiers of a version, as those of a range.
-fn copied(alloc: Global, identifiers: &[version::Identifier]) -> Result<Vec<Identifier>, AllocError>
-    ensures { IfOk result (λ copies.
-        map identifier_of copies.items ≡ map identifier_value identifiers.now) }
+/// Whether the identifiers of a switch are those of another with the number 0 after them.
+fn are_right_above(switch: &PreRelease, below: &PreRelease) -> bool
+    ensures { result ≡ is_eq (pre_cmp (pre_release_place switch.now).pre
+        ((pre_release_place below.now).pre ++ numeric 0 ∷ [])) }
+{
+    let above = WithZero {
+        identifiers: below.pre(),
+        zero: true,
+    };
+    compare_pre_releases(switch.pre(), above).is_eq()
+}
+
+/// Identifiers of a version that are read so, as those of a range.
+fn copied(
+    alloc: Global,
+    identifiers: &[version::Identifier],
+    digits: Digits,
+) -> Result<Vec<Identifier>, AllocError>
+    ensures { IfOk result (λ copies. map identifier_of copies.items
+        ≡ map as_kept (identifiers_by digits (map identifier_value identifiers.now))) }
 {
     let mut copies = Vec::with_capacity(alloc, identifiers.len())?;
     for identifier in identifiers {
-        copies.push(copy_of(identifier)?)?;
+        copies.push(copy_of(identifier, digits)?)?;
     }
     Ok(copies)
 }
 
-/// An identifier of a version, as one of a range.
-fn copy_of(identifier: &version::Identifier) -> Result<Identifier, AllocError>
-    ensures { IfOk result (λ copy. identifier_of copy ≡ identifier_value identifier.now) }
+/// An identifier of a version that is read so, as one of a range.
+#[tactic(auto, using(crate::proofs::DigitLaws::kept_number, crate::proofs::DigitLaws::kept_text))]
+fn copy_of(identifier: &version::Identifier, digits: Digits) -> Result<Identifier, AllocError>
+    ensures { IfOk result (λ copy. identifier_of copy
+        ≡ as_kept (identifier_by digits (identifier_value identifier.now))) }
 {
+    let _digits = digits;
     match identifier {
         version::Identifier::Numeric(number) => Ok(Identifier::Numeric(*number)),
         version::Identifier::AlphaNumeric(text) => Ok(Identifier::AlphaNumeric(text.clone()?)),
@@ -135,7 +164,8 @@ fn copy_of(identifier: &version::Identifier) -> Result<Identifier, AllocError>
 /// is a switch. `Err` is out of memory.
 pub(crate) fn ranges_of<T: Bound>(alloc: Global, switches: &[T]) -> Result<Vec<Range>, AllocError>
     ensures ranges { IfOk result (λ ranges.
-        map range_of ranges.items ≡ intervals T.next_place (map T.place switches.now)) }
+        map range_of ranges.items
+        ≡ map range_kept (intervals T.next_place (map T.place switches.now))) }
     ensures out_of_memory { IfErr result (λ _. 0 < length switches.now) }
 {
     let mut ranges = Vec::new(alloc);
@@ -153,8 +183,8 @@ pub(crate) fn ranges_of<T: Bound>(alloc: Global, switches: &[T]) -> Result<Vec<R
 
 /// The range of the versions from one on and below another, if there is one.
 fn range_between<T: Bound>(alloc: Global, from: &T, to: Option<&T>) -> Result<Range, AllocError>
-    ensures { IfOk result (λ range. range_of range ≡ npm_range (interval T.next_place
-        (T.place from.now) (option_map (λ x. T.place x.now) to.entry))) }
+    ensures { IfOk result (λ range. range_of range ≡ range_kept (npm_range (interval T.next_place
+        (T.place from.now) (option_map (λ x. T.place x.now) to.entry)))) }
 {
     let comparator_set = if from.is_alone(to) {
         vec![in alloc; from.comparator(alloc, Op::Eq)?]?
@@ -170,8 +200,8 @@ fn range_between<T: Bound>(alloc: Global, from: &T, to: Option<&T>) -> Result<Ra
 /// The comparators of the versions from one on and below another, if there is one. None is below
 /// the lowest.
 fn bounds<T: Bound>(alloc: Global, from: &T, to: Option<&T>) -> Result<Vec<Comparator>, AllocError>
-    ensures { IfOk result (λ made. map comparator_of made.items
-        ≡ plain_bounds (T.place from.now) (option_map (λ x. T.place x.now) to.entry)) }
+    ensures { IfOk result (λ made. map comparator_of made.items ≡ map comparator_kept
+        (plain_bounds (T.place from.now) (option_map (λ x. T.place x.now) to.entry))) }
 {
     match to {
         None => Ok(vec![in alloc; from.comparator(alloc, Op::Gte)?]?),

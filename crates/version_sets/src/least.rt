@@ -1,16 +1,17 @@
 //! The least version of a set.
 
 ghost use Rattle.std.specs.Prelude.{◌≡◌, ◌↔◌, None, Some, [], IfOk, IfErr, IfSome, option_map};
+ghost use Rattle.semver_texts.specs.Digits.{plain_kept};
 ghost use Rattle.semver_parser.specs.Versions.{PlainVersion, without_build as unbuilt};
 ghost use Rattle.semver_parser.specs.VersionViews.{version_value};
 ghost use Rattle.version_sets.specs.Releases.{release_value};
 ghost use Rattle.version_sets.specs.VersionSets.{Fits, IsRelease, IsPreRelease};
 ghost use Rattle.version_sets.specs.VersionSets.{IsLeast, HasNone};
 ghost use Rattle.version_sets.specs.Steps.Lower.{is_below, lower};
-ghost use Rattle.version_sets.specs.Steps.Places.{version_place};
+ghost use Rattle.version_sets.specs.Steps.Places.{pre_release_place};
 
+use crate::pre_release::PreRelease;
 use crate::release::Release;
-use crate::switch::without_build;
 use crate::version_set::VersionSet;
 use semver_parser::version::Version;
 use std::alloc::{AllocError, Global};
@@ -22,8 +23,9 @@ impl VersionSet {
     ///
     /// Memory is asked for only where a pre-release is answered. `Err` is out of memory.
     pub fn least(&self, alloc: Global) -> Result<Option<Version>, AllocError>
-        ensures least { IfOk result (λ least. IfSome least (λ version.
-            IsLeast Fits self.now (version_value version).plain)) }
+        // It is as it is kept: a number of 2^64 or more as its text.
+        ensures least { IfOk result (λ least. IfSome least (λ version. (v : PlainVersion)
+            × IsLeast Fits self.now v × ((version_value version).plain ≡ plain_kept v))) }
         ensures no_build { IfOk result (λ least. IfSome least (λ version.
             (version_value version).build ≡ [])) }
         ensures none { IfOk result (λ least. (least ≡ None) ↔ HasNone Fits self.now) }
@@ -51,15 +53,15 @@ impl VersionSet {
 pub(crate) fn least_of(
     alloc: Global,
     release: Option<&Release>,
-    pre_release: Option<&Version>,
+    pre_release: Option<&PreRelease>,
 ) -> Result<Option<Version>, AllocError>
     ensures least { IfOk result (λ least. option_map version_value least
-        ≡ option_map unbuilt (lower (option_map (λ r. release_value r.now) release.entry)
-        (option_map (λ p. version_place p.now) pre_release.entry))) }
+        ≡ option_map (λ v. unbuilt (plain_kept v)) (lower (option_map (λ r. release_value r.now) release.entry)
+        (option_map (λ p. pre_release_place p.now) pre_release.entry))) }
     ensures out_of_memory { IfErr result (λ _. (p : PlainVersion)
-        × (option_map (λ p. version_place p.now) pre_release.entry ≡ Some p)
+        × (option_map (λ p. pre_release_place p.now) pre_release.entry ≡ Some p)
         × (lower (option_map (λ r. release_value r.now) release.entry)
-        (option_map (λ p. version_place p.now) pre_release.entry) ≡ Some p)) }
+        (option_map (λ p. pre_release_place p.now) pre_release.entry) ≡ Some p)) }
 {
     let Some(pre_release) = pre_release else {
         return Ok(as_version(alloc, release));
@@ -67,7 +69,7 @@ pub(crate) fn least_of(
     if is_below(release, pre_release) {
         return Ok(as_version(alloc, release));
     }
-    Ok(Some(without_build(pre_release, alloc)?))
+    Ok(Some(pre_release.kept(alloc)?))
 }
 
 /// The release as a version, if there is one.
@@ -83,12 +85,12 @@ fn as_version(alloc: Global, release: Option<&Release>) -> Option<Version>
 
 /// Whether there is a release, and it is below a version by precedence: its numbers are, since no
 /// version of the same numbers is above it.
-fn is_below(release: Option<&Release>, version: &Version) -> bool
+fn is_below(release: Option<&Release>, version: &PreRelease) -> bool
     ensures { result ≡ is_below (option_map (λ r. release_value r.now) release.entry)
-        (version_place version.now) }
+        (pre_release_place version.now) }
 {
     match release {
-        Some(release) => release.cmp(&Release::of(version)).is_lt(),
+        Some(release) => release.cmp(&Release::of(&version.version)).is_lt(),
         None => false,
     }
 }

@@ -17,6 +17,7 @@ pub mod laws;
 mod least;
 mod limits;
 mod of_comparators;
+mod pre_release;
 mod pre_release_limits;
 mod reading;
 mod release;

@@ -5,6 +5,8 @@ ghost use Rattle.std.specs.Ordering.{is_gt};
 ghost use Rattle.semver_parser.specs.Precedence.{precedence};
 ghost use Rattle.semver_parser.specs.RangeViews.{comparator_of};
 ghost use Rattle.semver_parser.specs.Versions.{PlainVersion};
+ghost use Rattle.semver_texts.specs.declared.grammar.Digits.{Digits};
+ghost use Rattle.version_sets.specs.DigitViews.{comparator_by};
 ghost use Rattle.version_sets.specs.VersionSets.{IsRelease};
 ghost use Rattle.version_sets.specs.Releases.{release_value};
 ghost use Rattle.version_sets.specs.Steps.Spans.{reached};
@@ -59,9 +61,9 @@ impl Limit for Release {
 /// Where the releases above a comparator's version begin. That of a pre-release's numbers is above
 /// it.
 pub(crate) fn release_above(comparator: &Comparator) -> Option<Release>
-    ensures { (v : PlainVersion) → IsRelease v
+    ensures { (digits : Digits) (v : PlainVersion) → IsRelease v
         → reached precedence (option_map release_value result) v
-        ≡ is_gt (precedence v (comparator_of comparator.now).version) }
+        ≡ is_gt (precedence v (comparator_by digits comparator.now).version) }
 {
     let numbers = numbers_of(comparator);
     if comparator.pre.is_empty() {

@@ -8,26 +8,30 @@ ghost use Rattle.semver_parser.specs.PrintedRanges.{is_printable_version};
 ghost use Rattle.semver_parser.specs.RangeViews.{comparator_of, range_of, set_of};
 ghost use Rattle.semver_parser.specs.StatedPreReleases.{has_pre_release_at};
 ghost use Rattle.semver_parser.specs.Versions.{PlainVersion, VersionValue};
+ghost use Rattle.semver_texts.specs.declared.grammar.Digits.{Digits as SomeDigits};
+ghost use Rattle.version_sets.specs.DigitViews.{comparator_by, range_by, set_by};
 ghost use Rattle.version_sets.specs.Flat.{are_printable, HasPrintableRanges, IsPrintable};
+ghost use Rattle.version_sets.specs.Flat.{prints_by};
 ghost use Rattle.version_sets.specs.PreReleaseRules.{meets_with};
 ghost use Rattle.version_sets.specs.Releases.{release_value};
 ghost use Rattle.version_sets.specs.Switches.{switched};
 ghost use Rattle.version_sets.specs.VersionSets.{has, Fits, IsRelease, IsPreRelease, AreSwitches};
-ghost use Rattle.version_sets.specs.Steps.Places.{version_place};
+ghost use Rattle.version_sets.specs.Steps.Places.{pre_release_place};
 ghost use Rattle.version_sets.specs.Steps.RangeRules.{meets_range_with, states_pre_release};
 ghost use Rattle.version_sets.specs.Steps.Spans.{some_empty, in_some};
 ghost use Rattle.version_sets.specs.Steps.SpanViews.{limit_place, span_value, is_within};
 ghost use Rattle.version_sets.specs.Steps.SpanViews.{bounds_print, spans_print};
 
 use crate::limits::{numbers_of, release_above};
+use crate::pre_release::PreRelease;
 use crate::pre_release_limits::PreReleaseLimit;
 use crate::release::{LOWEST, Release};
 use crate::rules::PreReleases;
 use crate::set_ranges::is_lowest_pre;
 use crate::spans::{Bounds, Span, switches_of};
 use crate::version_set::VersionSet;
-use semver_parser::version::Version;
 use semver_parser::{Comparator, Op, Range, RangeSet};
+use semver_texts::grammar::Digits;
 use std::alloc::{AllocError, Global};
 
 impl VersionSet {
@@ -52,11 +56,31 @@ impl VersionSet {
         // Memory runs out only where there is a range.
         ensures out_of_memory { IfErr result (λ _. 0 < length (set_of set.now).ranges) }
     {
+        VersionSet::of_set_by(alloc, set, pre_releases, Digits::Kept)
+    }
+
+    // Answer: law answer_laws::sets::one_of_set_by.
+    /// What [`VersionSet::of_set`] returns, if an identifier of digits alone from 2^64 on is what
+    /// `digits` says: by `Digits::AnySize` it is a number, as to Cargo and npm, so `<1.0.0-10a`
+    /// gives a set with 1.0.0-18446744073709551616.
+    pub fn of_set_by(
+        alloc: Global,
+        set: &RangeSet,
+        pre_releases: PreReleases,
+        digits: Digits,
+    ) -> Result<VersionSet, AllocError>
+        ensures meaning { IfOk result (λ s. (v : VersionValue) → Fits v.plain
+            → has s v.plain ≡ meets_with pre_releases (set_by digits set.now) v) }
+        // Identifiers that can be read back from their texts are kept so.
+        ensures printable { HasPrintableRanges (set_of set.now) → IfOk result IsPrintable }
+        // Memory runs out only where there is a range.
+        ensures out_of_memory { IfErr result (λ _. 0 < length (set_of set.now).ranges) }
+    {
         if set.ranges.is_empty() {
             return Ok(VersionSet::empty(alloc));
         }
         let releases = releases_of(alloc, &set.ranges)?;
-        let pre_releases = pre_releases_of(alloc, &set.ranges, pre_releases)?;
+        let pre_releases = pre_releases_of(alloc, &set.ranges, pre_releases, digits)?;
         Ok(VersionSet::of_switches(releases, pre_releases))
     }
 }
@@ -65,9 +89,9 @@ impl VersionSet {
 fn releases_of(alloc: Global, ranges: &[Range]) -> Result<Vec<Release>, AllocError>
     ensures switches { IfOk result (λ switches.
         AreSwitches IsRelease (map release_value switches.items)) }
-    ensures meaning { IfOk result (λ switches. (v : PlainVersion) → IsRelease v
-        → switched precedence (map release_value switches.items) v
-        ≡ list_any (λ range. meets_range v (range_of range)) ranges.now) }
+    ensures meaning { IfOk result (λ switches. (digits : SomeDigits) (v : PlainVersion)
+        → IsRelease v → switched precedence (map release_value switches.items) v
+        ≡ list_any (λ range. meets_range v (range_by digits range)) ranges.now) }
 {
     // For speed: most texts are one range.
     if let [range] = ranges {
@@ -85,19 +109,20 @@ fn pre_releases_of(
     alloc: Global,
     ranges: &[Range],
     rule: PreReleases,
-) -> Result<Vec<Version>, AllocError>
+    digits: Digits,
+) -> Result<Vec<PreRelease>, AllocError>
     ensures switches { IfOk result (λ switches.
-        AreSwitches IsPreRelease (map version_place switches.items)) }
+        AreSwitches IsPreRelease (map pre_release_place switches.items)) }
     ensures meaning { IfOk result (λ switches. (v : PlainVersion) → IsPreRelease v
-        → switched precedence (map version_place switches.items) v
-        ≡ list_any (λ range. meets_range_with rule v (range_of range)) ranges.now) }
+        → switched precedence (map pre_release_place switches.items) v
+        ≡ list_any (λ range. meets_range_with rule v (range_by digits range)) ranges.now) }
     ensures printable { IfOk result (λ switches.
         list_all (λ range. are_printable (range_of range).comparators) ranges.now ≡ true
-        → list_all is_printable_version (map version_place switches.items) ≡ true) }
+        → list_all (prints_by digits) (map pre_release_place switches.items) ≡ true) }
 {
     let mut spans = Vec::new(alloc);
     for range in ranges {
-        push_pre_releases(range, rule, &mut spans)?;
+        push_pre_releases(range, rule, digits, &mut spans)?;
     }
     switches_of(alloc, &mut spans)
 }
@@ -106,6 +131,7 @@ fn pre_releases_of(
 fn push_pre_releases<'a>(
     range: &'a Range,
     rule: PreReleases,
+    digits: Digits,
     spans: &mut Vec<Span<PreReleaseLimit<'a>>>,
 ) -> Result<(), AllocError>
     ensures spans { some_empty precedence (map (span_value limit_place) spans.old.items) ≡ false
@@ -113,21 +139,22 @@ fn push_pre_releases<'a>(
     ensures meaning { IfOk result (λ _. (v : PlainVersion) → IsPreRelease v
         → in_some precedence (map (span_value limit_place) spans.new.items) v
         ≡ (in_some precedence (map (span_value limit_place) spans.old.items) v
-        || meets_range_with rule v (range_of range.entry.now))) }
+        || meets_range_with rule v (range_by digits range.entry.now))) }
     ensures printable { are_printable (range_of range.entry.now).comparators ≡ true
-        → spans_print spans.old.items ≡ true → spans_print spans.new.items ≡ true }
+        → spans_print digits spans.old.items ≡ true → spans_print digits spans.new.items ≡ true }
 {
     match rule {
         PreReleases::Excluded => Ok(()),
-        PreReleases::Default => push_stated(&range.comparator_set, spans),
-        PreReleases::Included => met_pre_releases(&range.comparator_set).push_to(spans),
+        PreReleases::Default => push_stated(&range.comparator_set, digits, spans),
+        PreReleases::Included => met_pre_releases(&range.comparator_set, digits).push_to(spans),
     }
 }
 
 /// The releases that meet all comparators.
 fn met_releases(comparators: &[Comparator]) -> Bounds<Release>
-    ensures { (v : PlainVersion) → IsRelease v → is_within release_value result v
-        ≡ list_all (meets_comparator v) (map comparator_of comparators.now) }
+    ensures { (digits : SomeDigits) (v : PlainVersion) → IsRelease v
+        → is_within release_value result v
+        ≡ list_all (meets_comparator v) (map (comparator_by digits) comparators.now) }
 {
     let mut met = Bounds {
         from: Some(LOWEST),
@@ -141,19 +168,26 @@ fn met_releases(comparators: &[Comparator]) -> Bounds<Release>
 }
 
 /// The pre-releases that meet all comparators.
-fn met_pre_releases<'a>(comparators: &'a [Comparator]) -> Bounds<PreReleaseLimit<'a>>
+fn met_pre_releases<'a>(
+    comparators: &'a [Comparator],
+    digits: Digits,
+) -> Bounds<PreReleaseLimit<'a>>
     ensures meaning { (v : PlainVersion) → IsPreRelease v → is_within limit_place result v
-        ≡ list_all (meets_comparator v) (map comparator_of comparators.entry.now) }
+        ≡ list_all (meets_comparator v) (map (comparator_by digits) comparators.entry.now) }
     ensures printable { are_printable (map comparator_of comparators.entry.now) ≡ true
-        → bounds_print result ≡ true }
+        → bounds_print digits result ≡ true }
 {
     let mut met = Bounds {
         from: Some(PreReleaseLimit::lowest(LOWEST)),
         to: None,
     };
     for comparator in comparators {
-        let at = PreReleaseLimit::at(comparator);
-        met = met.narrowed(&comparator.op, at, PreReleaseLimit::above(comparator));
+        let at = PreReleaseLimit::at(comparator, digits);
+        met = met.narrowed(
+            &comparator.op,
+            at,
+            PreReleaseLimit::above(comparator, digits),
+        );
     }
     met
 }
@@ -162,6 +196,7 @@ fn met_pre_releases<'a>(comparators: &'a [Comparator]) -> Bounds<PreReleaseLimit
 /// has with a pre-release.
 fn push_stated<'a>(
     comparators: &'a [Comparator],
+    digits: Digits,
     spans: &mut Vec<Span<PreReleaseLimit<'a>>>,
 ) -> Result<(), AllocError>
     ensures spans { some_empty precedence (map (span_value limit_place) spans.old.items) ≡ false
@@ -169,18 +204,18 @@ fn push_stated<'a>(
     ensures meaning { IfOk result (λ _. (v : PlainVersion) → IsPreRelease v
         → in_some precedence (map (span_value limit_place) spans.new.items) v
         ≡ (in_some precedence (map (span_value limit_place) spans.old.items) v
-        || (list_all (meets_comparator v) (map comparator_of comparators.entry.now)
-        && list_any (has_pre_release_at v) (map comparator_of comparators.entry.now)))) }
+        || (list_all (meets_comparator v) (map (comparator_by digits) comparators.entry.now)
+        && list_any (has_pre_release_at v) (map (comparator_by digits) comparators.entry.now)))) }
     ensures printable { are_printable (map comparator_of comparators.entry.now) ≡ true
-        → spans_print spans.old.items ≡ true → spans_print spans.new.items ≡ true }
+        → spans_print digits spans.old.items ≡ true → spans_print digits spans.new.items ≡ true }
 {
     // For speed: that of most texts is none.
     if !some_states_pre_release(comparators) {
         return Ok(());
     }
-    let met = met_pre_releases(comparators);
+    let met = met_pre_releases(comparators, digits);
     for comparator in comparators {
-        push_at(met, comparator, spans)?;
+        push_at(met, comparator, digits, spans)?;
     }
     Ok(())
 }
@@ -208,6 +243,7 @@ fn states_pre_release(comparator: &Comparator) -> bool
 fn push_at<'a>(
     met: Bounds<PreReleaseLimit<'a>>,
     comparator: &Comparator,
+    digits: Digits,
     spans: &mut Vec<Span<PreReleaseLimit<'a>>>,
 ) -> Result<(), AllocError>
     ensures spans { some_empty precedence (map (span_value limit_place) spans.old.items) ≡ false
@@ -216,10 +252,11 @@ fn push_at<'a>(
         → in_some precedence (map (span_value limit_place) spans.new.items) v
         ≡ (in_some precedence (map (span_value limit_place) spans.old.items) v
         || (is_within limit_place met.entry v
-        && has_pre_release_at v (comparator_of comparator.now)))) }
-    ensures printable { bounds_print met.entry ≡ true
-        → spans_print spans.old.items ≡ true → spans_print spans.new.items ≡ true }
+        && has_pre_release_at v (comparator_by digits comparator.now)))) }
+    ensures printable { bounds_print digits met.entry ≡ true
+        → spans_print digits spans.old.items ≡ true → spans_print digits spans.new.items ≡ true }
 {
+    let _digits = digits;
     if comparator.pre.is_empty() {
         return Ok(());
     }

@@ -7,6 +7,7 @@ ghost use Rattle.semver_parser.specs.Meeting.{meets_set};
 ghost use Rattle.semver_parser.specs.PrintedRanges.{is_printable_version};
 ghost use Rattle.semver_parser.specs.RangeViews.{comparator_of, range_of, set_of};
 ghost use Rattle.semver_parser.specs.Versions.{PlainVersion};
+ghost use Rattle.version_sets.specs.DigitViews.{set_kept};
 ghost use Rattle.version_sets.specs.SetRanges.{release_ranges, pre_release_ranges};
 ghost use Rattle.version_sets.specs.SetRanges.{is_whole, ranges_text, ReadsBack};
 ghost use Rattle.version_sets.specs.SetRanges.{is_lowest_pre as lowest_pre};
@@ -75,10 +76,11 @@ impl VersionSet {
     /// `Err` is out of memory.
     pub fn pre_release_ranges(&self, alloc: Global) -> Result<SetRanges, AllocError>
         ensures ranges { IfOk result (λ ranges.
-            set_of ranges.range_set ≡ pre_release_ranges self.now) }
-        // A pre-release meets them exactly if it is in the set.
+            set_of ranges.range_set ≡ set_kept (pre_release_ranges self.now)) }
+        // A pre-release meets them exactly if it is in the set. They are as they are kept: a number
+        // of 2^64 or more as its text.
         ensures meaning { IfOk result (λ ranges. (v : PlainVersion) → IsPreRelease v
-            → meets_set v (set_of ranges.range_set) ≡ has self.now v) }
+            → meets_set v (pre_release_ranges self.now) ≡ has self.now v) }
         // If the identifiers are printable, the text, read in npm mode, gives comparators that the
         // same pre-releases meet. The exception is `*`, which npm mode reads as `>=0.0.0`.
         ensures reads_back { IsTrue (list_all is_printable_version self.now.pre_releases)

@@ -6,7 +6,7 @@ ghost use Rattle.semver_parser.specs.Precedence.{precedence};
 ghost use Rattle.semver_parser.specs.VersionViews.{version_value};
 
 use crate::release::Release;
-use semver_parser::version::{Version, cmp_precedence};
+use semver_parser::version::Version;
 use std::alloc::{AllocError, Global};
 use std::cmp::Ordering;
 
@@ -35,21 +35,6 @@ impl Switch for Release {
     /// It does not allocate.
     fn at_same_place(&self, _alloc: Global) -> Result<Release, AllocError> {
         Ok(*self)
-    }
-}
-
-impl Switch for Version {
-    ghost use Rattle.version_sets.specs.Steps.Places.{version_place};
-
-    ghost place = { version_place };
-
-    fn compare(&self, other: &Version) -> Ordering {
-        cmp_precedence(self, other)
-    }
-
-    /// The build is left out.
-    fn at_same_place(&self, alloc: Global) -> Result<Version, AllocError> {
-        without_build(self, alloc)
     }
 }
 

@@ -2,6 +2,7 @@
 
 ghost use Rattle.std.specs.Prelude.{◌≡◌, ◌&&◌, false, length, map};
 ghost use Rattle.std.specs.List.{AllByRecursion};
+ghost use Rattle.semver_texts.specs.Digits.{plain_by};
 ghost use Rattle.semver_parser.specs.Texts.{Text, is_empty};
 ghost use Rattle.semver_parser.specs.Versions.{PlainVersion, VersionValue};
 ghost use Rattle.semver_parser.specs.VersionGrammar.{SpellsVersion};
@@ -12,10 +13,12 @@ ghost use Rattle.version_sets.specs.Releases.{release_value};
 ghost use Rattle.version_sets.specs.VersionSets.{has, Fits, IsNormal};
 ghost use Rattle.version_sets.specs.Steps.Places.{set_of};
 
+use crate::pre_release::PreRelease;
 use crate::release::Release;
 use crate::{each, switches};
 use semver_parser::laws;
 use semver_parser::version::{Outline, Version};
+use semver_texts::grammar::Digits;
 use std::alloc::Global;
 use std::marker::Model;
 
@@ -29,7 +32,7 @@ pub struct VersionSet {
     /// The switches of the releases.
     pub(crate) releases: Vec<Release>,
     /// The switches of the pre-releases. Each has a pre-release.
-    pub(crate) pre_releases: Vec<Version>,
+    pub(crate) pre_releases: Vec<PreRelease>,
 }
 
 impl Model for VersionSet {
@@ -54,7 +57,7 @@ impl VersionSet {
     }
 
     /// The set with these switches, which are in the normal form. It does not allocate.
-    pub(crate) fn of_switches(releases: Vec<Release>, pre_releases: Vec<Version>) -> VersionSet
+    pub(crate) fn of_switches(releases: Vec<Release>, pre_releases: Vec<PreRelease>) -> VersionSet
         requires { IsNormal (set_of releases.items pre_releases.items) }
         ensures { result ≡ set_of releases.items pre_releases.items }
     {
@@ -85,6 +88,9 @@ impl VersionSet {
     // Answer: equation.
     /// Whether a version is in the set: 1.9.0+b5 is in that of `^1.2.0`, and 2.0.0 isn't. It takes
     /// time in the logarithm of the number of switches, and no memory.
+    ///
+    /// An identifier of digits from 2^64 on is a text here, as the version keeps it. By Cargo and
+    /// npm it is a number, as [`VersionSet::has_by`] and [`VersionSet::has_outline`] read it.
     pub fn has(&self, version: &Version) -> bool
         ensures has { result ≡ has self.now (version_value version.now).plain }
         // The numbers of a version fit 64 bits.
@@ -99,7 +105,42 @@ impl VersionSet {
         if is_release {
             return self.has_release(release);
         }
-        switches::has(&self.pre_releases, version)
+        switches::has_version(&self.pre_releases, version, Digits::Kept)
+    }
+
+    // Answer: equation.
+    /// Whether a version is in the set, as [`VersionSet::has`] says, if an identifier of digits
+    /// alone from 2^64 on is what `digits` says. By `Digits::AnySize`, the set of Cargo's
+    /// `<1.0.0-10a` has 1.0.0-18446744073709551616.
+    pub fn has_by(&self, version: &Version, digits: Digits) -> bool
+        ensures has { result
+            ≡ has self.now (plain_by digits (version_value version.now).plain) }
+        // The numbers of a version fit 64 bits.
+        ensures fits { Fits (version_value version.now).plain }
+    {
+        let release = Release::of(version);
+        if version.pre.is_empty() {
+            return self.has_release(release);
+        }
+        switches::has_version(&self.pre_releases, version, digits)
+    }
+
+    // Answer: equation.
+    /// Whether each of some versions is in the set, as [`VersionSet::has_by`] says of one. It does
+    /// not allocate.
+    ///
+    /// `answers` has to have as many places as there are versions.
+    pub fn has_each_by(&self, versions: &[Version], digits: Digits, answers: &mut [bool])
+        requires { length answers.old ≡ length versions.now }
+        ensures each { answers.new
+            ≡ map (λ v. has self.now (plain_by digits (version_value v).plain)) versions.now }
+        // The numbers of each version fit 64 bits.
+        ensures fit { AllByRecursion (λ v. Fits (version_value v).plain) versions.now }
+    {
+        match digits {
+            Digits::Kept => self.has_each(versions, answers),
+            Digits::AnySize => each::has_by(self, versions, digits, answers),
+        }
     }
 
     // Answer: equation.

@@ -17,14 +17,20 @@ use Rattle.release_filter.specs.Counting.{CountsValue, counted_as}
 use Rattle.release_filter.specs.Wanted.{Answers, HeldValue, Holds, KeptValue, kept_as}
 use Rattle.release_filter.specs.declared.judging.Judged.{Judged}
 use Rattle.release_filter.specs.declared.judging.Judged.TheVariants.{NoVersion, DoesNotPass, Passes}
+use Rattle.semver_texts.specs.Digits.{plain_by}
+use Rattle.release_filter.specs.declared.precedence.ReadVersion.{ReadVersion}
 use Rattle.release_filter.specs.declared.wanted.Held.{Held}
 use Rattle.release_filter.specs.declared.wanted.KeptLine.{KeptLine}
 
 abbrev pub texts : List (String Global) → List Text
 texts prefixes = map (λ prefix. string_bytes prefix) prefixes
 
+-- a version that was read: its identifiers of digits alone as the dialect reads them
+abbrev pub read_plain : ReadVersion → PlainVersion
+read_plain r = plain_by r.digits (version_value r.version).plain
+
 abbrev pub kept_value : KeptLine → KeptValue
-kept_value k = record { version = (version_value k.version).plain; line = k.bytes.items }
+kept_value k = record { version = read_plain k.version; line = k.bytes.items }
 
 abbrev pub held_value : Held → HeldValue
 held_value h = record {

@@ -3,6 +3,7 @@
 use Rattle.std.specs.Prelude.{ℕ, Bool, true, false, ◌&&◌, ◌||◌, ◌==◌, if◌then◌else◌, [], ◌∷◌}
 use Rattle.std.specs.Prelude.{Option, Some, None, take, drop}
 use Rattle.std.specs.Char.{is_ascii_alphanumeric}
+use Rattle.std.specs.Int.{is_in_range}
 use Rattle.std.specs.List.{prefix_len}
 use Rattle.semver_texts.specs.Texts.{Text, is_part_byte, is_dotted_byte}
 use Rattle.semver_texts.specs.declared.dotted.Hyphens.{Hyphens}
@@ -32,6 +33,11 @@ abbrev pub marked_part : Hyphens → ℕ → Text → Option (Text × Text)
 marked_part hyphens mark [] = Some ([], [])
 marked_part hyphens mark (b ∷ t) =
     if b == mark then parts_ahead hyphens t else Some ([], b ∷ t)
+
+-- whether the first byte is a digit, and not 0
+abbrev pub begins_above_zero : Text → Bool
+begins_above_zero [] = false
+begins_above_zero (b ∷ t) = is_in_range 49 57 b
 
 -- whether the part at the front is empty or begins with a zero
 abbrev pub is_odd : Text → Bool

@@ -8,15 +8,18 @@ use Rattle.std.specs.Prelude.{decimal, Option, Some, None}
 use Rattle.std.specs.List.{AllByRecursion, AllZip, concat, join_with_byte, list_all}
 use Rattle.semver_texts.specs.Texts.{Text, cut_at_dots, has_no_leading_zero, is_part, is_space}
 use Rattle.semver_texts.specs.Texts.{marked}
-use Rattle.semver_texts.specs.ToolVersions.{IsKeptAs, IsVersionTextIn, before_numbers}
+use Rattle.semver_texts.specs.Digits.{digits_in, identifier_by}
+use Rattle.semver_texts.specs.ToolVersions.{IsVersionTextIn, before_numbers}
 use Rattle.semver_texts.specs.ToolVersions.{is_white_space}
 use Rattle.semver_texts.specs.VersionGrammar.{IsIdentifierText}
-use Rattle.semver_texts.specs.Versions.{VersionValue, numbers}
+use Rattle.semver_texts.specs.Versions.{IdentifierValue, VersionValue, numbers}
 use Rattle.semver_texts.specs.declared.grammar.Grammar.{Grammar}
 use Rattle.semver_texts.specs.declared.grammar.Grammar.TheVariants.{Crate, Cargo, Npm}
 use Rattle.semver_texts.specs.declared.dotted.Hyphens.{Hyphens}
 use Rattle.semver_texts.specs.declared.dotted.Hyphens.TheVariants.{Any, BetweenRuns}
-use Rattle.semver_versions.specs.Outlines.{OutlineValue, IsOutlineIn, after_mark, outline_after}
+use Rattle.semver_texts.specs.declared.grammar.Digits.{Digits}
+use Rattle.semver_versions.specs.Outlines.{OutlineValue, IsOutlineIn, after_mark, identifier_of}
+use Rattle.semver_versions.specs.Outlines.{outline_after}
 
 -- ---- what differs by dialect
 
@@ -101,8 +104,8 @@ pub record AreParts (grammar : Grammar) (text pre build : Text) : Type 0 where
       ≡ marked (codes "-") (cut_at_dots pre) ++ (marked (codes "+") (cut_at_dots build) ++ after)
 
 -- the outline of numbers that end at a place, and of the texts of both parts, each after its mark
-abbrev pub outline_with : ℕ → ℕ → ℕ → ℕ → Text → Text → OutlineValue
-outline_with major minor patch numbers_end pre build = record {
+abbrev pub outline_with : Digits → ℕ → ℕ → ℕ → ℕ → Text → Text → OutlineValue
+outline_with digits major minor patch numbers_end pre build = record {
   major = major;
   minor = minor;
   patch = patch;
@@ -110,9 +113,14 @@ outline_with major minor patch numbers_end pre build = record {
   build = build;
   pre_offset = after_mark numbers_end pre;
   build_offset = after_mark (numbers_end + length (marked (codes "-") (cut_at_dots pre))) build;
+  digits = digits;
 }
 
 -- ---- the whole
+
+-- the text is one or more letters, digits and hyphens, and is the identifier with digits read so
+abbrev pub IsKeptBy : Digits → IdentifierValue → Text → Type 0
+IsKeptBy digits id text = IsTrue (is_part text) × (id ≡ identifier_by digits (identifier_of text))
 
 -- the text begins with the numbers of the version, and goes on with its identifiers and with what
 -- may be after it
@@ -124,10 +132,10 @@ pub record IsRead (grammar : Grammar) (v : VersionValue) (text : Text) : Type 0 
   pub minor : v.plain.minor < 2 ^ 64
   pub patch : v.plain.patch < 2 ^ 64
   pub fits : NumbersFit grammar v.plain.major v.plain.minor v.plain.patch
-  pub pre : AllZip IsKeptAs v.plain.pre pre_texts
+  pub pre : AllZip (IsKeptBy (digits_in grammar)) v.plain.pre pre_texts
   pub pre_each : AreIdentifiers (hyphens_of grammar) pre_texts
   pub zeros : ZerosFit grammar pre_texts
-  pub build : AllZip IsKeptAs v.build build_texts
+  pub build : AllZip (IsKeptBy (digits_in grammar)) v.build build_texts
   pub build_each : AreIdentifiers (hyphens_of grammar) build_texts
   pub around : AreAround grammar after
   pub whole : text ≡ join_with_byte (code ".") (map decimal (numbers v.plain))
@@ -137,7 +145,8 @@ pub record IsRead (grammar : Grammar) (v : VersionValue) (text : Text) : Type 0 
 abbrev pub IsOutlinedAt : Grammar → ℕ → Text → Option OutlineValue → Type 0
 IsOutlinedAt grammar before text None = (v : VersionValue) → ¬ (IsRead grammar v text)
 IsOutlinedAt grammar before text (Some o) =
-    (v : VersionValue) × IsRead grammar v text × (o ≡ outline_after before v)
+    (v : VersionValue) × IsRead grammar v text
+    × (o ≡ outline_after (digits_in grammar) before v)
 
 -- the outline of a version that is read so after what is before it, whatever the length of the
 -- text, or none where there is none
@@ -146,7 +155,7 @@ IsOutlinedFrom grammar text None =
     (v : VersionValue) (rest : Text) → IsBefore grammar text rest → ¬ (IsRead grammar v rest)
 IsOutlinedFrom grammar text (Some o) = (v : VersionValue) × (rest : Text)
     × IsBefore grammar text rest × IsRead grammar v rest
-    × (o ≡ outline_after (before_numbers text) v)
+    × (o ≡ outline_after (digits_in grammar) (before_numbers text) v)
 
 -- the outline of a version that the text spells, or none where it spells none
 abbrev pub IsOutlinedBy : Grammar → Text → Option OutlineValue → Type 0

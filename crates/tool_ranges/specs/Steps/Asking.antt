@@ -25,7 +25,10 @@ use Rattle.semver_ranges.specs.Steps.PartialViews.{stated_of, version_of}
 use Rattle.semver_ranges.specs.Steps.RangeEvents.{Event, one_simple, next_range, yielded}
 use Rattle.semver_ranges.specs.Steps.Reading.{read}
 use Rattle.semver_parser.specs.Outlines.{identifier_of}
+use Rattle.semver_texts.specs.Digits.{identifiers_by, plain_by}
+use Rattle.semver_texts.specs.declared.grammar.Digits.TheVariants.{AnySize}
 use Rattle.tool_ranges.specs.AllPreReleases as all
+use Rattle.tool_ranges.specs.AnySize.{zero_filled_any}
 use Rattle.tool_ranges.specs.CargoGrammar.{SpellsRequirement}
 use Rattle.tool_ranges.specs.CargoMeaning as cargo
 use Rattle.tool_ranges.specs.CargoMeaning.{as_read}
@@ -43,8 +46,12 @@ asked_of a = record {
   major = a.major;
   minor = a.minor;
   patch = a.patch;
-  pre = map identifier_of (cut_at_dots a.pre.now);
+  pre = identifiers_by a.digits (map identifier_of (cut_at_dots a.pre.now));
 }
+
+-- the zero-filled version of a partial, whose digits are numbers of any size
+abbrev pub read_any : Partial → PlainVersion
+read_any p = plain_by AnySize (version_of p)
 
 -- whether a partial states the three numbers of a version, and a pre-release
 abbrev pub states_at : Partial → PlainVersion → Bool
@@ -65,7 +72,8 @@ lower_of (Crate mode) = lower.Stated
 
 -- whether a version meets a term
 abbrev pub term_met : Terms → PlainVersion → Simple → Bool
-term_met Npm v s = npm.meets_by_count s.form (stated s.partial) (zero_filled s.partial) v
+term_met Npm v s =
+    npm.meets_by_count s.form (stated s.partial) (zero_filled_any s.partial) v
 term_met NpmAll v s = all.meets_one mode.Npm s v
 term_met (Crate compat) v s =
     meets_stated compat s.form (stated s.partial) (zero_filled s.partial) v
@@ -134,7 +142,7 @@ Refuses terms t OutOfMemory = ⊥
 -- whether a version meets a comparator as it is read
 abbrev pub comparator_met : Bool → PlainVersion → Simple → Bool
 comparator_met takes_all v s = if takes_all then all.meets_one mode.Cargo s v
-    else cargo.meets_by_count s.form (stated s.partial) (zero_filled s.partial) v
+    else cargo.meets_by_count s.form (stated s.partial) (zero_filled_any s.partial) v
 
 -- each comparator, and it counts
 abbrev pub requirement_met : Bool → PlainVersion → Bool → List Simple → Bool

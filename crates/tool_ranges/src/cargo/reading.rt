@@ -9,6 +9,7 @@ ghost use Rattle.semver_ranges.specs.Meeting.{meets_set};
 ghost use Rattle.semver_ranges.specs.RangeViews.{range_of};
 ghost use Rattle.version_sets.specs.Flat.{IsPrintable};
 ghost use Rattle.version_sets.specs.VersionSets.{has, Fits};
+ghost use Rattle.tool_ranges.specs.AnySize.{set_any};
 ghost use Rattle.tool_ranges.specs.CargoGrammar.{SpellsRequirement};
 ghost use Rattle.tool_ranges.specs.AllPreReleases.{meets_requirement_with_all};
 ghost use Rattle.tool_ranges.specs.CargoMeaning.{meets_requirement};
@@ -18,6 +19,7 @@ ghost use Rattle.tool_ranges.specs.declared.cargo.judging.JudgedVersions.TheVari
 ghost use Rattle.tool_ranges.specs.Steps.CargoPreReleases.{counting, counting_one, judging};
 ghost use Rattle.tool_ranges.specs.Steps.CargoReading.{IsSurveyedAs};
 
+use crate::any_size::set_of;
 use crate::cargo::judging::JudgedVersions;
 use crate::cargo::{Surveyed, build, survey};
 use semver_ranges::{Compat, Range, RangeError, RangeSet};
@@ -85,7 +87,7 @@ fn judged(
     requires { (t : Text) × (tree : List SimpleTree) × IsSurveyedAs t tree surveyed.now }
     ensures meaning { IfOk result (λ set. (t : Text) (tree : List SimpleTree) (v : PlainVersion)
         → IsSurveyedAs t tree surveyed.now → Fits v
-        → has set v ≡ meets_set v (judging judged tree)) }
+        → has set v ≡ meets_set v (set_any (judging judged tree))) }
     ensures printable { IfOk result IsPrintable }
 {
     let (ranges, _) = build(alloc, surveyed, judged, false)?;
@@ -93,7 +95,7 @@ fn judged(
         ranges,
         compat: Compat::Cargo,
     };
-    VersionSet::of_set(alloc, &judging, PreReleases::Included)
+    set_of(alloc, &judging, PreReleases::Included)
 }
 
 /// What a requirement means.
@@ -108,7 +110,7 @@ fn meant(alloc: Global, surveyed: &Surveyed<'_>) -> Result<VersionSet, AllocErro
         ranges,
         compat: Compat::Cargo,
     };
-    let releases = VersionSet::of_set(alloc, &rewritten, PreReleases::Excluded)?;
+    let releases = set_of(alloc, &rewritten, PreReleases::Excluded)?;
     if counting.is_empty() {
         return Ok(releases);
     }
@@ -126,8 +128,8 @@ fn counted(
         → map range_of ranges.items ≡ flat_map counting_one tree }
     ensures meaning { IfOk result (λ set. (t : Text) (tree : List SimpleTree) (v : PlainVersion)
         → IsSurveyedAs t tree surveyed.now → Fits v
-        → has set v ≡ (meets_set v (judging judged.PreReleases tree)
-        && meets_set v (counting tree))) }
+        → has set v ≡ (meets_set v (set_any (judging judged.PreReleases tree))
+        && meets_set v (set_any (counting tree)))) }
     ensures printable { IfOk result IsPrintable }
 {
     let counting = RangeSet {
@@ -135,8 +137,5 @@ fn counted(
         compat: Compat::Cargo,
     };
     let judged = judged(alloc, surveyed, JudgedVersions::PreReleases)?;
-    judged.intersection(
-        alloc,
-        &VersionSet::of_set(alloc, &counting, PreReleases::Included)?,
-    )
+    judged.intersection(alloc, &set_of(alloc, &counting, PreReleases::Included)?)
 }

@@ -7,6 +7,7 @@ ghost use Rattle.semver_ranges.specs.RangeViews.{comparator_of, range_of, set_of
 ghost use Rattle.semver_texts.specs.Versions.{PlainVersion};
 ghost use Rattle.version_sets.specs.Flat.{HasPrintableRanges, IsPrintable};
 ghost use Rattle.version_sets.specs.VersionSets.{has, Fits};
+ghost use Rattle.tool_ranges.specs.AnySize.{set_any};
 ghost use Rattle.tool_ranges.specs.NpmGrammar.{SpellsNpmRange};
 ghost use Rattle.tool_ranges.specs.AllPreReleases.{meets_npm_with_all};
 ghost use Rattle.tool_ranges.specs.NpmMeaning.{meets_npm};
@@ -15,6 +16,7 @@ ghost use Rattle.tool_ranges.specs.declared.dialect.Dialect.TheVariants as diale
 ghost use Rattle.tool_ranges.specs.Steps.NpmReading.{has_no_other, is_from_zero};
 ghost use Rattle.tool_ranges.specs.Steps.NpmReading.{is_meant, others_in};
 
+use crate::any_size;
 use crate::npm::{rewrite, rewritten};
 use semver_ranges::partial::LowerBounds;
 use semver_ranges::{Comparator, Op, Range, RangeError, RangeSet};
@@ -67,7 +69,7 @@ pub(crate) fn read_with_all(alloc: Global, range: &str) -> Result<VersionSet, Ra
         Ok(set) => set,
         Err(refusal) => return Err(refusal),
     };
-    match VersionSet::of_set(alloc, &set, PreReleases::Included) {
+    match any_size::set_of(alloc, &set, PreReleases::Included) {
         Ok(set) => Ok(set),
         Err(_) => Err(RangeError::OutOfMemory),
     }
@@ -76,13 +78,13 @@ pub(crate) fn read_with_all(alloc: Global, range: &str) -> Result<VersionSet, Ra
 /// What a text means that is rewritten to these comparators.
 fn meant(alloc: Global, rewritten: RangeSet) -> Result<VersionSet, AllocError>
     ensures meaning { IfOk result (λ set. (v : PlainVersion) → Fits v
-        → has set v ≡ is_meant (set_of rewritten) v) }
+        → has set v ≡ is_meant (set_any (set_of rewritten)) v) }
     ensures printable { HasPrintableRanges (set_of rewritten) → IfOk result IsPrintable }
 {
     if some_has_no_other(&rewritten.ranges) {
-        return VersionSet::of_set(alloc, &rewritten, PreReleases::Excluded);
+        return any_size::set_of(alloc, &rewritten, PreReleases::Excluded);
     }
-    VersionSet::of_set(alloc, &others_in(rewritten), PreReleases::Default)
+    any_size::set_of(alloc, &others_in(rewritten), PreReleases::Default)
 }
 
 /// The same set without its comparators `>=0.0.0`.

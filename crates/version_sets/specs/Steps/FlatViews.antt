@@ -1,5 +1,5 @@
 -- Flat data as it is read: a means of proof, and the view of a `FlatSet`.
-use Rattle.std.specs.Prelude.{ℕ, ◌+◌, ◌-◌, ◌^◌, ◌<◌, ◌==◌, ◌&&◌, Bool, true, List, [], ◌∷◌, ◌++◌}
+use Rattle.std.specs.Prelude.{ℕ, zero, suc, ◌+◌, ◌-◌, ◌^◌, ◌<◌, ◌==◌, ◌&&◌, Bool, true, List, [], ◌∷◌, ◌++◌}
 use Rattle.std.specs.Prelude.{length, map, take, drop, nat_le, nat_lt}
 use Rattle.std.specs.List.{list_all}
 use Rattle.std.specs.Ordering.{is_eq, is_lt}
@@ -8,6 +8,10 @@ use Rattle.semver_parser.specs.Partials.{kept}
 use Rattle.semver_parser.specs.Precedence.{pre_cmp, precedence}
 use Rattle.semver_parser.specs.Texts.{Text, cut_at_dots, is_part}
 use Rattle.semver_parser.specs.Versions.{PlainVersion}
+use Rattle.semver_texts.specs.Digits.{identifiers_by}
+use Rattle.semver_texts.specs.declared.grammar.Digits.{Digits}
+use Rattle.semver_texts.specs.declared.grammar.Digits.TheVariants.{Kept, AnySize}
+use Rattle.version_sets.specs.Flat.{digits_code}
 use Rattle.version_sets.specs.VersionSets.{SetValue}
 use Rattle.version_sets.specs.declared.flat.FlatSwitch.{FlatSwitch}
 use Rattle.version_sets.specs.declared.flat_places.Place.{Place}
@@ -16,13 +20,18 @@ use Rattle.version_sets.specs.declared.flat_places.Place.{Place}
 abbrev pub text_at : Text → FlatSwitch → Text
 text_at bytes s = take s.pre_length (drop s.pre_offset bytes)
 
--- the version of a switch: its identifiers are kept as those of a range
+-- how the identifiers of a switch are read
+abbrev pub digits_of_code : ℕ → Digits
+digits_of_code zero = Kept
+digits_of_code (suc n) = AnySize
+
+-- the version of a switch: its identifiers are kept as those of a range, and read so
 abbrev pub switch_value : Text → FlatSwitch → PlainVersion
 switch_value bytes s = record {
   major = s.major;
   minor = s.minor;
   patch = s.patch;
-  pre = map kept (cut_at_dots (text_at bytes s));
+  pre = identifiers_by (digits_of_code s.digits) (map kept (cut_at_dots (text_at bytes s)));
 }
 
 -- so are they as those of a version
@@ -31,7 +40,7 @@ place_value p = record {
   major = p.major;
   minor = p.minor;
   patch = p.patch;
-  pre = map identifier_of (cut_at_dots p.pre.now);
+  pre = identifiers_by p.digits (map identifier_of (cut_at_dots p.pre.now));
 }
 
 abbrev pub asked_value : Text → FlatSwitch → PlainVersion
@@ -39,7 +48,8 @@ asked_value bytes s = record {
   major = s.major;
   minor = s.minor;
   patch = s.patch;
-  pre = map identifier_of (cut_at_dots (text_at bytes s));
+  pre = identifiers_by (digits_of_code s.digits)
+      (map identifier_of (cut_at_dots (text_at bytes s)));
 }
 
 -- the set of switches of releases, and of pre-releases with their bytes
@@ -55,11 +65,16 @@ is_text t =
     list_all is_part (cut_at_dots t)
     && is_eq (pre_cmp (map identifier_of (cut_at_dots t)) (map kept (cut_at_dots t)))
 
+-- whether a switch says that its digits are read as numbers of any size exactly if it has to
+abbrev pub is_told : Text → FlatSwitch → Bool
+is_told bytes s = s.digits == digits_code (switch_value bytes s)
+
 -- whether a switch's text is after so many bytes, and within the bytes
 abbrev pub is_placed : ℕ → Text → FlatSwitch → Bool
 is_placed at bytes s =
     (s.pre_offset == at)
-    && (nat_le s.pre_length (length bytes - at) && is_text (text_at bytes s))
+    && (nat_le s.pre_length (length bytes - at)
+    && (is_text (text_at bytes s) && is_told bytes s))
 
 -- whether the texts of switches follow one another from a place on, up to the end of the bytes
 abbrev pub are_placed : ℕ → Text → List FlatSwitch → Bool
@@ -101,4 +116,5 @@ headed releases pre_releases = record {
   patch = length pre_releases;
   pre_offset = 0;
   pre_length = 0;
+  digits = 0;
 } ∷ (releases ++ pre_releases)

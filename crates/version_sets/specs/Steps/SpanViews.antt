@@ -8,7 +8,9 @@ use Rattle.semver_parser.specs.RangeViews.{identifier_of}
 use Rattle.semver_parser.specs.Texts.{is_empty}
 use Rattle.semver_parser.specs.Versions.{IdentifierValue, numeric, PlainVersion}
 use Rattle.semver_parser.specs.Precedence.{precedence}
-use Rattle.semver_parser.specs.PrintedRanges.{is_printable_version}
+use Rattle.semver_texts.specs.Digits.{plain_by}
+use Rattle.semver_texts.specs.declared.grammar.Digits.{Digits}
+use Rattle.version_sets.specs.Flat.{prints_by}
 use Rattle.version_sets.specs.declared.pre_release_limits.PreReleaseLimit.{PreReleaseLimit}
 use Rattle.version_sets.specs.declared.spans.Bounds.{Bounds}
 use Rattle.version_sets.specs.declared.spans.Span.{Span}
@@ -18,15 +20,19 @@ use Rattle.version_sets.specs.Steps.Spans.{SpanValue, is_between}
 abbrev pub with_zero : List IdentifierValue → Bool → List IdentifierValue
 with_zero identifiers zero = identifiers ++ (if zero then numeric 0 ∷ [] else [])
 
--- where a pre-release limit is: none has no identifiers
-abbrev pub limit_place : PreReleaseLimit → PlainVersion
-limit_place l = record {
+-- where a pre-release limit is, as its identifiers are kept and as they are read: none has no
+-- identifiers
+abbrev pub kept_limit : PreReleaseLimit → PlainVersion
+kept_limit l = record {
   major = l.numbers.major;
   minor = l.numbers.minor;
   patch = l.numbers.patch;
   pre = with_zero (map identifier_of l.identifiers.now)
       (l.with_zero || is_empty (map identifier_of l.identifiers.now));
 }
+
+abbrev pub limit_place : PreReleaseLimit → PlainVersion
+limit_place l = plain_by l.digits (kept_limit l)
 
 -- whether what compares so with a version is above it, or is at or above it
 abbrev pub is_past : Bool → Ordering → Bool
@@ -54,8 +60,8 @@ module _ {L : Type 0} (place : L → PlainVersion) where
   spans_hold p spans = list_all (λ s. p (place s.from) && holds_at p (option_map place s.to)) spans
 
 -- whether the limits of bounds, and those of spans, can be read back from their texts
-abbrev pub bounds_print : Bounds PreReleaseLimit → Bool
-bounds_print = bounds_hold limit_place is_printable_version
+abbrev pub bounds_print : Digits → Bounds PreReleaseLimit → Bool
+bounds_print digits = bounds_hold limit_place (prints_by digits)
 
-abbrev pub spans_print : List (Span PreReleaseLimit) → Bool
-spans_print = spans_hold limit_place is_printable_version
+abbrev pub spans_print : Digits → List (Span PreReleaseLimit) → Bool
+spans_print digits = spans_hold limit_place (prints_by digits)

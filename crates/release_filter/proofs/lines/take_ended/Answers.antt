@@ -1,9 +1,8 @@
 use Rattle.std.proofs.Common.{◌≡◌, ◌∙◌, ap, sym, true}
 use Rattle.std.proofs.lemmas.Result.{IfOk-weaker}
-use Rattle.semver_parser.specs.VersionViews.{version_value}
 use Rattle.release_filter.specs.Counting.{counts_value}
 use Rattle.release_filter.specs.LineTexts.{after_mark}
-use Rattle.release_filter.specs.Steps.Taking.{held_value, texts, verdict_of}
+use Rattle.release_filter.specs.Steps.Taking.{held_value, texts, verdict_of, read_plain}
 use Rattle.release_filter.proofs.Endings.{takes_best, takes_each, takes_judged}
 use Rattle.release_filter.proofs.JudgedLines.{verdict}
 use Rattle.release_filter.proofs.TakenPieces.{not_marked}
@@ -42,7 +41,7 @@ returns-then-may_hold-clause-takes c =
     let marked = c.as_slice-marked.ensures.value in
     let unmarked = c.after_mark-line.ensures ∙ not_marked c.args.at_front _ (cc) ∙ marked in
     let best = c.hold_whole.ensures.best in
-    let version = (version_value c.in_ok-version.version).plain in
+    let version = read_plain c.in_ok-version.version in
     let old = c.args.kept.now.items in
     let found = rw (← unmarked) at best.1 in
     takes_judged filter prefixes held (held_value c.hold_whole.new.self) counts (counts_value c.add-then-may_hold.new.self) line

@@ -1,4 +1,6 @@
-use Rattle.std.proofs.Common.{sym, ◌∙◌}
+use Rattle.std.proofs.Common.{ap, map, sym, ◌∙◌}
+use Rattle.semver_texts.specs.Digits.{identifiers_by}
+use Rattle.semver_parser.specs.VersionViews.{identifier_value}
 use Rattle.release_filter.proofs.wanted.without_build.Goals as goal
 
 pub returns : goal.returns
@@ -6,5 +8,6 @@ returns c = λ plain of. (λ i. record {
   major = c.major.ensures i;
   minor = c.minor.ensures i;
   patch = c.patch.ensures i;
-  pre = c.in_ok-pre_identifiers.ensures.of_version i;
+  pre = (ap (λ d. identifiers_by d (map identifier_value c.in_ok-pre_identifiers.field-0.items)) c.digits.ensures
+      ∙ c.in_ok-pre_identifiers.ensures.of_version) i;
 }) ∙ sym of

@@ -8,7 +8,7 @@ returns-then-not-fit c = λ text before n at v w.
 
 pub returns-then-is_empty : goal.returns-then-is_empty
 returns-then-is_empty c = λ text before n at.
-    rw c.with_parts.ensures
+    rw (c.with_parts.ensures, c.digits.ensures)
     (has_outline c.args.grammar text c.args.rest.now [] [] c.args.major c.args.minor c.args.patch n
     (no_parts c.args.grammar c.args.rest.now (sym c.is_empty.ensures ∙ c.if-is_empty.true))
     (c.fit.ensures.yes c.if-not-fit.false) before c.args.numbers_end at)

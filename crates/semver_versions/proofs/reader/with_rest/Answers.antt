@@ -24,6 +24,6 @@ with_parts-requires c =
 
 pub returns : goal.returns
 returns c = λ text before n at.
-    rw c.with_parts.ensures
+    rw (c.with_parts.ensures, c.digits.ensures)
     (has_outline c.args.grammar text c.args.rest.now c.in_ok-pre.pre.now c.in_ok-pre.build.now c.args.major c.args.minor c.args.patch n
     c.in_ok-pre.ensures c.requires.fit before c.args.numbers_end at)

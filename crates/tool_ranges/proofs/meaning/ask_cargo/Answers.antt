@@ -1,4 +1,4 @@
-use Rattle.std.proofs.Common.{Bool, IfOk, Result, subst, sym}
+use Rattle.std.proofs.Common.{Bool, Result, subst, sym}
 use Rattle.semver_ranges.specs.declared.range_set.RangeError.{RangeError}
 use Rattle.semver_texts.specs.Texts.{Text}
 use Rattle.semver_texts.specs.Versions.{VersionValue, without_build}

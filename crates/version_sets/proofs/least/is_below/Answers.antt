@@ -2,7 +2,7 @@ use Rattle.std.proofs.Common.{arith, ◌≡◌, List, [], ◌∷◌, false, refl
 use Rattle.std.specs.Ordering.{ordering_then}
 use Rattle.semver_parser.specs.Versions.{IdentifierValue}
 use Rattle.semver_parser.specs.Precedence.{pre_cmp}
-use Rattle.version_sets.specs.Steps.Places.{version_place}
+use Rattle.version_sets.specs.Steps.Places.{pre_release_place}
 use Rattle.std.specs.Prelude.{option_map}
 use Rattle.version_sets.specs.Releases.{release_value}
 use Rattle.version_sets.specs.Steps.Lower.{is_below}
@@ -21,7 +21,7 @@ last a b c d e = grind arith
 pub returns-in-Some : goal.returns-in-Some
 returns-in-Some c =
     let r = c.in-Some.release.now in
-    let v = version_place c.args.version.now in
+    let v = pre_release_place c.args.version.now in
     c.is_lt.ensures ∙ ap is_lt c.cmp.ensures
     ∙ ap (λ w. is_lt (ordering_then (nat_cmp r.major w.major) (ordering_then (nat_cmp r.minor w.minor) (nat_cmp r.patch w.patch))))
     c.of.ensures

@@ -2,17 +2,17 @@ use Rattle.std.proofs.Common.{ap, sym, cond, Some, ◌∙◌}
 use Rattle.std.specs.Prelude.{option_map}
 use Rattle.version_sets.specs.Releases.{release_value}
 use Rattle.version_sets.specs.Steps.Lower.{lower}
-use Rattle.version_sets.specs.Steps.Places.{version_place}
+use Rattle.version_sets.specs.Steps.Places.{pre_release_place}
 use Rattle.version_sets.proofs.Lists.{on_err}
 use Rattle.version_sets.proofs.least.least_of.Goals as goal
 
-pub returns-in_err-without_build-clause-out_of_memory : goal.returns-in_err-without_build-clause-out_of_memory
-returns-in_err-without_build-clause-out_of_memory c =
+pub returns-in_err-kept-clause-out_of_memory : goal.returns-in_err-kept-clause-out_of_memory
+returns-in_err-kept-clause-out_of_memory c =
     let release = option_map (λ r. release_value r.now) c.args.release in
-    let p = version_place c.in-Some.pre_release.now in
+    let p = pre_release_place c.in-Some.pre_release.now in
     on_err c.from_residual.result (
       p,
-      ap (option_map (λ p. version_place p.now)) c.in-Some.is,
-      ap (λ o. lower release (option_map (λ p. version_place p.now) o)) c.in-Some.is
+      ap (option_map (λ p. pre_release_place p.now)) c.in-Some.is,
+      ap (λ o. lower release (option_map (λ p. pre_release_place p.now) o)) c.in-Some.is
           ∙ ap (λ t. cond t release (Some p)) (sym c.is_below.ensures ∙ c.if-is_below.false),
     )

@@ -1,7 +1,8 @@
 use Rattle.std.proofs.Common.{◌≡◌, map, take}
 use Rattle.std.specs.List.{list_all}
 use Rattle.semver_parser.specs.Meeting.{meets_comparator}
-use Rattle.semver_parser.specs.RangeViews.{comparator_of}
+use Rattle.semver_texts.specs.declared.grammar.Digits.{Digits}
+use Rattle.version_sets.specs.DigitViews.{comparator_by}
 use Rattle.semver_parser.specs.Versions.{PlainVersion}
 use Rattle.version_sets.specs.Releases.{release_value}
 use Rattle.version_sets.specs.VersionSets.{IsRelease}
@@ -10,5 +11,5 @@ use Rattle.version_sets.proofs.of_comparators.met_releases.Given as goal
 
 abbrev pub invariant-loop-comparator : goal.invariant-loop-comparator
 invariant-loop-comparator l =
-    (v : PlainVersion) → IsRelease v
-    → is_within release_value l.met v ≡ list_all (meets_comparator v) (map comparator_of (take l.comparator-index l.comparators))
+    (d : Digits) (v : PlainVersion) → IsRelease v
+    → is_within release_value l.met v ≡ list_all (meets_comparator v) (map (comparator_by d) (take l.comparator-index l.comparators))

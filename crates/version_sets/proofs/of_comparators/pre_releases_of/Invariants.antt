@@ -2,6 +2,7 @@ use Rattle.std.proofs.Common.{◌≡◌, true, false, map, take}
 use Rattle.std.specs.List.{list_all, list_any}
 use Rattle.semver_parser.specs.Precedence.{precedence}
 use Rattle.semver_parser.specs.RangeViews.{range_of}
+use Rattle.version_sets.specs.DigitViews.{range_by}
 use Rattle.semver_parser.specs.Versions.{PlainVersion}
 use Rattle.version_sets.specs.Flat.{are_printable}
 use Rattle.version_sets.specs.VersionSets.{IsPreRelease}
@@ -14,6 +15,6 @@ abbrev pub invariant-loop-range : goal.invariant-loop-range
 invariant-loop-range l = record {
   spans : some_empty precedence (map (span_value limit_place) l.spans.items) ≡ false;
   meaning : (v : PlainVersion) → IsPreRelease v → in_some precedence (map (span_value limit_place) l.spans.items) v
-      ≡ list_any (λ range. meets_range_with l.rule v (range_of range)) (take l.range-index l.ranges);
-  printable : list_all (λ range. are_printable (range_of range).comparators) l.ranges ≡ true → spans_print l.spans.items ≡ true;
+      ≡ list_any (λ range. meets_range_with l.rule v (range_by l.digits range)) (take l.range-index l.ranges);
+  printable : list_all (λ range. are_printable (range_of range).comparators) l.ranges ≡ true → spans_print l.digits l.spans.items ≡ true;
 }

@@ -5,6 +5,7 @@ use Rattle.semver_parser.specs.Precedence.{precedence}
 use Rattle.semver_parser.specs.RangeViews.{comparator_of}
 use Rattle.semver_parser.specs.StatedPreReleases.{has_pre_release_at}
 use Rattle.semver_parser.specs.Versions.{PlainVersion}
+use Rattle.version_sets.specs.DigitViews.{comparator_by}
 use Rattle.version_sets.specs.Flat.{are_printable}
 use Rattle.version_sets.specs.VersionSets.{IsPreRelease}
 use Rattle.version_sets.specs.Steps.Spans.{some_empty, in_some}
@@ -18,8 +19,8 @@ invariant-loop-comparator l =
       spans : some_empty precedence (map seen l.initial.spans.items) ≡ false → some_empty precedence (map seen l.spans.items) ≡ false;
       meaning : (v : PlainVersion) → IsPreRelease v → in_some precedence (map seen l.spans.items) v
           ≡ (in_some precedence (map seen l.initial.spans.items) v
-          || (list_all (meets_comparator v) (map comparator_of l.comparators)
-          && list_any (has_pre_release_at v) (map comparator_of (take l.comparator-index l.comparators))));
-      printable : are_printable (map comparator_of l.comparators) ≡ true → spans_print l.initial.spans.items ≡ true
-          → spans_print l.spans.items ≡ true;
+          || (list_all (meets_comparator v) (map (comparator_by l.digits) l.comparators)
+          && list_any (has_pre_release_at v) (map (comparator_by l.digits) (take l.comparator-index l.comparators))));
+      printable : are_printable (map comparator_of l.comparators) ≡ true → spans_print l.digits l.initial.spans.items ≡ true
+          → spans_print l.digits l.spans.items ≡ true;
     }

@@ -3,7 +3,7 @@ use Rattle.std.specs.List.{AllWithin}
 use Rattle.semver_parser.specs.Outlines.{version_of}
 use Rattle.semver_parser.specs.Precedence.{precedence}
 use Rattle.semver_parser.specs.PrecedenceLaws.{precedence_total}
-use Rattle.version_sets.specs.Steps.Places.{version_place}
+use Rattle.version_sets.specs.Steps.Places.{pre_release_place}
 use Rattle.version_sets.proofs.OutlinedPlaces.{is_reached, narrowed_above, narrowed_below}
 use Rattle.version_sets.proofs.SearchLaws.{odd_passed}
 use Rattle.version_sets.proofs.switches.has_outline.Goals as goal
@@ -15,7 +15,7 @@ returns c =
     let known = c.loop-low.invariant.2 in
     let met : c.loop-low.high ≡ c.loop-low.low = omega (arith, c.loop-low.invariant.0, c.loop-low-test.false) in
     c.is_odd.ensures
-    ∙ odd_passed precedence precedence_total version_place v xs c.loop-low.low (omega (arith, met, c.loop-low.invariant.1))
+    ∙ odd_passed precedence precedence_total pre_release_place v xs c.loop-low.low (omega (arith, met, c.loop-low.invariant.1))
     (known.0, subst (λ n. AllWithin (λ s. is_reached v s ≡ false) xs n (length xs)) met known.1)
 
 pub loop-low-preserved-then-is_ge : goal.loop-low-preserved-then-is_ge
@@ -26,7 +26,7 @@ loop-low-preserved-then-is_ge c =
       c.loop-low.invariant.1,
       narrowed_below (version_of c.args.outline.now).plain c.args.switches.now c.requires c.loop-low.low c.loop-low.high middle
           c.loop-low.invariant.2 c.index-switches-middle.result (omega (arith, below, c.loop-low.invariant.1))
-          c.index-switches-middle.is c.is_ge.result (c.is_ge.ensures ∙ ap is_ge c.cmp_precedence.ensures.of_version) c.if-is_ge.true,
+          c.index-switches-middle.is c.is_ge.result (c.is_ge.ensures ∙ ap is_ge c.compared_outline.ensures) c.if-is_ge.true,
     )
 
 pub loop-low-preserved : goal.loop-low-preserved
@@ -37,5 +37,5 @@ loop-low-preserved c =
       omega (arith, below, c.loop-low.invariant.1),
       narrowed_above (version_of c.args.outline.now).plain c.args.switches.now c.requires c.loop-low.low c.loop-low.high middle
           c.loop-low.invariant.2 c.index-switches-middle.result (omega (arith, below, c.loop-low.invariant.1))
-          c.index-switches-middle.is c.is_ge.result (c.is_ge.ensures ∙ ap is_ge c.cmp_precedence.ensures.of_version) c.if-is_ge.false,
+          c.index-switches-middle.is c.is_ge.result (c.is_ge.ensures ∙ ap is_ge c.compared_outline.ensures) c.if-is_ge.false,
     )

@@ -1,20 +1,20 @@
 use Rattle.std.proofs.Common.{ap, sym, ◌∙◌, refl, Bool, map}
 use Rattle.std.proofs.lemmas.Option.{slice_get_read}
 use Rattle.std.specs.Prelude.{slice_get}
-use Rattle.semver_parser.specs.VersionViews.{version_value}
+use Rattle.semver_texts.specs.Digits.{digits_in}
 use Rattle.semver_parser.specs.declared.version.Version.{Version}
-use Rattle.release_filter.specs.Filters.{FilterValue, passes}
+use Rattle.release_filter.specs.Filters.{FilterValue, passes, read_by}
 use Rattle.release_filter.proofs.KeptVersions.{all_in_front, in_bounds, in_front_more, judged_at, keeps_next, some_kept, some_passes}
 use Rattle.release_filter.proofs.Passing.{on_err}
 use Rattle.release_filter.proofs.filter.Filter.keep.Goals as goal
 
 abbrev test : FilterValue → Version → Bool
-test filter v = passes filter (version_value v)
+test filter v = passes filter (read_by filter v)
 
 pub loop-at-preserved : goal.loop-at-preserved
 loop-at-preserved c =
     in_front_more (test c.args.self.now) c.args.versions.now _ _ _ _ _ c.loop-at-test.true
-    (judged_at c.args.self.now _ _ _ c.args.versions.now _ c.loop-at.at _ c.self.view_is c.has_each.ensures.each c.has_each.ensures.fit
+    (judged_at c.args.self.now _ _ _ c.args.versions.now _ c.loop-at.at _ c.self.view_is _ (c.digits.ensures ∙ ap digits_in c.grammar.ensures) c.has_each_by.ensures.each c.has_each_by.ensures.fit
     c.loop-at-test.true) c.from-count.ensures c.loop-at.invariant
 
 pub bounds-versions-from : goal.bounds-versions-from

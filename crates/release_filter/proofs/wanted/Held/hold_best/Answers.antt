@@ -1,8 +1,7 @@
 use Rattle.std.proofs.Common.{Some, refl, ap, ◌∙◌, ◌++◌, Vec, Global, ℕ}
 use Rattle.std.specs.Option.{option_map}
 use Rattle.semver_parser.specs.Texts.{Text}
-use Rattle.semver_parser.specs.VersionViews.{version_value}
-use Rattle.release_filter.specs.Steps.Taking.{held_value, kept_value}
+use Rattle.release_filter.specs.Steps.Taking.{held_value, kept_value, read_plain}
 use Rattle.release_filter.specs.Wanted.{KeptValue}
 use Rattle.release_filter.proofs.HeldLines.{made_best, replaces, stays}
 use Rattle.release_filter.proofs.wanted.Held.hold_best.Goals as goal
@@ -12,7 +11,7 @@ returns-then-not-is_better-clause-best c = (
   option_map kept_value c.args.self.now.best,
   stays c.precedence_is_total.ensures.total c.args.self.now.wanted c.args.self.now.best (record {
     version =
-        (version_value c.args.version).plain;
+        read_plain c.args.version;
     line = c.args.line.now;
   }) _ c.is_better.ensures c.if-not-is_better.true,
   refl,
@@ -20,7 +19,7 @@ returns-then-not-is_better-clause-best c = (
 
 pub returns-in-Some-clause-best : goal.returns-in-Some-clause-best
 returns-in-Some-clause-best c =
-    let k : KeptValue = record { version = (version_value c.args.version).plain; line = c.args.line.now } in
+    let k : KeptValue = record { version = read_plain c.args.version; line = c.args.line.now } in
     let bytes = ap (λ (v : Vec ℕ Global). v.items) c.replace-bytes.ensures.value ∙ c.in_ok-extend_from_slice.ensures.items
     ∙ ap (λ (l : Text). l ++ c.args.line.now) c.clear.ensures.items in (
       Some k,
@@ -33,7 +32,7 @@ returns-in-Some-clause-best c =
 
 pub returns-in_default-clause-best : goal.returns-in_default-clause-best
 returns-in_default-clause-best c =
-    let k : KeptValue = record { version = (version_value c.args.version).plain; line = c.args.line.now } in
+    let k : KeptValue = record { version = read_plain c.args.version; line = c.args.line.now } in
     let bytes = ap (λ (v : Vec ℕ Global). v.items) c.replace-bytes.ensures.value ∙ c.in_ok-extend_from_slice.ensures.items
     ∙ ap (λ (l : Text). l ++ c.args.line.now) c.clear.ensures.items in (
       Some k,

@@ -8,7 +8,7 @@ use Rattle.semver_versions.proofs.outlines.Outline.is_pre_release.Goals as goal
 
 pub returns : goal.returns
 returns c =
-    let is = ap not (c.is_empty.ensures ∙ none_where_empty c.self.inside.pre.now)
+    let is = ap not (c.is_empty.ensures ∙ none_where_empty c.args.self.now.digits c.self.inside.pre.now)
     ∙ rw (← (ap (λ (o : OutlineValue). o.pre) c.self.view_is)) in
     record {
       pre_release = λ text v outlined spells.

@@ -4,6 +4,7 @@ use Rattle.semver_ranges.specs.RangeViews.{range_of}
 use Rattle.semver_texts.specs.Texts.{is_empty}
 use Rattle.version_sets.specs.Flat.{HasPrintableRanges}
 use Rattle.tool_ranges.specs.declared.cargo.judging.JudgedVersions.TheVariants.{Releases}
+use Rattle.tool_ranges.specs.AnySize.{set_any}
 use Rattle.tool_ranges.proofs.PrintableSets.{judging_prints}
 use Rattle.tool_ranges.proofs.ReadRows.{if_ok}
 use Rattle.tool_ranges.proofs.ReadSets.{all_meant, none_made, releases_meant}
@@ -13,7 +14,7 @@ pub returns-then-is_empty-clause-meaning : goal.returns-then-is_empty-clause-mea
 returns-then-is_empty-clause-meaning c = λ t tree v h small.
     let built = c.in_ok-ranges.ensures t tree h in
     c.in_ok-releases.ensures.meaning (record { plain = v; build = [] }) small
-    ∙ ap (λ set. is_empty v.pre && meets_set v set) built.0
+    ∙ ap (λ set. is_empty v.pre && meets_set v (set_any set)) built.0
     ∙ releases_meant v tree t small h.0.comparators
     (sym (built.1 refl)
     ∙ none_made range_of c.in_ok-ranges.counting.items _ _ c.is_empty.ensures (search rules) c.if-is_empty.true)
@@ -23,7 +24,7 @@ returns-clause-meaning c =
     if_ok c.union-2.result
     (λ set is t tree v h small. is v
     ∙ (λ i. (c.in_ok-releases.ensures.meaning (record { plain = v; build = [] }) small
-    ∙ ap (λ set. is_empty v.pre && meets_set v set) (c.in_ok-ranges.ensures t tree h).0) i
+    ∙ ap (λ set. is_empty v.pre && meets_set v (set_any set)) (c.in_ok-ranges.ensures t tree h).0) i
     || c.in_ok-counted.ensures.meaning t tree v h small i)
     ∙ all_meant v tree t small h.0.comparators)
     c.union-2.ensures.has

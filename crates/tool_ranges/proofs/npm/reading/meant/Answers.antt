@@ -7,6 +7,8 @@ use Rattle.semver_ranges.specs.StatedPreReleases.{meets_set_as_stated}
 use Rattle.semver_ranges.proofs.Tests.{list_any-mapped}
 use Rattle.version_sets.specs.Flat.{HasPrintableRanges}
 use Rattle.tool_ranges.specs.Steps.NpmReading.{has_no_other}
+use Rattle.tool_ranges.specs.AnySize.{set_any}
+use Rattle.tool_ranges.proofs.AnySizes.{no_others_any, others_any}
 use Rattle.tool_ranges.proofs.NpmSets.{where_none_is_asked, where_each_is_asked}
 use Rattle.tool_ranges.proofs.PrintableSets.{others_print}
 use Rattle.tool_ranges.proofs.ReadRows.{if_ok}
@@ -20,22 +22,23 @@ asked set ranges r b is same answer = grind (arith, common_steps, list_any-mappe
 
 pub returns-then-some_has_no_other-clause-meaning : goal.returns-then-some_has_no_other-clause-meaning
 returns-then-some_has_no_other-clause-meaning c =
-    if_ok c.of_set.result
+    if_ok c.set_of.result
     (λ set is v small. is (record { plain = v; build = [] }) small
-    ∙ where_none_is_asked v (set_of c.args.rewritten)
-    (asked c.args.rewritten _ _ _ c.some_has_no_other.ensures c.deref.ensures.value c.if-some_has_no_other.true))
-    c.of_set.ensures.meaning
+    ∙ where_none_is_asked v (set_any (set_of c.args.rewritten))
+    (no_others_any (set_of c.args.rewritten).ranges ∙ asked c.args.rewritten _ _ _ c.some_has_no_other.ensures c.deref.ensures.value c.if-some_has_no_other.true))
+    c.set_of.ensures.meaning
 
 pub returns-clause-meaning : goal.returns-clause-meaning
 returns-clause-meaning c =
-    if_ok c.of_set-2.result
+    if_ok c.set_of-2.result
     (λ set is v small. is (record { plain = v; build = [] }) small
-    ∙ ap (meets_set_as_stated v) c.others_in.ensures
-    ∙ where_each_is_asked v (set_of c.args.rewritten)
-    (asked c.args.rewritten _ _ _ c.some_has_no_other.ensures c.deref.ensures.value c.if-some_has_no_other.false))
-    c.of_set-2.ensures.meaning
+    ∙ ap (λ set. meets_set_as_stated v (set_any set)) c.others_in.ensures
+    ∙ ap (meets_set_as_stated v) (sym (others_any (set_of c.args.rewritten)))
+    ∙ where_each_is_asked v (set_any (set_of c.args.rewritten))
+    (no_others_any (set_of c.args.rewritten).ranges ∙ asked c.args.rewritten _ _ _ c.some_has_no_other.ensures c.deref.ensures.value c.if-some_has_no_other.false))
+    c.set_of-2.ensures.meaning
 
 pub returns-clause-printable : goal.returns-clause-printable
 returns-clause-printable c = λ prints.
-    c.of_set-2.ensures.printable
+    c.set_of-2.ensures.printable
     (subst HasPrintableRanges (sym c.others_in.ensures) (others_print (set_of c.args.rewritten).ranges prints))

@@ -1,4 +1,5 @@
 use Rattle.std.proofs.Common.{ap, ◌∙◌, rules}
+use Rattle.tool_ranges.specs.AnySize.{set_any}
 use Rattle.tool_ranges.specs.Steps.NpmReading.{is_meant}
 use Rattle.semver_ranges.specs.RangeViews.{set_of}
 use Rattle.version_sets.proofs.PrintableRanges.{ranges_print}
@@ -14,7 +15,7 @@ returns-in-Ok-meant-clause-refusals c = set_of_text c.args.range.now _ c.in-Ok.e
 
 pub returns-in-Ok-meant-clause-meaning : goal.returns-in-Ok-meant-clause-meaning
 returns-in-Ok-meant-clause-meaning c = λ tree v h small.
-    c.in-Ok-meant.ensures.meaning v small ∙ ap (λ set. is_meant set v) (c.in-Ok.ensures.as_rewritten tree h) ∙ meant v tree
+    c.in-Ok-meant.ensures.meaning v small ∙ ap (λ set. is_meant (set_any set) v) (c.in-Ok.ensures.as_rewritten tree h) ∙ meant v tree
 
 pub returns-in-Ok-meant-clause-printable : goal.returns-in-Ok-meant-clause-printable
 returns-in-Ok-meant-clause-printable c =

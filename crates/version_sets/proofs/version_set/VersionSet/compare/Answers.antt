@@ -1,5 +1,5 @@
 use Rattle.std.proofs.Common.{inl, inr}
-use Rattle.version_sets.proofs.FirstSwitches.{alone_pre_release, shared_pre_release}
+use Rattle.version_sets.proofs.FirstSwitches.{alone_pre_release, alone_tells, shared_pre_release, shared_tells}
 use Rattle.version_sets.proofs.Lists.{on_err}
 use Rattle.version_sets.proofs.version_set.VersionSet.compare.Goals as goal
 
@@ -17,3 +17,12 @@ pub returns-in_err-least_combined-3-clause-out_of_memory : goal.returns-in_err-l
 returns-in_err-least_combined-3-clause-out_of_memory c =
     on_err c.from_residual-in_err-least_combined-3.result
     (inr (inr (shared_pre_release c.args.self.now c.args.new.now c.in_err-least_combined-3.ensures.out_of_memory)))
+
+pub returns-clause-lost : goal.returns-clause-lost
+returns-clause-lost c = alone_tells c.args.self.now c.args.new.now _ c.in_ok-least_combined.ensures.least
+
+pub returns-clause-gained : goal.returns-clause-gained
+returns-clause-gained c = alone_tells c.args.new.now c.args.self.now _ c.in_ok-least_combined-2.ensures.least
+
+pub returns-clause-shared : goal.returns-clause-shared
+returns-clause-shared c = shared_tells c.args.self.now c.args.new.now _ c.in_ok-least_combined-3.ensures.least

@@ -2,7 +2,7 @@ use Rattle.std.proofs.Common.{ap, ◌∙◌, map}
 use Rattle.semver_parser.specs.Outlines.{version_of}
 use Rattle.semver_parser.specs.Precedence.{precedence}
 use Rattle.semver_parser.specs.declared.version.Grammar.TheVariants.{Crate}
-use Rattle.version_sets.specs.Steps.Places.{version_place}
+use Rattle.version_sets.specs.Steps.Places.{pre_release_place}
 use Rattle.version_sets.specs.Switches.{switched}
 use Rattle.version_sets.specs.VersionSets.{SetValue, has}
 use Rattle.version_sets.proofs.OutlinedPlaces.{of_texts, pre_release_has, release_is}
@@ -13,7 +13,7 @@ returns-then-is_pre_release c =
     let v = (version_of c.args.outline.now).plain in
     let is =
     c.has_outline.ensures
-    ∙ ap (λ switches. switched precedence (map version_place switches) v) c.deref.ensures.value
+    ∙ ap (λ switches. switched precedence (map pre_release_place switches) v) c.deref.ensures.value
     ∙ ap (λ (s : SetValue). switched precedence s.pre_releases v) c.self.view_is
     ∙ pre_release_has v c.args.self.now c.is_pre_release.result c.if-is_pre_release.true c.is_pre_release.ensures.of_version in
     let laws = c.one_outlined_version.ensures in

@@ -4,13 +4,13 @@ use Rattle.semver_parser.specs.Versions.{PlainVersion}
 use Rattle.version_sets.specs.Releases.{release_value}
 use Rattle.version_sets.specs.VersionSets.{Fits}
 use Rattle.version_sets.specs.Steps.Lower.{lower}
-use Rattle.version_sets.specs.Steps.Places.{version_place, set_of}
+use Rattle.version_sets.specs.Steps.Places.{pre_release_place, set_of}
 use Rattle.version_sets.proofs.FirstSwitches.{TellsPlain, first_copied, first_is, is_told, pre_release_is}
 use Rattle.version_sets.proofs.Lists.{answered_so, failed_so}
 use Rattle.version_sets.proofs.version_set.VersionSet.least.Goals as goal
 
 abbrev answer : goal.After-least_of → Option PlainVersion
-answer c = lower (option_map (λ r. release_value r.now) c.first.result) (option_map (λ p. version_place p.now) c.first-2.result)
+answer c = lower (option_map (λ r. release_value r.now) c.first.result) (option_map (λ p. pre_release_place p.now) c.first-2.result)
 
 told : (c : goal.After-least_of) → TellsPlain Fits c.args.self.now (answer c)
 told c =
@@ -19,7 +19,7 @@ told c =
     subst (λ s. TellsPlain Fits s (answer c)) c.self.view_is
     (subst (TellsPlain Fits (set_of releases pre_releases))
     (sym (ap₂ lower (first_copied release_value c.first.result _ releases c.first.ensures.value c.deref.ensures.value)
-    (first_copied version_place c.first-2.result _ pre_releases c.first-2.ensures.value c.deref-2.ensures.value)))
+    (first_copied pre_release_place c.first-2.result _ pre_releases c.first-2.ensures.value c.deref-2.ensures.value)))
     (first_is (set_of releases pre_releases) c.self.invariant))
 
 pub returns-clause-least : goal.returns-clause-least
@@ -41,5 +41,5 @@ returns-clause-out_of_memory c =
       p,
       subst (TellsPlain Fits c.args.self.now) first (told c),
       pre_release_is (set_of c.self.inside.releases.items pre_releases) c.self.invariant p
-          (sym (first_copied version_place c.first-2.result _ pre_releases c.first-2.ensures.value c.deref-2.ensures.value) ∙ is),
+          (sym (first_copied pre_release_place c.first-2.result _ pre_releases c.first-2.ensures.value c.deref-2.ensures.value) ∙ is),
     ))

@@ -6,7 +6,7 @@ use Rattle.version_sets.specs.Releases.{release_value}
 use Rattle.version_sets.specs.VersionSets.{SetValue, Fits}
 use Rattle.version_sets.specs.Steps.Combined.{combined, combined_sets, pieces, IsKept}
 use Rattle.version_sets.specs.Steps.Lower.{lower}
-use Rattle.version_sets.specs.Steps.Places.{version_place, set_of}
+use Rattle.version_sets.specs.Steps.Places.{pre_release_place, set_of}
 use Rattle.version_sets.proofs.FirstSwitches.{TellsPlain, first_is, is_told, kept_least, kept_pre_release}
 use Rattle.version_sets.proofs.Lists.{answered_so, failed_so}
 use Rattle.version_sets.proofs.SetLaws.{combined-normal}
@@ -20,15 +20,15 @@ second c = set_of c.other.inside.releases.items c.other.inside.pre_releases.item
 
 abbrev answer : goal.After-least_of → Option PlainVersion
 answer c =
-    lower (option_map (λ r. release_value r.now) c.first-release.result) (option_map (λ p. version_place p.now) c.first-pre_release.result)
+    lower (option_map (λ r. release_value r.now) c.first-release.result) (option_map (λ p. pre_release_place p.now) c.first-pre_release.result)
 
 -- the first pre-release is the first of the combination
 first_is_first : (c : goal.After-least_of)
-    → option_map (λ p. version_place p.now) c.first-pre_release.result
+    → option_map (λ p. pre_release_place p.now) c.first-pre_release.result
     ≡ slice_get (combined_sets c.args.how (first c) (second c)).pre_releases 0
 first_is_first c =
     c.first-pre_release.ensures
-    ∙ ap₂ (λ xs ys. slice_get (combined c.args.how (pieces (map version_place xs) (map version_place ys))) 0)
+    ∙ ap₂ (λ xs ys. slice_get (combined c.args.how (pieces (map pre_release_place xs) (map pre_release_place ys))) 0)
     c.deref-3.ensures.value c.deref-4.ensures.value
 
 told : (c : goal.After-least_of) → TellsPlain Fits (combined_sets c.args.how (first c) (second c)) (answer c)

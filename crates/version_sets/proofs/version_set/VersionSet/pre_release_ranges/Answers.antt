@@ -1,16 +1,19 @@
 use Rattle.std.proofs.Common.{rules, ◌≡◌, refl, sym, ap, subst, ◌∙◌, IsTrue, not}
-use Rattle.semver_parser.specs.Meeting.{meets_set}
+use Rattle.semver_parser.specs.declared.Compat.TheVariants.{Npm}
 use Rattle.semver_parser.specs.RangeViews.{set_of as ranges_of_set}
 use Rattle.semver_parser.specs.RewritingTable.{PlainSet}
 use Rattle.semver_parser.specs.Versions.{PlainVersion}
-use Rattle.version_sets.specs.Steps.Places.{set_of, version_place}
+use Rattle.version_sets.specs.Steps.Places.{set_of, pre_release_place}
 use Rattle.version_sets.specs.VersionSets.{IsIn, IsPreRelease, IsNormal}
-use Rattle.version_sets.specs.SetRanges.{pre_release_ranges, is_whole, ranges_text, ReadsBack}
+use Rattle.version_sets.specs.SetRanges.{next_pre_release, pre_release_ranges, is_whole, ranges_text, ReadsBack}
+use Rattle.version_sets.specs.DigitViews.{set_kept}
+use Rattle.version_sets.proofs.DigitLaws.{intervals_fit}
 use Rattle.version_sets.proofs.Lists.{on_err}
 use Rattle.version_sets.proofs.SetRangeLaws.{pre_releases_meet, pre_releases_read, has_pre_release}
 use Rattle.version_sets.proofs.version_set.VersionSet.pre_release_ranges.Goals as goal
 
-made : (c : goal.After-in_npm_mode) → ranges_of_set c.in_npm_mode.result.range_set ≡ pre_release_ranges c.args.self.now
+made : (c : goal.After-in_npm_mode)
+    → ranges_of_set c.in_npm_mode.result.range_set ≡ set_kept (pre_release_ranges c.args.self.now)
 made c = search rules
 
 pub returns-in_err-ranges-clause-out_of_memory : goal.returns-in_err-ranges-clause-out_of_memory
@@ -18,15 +21,18 @@ returns-in_err-ranges-clause-out_of_memory c =
     let s = set_of c.self.inside.releases.items c.self.inside.pre_releases.items in
     on_err c.from_residual.result
     (subst (λ t. (v : PlainVersion) × IsPreRelease v × IsIn v t) c.self.view_is
-    (has_pre_release s c.self.invariant version_place c.self.inside.pre_releases.items refl (search rules)))
+    (has_pre_release s c.self.invariant pre_release_place c.self.inside.pre_releases.items refl (search rules)))
 
 pub returns-clause-meaning : goal.returns-clause-meaning
 returns-clause-meaning c =
-    λ v p. ap (meets_set v) (made c) ∙ pre_releases_meet c.args.self.now (subst IsNormal c.self.view_is c.self.invariant) v p
+    λ v p. pre_releases_meet c.args.self.now (subst IsNormal c.self.view_is c.self.invariant) v p
 
 pub returns-clause-reads_back : goal.returns-clause-reads_back
 returns-clause-reads_back c =
     λ prints.
-    subst (λ (r : PlainSet). IsTrue (not (is_whole r.ranges)) → ReadsBack (ranges_text r) IsPreRelease c.args.self.now) (sym (made c))
+    let fits = ap (λ ranges. record { ranges = ranges; compat = Npm })
+    (intervals_fit next_pre_release c.args.self.now.pre_releases prints) in
+    subst (λ (r : PlainSet). IsTrue (not (is_whole r.ranges)) → ReadsBack (ranges_text r) IsPreRelease c.args.self.now)
+    (sym (made c ∙ fits))
     (pre_releases_read c.args.self.now (subst IsNormal c.self.view_is c.self.invariant) c.printed_sets_read_back.ensures.read_back
     prints)

@@ -5,13 +5,23 @@ use Rattle.semver_parser.specs.Versions.{PlainVersion}
 use Rattle.version_sets.specs.Releases.{release_value}
 use Rattle.version_sets.specs.Steps.Places.{set_of}
 use Rattle.version_sets.specs.VersionSets.{IsIn, IsRelease, IsNormal}
-use Rattle.version_sets.specs.SetRanges.{release_ranges, ranges_text, ReadsBack}
+use Rattle.version_sets.specs.SetRanges.{next_release, release_ranges, ranges_text, ReadsBack}
+use Rattle.semver_parser.specs.declared.Compat.TheVariants.{Npm}
+use Rattle.version_sets.specs.DigitViews.{set_kept}
+use Rattle.version_sets.proofs.DigitLaws.{intervals_fit}
+use Rattle.version_sets.proofs.ReadBack.{releases_print}
 use Rattle.version_sets.proofs.Lists.{on_err}
 use Rattle.version_sets.proofs.SetRangeLaws.{releases_meet, releases_read, has_release}
 use Rattle.version_sets.proofs.version_set.VersionSet.release_ranges.Goals as goal
 
 made : (c : goal.After-in_npm_mode) → ranges_of_set c.in_npm_mode.result.range_set ≡ release_ranges c.args.self.now
-made c = search rules
+made c =
+    let kept : ranges_of_set c.in_npm_mode.result.range_set ≡ set_kept (release_ranges c.args.self.now) = search rules in
+    kept ∙ ap (λ ranges. record { ranges = ranges; compat = Npm }) (intervals_fit next_release c.args.self.now.releases
+    (releases_print c.args.self.now.releases (subst IsNormal c.self.view_is c.self.invariant).releases.are_of_kind))
+
+pub returns-clause-ranges : goal.returns-clause-ranges
+returns-clause-ranges c = made c
 
 pub returns-in_err-ranges-clause-out_of_memory : goal.returns-in_err-ranges-clause-out_of_memory
 returns-in_err-ranges-clause-out_of_memory c =

@@ -1,7 +1,7 @@
 use Rattle.std.proofs.Common.{rules, ◌≡◌, sym, ◌∙◌, map, true, length}
 use Rattle.std.specs.List.{list_all}
-use Rattle.semver_parser.specs.PrintedRanges.{is_printable_version}
-use Rattle.version_sets.specs.Steps.Places.{version_place}
+use Rattle.version_sets.specs.Flat.{is_printable_switch}
+use Rattle.version_sets.specs.Steps.Places.{pre_release_place}
 use Rattle.version_sets.proofs.FlatSets.{not_printable, written}
 use Rattle.version_sets.proofs.version_set.VersionSet.to_flat.Goals as goal
 
@@ -15,7 +15,7 @@ pub returns-clause-flat : goal.returns-clause-flat
 returns-clause-flat c =
     let rs = c.self.inside.releases.items in
     let ps = c.self.inside.pre_releases.items in
-    let prints : list_all is_printable_version (map version_place ps) ≡ true =
+    let prints : list_all is_printable_switch (map pre_release_place ps) ≡ true =
     sym (rw c.deref.ensures.value at c.are_printable.ensures) ∙ c.if-not-are_printable.false in
     let first : c.len.result ≡ length rs = search rules in
     let second : c.len-2.result ≡ length ps = search rules in

@@ -1,23 +1,28 @@
-use Rattle.std.proofs.Common.{◌≡◌, ◌&&◌, ◌||◌, Bool, true, false, List, [], ◌∷◌, refl, sym, ap, ◌∙◌, subst}
+use Rattle.std.proofs.Common.{◌≡◌, ◌&&◌, ◌||◌, Bool, true, false, List, [], ◌∷◌, refl, sym, ap, ◌∙◌, subst, map}
 use Rattle.std.specs.List.{list_all, list_any}
 use Rattle.semver_parser.specs.declared.Range.{Range}
 use Rattle.semver_parser.specs.Meeting.{meets_range}
-use Rattle.semver_parser.specs.RangeViews.{range_of, set_of}
+use Rattle.semver_parser.specs.RangeViews.{range_of}
+use Rattle.semver_texts.specs.declared.grammar.Digits.{Digits}
+use Rattle.std.proofs.lemmas.Bool.{and_parts}
+use Rattle.version_sets.specs.DigitViews.{range_by, set_by}
+use Rattle.version_sets.specs.Steps.Places.{pre_release_place}
 use Rattle.semver_parser.specs.RewritingTable.{PlainRange, PlainSet}
 use Rattle.semver_parser.specs.StatedPreReleases.{has_pre_release_at}
 use Rattle.semver_parser.specs.Texts.{is_empty}
 use Rattle.semver_parser.specs.Versions.{PlainVersion, VersionValue}
-use Rattle.version_sets.specs.Flat.{are_printable, IsPrintable}
+use Rattle.version_sets.specs.Flat.{are_printable, IsPrintable, is_printable_switch, prints_by}
 use Rattle.version_sets.specs.PreReleaseRules.{is_release, meets_with}
 use Rattle.version_sets.specs.VersionSets.{has}
 use Rattle.version_sets.specs.Steps.RangeRules.{meets_range_with}
 use Rattle.version_sets.specs.declared.rules.PreReleases.{PreReleases}
 use Rattle.version_sets.specs.declared.rules.PreReleases.TheVariants.{Excluded, Default, Included}
 use Rattle.version_sets.proofs.BoundLaws.{and_true}
+use Rattle.version_sets.proofs.FlatTexts.{one_way}
 use Rattle.version_sets.proofs.Lists.{list_all-map, list_any-map}
 use Rattle.version_sets.proofs.SetLaws.{has-release, has-pre_release}
 use Rattle.version_sets.proofs.WalkLaws.{by_test}
-use Rattle.version_sets.proofs.version_set.VersionSet.of_set.Goals as goal
+use Rattle.version_sets.proofs.version_set.VersionSet.of_set_by.Goals as goal
 
 -- a test that doesn't look at the items
 any_beside : {X : Type 0} (b : Bool) (p : X → Bool) (xs : List X) → list_any (λ x. b && p x) xs ≡ (b && list_any p xs)
@@ -37,22 +42,30 @@ released Default v r e =
     sym (ap (λ b. meets_range v r && (b || list_any (has_pre_release_at v) r.comparators)) e ∙ and_true (meets_range v r))
 released Included v r e = refl
 
+-- what is read back one way can be in one of both
+each_prints : (d : Digits) (vs : List PlainVersion) → list_all (prints_by d) vs ≡ true → list_all is_printable_switch vs ≡ true
+each_prints d [] e = refl
+each_prints d (v ∷ vs) e =
+    let both = and_parts (prints_by d v) _ e in rw (one_way d v both.0) (each_prints d vs both.1)
+
 pub returns-clause-meaning : goal.returns-clause-meaning
 returns-clause-meaning c = λ v fits.
     let rule = c.args.pre_releases in
+    let d = c.args.digits in
     let set = c.args.set.now in
-    let whole = sym (list_any-map (meets_range_with rule v.plain) range_of set.ranges.items) ∙ by_rule rule (set_of set) v in
+    let whole = sym (list_any-map (meets_range_with rule v.plain) (range_by d) set.ranges.items) ∙ by_rule rule (set_by d set) v in
     ap (λ s. has s v.plain) c.of_switches.ensures
     ∙ by_test (is_empty v.plain.pre)
-    (λ e. has-release _ v.plain e ∙ c.in_ok-releases.ensures.meaning v.plain (fits, e)
-    ∙ ap (λ (rs : List Range). list_any (λ range. meets_range v.plain (range_of range)) rs) c.deref.ensures.value
-    ∙ (λ i. list_any (λ range. released rule v.plain (range_of range) e i) set.ranges.items) ∙ whole)
+    (λ e. has-release _ v.plain e ∙ c.in_ok-releases.ensures.meaning d v.plain (fits, e)
+    ∙ ap (λ (rs : List Range). list_any (λ range. meets_range v.plain (range_by d range)) rs) c.deref.ensures.value
+    ∙ (λ i. list_any (λ range. released rule v.plain (range_by d range) e i) set.ranges.items) ∙ whole)
     (λ e. has-pre_release _ v.plain e ∙ c.in_ok-pre_releases.ensures.meaning v.plain (fits, e)
-    ∙ ap (λ (rs : List Range). list_any (λ range. meets_range_with rule v.plain (range_of range)) rs) c.deref-2.ensures.value ∙ whole)
+    ∙ ap (λ (rs : List Range). list_any (λ range. meets_range_with rule v.plain (range_by d range)) rs) c.deref-2.ensures.value ∙ whole)
 
 pub returns-clause-printable : goal.returns-clause-printable
 returns-clause-printable c = λ prints.
     let each : list_all (λ range. are_printable (range_of range).comparators) c.deref-2.result.now ≡ true
     = ap (list_all (λ range. are_printable (range_of range).comparators)) c.deref-2.ensures.value
     ∙ sym (list_all-map (λ r. are_printable r.comparators) range_of c.args.set.now.ranges.items) ∙ prints in
-    subst IsPrintable (sym c.of_switches.ensures) (c.in_ok-pre_releases.ensures.printable each)
+    subst IsPrintable (sym c.of_switches.ensures)
+    (each_prints c.args.digits (map pre_release_place c.in_ok-pre_releases.pre_releases.items) (c.in_ok-pre_releases.ensures.printable each))

@@ -1,0 +1,28 @@
+//! Sets of comparators as Cargo and npm read them: identifiers of digits alone are numbers of any
+//! size.
+
+ghost use Rattle.std.specs.Prelude.{◌≡◌, IfOk};
+ghost use Rattle.semver_ranges.specs.RangeViews.{set_of};
+ghost use Rattle.semver_texts.specs.Versions.{VersionValue};
+ghost use Rattle.version_sets.specs.Flat.{HasPrintableRanges, IsPrintable};
+ghost use Rattle.version_sets.specs.PreReleaseRules.{meets_with};
+ghost use Rattle.version_sets.specs.VersionSets.{has, Fits};
+ghost use Rattle.tool_ranges.specs.AnySize.{set_any};
+
+use semver_ranges::RangeSet;
+use semver_texts::grammar::Digits;
+use std::alloc::{AllocError, Global};
+use version_sets::{PreReleases, VersionSet};
+
+/// The versions that meet comparators by a rule for pre-releases.
+pub(crate) fn set_of(
+    alloc: Global,
+    set: &RangeSet,
+    pre_releases: PreReleases,
+) -> Result<VersionSet, AllocError>
+    ensures meaning { IfOk result (λ s. (v : VersionValue) → Fits v.plain
+        → has s v.plain ≡ meets_with pre_releases (set_any (set_of set.now)) v) }
+    ensures printable { HasPrintableRanges (set_of set.now) → IfOk result IsPrintable }
+{
+    VersionSet::of_set_by(alloc, set, pre_releases, Digits::AnySize)
+}
