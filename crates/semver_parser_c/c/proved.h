@@ -49,6 +49,7 @@ typedef struct {
     uint64_t patch;
     size_t pre_offset;
     size_t pre_length;
+    uint64_t digits;
 } proved_switch;
 
 /* A string in an array. */

@@ -315,9 +315,9 @@ semver_parser_status semver_parser_set_to_string(
 }
 
 /* Stored bytes: a mark, the options, and then numbers of eight bytes each, the lowest byte first:
- * how many switches and how many bytes follow, and five for each switch. */
+ * how many switches and how many bytes follow, and six for each switch. */
 static const char mark[6] = {'s', 'e', 'm', 'v', 'e', 'r'};
-enum { HEAD = 8, NUMBER = 8, NUMBERS_OF_SWITCH = 5 };
+enum { HEAD = 8, NUMBER = 8, NUMBERS_OF_SWITCH = 6 };
 
 static char *put_number(char *out, uint64_t number) {
     for (int at = 0; at < NUMBER; at++) {
@@ -349,6 +349,7 @@ semver_parser_status semver_parser_set_save(
         const proved_switch *next = &set->switches[at];
         out = put_number(put_number(put_number(out, next->major), next->minor), next->patch);
         out = put_number(put_number(out, next->pre_offset), next->pre_length);
+        out = put_number(out, next->digits);
     }
     memcpy(out, bytes_in(set), set->length);
     *bytes = made;
@@ -365,6 +366,7 @@ static void load(const char *at, semver_parser_set *set) {
         next->patch = number_at(at + 2 * NUMBER);
         next->pre_offset = (size_t)number_at(at + 3 * NUMBER);
         next->pre_length = (size_t)number_at(at + 4 * NUMBER);
+        next->digits = number_at(at + 5 * NUMBER);
         at += NUMBERS_OF_SWITCH * NUMBER;
     }
     memcpy(bytes_in(set), at, set->length);

@@ -5,6 +5,7 @@ use Rattle.std.specs.Ordering.{ordering_reverse}
 use Rattle.std.specs.Prelude.{IfSome}
 use Rattle.std.specs.declared.cmp.Ordering.{Ordering}
 use Rattle.std.specs.declared.cmp.Ordering.TheVariants.{Less, Equal}
+use Rattle.semver_texts.specs.Digits.{plain_kept}
 use Rattle.semver_parser.specs.PrecedenceLaws.{precedence_total, precedence-same}
 use Rattle.semver_parser.specs.PrintedText.{version_text}
 use Rattle.semver_parser.specs.Versions.{PlainVersion, VersionValue}
@@ -14,15 +15,25 @@ use Rattle.version_sets.specs.VersionSets.{SetValue, Fits, HasNone, HasSomeVersi
 use Rattle.version_sets.specs.Comparisons.{IsLeastOf, TellsLeast}
 use Rattle.semver_parser_c.specs.Sets.{text_of}
 
-pub is_lowest : (set : SetValue) (o : Option Version) → IfSome o (λ x. IsLeast Fits set (version_value x).plain)
-    → IfSome o (λ x. (version_value x).build ≡ []) → ((o ≡ None) ↔ HasNone Fits set) → TellsLeast (λ v. IsIn v set) o
-is_lowest set o least no_build none = grind arith
+-- the answer is the lowest of a set, as it is kept
+abbrev pub IsLowestKept : SetValue → Option Version → Type 0
+IsLowestKept set o = IfSome o (λ version. (v : PlainVersion) × IsLeast Fits set v × ((version_value version).plain ≡ plain_kept v))
+
+pub is_lowest : (set : SetValue) (o : Option Version) → IsLowestKept set o → IfSome o (λ x. (version_value x).build ≡ [])
+    → ((o ≡ None) ↔ HasNone Fits set) → TellsLeast (λ v. IsIn v set) o
+is_lowest set None least no_build none = λ v one. none.0 refl v one.0 one
+is_lowest set (Some version) (v, least, is) no_build none =
+    let tells : IsLeastOf (λ v. IsIn v set) (record { plain = v; build = [] }) = record {
+      is_one = least.is_in;
+      no_build = refl;
+      lowest = λ w one. least.lowest w one.0 one;
+    } in
+    (record { plain = v; build = [] }, tells, λ i. record { plain = is i; build = no_build i })
 
 -- a set that has a lowest version has some version
-pub some_version : (set : SetValue) (o : Option Version) → IfSome o (λ x. IsLeast Fits set (version_value x).plain) → o ≢ None
-    → HasSomeVersion set
+pub some_version : (set : SetValue) (o : Option Version) → IsLowestKept set o → o ≢ None → HasSomeVersion set
 some_version set None least some = absurd (some refl)
-some_version set (Some version) least some = ((version_value version).plain, least.is_in)
+some_version set (Some version) (v, least, is) some = (v, least.is_in)
 
 neither_less : (x y : Ordering) → x ≡ ordering_reverse y → x ≢ Less → y ≢ Less → x ≡ Equal
 neither_less x y e more less = grind arith
@@ -36,6 +47,8 @@ one_version P v w a b =
 -- the lowest of some versions has one text
 pub one_text : (P : PlainVersion → Type 0) (o other : Option Version) → TellsLeast P o → TellsLeast P other → text_of o ≡ text_of other
 one_text P None None a b = refl
-one_text P None (Some w) a b = absurd (a _ b.is_one)
-one_text P (Some v) None a b = absurd (b _ a.is_one)
-one_text P (Some v) (Some w) a b = ap version_text (one_version P _ _ a b)
+one_text P None (Some w) a b = absurd (a _ b.1.is_one)
+one_text P (Some v) None a b = absurd (b _ a.1.is_one)
+one_text P (Some v) (Some w) (x, a, kept) (y, b, kept') =
+    let same = one_version P x y a b in
+    ap version_text (kept ∙ (λ i. let it : VersionValue = record { plain = plain_kept (same i).plain; build = (same i).build } in it) ∙ sym kept')

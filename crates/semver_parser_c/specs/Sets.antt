@@ -8,6 +8,7 @@ use Rattle.semver_parser.specs.VersionViews.{version_value}
 use Rattle.semver_parser.specs.declared.version.Version.{Version}
 use Rattle.tool_ranges.specs.Meanings.{MeansAs}
 use Rattle.version_sets.specs.Comparisons.{TellsLeast}
+use Rattle.version_sets.specs.DigitViews.{set_kept}
 use Rattle.version_sets.specs.Flat.{IsPrintable, flat_bytes, flat_switches}
 use Rattle.version_sets.specs.SetRanges.{pre_release_ranges, ranges_text, release_ranges}
 use Rattle.version_sets.specs.VersionSets.{HasSomeVersion, IsIn, IsNormal, SetValue, has}
@@ -96,9 +97,9 @@ PrintsLowest given buffer r = OfSet given.switches given.bytes r (IsSame buffer)
     ⊎ ((lowest : Option Version) × TellsLeast (λ v. IsIn v set) lowest
     × Puts (text_of lowest) buffer r))
 
--- the text of the pre-releases of a set, or that of its releases
+-- the text of the pre-releases of a set, as they are kept, or that of its releases
 abbrev pub kind_text : Bool → SetValue → Text
-kind_text true set = ranges_text (pre_release_ranges set)
+kind_text true set = ranges_text (set_kept (pre_release_ranges set))
 kind_text false set = ranges_text (release_ranges set)
 
 -- that text

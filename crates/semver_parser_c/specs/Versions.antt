@@ -1,5 +1,6 @@
 -- What the functions on versions return.
 use Rattle.std.specs.Prelude.{◌≡◌, ◌⊎◌, ◌+◌, ◌<◌, ◌≤◌, ℕ, ℤ, length, take}
+use Rattle.semver_texts.specs.Digits.{digits_in}
 use Rattle.semver_parser.specs.Outlines.{outline_after}
 use Rattle.semver_parser.specs.Precedence.{precedence}
 use Rattle.semver_parser.specs.Texts.{Text}
@@ -20,7 +21,8 @@ use Rattle.semver_parser_c.specs.declared.ParsedVersion.{ParsedVersion}
 abbrev pub Parses : ℤ → Text → ParsedVersion → ParsedVersion → ℤ → Type 0
 Parses dialect text old new r = ByDialect dialect r (new ≡ old) (λ d.
     OfVersion d text r (new ≡ old) (λ v.
-    (r ≡ number.ok) × (new ≡ parsed (outline_after (before_numbers text) v))))
+    (r ≡ number.ok)
+    × (new ≡ parsed (outline_after (digits_in (grammar_of d)) (before_numbers text) v))))
 
 -- the precedence of two versions; the first string is parsed first
 abbrev pub Compares : ℤ → Text → Text → ℤ → ℤ → ℤ → Type 0

@@ -18,9 +18,7 @@ use crate::options::dialect_of;
 use crate::reasons::reason_number;
 use crate::{ParsedVersion, Part, numbers};
 use semver_parser::version::{Outline, outline_in};
-use semver_texts::identifiers::Joined;
 use semver_texts::precedence;
-use semver_versions::comparing::InVersions;
 use std::cmp::Ordering;
 use text_prefixes::reasons::refused;
 
@@ -106,9 +104,9 @@ pub fn precedence(first: &Outline<'_>, second: &Outline<'_>) -> Ordering
 {
     precedence::compare(
         (first.major(), first.minor(), first.patch()),
-        Joined::of(first.pre().as_bytes(), InVersions),
+        first.compared_pre(),
         (second.major(), second.minor(), second.patch()),
-        Joined::of(second.pre().as_bytes(), InVersions),
+        second.compared_pre(),
     )
 }
 
