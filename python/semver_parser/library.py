@@ -60,6 +60,7 @@ class Switch(ctypes.Structure):
         ("patch", ctypes.c_uint64),
         ("pre_offset", ctypes.c_size_t),
         ("pre_length", ctypes.c_size_t),
+        ("digits", ctypes.c_uint64),
     ]
 
 

@@ -209,14 +209,16 @@ typedef struct {
     semver_parser_part shared;
 } semver_parser_comparison;
 
-/* A switch of a set (docs/MEANING.md), and where its pre-release is. Before them is a head: 1, and
- * how many are of releases and of pre-releases. */
+/* A switch of a set (docs/MEANING.md), and where its pre-release is; digits is 1 if that has a
+ * number of 2^64 or more, and else 0. Before them is a head: 1, and how many are of releases and of
+ * pre-releases. */
 typedef struct {
     uint64_t major;
     uint64_t minor;
     uint64_t patch;
     size_t pre_offset;
     size_t pre_length;
+    uint64_t digits;
 } semver_parser_switch;
 
 /* A set as data. */

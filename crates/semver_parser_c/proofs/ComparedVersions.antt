@@ -36,7 +36,7 @@ empty_without : (IsOne : PlainVersion → Type 0) (o : Option Version) (at : ℕ
     → IsEmptyWithout IsOne (place_after at o)
 empty_without IsOne None at none = (λ _. none, λ _. refl)
 empty_without IsOne (Some x) at least =
-    (λ empty. absurd (omega (arith, empty, some_text (version_value x))), λ none. absurd (none _ least.is_one))
+    (λ empty. absurd (omega (arith, empty, some_text (version_value x))), λ none. absurd (none _ least.1.is_one))
 
 pub tells_which : (m : Meaning) (old new : TreeOf m.dialect) (told : Comparison) (places : ComparedRanges)
     → Compares m old new told → places ≡ places_of told → TellsWhich m old new places

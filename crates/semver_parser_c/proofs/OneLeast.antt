@@ -6,6 +6,7 @@ use Rattle.std.specs.declared.cmp.Ordering.TheVariants.{Less, Equal}
 use Rattle.std.specs.Ordering.{ordering_reverse}
 use Rattle.semver_parser.specs.Versions.{PlainVersion, VersionValue}
 use Rattle.semver_texts.specs.Steps.PrecedenceLaws.{precedence_total, precedence-same}
+use Rattle.semver_texts.specs.Digits.{plain_kept}
 use Rattle.semver_parser.specs.PrintedText.{version_text}
 use Rattle.semver_parser.specs.declared.version.Version.{Version}
 use Rattle.version_sets.specs.Comparisons.{IsLeastOf, TellsLeast}
@@ -27,10 +28,11 @@ one_version P v w a b =
 pub one_told : (P : PlainVersion → Type 0) (o other : Option Version) → TellsLeast P o → TellsLeast P other
     → (text_of o ≡ text_of other) × ((at at' : ℕ) → at ≡ at' → place_after at o ≡ place_after at' other)
 one_told P None None a b = (refl, λ at at' e. refl)
-one_told P None (Some w) a b = absurd (a _ b.is_one)
-one_told P (Some v) None a b = absurd (b _ a.is_one)
+one_told P None (Some w) a b = absurd (a _ b.1.is_one)
+one_told P (Some v) None a b = absurd (b _ a.1.is_one)
 one_told P (Some v) (Some w) a b =
-    let text = ap version_text (one_version P _ _ a b) in (text, λ at at' e. cc)
+    let same = one_version P a.0 b.0 a.1 b.1 in
+    let text = ap version_text (a.2 ∙ (λ i. record { plain = plain_kept (same i).plain; build = (same i).build }) ∙ sym b.2) in (text, λ at at' e. cc)
 
 -- so of a comparison
 pub one_compared : (m : Meaning) (old new : TreeOf m.dialect) (told other : Comparison) → Compares m old new told

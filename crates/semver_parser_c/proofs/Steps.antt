@@ -6,6 +6,7 @@ use Rattle.semver_parser.specs.Versions.{IdentifierValue, VersionValue}
 use Rattle.semver_parser.specs.VersionReading.{IsOutcomeOf}
 use Rattle.semver_parser.specs.ParserState as spec
 use Rattle.semver_parser.specs.ParserState.{ErrorValue}
+use Rattle.semver_texts.specs.declared.grammar.Digits.{Digits}
 use Rattle.semver_parser.specs.Outlines.{OutlineValue, outline_after, dotted_text}
 
 -- a version text has none of the errors that the Rust crate lists for ranges
@@ -18,6 +19,6 @@ some_identifiers [] none = none
 some_identifiers (id ∷ ids) some = omega arith
 
 -- a version has a pre-release where its outline has
-pub has_pre_release : (o : OutlineValue) (v : VersionValue) (at : ℕ) → o ≡ outline_after at v → 0 < length o.pre
+pub has_pre_release : (o : OutlineValue) (v : VersionValue) (digits : Digits) (at : ℕ) → o ≡ outline_after digits at v → 0 < length o.pre
     → 0 < length v.plain.pre
-has_pre_release o v at is some = grind (arith, some_identifiers)
+has_pre_release o v digits at is some = grind (arith, some_identifiers)

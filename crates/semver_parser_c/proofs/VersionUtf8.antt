@@ -3,16 +3,16 @@
 use Rattle.std.proofs.Common.{◌≡◌, ◌⊎◌, ℕ, ◌^◌, ◌<◌, Bool, true, List, [], ◌∷◌, ◌++◌, codes, decimal, map, refl, sym, subst}
 use Rattle.std.proofs.Common.{arith, ⊎_elim, append_assoc, ◌∙◌, inl, inr}
 use Rattle.std.specs.Prelude.{IsTrue, IsUtf8, ◌||◌, ◌==◌}
-use Rattle.std.specs.Str.{is_utf8, chars}
+use Rattle.std.specs.Str.{all_ascii_digits, is_utf8, chars}
 use lib.Utf8.{encode}
 use Rattle.std.specs.Int.{is_in_range}
-use Rattle.std.specs.Char.{is_ascii_alphanumeric}
+use Rattle.std.specs.Char.{is_ascii_alphanumeric, is_ascii_digit}
 use Rattle.std.specs.List.{AllByRecursion, AllZip, concat, join_with_byte, list_all}
 use Rattle.std.proofs.Math.Dec.{ltb}
 use Rattle.std.proofs.lemmas.Bool.{ltb-true, lt-ltb, and_parts}
 use Rattle.std.proofs.lemmas.Bool.Decides.{nat_tests}
 use Rattle.std.proofs.lemmas.Str.{IsUtf8-append, IsUtf8-from_ascii, IsUtf8-from_is_utf8, IsUtf8-nil}
-use Rattle.semver_texts.specs.Texts.{Text, is_part_byte, is_space, marked}
+use Rattle.semver_texts.specs.Texts.{Text, is_number, is_part_byte, is_space, marked}
 use Rattle.semver_texts.specs.Versions.{IdentifierValue, numeric, alphanumeric, VersionValue, numbers}
 use Rattle.semver_texts.specs.VersionGrammar.{SpellsVersion}
 use Rattle.semver_texts.specs.ToolVersions.{AreWhiteSpaces, IsKeptAs, SpellsIn, SpellsNpm, SpellsSemver, is_white_space}
@@ -36,6 +36,9 @@ ascii_utf8 t all = IsUtf8-from_ascii t (ascii_from is_ascii (λ b. ltb-true b 12
 run_ascii : (b : ℕ) → is_ascii_alphanumeric b ≡ true → is_ascii b ≡ true
 run_ascii b h = lt-ltb b 128 (grind (arith, nat_tests))
 
+digit_ascii : (b : ℕ) → is_ascii_digit b ≡ true → is_ascii b ≡ true
+digit_ascii b h = lt-ltb b 128 (grind (arith, nat_tests))
+
 part_ascii : (b : ℕ) → is_part_byte b ≡ true → is_ascii b ≡ true
 part_ascii b h = lt-ltb b 128 (grind (arith, nat_tests))
 
@@ -51,26 +54,31 @@ all_passes p q more (b ∷ t) all =
 decimal_ascii : (n : ℕ) → n < 2 ^ 64 → IsAsciiText (decimal n)
 decimal_ascii n small = all_more run_ascii (decimal n) (decimal_is_run n small).1
 
+number_ascii : (text : Text) → is_number text ≡ true → IsAsciiText text
+number_ascii [] number = tt
+number_ascii (b ∷ rest) number =
+    all_passes is_ascii_digit is_ascii digit_ascii (b ∷ rest) (and_parts (all_ascii_digits (b ∷ rest)) _ number).0
+
 kept_ascii : (id : IdentifierValue) (text : Text) → IsKeptAs id text → IsAsciiText text
-kept_ascii (numeric n) text w = subst IsAsciiText (sym w.1) (decimal_ascii n w.0)
+kept_ascii (numeric n) text w = number_ascii text w.0
 kept_ascii (alphanumeric kept) text w =
     subst IsAsciiText (sym w.0) (all_passes is_part_byte is_ascii part_ascii kept (and_parts _ _ w.1).1)
 
 -- three numbers, and two parts after their marks
-core_ascii : (v : VersionValue) (pre build : List Text) → v.plain.major < 2 ^ 64 → v.plain.minor < 2 ^ 64 → v.plain.patch < 2 ^ 64
-    → AllZip IsKeptAs v.plain.pre pre → AllZip IsKeptAs v.build build
+core_ascii : (v : VersionValue) (ids build_ids : List IdentifierValue) (pre build : List Text) → v.plain.major < 2 ^ 64 → v.plain.minor < 2 ^ 64 → v.plain.patch < 2 ^ 64
+    → AllZip IsKeptAs ids pre → AllZip IsKeptAs build_ids build
     → IsAsciiText (join_with_byte 46 (map decimal (numbers v.plain)) ++ (marked (codes "-") pre ++ marked (codes "+") build))
-core_ascii v pre build major minor patch pres builds =
+core_ascii v ids build_ids pre build major minor patch pres builds =
     passes_append is_ascii (join_with_byte 46 (map decimal (numbers v.plain))) _
     (joined_pass is_ascii 46 refl (map decimal (numbers v.plain))
     (decimal_ascii _ major, (decimal_ascii _ minor, (decimal_ascii _ patch, tt))))
     (passes_append is_ascii (marked (codes "-") pre) _
-    (marked_passes is_ascii refl 45 refl pre (all_zipped kept_ascii v.plain.pre pre pres))
-    (marked_passes is_ascii refl 43 refl build (all_zipped kept_ascii v.build build builds)))
+    (marked_passes is_ascii refl 45 refl pre (all_zipped kept_ascii ids pre pres))
+    (marked_passes is_ascii refl 43 refl build (all_zipped kept_ascii build_ids build builds)))
 
 semver_utf8 : (v : VersionValue) (text : Text) → SpellsSemver v text → IsUtf8 text
 semver_utf8 v text w =
-    subst IsUtf8 (sym w.spelled) (ascii_utf8 _ (core_ascii v w.pre_texts w.build_texts w.major w.minor w.patch w.pre w.build))
+    subst IsUtf8 (sym w.spelled) (ascii_utf8 _ (core_ascii v v.plain.pre v.build w.pre_texts w.build_texts w.major w.minor w.patch w.pre w.build))
 
 -- ---- white space
 
@@ -148,7 +156,7 @@ crate_utf8 v text w =
     let s = w.spells in
     let three : Text = join_with_byte 46 (map decimal (numbers v.plain)) in
     let core : IsUtf8 w.core = subst IsUtf8 (sym (s.spelled ∙ (λ i. three ++ s.pre.joined i ++ s.build.joined i)
-    ∙ append_assoc three _ _)) (ascii_utf8 _ (core_ascii v s.pre.texts s.build.texts s.major
+    ∙ append_assoc three _ _)) (ascii_utf8 _ (core_ascii v _ _ s.pre.texts s.build.texts s.major
     s.minor s.patch (spelled_kept_all v.plain.pre s.pre.texts s.pre.each) (spelled_kept_all v.build s.build.texts s.build.each))) in
     subst IsUtf8 (sym w.whole) (IsUtf8-append (w.before ++ w.core) w.after
     (IsUtf8-append w.before w.core (spaces_utf8 w.before w.spaces_before) core) (spaces_utf8 w.after w.spaces_after))

@@ -4,6 +4,7 @@ use Rattle.semver_parser.specs.Texts.{Text}
 use Rattle.semver_parser.specs.Versions.{PlainVersion}
 use Rattle.version_sets.specs.VersionSets.{HasSomeVersion, SetValue, IsIn, IsNormal, has}
 use Rattle.version_sets.specs.SetRanges.{pre_release_ranges, ranges_text, release_ranges}
+use Rattle.version_sets.specs.DigitViews.{set_kept}
 use Rattle.version_sets.specs.Flat.{IsFlat, IsPrintable, flat_bytes, flat_switches}
 use Rattle.version_sets.specs.declared.FlatSwitch.{FlatSwitch}
 use Rattle.semver_parser_c.specs.Numbers as number
@@ -65,7 +66,7 @@ pub record IsMadeOf (o : Operation) (a b set : SetValue) : Type 0 where
   pub printable : IsPrintable set
   pub kept : (v : PlainVersion) → has set v ≡ keeps o (has a v) (has b v)
 
--- the text of the pre-releases of a set, or that of its releases
+-- the text of the pre-releases of a set, as they are kept, or that of its releases
 abbrev pub kind_text : Bool → SetValue → Text
-kind_text true set = ranges_text (pre_release_ranges set)
+kind_text true set = ranges_text (set_kept (pre_release_ranges set))
 kind_text false set = ranges_text (release_ranges set)

@@ -1,6 +1,7 @@
 //! Version texts: the outline of one or the version without its build, or the number of its error.
 
 ghost use Rattle.std.specs.Prelude.{◌≡◌, ◌<◌, IfOk, IfErr, IsUtf8, length};
+ghost use Rattle.semver_texts.specs.Digits.{digits_in, plain_by};
 ghost use Rattle.semver_parser.specs.Texts.{Text};
 ghost use Rattle.semver_parser.specs.Versions.{VersionValue};
 ghost use Rattle.semver_parser.specs.VersionViews.{version_value};
@@ -35,7 +36,7 @@ pub fn outline(alloc: Global, text: &[u8], grammar: Grammar) -> Result<Outline<'
 /// The version of a text by a dialect without its build, or the number of its error.
 pub fn plain_version(alloc: Global, text: &[u8], grammar: Grammar) -> Result<Version, i32>
     ensures version { IfOk result (λ version. (v : VersionValue) → SpellsIn grammar v text.now
-        → (version_value version).plain ≡ v.plain) }
+        → plain_by (digits_in grammar) (version_value version).plain ≡ v.plain) }
     ensures read { IfOk result (λ _. IsVersionTextIn grammar text.now) }
     ensures utf8 { IfOk result (λ _. IsUtf8 text.now) }
     ensures refused { IfErr result (RefusesVersion grammar text.now) }

@@ -4,6 +4,7 @@ use Rattle.semver_parser.specs.Texts.{Text}
 use Rattle.semver_parser.specs.Versions.{VersionValue}
 use Rattle.semver_parser.specs.ToolVersions.{SpellsIn, before_numbers}
 use Rattle.semver_parser.specs.declared.version.Grammar.{Grammar}
+use Rattle.semver_texts.specs.Digits.{digits_in}
 use Rattle.semver_parser.specs.Outlines.{OutlineValue, IsOutlineIn, outline_after}
 use Rattle.semver_parser_c.specs.declared.ReadVersion.{ReadVersion}
 use Rattle.semver_parser_c.specs.Numbers as number
@@ -33,7 +34,7 @@ once d read u u' accepted named (inr (inr (inr none))) = absurd none
 same_read : ((d : Grammar) (v w : VersionValue) (text : Text) → SpellsIn d v text → SpellsIn d w text → v ≡ w)
     → (d : Grammar) (text : Text) (out other : ReadVersion) → IsRead d text out → IsRead d text other → out ≡ other
 same_read one d text out other (o, (v, spelled, is), e) (o', (v', spelled', is'), e') =
-    e ∙ ap told (is ∙ ap (outline_after (before_numbers text)) (one d v v' text spelled spelled') ∙ sym is') ∙ sym e'
+    e ∙ ap told (is ∙ ap (outline_after (digits_in d) (before_numbers text)) (one d v v' text spelled spelled') ∙ sym is') ∙ sym e'
 
 pub returns : goal.returns
 returns c =
