@@ -89,8 +89,9 @@ fn write_set(rt: &impl Print, alloc: Global) -> io::Result<()> {
             patch,
             pre_offset,
             pre_length,
+            digits,
         } = *switch;
-        println!(rt; "{major}, {minor}, {patch}, {pre_offset}, {pre_length}")?;
+        println!(rt; "{major}, {minor}, {patch}, {pre_offset}, {pre_length}, {digits}")?;
     }
     println!(rt; "{}", data.bytes)?;
     let Some(flat) = FlatSet::read(&data.switches, data.bytes.as_bytes()) else {
