@@ -42,7 +42,8 @@ module _ (same : (grammar : Grammar) (v w : VersionValue) (text : Text) → Spel
   one_judged DoesNotPass (Passes o) p q = absurd (true≢false (sym (q.1 p.0.0 p.0.1) ∙ p.1 p.0.0 p.0.1))
   one_judged (Passes o) NoVersion p q = absurd (q (p.0.0, p.0.1))
   one_judged (Passes o) DoesNotPass p q = absurd (true≢false (sym (p.1 q.0.0 q.0.1) ∙ q.1 q.0.0 q.0.1))
-  one_judged (Passes o) (Passes o') p q = ap Passes (p.0.2 ∙ ap (outline_after (digits_in grammar) _) (same grammar p.0.0 q.0.0 text p.0.1 q.0.1) ∙ sym q.0.2)
+  one_judged (Passes o) (Passes o') p q = ap Passes (p.0.2 ∙ ap (outline_after (digits_in grammar) _) (same grammar p.0.0 q.0.0 text p.0.1
+      q.0.1) ∙ sym q.0.2)
 
 -- two answers about one text, each as the text is kept, are one
 module _ (filter : FilterValue) (text : Text) (Test : VersionValue → Type 0) where

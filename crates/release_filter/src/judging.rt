@@ -85,7 +85,8 @@ impl Filter {
             ↔ (SpellsIn self.now.grammar v text.now × IsTrue (passes self.now v))) }
         // The version is as it is kept: an identifier of digits from 2^64 on is its text.
         ensures kept { IfOk result (λ found. IfSome found (λ version. (o : OutlineValue)
-            → IsOutlineIn self.now.grammar text.now o → version_value version ≡ kept_version_of o)) }
+            → IsOutlineIn self.now.grammar text.now o
+            → version_value version ≡ kept_version_of o)) }
         // Unless memory ran out, no version is answered exactly where the text spells none that
         // passes.
         ensures none { IfOk result (λ found. (found ≡ None)

@@ -46,7 +46,8 @@ places_have text before after at (c ∷ cs) is at_is = (
 )
 
 -- where both are put, both are at the front
-fronts : (items : List ListedComparator) (a : Buffer ListedComparator) (texts : Text) (b : Buffer ℕ) (r : ℤ) → PutsBoth items a texts b r → r ≡ ok
+fronts : (items : List ListedComparator) (a : Buffer ListedComparator) (texts : Text) (b : Buffer ℕ) (r : ℤ)
+    → PutsBoth items a texts b r → r ≡ ok
     → HasAtFront items a × HasAtFront texts b
 fronts items a texts b r puts is = grind arith
 

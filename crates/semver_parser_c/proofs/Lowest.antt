@@ -51,4 +51,5 @@ one_text P None (Some w) a b = absurd (a _ b.1.is_one)
 one_text P (Some v) None a b = absurd (b _ a.1.is_one)
 one_text P (Some v) (Some w) (x, a, kept) (y, b, kept') =
     let same = one_version P x y a b in
-    ap version_text (kept ∙ (λ i. let it : VersionValue = record { plain = plain_kept (same i).plain; build = (same i).build } in it) ∙ sym kept')
+    ap version_text (kept ∙ (λ i. let it : VersionValue = record { plain = plain_kept (same i).plain; build = (same i).build } in it) ∙ sym
+    kept')

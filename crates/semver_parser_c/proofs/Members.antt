@@ -1,6 +1,7 @@
 -- serves: semver_parser_c::laws::one_memberships
 -- The highest of the members of a set among the first of many strings.
-use Rattle.std.proofs.Common.{◌≡◌, ◌≢◌, ◌↔◌, ◌⊎◌, ◌∙◌, ◌<◌, ◌+◌, ℕ, Bool, true, false, List, Option, Some, None, MatchOption, option_map, true≢false, arith, inl, inr}
+use Rattle.std.proofs.Common.{◌≡◌, ◌≢◌, ◌↔◌, ◌⊎◌, ◌∙◌, ◌<◌, ◌+◌, ℕ, Bool, true, false, List, Option, Some, None, MatchOption, option_map}
+use Rattle.std.proofs.Common.{true≢false, arith, inl, inr}
 use Rattle.std.proofs.Common.{rules, sym, ap, subst, ⊎_elim, length, get_or, Less, Greater}
 use Rattle.std.proofs.lemmas.Option.{get_or_from_slice_get, slice_get_within}
 use Rattle.std.specs.Borrow.{Bor}
@@ -87,11 +88,16 @@ module _ (lowest : Bool) (d : Dialect) (set : SetValue) (texts : List (Bor Text)
   -- the string at the place is no member
   pub skipped : (at found : ℕ) (best : Option PlainVersion) → ((v : PlainVersion) → IsMember d set texts at v → ⊥) → IsBest at found best
       → IsBest (at + 1) found best
-  skipped at found None none is = (is.0, λ k v member within. ⊎_elim (is.1 k v member) (λ e. none v (subst (λ n. IsMember d set texts n v) e member)) (less_one k at within))
+  skipped at found None none is = (
+    is.0,
+    λ k v member within. ⊎_elim (is.1 k v member) (λ e. none v (subst (λ n. IsMember d set texts n v) e
+        member)) (less_one k at within),
+  )
   skipped at found (Some best) none (before, one, all) = (
     grind arith,
     one,
-    λ k v member within. ⊎_elim (all k v member) (λ e. absurd (none v (subst (λ n. IsMember d set texts n v) e member))) (less_one k at within),
+    λ k v member within. ⊎_elim (all k v member) (λ e. absurd (none v (subst (λ n. IsMember d set texts n v) e member))) (less_one k at
+        within),
   )
 
   -- it is the first member

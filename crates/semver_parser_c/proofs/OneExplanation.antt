@@ -34,7 +34,8 @@ module _ (prefix : (g : Grammar) (t : Text) (m n : ℕ) → IsLongestVersionPref
   one_refusal m n x y p q =
       let same = prefix _ text m n p.longest q.longest in (
         same,
-        p.number ∙ ap reason_number (reason _ _ _ p.why q.why (subst (λ k. IsReason (grammar_of d) (take k text) (byte_at text k) p.why) same p.is_why)
+        p.number ∙ ap reason_number (reason _ _ _ p.why q.why (subst (λ k. IsReason (grammar_of d) (take k text) (byte_at text k) p.why)
+            same p.is_why)
             q.is_why) ∙ sym q.number,
       )
 

@@ -38,7 +38,8 @@ one_list one d set texts old other new next same p q =
     ⊎_elim
     (λ found. let (x, early, at, _) = found in
     one_byte one d set x.now _ _ (element (λ (t : Bor Text). IsByteFor d set t.now (get_or new k 0)) _ x at (p.each k early inside))
-    (element (λ (t : Bor Text). IsByteFor d set t.now (get_or next k 0)) _ x at (q.each k early (subst (λ n. k < n) (ap length same) inside))))
+    (element (λ (t : Bor Text). IsByteFor d set t.now (get_or next k 0)) _ x at (q.each k early (subst (λ n. k < n) (ap length same)
+    inside))))
     (λ late. p.after k late.0 ∙ ap (λ xs. get_or xs k 0) same ∙ sym (q.after k late.0)) (slice_get_cases texts k).1)
 
 three : (i j : ℕ) → (i < j) ⊎ (j < i) ⊎ (i ≡ j)
@@ -51,7 +52,8 @@ module _ (order : PlainVersion → PlainVersion → Ordering) (total : IsTotalOr
   one_highest : (IsOne : ℕ → PlainVersion → Type 0) (i j : ℕ) → IsHighest order IsOne i → IsHighest order IsOne j → i ≡ j
   one_highest IsOne i j p q =
       ⊎_elim (λ less. absurd (above_less p.version q.version (q.earlier i p.version p.is_one less) (p.later j q.version q.is_one)))
-      (⊎_elim (λ less. absurd (above_less q.version p.version (p.earlier j q.version q.is_one less) (q.later i p.version p.is_one))) (λ e. e))
+      (⊎_elim (λ less. absurd (above_less q.version p.version (p.earlier j q.version q.is_one less) (q.later i p.version p.is_one))) (λ e.
+      e))
       (three i j)
 
 pub one_index : (lowest : Bool) (d : Dialect) (set : SetValue) (texts : List (Bor Text)) (i j : ℕ) → IsHighestIndex lowest d set texts i

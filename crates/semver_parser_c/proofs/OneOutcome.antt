@@ -40,7 +40,8 @@ pub not_both : (d : Dialect) (text : Text) → HasSetAs d text → IsTooLargeAs 
 not_both d text (tree, spells, fit) (other, spelled, large) =
     true≢false (sym fit ∙ ap (fits_as d) (one_tree d tree other text spells spelled) ∙ large)
 
-module _ (r s : ℤ) (Same Other One : Type 0) (refused : (k : ℤ) → k ≢ number.out_of_memory → Refused k r Same → Refused k s Other → One) where
+module _ (r s : ℤ) (Same Other One : Type 0) (refused : (k : ℤ) → k ≢ number.out_of_memory → Refused k r Same → Refused k s Other
+    → One) where
   pub by_dialect : (n : ℤ) (P Q : Dialect → Type 0) → ByDialect n r Same P → ByDialect n s Other Q
       → ((d : Dialect) → P d → Q d → One) → One
   by_dialect n P Q (inl p) (inl q) one = refused number.invalid_argument (λ e. cc) p.1 q.1
@@ -94,11 +95,13 @@ pub one_test : {P : Type 0} {p q : Bool} → (p ≡ true) ↔ P → (q ≡ true)
 one_test p q = grind arith
 
 -- two refusals are one
-pub plain : (r s : ℤ) (Same Other X : Type 0) → (Same → Other → X) → (k : ℤ) → k ≢ number.out_of_memory → Refused k r Same → Refused k s Other
+pub plain : (r s : ℤ) (Same Other X : Type 0) → (Same → Other → X) → (k : ℤ) → k ≢ number.out_of_memory → Refused k r Same
+    → Refused k s Other
     → (r ≡ s) × X
 plain r s Same Other X same k some p q = (p.0 ∙ sym q.0, same p.1 q.1)
 
-pub in_one : (r s : ℤ) (Same Other X : Type 0) → (Same → Other → X) → (k : ℤ) → k ≢ number.out_of_memory → Refused k r Same → Refused k s Other
+pub in_one : (r s : ℤ) (Same Other X : Type 0) → (Same → Other → X) → (k : ℤ) → k ≢ number.out_of_memory → Refused k r Same
+    → Refused k s Other
     → AreOne r s X
 in_one r s Same Other X same k some p q = record {
   same = λ _ _. (p.0 ∙ sym q.0, same p.1 q.1);
@@ -148,14 +151,17 @@ in_memory_of r s Same Other X P Q May Might p_done q_done one p q =
 pub put_done : {A : Type 0} (items : List A) (a : Buffer A) (r : ℤ) → Puts items a r → IsDone r
 put_done items a r puts = grind arith
 
-pub both_done : {A B : Type 0} (items : List A) (a : Buffer A) (others : List B) (b : Buffer B) (r : ℤ) → PutsBoth items a others b r → IsDone r
+pub both_done : {A B : Type 0} (items : List A) (a : Buffer A) (others : List B) (b : Buffer B) (r : ℤ) → PutsBoth items a others b r
+    → IsDone r
 both_done items a others b r puts = grind arith
 
-pub put_once : {A : Type 0} (items others : List A) (a b : Buffer A) (r s : ℤ) → items ≡ others → a.old ≡ b.old → Puts items a r → Puts others b s
+pub put_once : {A : Type 0} (items others : List A) (a b : Buffer A) (r s : ℤ) → items ≡ others → a.old ≡ b.old → Puts items a r
+    → Puts others b s
     → (r ≡ s) × ((a.new ≡ b.new) × (a.length_new ≡ b.length_new))
 put_once items others a b r s same room p q = grind arith
 
-pub both_once : {A B : Type 0} (items items' : List A) (a a' : Buffer A) (others others' : List B) (b b' : Buffer B) (r s : ℤ) → items ≡ items'
+pub both_once : {A B : Type 0} (items items' : List A) (a a' : Buffer A) (others others' : List B) (b b' : Buffer B) (r s : ℤ)
+    → items ≡ items'
     → others ≡ others' → a.old ≡ a'.old → b.old ≡ b'.old → PutsBoth items a others b r → PutsBoth items' a' others' b' s
     → (r ≡ s) × ((a.new ≡ a'.new) × (a.length_new ≡ a'.length_new) × (b.new ≡ b'.new) × (b.length_new ≡ b'.length_new))
 both_once items items' a a' others others' b b' r s same same' room room' p q = grind arith

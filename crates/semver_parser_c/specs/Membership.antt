@@ -36,8 +36,8 @@ IsByteFor d set text byte =
     × (byte ≡ membership_byte (has set v.plain)))
 
 -- a byte for each string, as far as both lists go, and nothing after them
-pub record HasByteForEach (d : Dialect) (set : SetValue) (texts : List (Bor Text)) (old new : List ℕ)
-    : Type 0 where
+pub record HasByteForEach (d : Dialect) (set : SetValue) (texts : List (Bor Text))
+    (old new : List ℕ) : Type 0 where
   pub each : (k : ℕ) → k < length texts → k < length old
       → IfSome (slice_get texts k) (λ text. IsByteFor d set text.now (slice_index new k))
   pub after : (k : ℕ) → length texts ≤ k → slice_index new k ≡ slice_index old k
@@ -55,8 +55,8 @@ IsMemberText d set text =
     (v : VersionValue) × SpellsIn (grammar_of d) v text × (has set v.plain ≡ true)
 
 -- the string at an index is a version that is in the set
-pub record IsMember (d : Dialect) (set : SetValue) (texts : List (Bor Text)) (k : ℕ) (v : PlainVersion)
-    : Type 0 where
+pub record IsMember (d : Dialect) (set : SetValue) (texts : List (Bor Text)) (k : ℕ)
+    (v : PlainVersion) : Type 0 where
   pub text : Bor Text
   pub at : slice_get texts k ≡ Some text
   pub version : VersionValue

@@ -1,5 +1,5 @@
--- The numbers that the functions return and take; include/semver_parser.h has the same under the same
--- names, but for those of operations and of what is written for many versions.
+-- The numbers that the functions return and take; include/semver_parser.h has the same under the
+-- same names, but for those of operations and of what is written for many versions.
 use Rattle.std.specs.Prelude.{ℕ, ℤ, pos}
 
 -- what was asked for was done

@@ -34,7 +34,12 @@ pub fn put_both<T: Copy>(
     length: &mut usize,
 ) -> i32
     ensures { (n m : ℕ) → PutsBoth
-        items.now (record { old = room.old; new = room.new; length_old = n; length_new = count.new })
+        items.now (record {
+          old = room.old;
+          new = room.new;
+          length_old = n;
+          length_new = count.new;
+        })
         bytes.now (record { old = out.old; new = out.new; length_old = m; length_new = length.new })
         result }
 {

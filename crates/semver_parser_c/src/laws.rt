@@ -1,6 +1,6 @@
-//! Laws of the functions: two answers of the same inputs are one, or memory ran out in one call, and
-//! then the other is no error. Each makes its call twice, and all that its proof knows of the two
-//! answers is what the clause of the function says.
+//! Laws of the functions: two answers of the same inputs are one, or memory ran out in one call,
+//! and then the other is no error. Each makes its call twice, and all that its proof knows of the
+//! two answers is what the clause of the function says.
 
 ghost use Rattle.std.specs.Prelude.{◌≡◌, ◌≢◌, ◌⊎◌, length};
 ghost use Rattle.semver_parser_c.specs.Numbers as number;
@@ -171,7 +171,8 @@ pub fn one_comparators(
     requires out { out.old ≡ other_out.old }
     requires length { length.old ≡ other_length.old }
     ensures one { AreOne result.0 result.1
-        ((comparators.new ≡ others.new) × (count.new ≡ other_count.new) × (out.new ≡ other_out.new) × (length.new ≡ other_length.new)) }
+        ((comparators.new ≡ others.new) × (count.new ≡ other_count.new)
+        × (out.new ≡ other_out.new) × (length.new ≡ other_length.new)) }
 {
     let number = semver_parser_proved_comparators(
         alloc,
@@ -244,7 +245,8 @@ pub fn one_set(
     requires out { out.old ≡ other_out.old }
     requires length { length.old ≡ other_length.old }
     ensures one { AreOne result.0 result.1
-        ((made.new ≡ other_made.new) × (count.new ≡ other_count.new) × (out.new ≡ other_out.new) × (length.new ≡ other_length.new)) }
+        ((made.new ≡ other_made.new) × (count.new ≡ other_count.new)
+        × (out.new ≡ other_out.new) × (length.new ≡ other_length.new)) }
 {
     one_normal_set();
     let number = semver_parser_proved_set_of_range(
@@ -292,7 +294,8 @@ pub fn one_combination(
     requires out { out.old ≡ other_out.old }
     requires length { length.old ≡ other_length.old }
     ensures one { AreOne result.0 result.1
-        ((made.new ≡ other_made.new) × (count.new ≡ other_count.new) × (out.new ≡ other_out.new) × (length.new ≡ other_length.new)) }
+        ((made.new ≡ other_made.new) × (count.new ≡ other_count.new)
+        × (out.new ≡ other_out.new) × (length.new ≡ other_length.new)) }
 {
     one_flat();
     one_normal_set();

@@ -1,6 +1,6 @@
-//! The C functions, proved, over plain data: strings are bytes, and what a function makes is put into
-//! buffers of the caller. `c/` makes the functions of `include/semver_parser.h` of these: it holds
-//! the memory, and asks for an error where one is wanted.
+//! The C functions, proved, over plain data: strings are bytes, and what a function makes is put
+//! into buffers of the caller. `c/` makes the functions of `include/semver_parser.h` of these: it
+//! holds the memory, and asks for an error where one is wanted.
 //!
 //! Each function returns one of the numbers in `numbers`. Its one clause says in which order its
 //! conditions are asked, and what it writes (`specs/Outcomes`).

@@ -76,8 +76,8 @@ pub extern "C" fn semver_parser_proved_satisfies(
 ///
 /// # Errors
 ///
-/// `INVALID_ARGUMENT` if no dialect has the number, and `OUT_OF_MEMORY` in place of `INVALID_RANGE`.
-/// After these and `OK` all is as it was.
+/// `INVALID_ARGUMENT` if no dialect has the number, and `OUT_OF_MEMORY` in place of
+/// `INVALID_RANGE`. After these and `OK` all is as it was.
 #[unsafe(no_mangle)]
 pub extern "C" fn semver_parser_proved_explain_range(
     alloc: Global,
@@ -180,8 +180,8 @@ pub extern "C" fn semver_parser_proved_comparators(
 /// Rewrites a range into plain comparators, as `semver_parser_proved_comparators`, and prints them:
 /// `OK` with `>=1.2.0 <2.0.0-0` at the front of `out` for `^1.2`.
 ///
-/// `length` becomes the length of the string, also if the buffer is too small: then it is `NO_ROOM`,
-/// and the buffer is as it was.
+/// `length` becomes the length of the string, also if the buffer is too small: then it is
+/// `NO_ROOM`, and the buffer is as it was.
 ///
 /// # Errors
 ///

@@ -265,13 +265,13 @@ pub extern "C" fn semver_parser_proved_check_set(
 /// metadata: `OK` with the string at the front of `out`. Its length is 0 exactly if the set has no
 /// version; of such a set it does not allocate.
 ///
-/// `length` becomes the length of the string, also if the buffer is too small: then it is `NO_ROOM`,
-/// and the buffer is as it was.
+/// `length` becomes the length of the string, also if the buffer is too small: then it is
+/// `NO_ROOM`, and the buffer is as it was.
 ///
 /// # Errors
 ///
-/// `INVALID_ARGUMENT` if the data is no set, then `OUT_OF_MEMORY` and `NO_ROOM`. After the first two
-/// nothing is written.
+/// `INVALID_ARGUMENT` if the data is no set, then `OUT_OF_MEMORY` and `NO_ROOM`. After the first
+/// two nothing is written.
 #[unsafe(no_mangle)]
 pub extern "C" fn semver_parser_proved_lowest_version(
     alloc: Global,

@@ -31,7 +31,8 @@ use text_prefixes::reasons::refused;
 ///
 /// # Errors
 ///
-/// `INVALID_ARGUMENT` if no dialect has the number, then `INVALID_VERSION`. Then `out` is as it was.
+/// `INVALID_ARGUMENT` if no dialect has the number, then `INVALID_VERSION`. Then `out` is as it
+/// was.
 #[unsafe(no_mangle)]
 pub extern "C" fn semver_parser_proved_parse_version(
     version: &[u8],

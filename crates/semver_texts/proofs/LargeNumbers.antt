@@ -193,7 +193,8 @@ large_numeral t e =
     digits_after (0 * 10 + digit_value c) w.rest (omega (arith, w.some)) w.digits.1
     ∙ ap (λ ds. ds ++ map digit_value w.rest) (last 0 (digit_value c) (omega (arith, w.some)) w.digits.0) in
     let other : nat_lt (digits_value 10 t) (2 ^ 64) ≡ false = let h = w.large in grind (arith, nat_tests) in
-    w.whole ∙ sym (glyphs (c ∷ w.rest) w.digits) ∙ ap (map (λ d. 48 + d)) (sym digits ∙ ap (λ x. digits_of 10 (digits_value 10 x)) (sym w.whole))
+    w.whole ∙ sym (glyphs (c ∷ w.rest) w.digits) ∙ ap (map (λ d. 48 + d)) (sym digits ∙ ap (λ x. digits_of 10 (digits_value 10 x)) (sym
+    w.whole))
     ∙ rw other refl
 
 pub canonical : (t : Text) → is_number t ≡ true → digits_value 10 t < 2 ^ 64 → IsCanonical t

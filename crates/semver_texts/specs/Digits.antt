@@ -1,5 +1,5 @@
--- Identifiers of digits alone: from 2^64 on the crate keeps them as texts, and to SemVer 2.0.0, Cargo
--- and npm they are numbers, whatever their size.
+-- Identifiers of digits alone: from 2^64 on the crate keeps them as texts, and to SemVer 2.0.0,
+-- Cargo and npm they are numbers, whatever their size.
 use Rattle.std.specs.Prelude.{◌^◌, nat_lt, if◌then◌else◌, List, map}
 use Rattle.std.specs.Str.Parse.{digits_value}
 use Rattle.semver_texts.specs.Texts.{is_large}

@@ -15,8 +15,8 @@ use Rattle.semver_texts.specs.declared.grammar.Grammar.{Grammar}
 use Rattle.semver_texts.specs.declared.grammar.Grammar.TheVariants.{Crate, Cargo, Npm}
 
 -- the text is kept as the identifier: one or more letters, digits and hyphens (SemVer 2.0.0,
--- sections 9 and 10). Digits without a leading zero are kept as their number, whatever its size, any
--- other text as it is
+-- sections 9 and 10). Digits without a leading zero are kept as their number, whatever its size,
+-- any other text as it is
 abbrev pub IsKeptAs : IdentifierValue → Text → Type 0
 IsKeptAs (numeric n) text = IsTrue (is_number text) × (digits_value 10 text ≡ n)
 IsKeptAs (alphanumeric kept) text =

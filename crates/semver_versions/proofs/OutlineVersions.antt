@@ -70,7 +70,8 @@ module _ (text : Text) (v : VersionValue) (w : SpellsVersion v text) where
   pub no_build : (found : Option OutlineValue) → IfSome found (λ o. SpellsVersion (version_of o) text)
       → IfSome found (λ o. (o.build ≡ []) ↔ (v.build ≡ []))
   no_build None is = tt
-  no_build (Some o) is = empty_where o.digits o.build v.build (ap (λ (u : VersionValue). u.build) (one_version_in Crate v (version_of o) text w is))
+  no_build (Some o) is = empty_where o.digits o.build v.build (ap (λ (u : VersionValue). u.build) (one_version_in Crate v (version_of o)
+      text w is))
 
 pub has_some : (before : ℕ) (text : Text) (o : OutlineValue) → IsOutlineAfter before text o → (0 < length o.pre) ⊎ (0 < length o.build)
     → (v : VersionValue) × SpellsVersion v text × ((0 < length v.plain.pre) ⊎ (0 < length v.build))

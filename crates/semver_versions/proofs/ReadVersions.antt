@@ -18,7 +18,8 @@ use Rattle.semver_texts.specs.Steps.DottedParts.{marked_part}
 use Rattle.semver_texts.proofs.DottedParts.{found_same}
 use Rattle.semver_texts.proofs.Numbers.{same_numbers}
 use Rattle.semver_versions.specs.Outlines.{after_mark, identifier_of, outline_after, version_of}
-use Rattle.semver_versions.specs.Steps.Reading.{AreAround, AreIdentifiers, AreParts, IsKeptBy, IsOutlinedAt, IsRead, NumbersFit, ZerosFit, hyphens_of}
+use Rattle.semver_versions.specs.Steps.Reading.{AreAround, AreIdentifiers, AreParts, IsKeptBy, IsOutlinedAt, IsRead, NumbersFit, ZerosFit}
+use Rattle.semver_versions.specs.Steps.Reading.{hyphens_of}
 use Rattle.semver_versions.specs.Steps.Reading.{outline_with}
 use Rattle.semver_versions.proofs.CutIdentifiers.{part_found, part_is}
 use Rattle.semver_versions.proofs.KeptTexts.{all_kept, are_parts, begins_marked, kept_dotted, kept_is, kept_parts, no_identifiers}

@@ -1,6 +1,7 @@
--- serves: tool_ranges::meaning::read
+-- serves: tool_ranges::cargo::rewrite
 -- The comparators of the tools' tables, with identifiers of digits as numbers of any size.
-use Rattle.std.proofs.Common.{◌≡◌, ℕ, Bool, true, not, ◌&&◌, ◌||◌, ◌==◌, List, [], ◌∷◌, ◌++◌, map, length, refl, sym, ap, ◌∙◌, if◌then◌else◌}
+use Rattle.std.proofs.Common.{◌≡◌, ℕ, Bool, true, not, ◌&&◌, ◌||◌, ◌==◌, List, [], ◌∷◌, ◌++◌, map, length, refl, sym, ap, ◌∙◌}
+use Rattle.std.proofs.Common.{if◌then◌else◌}
 use Rattle.std.proofs.lemmas.List.{map-append}
 use Rattle.std.specs.List.{filter, flat_map, list_all, list_any}
 use Rattle.semver_texts.specs.Digits.{any_size, plain_by}

@@ -57,7 +57,8 @@ pub releases_meant : (v : PlainVersion) (tree : List Simple) (t : Text) → Fits
 releases_meant v tree t small h none =
     sym (or-false _)
     ∙ ap (λ b. (is_empty v.pre && meets_set v (set_any (rewritten_requirement tree))) || b)
-    (sym (ap (λ b. meets_set v (set_any (judging PreReleases tree)) && b) (ap (λ (rs : List PlainRange). list_any (meets_range v) (map range_any rs)) none)
+    (sym (ap (λ b. meets_set v (set_any (judging PreReleases tree)) && b) (ap (λ (rs : List PlainRange). list_any (meets_range v) (map
+    range_any rs)) none)
     ∙ and-false _))
     ∙ all_meant v tree t small h
 

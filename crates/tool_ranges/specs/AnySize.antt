@@ -1,5 +1,6 @@
--- What Cargo and npm compare a version with: the zero-filled version of a partial, whose identifiers
--- of digits alone are numbers of any size, as in SemVer 2.0.0; and so the comparators of sets.
+-- What Cargo and npm compare a version with: the zero-filled version of a partial, whose
+-- identifiers of digits alone are numbers of any size, as in SemVer 2.0.0; and so the comparators
+-- of sets.
 use Rattle.std.specs.Prelude.{map}
 use Rattle.semver_texts.specs.Digits.{plain_by}
 use Rattle.semver_texts.specs.Versions.{PlainVersion}

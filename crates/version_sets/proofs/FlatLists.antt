@@ -62,7 +62,15 @@ module _ (bytes : Text) (at : ℕ) (s : FlatSwitch) (within : at ≤ length byte
       ∙ length-take-le s.pre_length (drop at bytes) (omega (arith, fits, length-drop at bytes))
 
   switch_is : flat_switch at (switch_value bytes s) ≡ s
-  switch_is = λ i. record { major = s.major; minor = s.minor; patch = s.patch; pre_offset = offset_is i; pre_length = long i; digits = told i }
+  switch_is = λ i. record {
+    major = s.major;
+    minor = s.minor;
+    patch = s.patch;
+    pre_offset = offset_is i;
+    pre_length = long i;
+    digits = told
+        i;
+  }
 
 pub are_read : (bytes : Text) (at : ℕ) (ss : List FlatSwitch) → at ≤ length bytes → are_placed at bytes ss ≡ true → AreRead bytes at ss
 are_read bytes at [] within e =
@@ -140,7 +148,13 @@ are_written bytes before at (v ∷ vs) prints is at_is =
 
 asked_is : (bytes : Text) (s : FlatSwitch) → is_text (text_at bytes s) ≡ true → asked_value bytes s ≡ switch_value bytes s
 asked_is bytes s is =
-    λ i. record { major = s.major; minor = s.minor; patch = s.patch; pre = identifiers_by (digits_of_code s.digits) (same_identifiers (text_at bytes s) is i) }
+    λ i. record {
+      major = s.major;
+      minor = s.minor;
+      patch = s.patch;
+      pre = identifiers_by (digits_of_code s.digits) (same_identifiers
+          (text_at bytes s) is i);
+    }
 
 first_below : (bytes : Text) (s : FlatSwitch) (ss : List FlatSwitch) → is_text (text_at bytes s) ≡ true → is_below_first bytes s ss ≡ true
     → IsBelowFirst precedence (switch_value bytes s) (map (switch_value bytes) ss)

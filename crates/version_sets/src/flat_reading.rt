@@ -8,7 +8,8 @@ ghost use Rattle.version_sets.specs.Flat.{IsFlat, flat_switches, is_large_number
 ghost use Rattle.version_sets.specs.VersionSets.{SetValue};
 ghost use Rattle.version_sets.specs.Steps.FlatViews.{HasSmallNumbers, are_increasing, are_placed};
 ghost use Rattle.version_sets.specs.Steps.FlatViews.{have_texts, headed, is_below_first};
-ghost use Rattle.version_sets.specs.Steps.FlatViews.{is_flat, is_flat_list, is_placed, is_text, is_told};
+ghost use Rattle.version_sets.specs.Steps.FlatViews.{is_flat, is_flat_list, is_placed, is_text};
+ghost use Rattle.version_sets.specs.Steps.FlatViews.{is_told};
 
 use crate::flat::{FlatSet, FlatSwitch};
 use crate::flat_places::{Place, digits_of_code, text_at};

@@ -56,7 +56,8 @@ pub(crate) fn least_of(
     pre_release: Option<&PreRelease>,
 ) -> Result<Option<Version>, AllocError>
     ensures least { IfOk result (λ least. option_map version_value least
-        ≡ option_map (λ v. unbuilt (plain_kept v)) (lower (option_map (λ r. release_value r.now) release.entry)
+        ≡ option_map (λ v. unbuilt (plain_kept v))
+        (lower (option_map (λ r. release_value r.now) release.entry)
         (option_map (λ p. pre_release_place p.now) pre_release.entry))) }
     ensures out_of_memory { IfErr result (λ _. (p : PlainVersion)
         × (option_map (λ p. pre_release_place p.now) pre_release.entry ≡ Some p)

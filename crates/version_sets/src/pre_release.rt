@@ -1,7 +1,8 @@
 //! Switches of pre-releases.
 
 ghost use Rattle.std.specs.Prelude.{◌≡◌, [], map, IfOk};
-ghost use Rattle.semver_texts.specs.Digits.{as_kept, identifier_by, identifiers_by, plain_by, plain_kept};
+ghost use Rattle.semver_texts.specs.Digits.{as_kept, identifier_by, identifiers_by, plain_by};
+ghost use Rattle.semver_texts.specs.Digits.{plain_kept};
 ghost use Rattle.semver_parser.specs.Outlines.{version_of};
 ghost use Rattle.semver_parser.specs.Precedence.{precedence};
 ghost use Rattle.semver_parser.specs.VersionViews.{identifier_value, version_value};

@@ -18,16 +18,30 @@ returns c =
       p.1.0 ∙ c.requires.out ∙ sym q.1.0,
       p.1.1 ∙ c.requires.length ∙ sym q.1.1,
     )) in
-    let a : Buffer FlatSwitch = record { old = c.args.made.now; new = n.new.made; length_old = c.args.count.now; length_new = n.new.count } in
-    let a' : Buffer FlatSwitch = record { old = c.args.other_made.now; new = m.new.made; length_old = c.args.other_count.now; length_new = m.new.count } in
+    let a : Buffer FlatSwitch = record { old = c.args.made.now; new = n.new.made; length_old = c.args.count.now; length_new = n.new.count }
+    in
+    let a' : Buffer FlatSwitch = record {
+      old = c.args.other_made.now;
+      new = m.new.made;
+      length_old = c.args.other_count.now;
+      length_new =
+          m.new.count;
+    } in
     let b : Buffer ℕ = record { old = c.args.out.now; new = n.new.out; length_old = c.args.length.now; length_new = n.new.length } in
-    let b' : Buffer ℕ = record { old = c.args.other_out.now; new = m.new.out; length_old = c.args.other_length.now; length_new = m.new.length } in
+    let b' : Buffer ℕ = record {
+      old = c.args.other_out.now;
+      new = m.new.out;
+      length_old = c.args.other_length.now;
+      length_new =
+          m.new.length;
+    } in
     record {
       one = uncast (λ r s. AreOne r s X) n.result m.result (search rules) (search rules)
           (by_operation _ _ _ _ _ refused _ _ _ n.ensures m.ensures (λ o p q.
           of_set _ _ _ _ _ refused c.one_flat.ensures.same_flat _ _ _ _ p q (λ x p q.
           of_set _ _ _ _ _ refused c.one_flat.ensures.same_flat _ _ _ _ p q (λ y p q.
-          in_memory _ _ _ _ X _ _ (λ made. both_done (flat_switches made.0) a (flat_bytes made.0) b n.result made.2) (λ made. both_done (flat_switches made.0) a' (flat_bytes made.0) b' m.result made.2) (λ made other.
+          in_memory _ _ _ _ X _ _ (λ made. both_done (flat_switches made.0) a (flat_bytes made.0) b n.result made.2) (λ made. both_done
+          (flat_switches made.0) a' (flat_bytes made.0) b' m.result made.2) (λ made other.
           let same = of_operation c.one_set.ensures.same_set o x y made.0 other.0 made.1 other.1 in
           both_once (flat_switches made.0) (flat_switches other.0) a a' (flat_bytes made.0) (flat_bytes other.0) b b' n.result m.result
           (ap flat_switches same) (ap flat_bytes same) c.requires.made c.requires.out made.2 other.2) p q))));

@@ -12,6 +12,7 @@ returns c =
     record {
       one = uncast (λ r s. (r ≡ s) × X) n.result m.result (search rules) (search rules)
           (by_dialect _ _ _ _ _ refused _ _ _ n.ensures m.ensures (λ d p q.
-          one_explanation c.one_longest_prefix.ensures.same_offset c.one_reason.ensures.same_reason d c.args.version.now _ _ _ _ _ _ _ _ n.result m.result
+          one_explanation c.one_longest_prefix.ensures.same_offset c.one_reason.ensures.same_reason d c.args.version.now _ _ _ _ _ _ _ _
+          n.result m.result
           c.requires.room (λ p q. (p.0 ∙ c.requires.offset ∙ sym q.0, p.1 ∙ c.requires.reason ∙ sym q.1)) p q));
     }

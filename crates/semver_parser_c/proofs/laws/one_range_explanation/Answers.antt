@@ -12,5 +12,9 @@ returns c =
     let answer = uncast (λ r s. OneRangeAnswer r s n.new.offset m.new.offset n.new.reason m.new.reason) n.result m.result (search rules)
     (search rules) (by_dialect _ _ _ _ _ (refused _ _ _ _ _ _ _ _
     (λ p q. (p.0 ∙ c.requires.offset ∙ sym q.0, p.1 ∙ c.requires.reason ∙ sym q.1))) _ _ _ n.ensures m.ensures (λ d p q.
-    one_range offset limit d c.args.range.now _ _ _ _ _ _ _ _ (λ p q. (p.0 ∙ c.requires.offset ∙ sym q.0, p.1 ∙ c.requires.reason ∙ sym q.1)) p q)) in
+    one_range offset limit d c.args.range.now _ _ _ _ _ _ _ _ (λ p q. (
+      p.0 ∙ c.requires.offset ∙ sym q.0,
+      p.1 ∙ c.requires.reason ∙ sym
+          q.1,
+    )) p q)) in
     record { one = answer.one; beside_memory = answer.beside_memory; reason = answer.reason }

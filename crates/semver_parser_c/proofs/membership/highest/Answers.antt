@@ -25,10 +25,13 @@ loop-at-preserved c =
       plain = refl;
       is_in = c.in-Some.ensures.1;
     } in
-    let only = only_one c.args.dialect c.args.set.now c.args.versions.now c.one_version_in.ensures.same_version c.loop-at.at _ w c.in-Some.ensures.0 in
-    let said = mapped (c.is_above.result ≡ true) (λ (b : PlainVersion). (c.is_above.result ≡ true) ↔ (order_for c.args.lowest b w.plain ≡ Less))
+    let only = only_one c.args.dialect c.args.set.now c.args.versions.now c.one_version_in.ensures.same_version c.loop-at.at _ w
+    c.in-Some.ensures.0 in
+    let said = mapped (c.is_above.result ≡ true) (λ (b : PlainVersion). (c.is_above.result ≡ true) ↔ (order_for c.args.lowest b w.plain ≡
+    Less))
     (λ (o : OutlineValue). (version_of o).plain) c.loop-at.best c.is_above.ensures in
-    let step = stepped c.args.lowest c.args.dialect c.args.set.now c.args.versions.now c.loop-at.at c.loop-at.found _ w.plain c.is_above.result one
+    let step = stepped c.args.lowest c.args.dialect c.args.set.now c.args.versions.now c.loop-at.at c.loop-at.found _ w.plain
+    c.is_above.result one
     only said c.loop-at.invariant in
     elim c.if-is_above.branch [
       | then-is_above b ↦ rw (b.found-is, b.best-is) (step.0 b.if-is_above.true)

@@ -1,4 +1,5 @@
-use Rattle.std.proofs.Common.{◌≡◌, ◌⊎◌, ◌<◌, ◌≤◌, ◌+◌, ℕ, List, IfSome, arith, get_or, length, rules, set, slice_get, subst, sym, ⊎_elim, ◌∙◌}
+use Rattle.std.proofs.Common.{◌≡◌, ◌⊎◌, ◌<◌, ◌≤◌, ◌+◌, ℕ, List, IfSome, arith, get_or, length, rules, set, slice_get, subst, sym, ⊎_elim}
+use Rattle.std.proofs.Common.{◌∙◌}
 use Rattle.std.proofs.lemmas.List.{get_or-set_other, get_or-set_same}
 use Rattle.std.proofs.lemmas.Option.{slice_get-get_or}
 use Rattle.semver_parser_c.specs.Membership.{IsByteFor}
@@ -22,7 +23,8 @@ beyond k at past e = grind arith
 
 pub loop-at-preserved : goal.loop-at-preserved
 loop-at-preserved c = record {
-  each = put (λ k b. IfSome (slice_get c.args.versions.now k) (λ text. IsByteFor c.args.dialect c.args.set.now text.now b)) c.loop-at.answers
+  each = put (λ k b. IfSome (slice_get c.args.versions.now k) (λ text. IsByteFor c.args.dialect c.args.set.now text.now b))
+      c.loop-at.answers
       c.loop-at.at c.byte_for.result (search rules) c.loop-at.invariant.each
       (subst (λ o. IfSome o (λ text. IsByteFor c.args.dialect c.args.set.now text.now c.byte_for.result))
       (sym (slice_get-get_or c.args.versions.now c.loop-at.at _ (search rules))) c.byte_for.ensures);

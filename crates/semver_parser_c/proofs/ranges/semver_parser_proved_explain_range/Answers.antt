@@ -48,4 +48,20 @@ returns-in-NumberTooLarge c =
 pub returns-in-Err-refused : goal.returns-in-Err-refused
 returns-in-Err-refused c =
     let (same, utf8) = c.in-Ok.ensures.cases in
-    inr (c.in-Some.dialect, search rules, inr (utf8, inr (inl (rw same at c.in-Err-refused.ensures.out_of_memory, inl (refl, (refl, refl))))))
+    inr (
+      c.in-Some.dialect,
+      search rules,
+      inr (
+        utf8,
+        inr (inl (
+          rw same at c.in-Err-refused.ensures.out_of_memory,
+          inl (
+            refl,
+            (
+              refl,
+              refl,
+            ),
+          ),
+        )),
+      ),
+    )

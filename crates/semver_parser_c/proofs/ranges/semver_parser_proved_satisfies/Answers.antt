@@ -37,7 +37,8 @@ returns-in-Ok-meets c =
 
 pub returns-in-Err-NotARange : goal.returns-in-Err-NotARange
 returns-in-Err-NotARange c =
-    let refused = refused_for _ _ _ c.in-Err-NotARange.field-0 c.in-Ok.ensures.cases.0 c.in-Ok.ensures.cases.1 c.in-Err-NotARange.ensures.refusals in
+    let refused = refused_for _ _ _ c.in-Err-NotARange.field-0 c.in-Ok.ensures.cases.0 c.in-Ok.ensures.cases.1
+    c.in-Err-NotARange.ensures.refusals in
     inr (
       c.in-Some.meaning,
       search rules,
@@ -50,7 +51,8 @@ returns-in-Err-NotARange c =
 
 pub returns-in-Err-NumberTooLarge : goal.returns-in-Err-NumberTooLarge
 returns-in-Err-NumberTooLarge c =
-    let refused = refused_for _ _ _ c.in-Err-NumberTooLarge.field-0 c.in-Ok.ensures.cases.0 c.in-Ok.ensures.cases.1 c.in-Err-NumberTooLarge.ensures.refusals in
+    let refused = refused_for _ _ _ c.in-Err-NumberTooLarge.field-0 c.in-Ok.ensures.cases.0 c.in-Ok.ensures.cases.1
+    c.in-Err-NumberTooLarge.ensures.refusals in
     inr (
       c.in-Some.meaning,
       search rules,

@@ -13,7 +13,8 @@ returns-in-Ok-printed c =
       c.in-Some.ensures.flat,
       inr (
         c.in-Ok-least.lowest,
-        subst (λ (s : SetValue). TellsLeast (λ v. IsIn v s) c.in-Ok-least.lowest) same (is_lowest _ c.in-Ok-least.lowest e.least e.no_build e.none),
+        subst (λ (s : SetValue). TellsLeast (λ v. IsIn v s) c.in-Ok-least.lowest) same (is_lowest _ c.in-Ok-least.lowest e.least e.no_build
+            e.none),
         search (rules, c.put.ensures c.args.length.now),
       ),
     )

@@ -15,7 +15,8 @@ returns-in_default-outline_in-clause-parses c =
 
 pub returns-clause-parses : goal.returns-clause-parses
 returns-clause-parses c =
-    let (v, spells, after) = rw c.grammar.ensures.grammar at ((c.in-Some-outline_in.ensures.outlined c.in-Some-outline_in.outline).0 refl) in
+    let (v, spells, after) = rw c.grammar.ensures.grammar at ((c.in-Some-outline_in.ensures.outlined c.in-Some-outline_in.outline).0 refl)
+    in
     inr (c.in-Some.dialect, search rules, inr (v, spells, (refl, parsed_after _ _ _ (search rules) after)))
 
 pub returns-clause-parts : goal.returns-clause-parts

@@ -32,6 +32,7 @@ loop-comparator-preserved c = record {
   printable = λ prints.
       let own = item_prints c.args.comparators.now c.loop-comparator.comparator-index c.comparator-item.result
       c.loop-comparator-test.true c.comparator-item.is prints in
-      narrowed_print (prints_by c.args.digits) (comparator_of c.comparator-item.result).op _ _ _ _ _ _ c.narrowed-met.ensures.from c.narrowed-met.ensures.to
+      narrowed_print (prints_by c.args.digits) (comparator_of c.comparator-item.result).op _ _ _ _ _ _ c.narrowed-met.ensures.from
+      c.narrowed-met.ensures.to
       (c.loop-comparator.invariant.printable prints) (c.at-at.ensures.printable own) (c.above.ensures.printable own);
 }

@@ -12,6 +12,7 @@ use Rattle.version_sets.proofs.of_comparators.met_pre_releases.Given as goal
 abbrev pub invariant-loop-comparator : goal.invariant-loop-comparator
 invariant-loop-comparator l = record {
   meaning : (v : PlainVersion) → IsPreRelease v
-      → is_within limit_place l.met v ≡ list_all (meets_comparator v) (map (comparator_by l.digits) (take l.comparator-index l.comparators));
+      → is_within limit_place l.met v ≡ list_all (meets_comparator v) (map (comparator_by l.digits) (take l.comparator-index
+      l.comparators));
   printable : are_printable (map comparator_of l.comparators) ≡ true → bounds_print l.digits l.met ≡ true;
 }

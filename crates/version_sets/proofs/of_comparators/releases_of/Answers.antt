@@ -34,5 +34,7 @@ loop-range-preserved c = (
 pub returns-clause-meaning : goal.returns-clause-meaning
 returns-clause-meaning c =
     answered_so _ c.switches_of.result c.switches_of.ensures.meaning (λ switches is d v kind. is v
-    ∙ ap (λ spans. in_some precedence (map (span_value release_value) spans) v) c.deref_mut.ensures.value ∙ c.loop-range.invariant.1 d v kind
-    ∙ ap (list_any (λ range. meets_range v (range_by d range))) (take_all c.loop-range.range-index c.args.ranges.now c.loop-range-test.false))
+    ∙ ap (λ spans. in_some precedence (map (span_value release_value) spans) v) c.deref_mut.ensures.value ∙ c.loop-range.invariant.1 d v
+    kind
+    ∙ ap (list_any (λ range. meets_range v (range_by d range))) (take_all c.loop-range.range-index c.args.ranges.now
+    c.loop-range-test.false))

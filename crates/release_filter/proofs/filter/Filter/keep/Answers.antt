@@ -14,7 +14,8 @@ test filter v = passes filter (read_by filter v)
 pub loop-at-preserved : goal.loop-at-preserved
 loop-at-preserved c =
     in_front_more (test c.args.self.now) c.args.versions.now _ _ _ _ _ c.loop-at-test.true
-    (judged_at c.args.self.now _ _ _ c.args.versions.now _ c.loop-at.at _ c.self.view_is _ (c.digits.ensures ∙ ap digits_in c.grammar.ensures) c.has_each_by.ensures.each c.has_each_by.ensures.fit
+    (judged_at c.args.self.now _ _ _ c.args.versions.now _ c.loop-at.at _ c.self.view_is _ (c.digits.ensures ∙ ap digits_in
+    c.grammar.ensures) c.has_each_by.ensures.each c.has_each_by.ensures.fit
     c.loop-at-test.true) c.from-count.ensures c.loop-at.invariant
 
 pub bounds-versions-from : goal.bounds-versions-from

@@ -8,7 +8,8 @@ use Rattle.tool_ranges.proofs.cargo.reading.judged.Goals as goal
 
 pub returns-clause-meaning : goal.returns-clause-meaning
 returns-clause-meaning c = if_ok c.set_of.result
-    (λ set is t tree v h small. is (record { plain = v; build = [] }) small ∙ ap (λ set. meets_set v (set_any set)) (c.in_ok-ranges.ensures t tree h).0)
+    (λ set is t tree v h small. is (record { plain = v; build = [] }) small ∙ ap (λ set. meets_set v (set_any set)) (c.in_ok-ranges.ensures
+    t tree h).0)
     c.set_of.ensures.meaning
 
 pub returns-clause-printable : goal.returns-clause-printable

@@ -25,7 +25,8 @@ returns-then-some_has_no_other-clause-meaning c =
     if_ok c.set_of.result
     (λ set is v small. is (record { plain = v; build = [] }) small
     ∙ where_none_is_asked v (set_any (set_of c.args.rewritten))
-    (no_others_any (set_of c.args.rewritten).ranges ∙ asked c.args.rewritten _ _ _ c.some_has_no_other.ensures c.deref.ensures.value c.if-some_has_no_other.true))
+    (no_others_any (set_of c.args.rewritten).ranges ∙ asked c.args.rewritten _ _ _ c.some_has_no_other.ensures c.deref.ensures.value
+    c.if-some_has_no_other.true))
     c.set_of.ensures.meaning
 
 pub returns-clause-meaning : goal.returns-clause-meaning
@@ -35,7 +36,8 @@ returns-clause-meaning c =
     ∙ ap (λ set. meets_set_as_stated v (set_any set)) c.others_in.ensures
     ∙ ap (meets_set_as_stated v) (sym (others_any (set_of c.args.rewritten)))
     ∙ where_each_is_asked v (set_any (set_of c.args.rewritten))
-    (no_others_any (set_of c.args.rewritten).ranges ∙ asked c.args.rewritten _ _ _ c.some_has_no_other.ensures c.deref.ensures.value c.if-some_has_no_other.false))
+    (no_others_any (set_of c.args.rewritten).ranges ∙ asked c.args.rewritten _ _ _ c.some_has_no_other.ensures c.deref.ensures.value
+    c.if-some_has_no_other.false))
     c.set_of-2.ensures.meaning
 
 pub returns-clause-printable : goal.returns-clause-printable

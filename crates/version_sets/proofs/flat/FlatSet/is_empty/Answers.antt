@@ -12,7 +12,8 @@ returns-then-is_empty c =
     let set = flat_set c.self.inside.releases.now c.self.inside.pre_releases.now c.self.inside.bytes.now in
     let r = c.is_empty-then-is_empty.result in
     let first = none_left (switch_value []) c.self.inside.releases.now _ _ c.is_empty.ensures (search rules) in
-    let second = none_left (switch_value c.self.inside.bytes.now) c.self.inside.pre_releases.now _ _ c.is_empty-then-is_empty.ensures (search rules) in
+    let second = none_left (switch_value c.self.inside.bytes.now) c.self.inside.pre_releases.now _ _ c.is_empty-then-is_empty.ensures
+    (search rules) in
     subst (λ s. (r ≡ true) ↔ ((v : PlainVersion) → ¬ IsIn v s)) c.self.view_is
     (tells_empty set c.self.invariant.normal r (second ∙ ap (λ b. b && is_empty set.pre_releases) (sym c.if-is_empty.true ∙ first)))
 

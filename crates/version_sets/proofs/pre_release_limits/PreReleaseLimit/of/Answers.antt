@@ -47,5 +47,6 @@ returns c =
       pre = (by_zero d ids added ∙ ap (λ b. with_zero read.pre (c.args.above || b)) (sym (by_empty d ids))) i;
     }) in record {
       meaning = λ v kind. ap (λ p. is_ge (precedence v p)) place ∙ past c.args.above read v some kind.1;
-      printable = λ prints. ap (prints_by d) place ∙ zero_prints d read (c.args.above || is_empty read.pre) (prints_plain d of.version prints);
+      printable = λ prints. ap (prints_by d) place ∙ zero_prints d read (c.args.above || is_empty read.pre) (prints_plain d of.version
+          prints);
     }

@@ -20,7 +20,8 @@ second c = set_of c.other.inside.releases.items c.other.inside.pre_releases.item
 
 abbrev answer : goal.After-least_of → Option PlainVersion
 answer c =
-    lower (option_map (λ r. release_value r.now) c.first-release.result) (option_map (λ p. pre_release_place p.now) c.first-pre_release.result)
+    lower (option_map (λ r. release_value r.now) c.first-release.result) (option_map (λ p. pre_release_place p.now)
+    c.first-pre_release.result)
 
 -- the first pre-release is the first of the combination
 first_is_first : (c : goal.After-least_of)

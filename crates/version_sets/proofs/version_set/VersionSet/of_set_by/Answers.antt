@@ -68,4 +68,5 @@ returns-clause-printable c = λ prints.
     = ap (list_all (λ range. are_printable (range_of range).comparators)) c.deref-2.ensures.value
     ∙ sym (list_all-map (λ r. are_printable r.comparators) range_of c.args.set.now.ranges.items) ∙ prints in
     subst IsPrintable (sym c.of_switches.ensures)
-    (each_prints c.args.digits (map pre_release_place c.in_ok-pre_releases.pre_releases.items) (c.in_ok-pre_releases.ensures.printable each))
+    (each_prints c.args.digits (map pre_release_place c.in_ok-pre_releases.pre_releases.items) (c.in_ok-pre_releases.ensures.printable
+    each))
