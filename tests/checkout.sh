@@ -70,7 +70,7 @@ holds() {
 try_library() {
     cc -Wall -Wextra -Werror -o "$work/caller" tests/c/installed.c "$@"
     ends 0 env -i LD_LIBRARY_PATH="${libraries-}" "$work/caller"
-    has '>=1.2.3 <2.0.0-0' stdout
+    has '>=1.2.3 <2.0.0' stdout
 }
 
 # told_prefix PREFIX FOLDER: the file for pkg-config in the folder has the prefix.

@@ -182,6 +182,7 @@ static semver_parser_status print_list(const arguments *with, outputs *to) {
 /* What a function makes, and whether the header says that it allocates if there is no error, and
  * whether it has an `error`. */
 enum { NOTHING, STRING, SET, LIST };
+enum { MOST_REQUESTS = 1000 };
 static const struct {
     calling *call;
     const char *name;
@@ -257,7 +258,7 @@ static void call_all(size_t which, arguments *with, semver_parser_status wanted)
     for (int asks = 0; asks < 2; asks++) {
         int request = 0;
         with->error = asks != 0 ? &error : NULL;
-        while (call_once(which, with, request, wanted) && request < 200) {
+        while (call_once(which, with, request, wanted) && request < MOST_REQUESTS) {
             request++;
         }
         bool allocates = request > 0;
@@ -268,7 +269,7 @@ static void call_all(size_t which, arguments *with, semver_parser_status wanted)
             check(!allocates || functions[which].allocates || asks != 0,
                   "it allocates without an error", functions[which].name, request);
         }
-        check(request < 200, "too many allocations", functions[which].name, request);
+        check(request < MOST_REQUESTS, "too many allocations", functions[which].name, request);
     }
 }
 
@@ -343,9 +344,9 @@ static void functions_by(int dialect, const char *range, const char *other) {
 }
 
 int main(void) {
-    char many[4096] = "=0.0.1-rc.1";
-    char others[4096] = "=0.1.0-rc.1";
-    for (int at = 1; at < 60; at++) {
+    char many[1024] = "=0.0.1-rc.1";
+    char others[1024] = "=0.1.0-rc.1";
+    for (int at = 1; at < 12; at++) {
         size_t length = strlen(many);
         snprintf(many + length, sizeof many - length, " || =0.0.%d-rc.%d.abcdef", 2 * at, at);
         length = strlen(others);

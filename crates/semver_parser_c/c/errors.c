@@ -67,7 +67,8 @@ const char *semver_parser_reason_text(semver_parser_reason reason) {
     case SEMVER_PARSER_REASON_NONE: return "";
     case SEMVER_PARSER_REASON_EMPTY: return "the version is empty";
     case SEMVER_PARSER_REASON_NOT_THREE_NUMBERS: return "a version has three numbers";
-    case SEMVER_PARSER_REASON_LEADING_ZERO: return "a number or an identifier of digits has no leading zero";
+    case SEMVER_PARSER_REASON_LEADING_ZERO:
+        return "a number or an identifier of digits has no leading zero";
     case SEMVER_PARSER_REASON_EMPTY_IDENTIFIER: return "an identifier is empty";
     case SEMVER_PARSER_REASON_UNEXPECTED_CHARACTER: return "unexpected character";
     case SEMVER_PARSER_REASON_TOO_LARGE: return "a number of the version is too large";
