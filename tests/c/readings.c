@@ -170,7 +170,7 @@ static void long_versions(void) {
             text_free(&white);
             text_free(&wide);
         }
-        long_part(dialect, "1.2.3--", "-", 240, dialect <= NPM ? OK : NO);
+        long_part(dialect, "1.2.3--", "-", 240, dialect <= NPM ? (int)OK : (int)NO);
         if (dialect != NPM) {
             long_part(dialect, "1.2.3+z", ".0", 3000, OK);
         }
