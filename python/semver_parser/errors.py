@@ -107,7 +107,7 @@ class VersionError(_StringError):
     ...     parse_version("1.2.03", dialect="cargo")
     ... except VersionError as error:
     ...     error.offset, error.reason, error.hint
-    (5, 'leading-zero', 'a number of a version has no leading zero')
+    (5, 'leading-zero', 'a number or an identifier of digits has no leading zero')
 
     - `string`: the string, as it was given.
     - `dialect`: the dialect that has no such version.
