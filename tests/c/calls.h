@@ -1,72 +1,76 @@
-/* The calls of the library, made with care: each text and each buffer is a block of its own with
- * nothing after it that may be read, each buffer has a guard byte after it, and what a call has to
- * leave as it was is looked at. What isn't as the header says ends the program. */
+/* The calls of the library, made with care: each string is a block of its own with nothing after it
+ * that may be read, and an empty one is passed at null too; each output has guard bytes after it;
+ * each call is made without and with an `error`; and after an error outputs have to be as they were.
+ * What isn't as the header says ends the program. */
 #ifndef CALLS_H
 #define CALLS_H
 
 #include "../../crates/semver_parser_c/include/semver_parser.h"
 #include "texts.h"
 
-/* Reads a version by a dialect. An empty text is read at null too. */
-int32_t read_version(const text *of, int32_t dialect, semver_parser_version *out);
+/* The numbers of the header, by short names. Functions below take dialects and rules as numbers, so
+ * that they may be others, too. */
+enum {
+    CARGO = SEMVER_PARSER_CARGO,
+    NPM = SEMVER_PARSER_NPM,
+    CRATE_CARGO = SEMVER_PARSER_CRATE_CARGO,
+    CRATE_NPM = SEMVER_PARSER_CRATE_NPM,
+    DIALECTS = 4
+};
+enum {
+    DEFAULT = SEMVER_PARSER_DEFAULT,
+    INCLUDED = SEMVER_PARSER_INCLUDED,
+    EXCLUDED = SEMVER_PARSER_EXCLUDED,
+    RULES = 3
+};
+enum {
+    OK = SEMVER_PARSER_OK,
+    INVALID_RANGE = SEMVER_PARSER_INVALID_RANGE,
+    NUMBER_TOO_LARGE = SEMVER_PARSER_NUMBER_TOO_LARGE,
+    INVALID_VERSION = SEMVER_PARSER_INVALID_VERSION,
+    OUT_OF_MEMORY = SEMVER_PARSER_OUT_OF_MEMORY,
+    INVALID_ARGUMENT = SEMVER_PARSER_INVALID_ARGUMENT
+};
 
-/* Where and why a text is no version by a dialect: OK, or the number of the reason with `place`. An
- * empty text is read at null too. */
-int32_t explain_version(const text *of, int32_t dialect, size_t *place);
+/* Counts and prints what isn't as it should be, in which case `finish` returns 1. */
+void check(bool holds, const char *what, const char *of);
+int finish(const char *name);
 
-/* Where and why a text gives no range by a dialect: OK, or the error with `place` and `hint`, if it
- * has them. An empty text is read at null too. */
-int32_t explain_range(const text *of, int32_t dialect, size_t *place, int32_t *hint);
+semver_parser_options options_of(int dialect, int rule);
 
-/* How a version text compares with another by a dialect: OK with -1, 0 or 1 in `order`, or the
- * error with whether it is the other's in `in_other`, which is false if there is no such dialect.
- * An empty text is passed at null too. */
-int32_t precedence(
-    const text *version, const text *other, int32_t dialect, int32_t *order, bool *in_other);
+/* A string of its own, with zero bytes or without; a unit that is repeated between two others. */
+text string(const char *bytes);
+text string_of(const char *bytes, size_t length);
+text repeated(const char *front, const char *unit, int count, const char *end);
 
-/* Whether a number is the error of a version, or no error. */
-bool is_of_version(int32_t answer);
+/* A status, and what `error` says of it. After OK the rest is 0. */
+typedef semver_parser_error outcome;
 
-/* Comparators in order, and the bytes that have their pre-releases. */
-typedef struct {
-    semver_parser_comparator *items;
-    size_t count;
-    text pre_releases;
-} comparator_list;
+/* The functions of these names. What is written is valid after OK. */
+outcome parse(const text *version, int dialect, semver_parser_version *parsed);
+outcome order_of(const text *version, const text *other, int dialect, int *order);
+outcome set_of(const text *range, int dialect, int rule, semver_parser_set **set);
+outcome comparators_of(
+    const text *range, int dialect, bool exact, semver_parser_comparators **comparators);
 
-/* Rewrites a range, appends the printed set, and gives its comparators unless `comparators` is
- * null. It tries a buffer of each length up to one past what is needed (of a set above 300 bytes or
- * 12 comparators, of some lengths), by both calls, and at null where a buffer or the text is empty.
- */
-int32_t rewrite(const text *of, int32_t dialect, bool exact, text *printed,
-                comparator_list *comparators);
-void free_comparators(comparator_list *comparators);
+/* Whether a version satisfies a range: by semver_parser_satisfies, and by a set alone and in an
+ * array, which have to agree. */
+outcome satisfies(const text *version, const text *range, int dialect, int rule, bool *answer);
+
+/* Appends a range, rewritten. What is printed has to be what the list has. */
+outcome rewrite(const text *range, int dialect, bool exact, text *printed);
+
+/* The set of a range that is one, and one made of two sets. */
+semver_parser_set *made_of(const char *range, int dialect, int rule);
+semver_parser_set *combined(const semver_parser_set *set, char operation,
+                            const semver_parser_set *other);
+
+/* Appends what is printed of a set, and checks that the library ends it by a zero byte. */
+void say_releases(text *to, const semver_parser_set *set);
+void say_pre_releases(text *to, const semver_parser_set *set);
+void say_lowest(text *to, const semver_parser_set *set);
 
 /* The operator of a comparator, as it is printed. */
-const char *operator_text(int32_t op);
-
-/* Whether a version text meets a range text: SEMVER_PARSER_MEETS or _DOES_NOT_MEET, or the error.
- * It asks for one and for many, which have to agree. */
-int32_t meets(const text *range, int32_t dialect, int32_t pre_releases, const text *version);
-
-/* The least version that a range text means: it is appended to `printed`, or the error is answered.
- * It tries a buffer of each length up to one past what is needed (of a version above 300 bytes, of
- * some lengths), and at null where the buffer or the text is empty. */
-int32_t least(const text *range, int32_t dialect, int32_t pre_releases, text *printed);
-
-/* What an old range text and a new one mean alone and together: the text of each of the three
- * versions, empty where there is none. */
-typedef struct {
-    text lost;
-    text gained;
-    text shared;
-} compared;
-
-/* Compares two range texts, or answers the error and leaves `told` alone. It tries a buffer of each
- * length up to one past what is needed (of more than 300 bytes, of some lengths), and at null where
- * the buffer or a text is empty. The parts have to lie one after the other. */
-int32_t compare(const text *old_range, const text *new_range, int32_t dialect, int32_t pre_releases,
-                compared *told);
-void free_compared(compared *told);
+const char *operator_text(semver_parser_operator op);
 
 #endif

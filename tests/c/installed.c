@@ -1,14 +1,19 @@
-/* Rewrites a range by the installed library, and prints it: for tests/installed-programs and
+/* Prints the releases of a range by the installed library: for tests/installed-programs and
  * tests/packages. */
 #include <semver_parser.h>
 #include <stdio.h>
 
 int main(void) {
-    static const uint8_t text[] = {'^', '1', '.', '2', '.', '3'};
-    uint8_t out[100];
-    size_t length = 0;
-    int32_t answer = semver_parser_rewrite(text, sizeof text, SEMVER_PARSER_CARGO, false, out,
-                                           sizeof out, &length);
-    printf("%.*s\n", (int)length, (const char *)out);
-    return answer == SEMVER_PARSER_OK ? 0 : 1;
+    const semver_parser_options cargo = {SEMVER_PARSER_CARGO, SEMVER_PARSER_DEFAULT};
+    semver_parser_set *set = NULL;
+    char *releases = NULL;
+    if (semver_parser_set_of_range(semver_parser_str("^1.2.3"), cargo, &set, NULL)
+            != SEMVER_PARSER_OK
+        || semver_parser_set_to_string(set, false, &releases) != SEMVER_PARSER_OK) {
+        return 1;
+    }
+    puts(releases);
+    semver_parser_string_free(releases);
+    semver_parser_set_free(set);
+    return 0;
 }

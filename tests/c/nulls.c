@@ -1,7 +1,6 @@
-/* A null pointer with a length above 0, in each place where an empty text or an empty room may be
- * at null: it is passed on as it is, so the call ends by a fault at null, and no variable of the
- * program changes. Each call is made in a child. And an array of texts that is larger than any
- * block, the first text of which is at null: that is out of memory. */
+/* A null pointer with a length above 0 for each string and array: it isn't taken for an empty one,
+ * so the call ends by a fault at null, and no variable of the program changes. Each call is made in
+ * a child. And arrays that are larger than any block, which are out of memory. */
 #define _POSIX_C_SOURCE 200809L
 #include "../../crates/semver_parser_c/include/semver_parser.h"
 
@@ -21,199 +20,98 @@ static void check(bool holds, const char *what, const char *of) {
     }
 }
 
-static const uint8_t *bytes_of(const char *string) {
-    return (const uint8_t *)string;
+/* ---- the calls, each by these options, with a set and a list of them */
+
+static semver_parser_options options;
+static semver_parser_set *set;
+static const semver_parser_string at_null = {NULL, 5};
+static semver_parser_status status;
+static bool answer;
+
+static void satisfies_version(void) {
+    status = semver_parser_satisfies(at_null, semver_parser_str("^1"), options, &answer, NULL);
 }
 
-/* ---- the calls, each by this dialect */
-
-static int32_t dialect;
-
-static int32_t read_text(void) {
-    semver_parser_version out;
-    return semver_parser_parse_version(NULL, 5, dialect, &out);
+static void satisfies_range(void) {
+    status = semver_parser_satisfies(semver_parser_str("1.2.3"), at_null, options, &answer, NULL);
 }
 
-static int32_t explain_text(void) {
-    uint8_t buffer[13];
-    size_t place;
-    return semver_parser_explain_version(NULL, 5, dialect, buffer, sizeof buffer, &place);
+static void parsed_version(void) {
+    semver_parser_version parsed;
+    status = semver_parser_parse_version(at_null, options.dialect, &parsed, NULL);
 }
 
-static int32_t explain_range_text(void) {
-    size_t place;
-    int32_t hint;
-    return semver_parser_explain_range(NULL, 5, dialect, &place, &hint);
+static void compared_version(void) {
+    int order;
+    status = semver_parser_compare_versions(
+        at_null, semver_parser_str("1.2.3"), options.dialect, &order, NULL);
 }
 
-static int32_t precedence_of(const uint8_t *version, const uint8_t *other) {
-    int32_t order;
-    bool in_other;
-    return semver_parser_precedence(version, 5, other, 5, dialect, &order, &in_other);
+static void other_version(void) {
+    int order;
+    status = semver_parser_compare_versions(
+        semver_parser_str("1.2.3"), at_null, options.dialect, &order, NULL);
 }
 
-static int32_t precedence_version(void) {
-    return precedence_of(NULL, bytes_of("1.2.3"));
+static void range_of_set(void) {
+    semver_parser_set *made;
+    status = semver_parser_set_of_range(at_null, options, &made, NULL);
 }
 
-static int32_t precedence_other(void) {
-    return precedence_of(bytes_of("1.2.3"), NULL);
+static void contained_version(void) {
+    status = semver_parser_set_contains(set, at_null, &answer, NULL);
 }
 
-static int32_t rewrite_text(void) {
-    uint8_t out[64];
-    size_t length;
-    return semver_parser_rewrite(NULL, 5, dialect, true, out, sizeof out, &length);
+static void array_of_versions(void) {
+    status = semver_parser_set_contains_each(set, NULL, 1, &answer, NULL, NULL);
 }
 
-static int32_t rewrite_out(void) {
-    size_t length;
-    return semver_parser_rewrite(bytes_of("^1.2"), 4, dialect, true, NULL, 64, &length);
+static void version_in_array(void) {
+    status = semver_parser_set_contains_each(set, &at_null, 1, &answer, NULL, NULL);
 }
 
-static int32_t comparators_text(void) {
-    semver_parser_comparator comparators[4];
-    uint8_t out[64];
-    size_t count;
-    size_t length;
-    return semver_parser_comparators(NULL, 5, dialect, true, comparators, 4, &count, out,
-                                     sizeof out, &length);
+static void answers_of_array(void) {
+    const semver_parser_string version = semver_parser_str("1.2.3");
+    status = semver_parser_set_contains_each(set, &version, 1, NULL, NULL, NULL);
 }
 
-static int32_t comparators_room(void) {
-    uint8_t out[64];
-    size_t count;
-    size_t length;
-    return semver_parser_comparators(bytes_of("^1.2"), 4, dialect, true, NULL, 4, &count, out,
-                                     sizeof out, &length);
+static void array_of_highest(void) {
+    size_t index;
+    status = semver_parser_set_highest(set, NULL, 1, &index, NULL);
 }
 
-static int32_t comparators_out(void) {
-    semver_parser_comparator comparators[4];
-    size_t count;
-    size_t length;
-    return semver_parser_comparators(bytes_of("^1.2"), 4, dialect, true, comparators, 4, &count,
-                                     NULL, 64, &length);
+static void version_of_lowest(void) {
+    size_t index;
+    status = semver_parser_set_lowest(set, &at_null, 1, &index, NULL);
 }
 
-static int32_t meets_range(void) {
-    bool meets;
-    return semver_parser_meets(NULL, 5, dialect, SEMVER_PARSER_EXCLUDED, bytes_of("1.2.3"), 5,
-                               &meets);
+static void saved_bytes(void) {
+    semver_parser_set *made;
+    status = semver_parser_set_load(NULL, 24, &made);
 }
 
-static int32_t meets_version(void) {
-    bool meets;
-    return semver_parser_meets(bytes_of("^1.2"), 4, dialect, SEMVER_PARSER_EXCLUDED, NULL, 5,
-                               &meets);
+static void range_of_comparators(void) {
+    semver_parser_comparators *made;
+    status = semver_parser_comparators_of_range(at_null, options.dialect, true, &made, NULL);
 }
 
-static int32_t least_range(void) {
-    uint8_t out[64];
-    size_t length;
-    return semver_parser_least(NULL, 5, dialect, SEMVER_PARSER_EXCLUDED, out, sizeof out,
-                               &length);
-}
-
-static int32_t least_out(void) {
-    size_t length;
-    return semver_parser_least(bytes_of("^1.2"), 4, dialect, SEMVER_PARSER_EXCLUDED, NULL, 64,
-                               &length);
-}
-
-static int32_t compare_texts(const uint8_t *old_range, const uint8_t *new_range, bool has_room) {
-    uint8_t out[64];
-    size_t length;
-    semver_parser_comparison comparison;
-    return semver_parser_compare(old_range, 4, new_range, 4, dialect, SEMVER_PARSER_EXCLUDED,
-                                 has_room ? out : NULL, sizeof out, &length, &comparison);
-}
-
-static int32_t compare_old(void) {
-    return compare_texts(NULL, bytes_of("^1.2"), true);
-}
-
-static int32_t compare_new(void) {
-    return compare_texts(bytes_of("^1.2"), NULL, true);
-}
-
-static int32_t compare_out(void) {
-    return compare_texts(bytes_of("^1.2"), bytes_of("^1.3"), false);
-}
-
-static int32_t each_of(
-    const uint8_t *range, const semver_parser_text *versions, size_t count, uint8_t *answers) {
-    return semver_parser_meets_each(range, 4, dialect, SEMVER_PARSER_EXCLUDED, versions,
-                                    count, answers);
-}
-
-static const semver_parser_text no_text = {NULL, 0};
-static const semver_parser_text null_texts[] = {{NULL, 5}, {NULL, 0}};
-
-static int32_t each_range(void) {
-    uint8_t answer;
-    return each_of(NULL, &no_text, 1, &answer);
-}
-
-static int32_t each_array(void) {
-    uint8_t answer;
-    return each_of(bytes_of("^1.2"), NULL, 1, &answer);
-}
-
-static int32_t each_text(void) {
-    uint8_t answer;
-    return each_of(bytes_of("^1.2"), null_texts, 1, &answer);
-}
-
-/* The texts are copied here, for the second. */
-static int32_t each_text_copied(void) {
-    uint8_t answers[2];
-    return each_of(bytes_of("^1.2"), null_texts, 2, answers);
-}
-
-static int32_t each_answers(void) {
-    const semver_parser_text text = {bytes_of("1.2.3"), 5};
-    return each_of(bytes_of("^1.2"), &text, 1, NULL);
-}
-
-static int32_t each_answers_copied(void) {
-    return each_of(bytes_of("^1.2"), &no_text, 1, NULL);
-}
-
-static const semver_parser_switch head = {1, 0, 0, 0, 0};
-
-static int32_t set_range(void) {
-    semver_parser_switch made[4];
-    size_t count;
-    size_t length;
-    return semver_parser_set(NULL, 4, dialect, SEMVER_PARSER_EXCLUDED, made, 4, &count, NULL,
-                             0, &length);
-}
-
-static int32_t set_made(void) {
-    size_t count;
-    size_t length;
-    return semver_parser_set(bytes_of("^1.2"), 4, dialect, SEMVER_PARSER_EXCLUDED, NULL, 4,
-                             &count, NULL, 0, &length);
-}
-
-static int32_t has_switches(void) {
-    const semver_parser_flat_set set = {NULL, 1, NULL, 0};
-    bool is_in;
-    return semver_parser_set_has(set, bytes_of("1.2.3"), 5, dialect, &is_in);
-}
-
-static int32_t has_version(void) {
-    const semver_parser_flat_set set = {&head, 1, NULL, 0};
-    bool is_in;
-    return semver_parser_set_has(set, NULL, 5, dialect, &is_in);
-}
-
-static int32_t print_out(void) {
-    const semver_parser_flat_set set = {&head, 1, NULL, 0};
-    size_t length;
-    return semver_parser_print_set(set, false, NULL, 64, &length);
-}
+static const struct {
+    void (*call)(void);
+    const char *what;
+} calls[] = {{satisfies_version, "the version of a range"},
+             {satisfies_range, "the range of a version"},
+             {parsed_version, "a version"},
+             {compared_version, "the first of two versions"},
+             {other_version, "the other of two versions"},
+             {range_of_set, "the range of a set"},
+             {contained_version, "the version of a set"},
+             {array_of_versions, "an array"},
+             {version_in_array, "a version in an array"},
+             {answers_of_array, "the answers of an array"},
+             {array_of_highest, "an array, for the highest"},
+             {version_of_lowest, "a version in an array, for the lowest"},
+             {saved_bytes, "the bytes of a set"},
+             {range_of_comparators, "the range of comparators"}};
 
 /* ---- in a child */
 
@@ -235,7 +133,7 @@ __attribute__((no_sanitize("address"))) static uint64_t sum_of_variables(void) {
 /* The sum before the call, in a block, since it would count itself. */
 static uint64_t *sum_before;
 
-/* The library uses null as another address of the lowest pages, where nothing lies. */
+/* The library uses null as another address of the lowest pages, where nothing is. */
 enum { LOWEST_PAGES = 65536 };
 
 static void end_by_fault(int signal, siginfo_t *information, void *context) {
@@ -247,7 +145,7 @@ static void end_by_fault(int signal, siginfo_t *information, void *context) {
     _exit(sum_of_variables() == *sum_before ? FAULT_AT_NULL : SOMETHING_CHANGED);
 }
 
-static void call_as_child(int32_t (*call)(void)) {
+static void call_as_child(void (*call)(void)) {
     struct sigaction action;
     memset(&action, 0, sizeof action);
     action.sa_sigaction = end_by_fault;
@@ -260,95 +158,59 @@ static void call_as_child(int32_t (*call)(void)) {
     _exit(RETURNED);
 }
 
-static void ends_at_null(int32_t (*call)(void), const char *what) {
-    int status = 0;
+static void ends_at_null(void (*call)(void), const char *what) {
+    int ended = 0;
     pid_t child = fork();
     if (child == 0) {
         call_as_child(call);
     }
-    check(child > 0 && waitpid(child, &status, 0) == child && WIFEXITED(status),
-        "no child that ends", what);
-    int code = WEXITSTATUS(status);
-    check(code != RETURNED, "null with a length is taken for an empty one", what);
+    check(child > 0 && waitpid(child, &ended, 0) == child && WIFEXITED(ended),
+          "no child that ends", what);
+    int code = WEXITSTATUS(ended);
+    check(code != RETURNED, "null with a length is taken for an empty string", what);
     check(code != FAULT_ELSEWHERE, "a fault elsewhere than at null", what);
     check(code != SOMETHING_CHANGED, "a variable of the program changes", what);
     check(code == FAULT_AT_NULL, "no fault at null", what);
 }
 
-static void nulls_with_a_length(void) {
-    sum_before = (uint64_t *)malloc(sizeof *sum_before);
-    check(sum_before != NULL, "no memory", "");
-    ends_at_null(read_text, "the text of a version");
-    ends_at_null(explain_text, "the text of what is no version");
-    ends_at_null(explain_range_text, "the text of what gives no range");
-    ends_at_null(precedence_version, "the first of two versions");
-    ends_at_null(precedence_other, "the other of two versions");
-    ends_at_null(rewrite_text, "the text of a range");
-    ends_at_null(rewrite_out, "the room of a set");
-    ends_at_null(comparators_text, "the text of a range, for comparators");
-    ends_at_null(comparators_room, "the room of comparators");
-    ends_at_null(comparators_out, "the room of their pre-releases");
-    ends_at_null(meets_range, "the range of a version");
-    ends_at_null(meets_version, "the version of a range");
-    ends_at_null(least_range, "the range of a least version");
-    ends_at_null(least_out, "the room of a least version");
-    ends_at_null(compare_old, "the old range of two");
-    ends_at_null(compare_new, "the new range of two");
-    ends_at_null(compare_out, "the room of two ranges");
-    ends_at_null(each_range, "the range of many");
-    ends_at_null(each_array, "the array of many");
-    ends_at_null(each_text, "one of many");
-    ends_at_null(each_text_copied, "one of many, which are copied");
-    ends_at_null(each_answers, "the answers of many");
-    ends_at_null(each_answers_copied, "the answers of many, which are copied");
-    ends_at_null(set_range, "the range of a set");
-    ends_at_null(set_made, "the switches of a set");
-    ends_at_null(has_switches, "the switches that are asked");
-    ends_at_null(has_version, "the version that is asked of a set");
-    ends_at_null(print_out, "the text of a set");
-    free(sum_before);
+/* ---- more strings than any block has room for */
+
+static void is_out_of_memory(semver_parser_status told, const semver_parser_error *error) {
+    check(told == SEMVER_PARSER_OUT_OF_MEMORY && error->status == told && error->offset == 0
+              && error->argument == 0 && error->reason == SEMVER_PARSER_REASON_NONE,
+          "another error of too many versions", "");
 }
 
-/* ---- more texts than any block has room for */
-
-/* Of a range that is one, or that is refused. An error of the dialect, the rule or the range goes
- * before running out of memory. */
-static void too_many(const char *range, int32_t rule, int32_t wanted) {
-    const size_t least = SIZE_MAX / sizeof(semver_parser_text) + 1;
-    uint8_t answers[2] = {7, 7};
-    for (size_t more = 0; more < 3; more++) {
-        int32_t answer = semver_parser_meets_each(bytes_of(range), strlen(range), dialect, rule,
-                                                  &no_text, least + more, answers);
-        check(answer == wanted, "another answer of too many texts", range);
-        check(answers[0] == 7 && answers[1] == 7, "an answer of too many texts", range);
-    }
-}
-
-static void too_many_texts(void) {
-    int32_t rule = SEMVER_PARSER_INCLUDED;
-    int32_t no_rule = SEMVER_PARSER_EXCLUDED + 1;
-    too_many("^1.2", SEMVER_PARSER_EXCLUDED, SEMVER_PARSER_RANGE_OUT_OF_MEMORY);
-    too_many("^1.2", rule, SEMVER_PARSER_RANGE_OUT_OF_MEMORY);
-    too_many("^1.2", no_rule, SEMVER_PARSER_NO_SUCH_RULE);
-    too_many("\xFF", no_rule, SEMVER_PARSER_NO_SUCH_RULE);
-    too_many("^", rule, SEMVER_PARSER_NOT_A_RANGE);
-    too_many("<=18446744073709551615", rule, SEMVER_PARSER_NUMBER_TOO_LARGE);
-    too_many("\xFF", rule, SEMVER_PARSER_RANGE_NOT_UTF8);
-}
-
-static void too_many_texts_by_no_dialect(void) {
-    for (int32_t rule = -1; rule <= 4; rule++) {
-        too_many("^1.2", rule, SEMVER_PARSER_NO_SUCH_DIALECT);
-        too_many("\xFF", rule, SEMVER_PARSER_NO_SUCH_DIALECT);
+static void too_many(void) {
+    const semver_parser_string version = {NULL, 0};
+    const size_t least = (SIZE_MAX - 1) / sizeof version + 1;
+    for (size_t count = least; count < least + 3; count++) {
+        semver_parser_error error;
+        semver_parser_status of = SEMVER_PARSER_OK;
+        size_t index = 77;
+        bool contains = true;
+        is_out_of_memory(
+            semver_parser_set_contains_each(set, &version, count, &contains, &of, &error), &error);
+        is_out_of_memory(semver_parser_set_highest(set, &version, count, &index, &error), &error);
+        is_out_of_memory(semver_parser_set_lowest(set, &version, count, &index, &error), &error);
+        check(contains && of == SEMVER_PARSER_OK && index == 77, "an output at an error", "");
     }
 }
 
 int main(void) {
-    for (dialect = SEMVER_PARSER_CARGO; dialect <= SEMVER_PARSER_CRATE_NPM; dialect++) {
-        nulls_with_a_length();
-        too_many_texts();
+    sum_before = (uint64_t *)malloc(sizeof *sum_before);
+    check(sum_before != NULL, "no memory", "");
+    for (int dialect = SEMVER_PARSER_CARGO; dialect <= SEMVER_PARSER_CRATE_NPM; dialect++) {
+        options.dialect = (semver_parser_dialect)dialect;
+        status = semver_parser_set_of_range(semver_parser_str("^1.2"), options, &set, NULL);
+        check(status == SEMVER_PARSER_OK, "no set", "^1.2");
+        for (size_t at = 0; at < sizeof calls / sizeof *calls; at++) {
+            ends_at_null(calls[at].call, calls[at].what);
+        }
+        too_many();
+        semver_parser_set_free(set);
     }
-    too_many_texts_by_no_dialect();
+    free(sum_before);
     printf("nulls: %s\n", failed == 0 ? "passed" : "failed");
     return failed == 0 ? 0 : 1;
 }

@@ -1,53 +1,55 @@
-/* Refuses each request of a call for memory in turn, by a heap of its own in place of c/heap.c. The
- * call has to answer that memory ran out, to leave what it was given to write to as it was, and to
- * give back all that it took. With no request refused it has to give back all as well. */
-#include "calls.h"
-
-#include "../../crates/semver_parser_c/c/heap.h"
+/* Refuses each allocation of a function in turn: it has to return OUT_OF_MEMORY, or without an
+ * `error` the error that it would return, to leave its outputs as they were, and to free all that it
+ * allocated. With no allocation refused it has to return what it does with ample memory, and
+ * allocates only if the header says so. Linked by -Wl,--wrap=malloc,--wrap=realloc,--wrap=free. */
+#include "../../crates/semver_parser_c/include/semver_parser.h"
 
 #include <stdio.h>
 #include <stdlib.h>
 #include <string.h>
 
-/* ---- the heap */
+#ifdef __cplusplus
+extern "C" {
+#endif
+void *__real_malloc(size_t size);
+void *__real_realloc(void *block, size_t size);
+void __real_free(void *block);
+void *__wrap_malloc(size_t size);
+void *__wrap_realloc(void *block, size_t size);
+void __wrap_free(void *block);
+#ifdef __cplusplus
+}
+#endif
 
-static unsigned char no_block[16];
-static int granted;
+/* ---- allocations: how many are granted, below 0 all; and how many blocks there are */
+
+static int granted = -1;
 static bool refused;
-static int taken;
+static int blocks;
 
-static rattle_answer answer_of(bool found, void *block) {
-    rattle_answer made = {found, block};
+static bool is_granted(void) {
+    if (granted == 0) {
+        refused = true;
+        return false;
+    }
+    granted--;
+    return true;
+}
+
+void *__wrap_malloc(size_t size) {
+    void *made = is_granted() ? __real_malloc(size) : NULL;
+    blocks += made != NULL;
     return made;
 }
 
-rattle_answer rattle_alloc(size_t size, size_t align) {
-    (void)align;
-    if (granted == 0) {
-        refused = true;
-        return answer_of(false, no_block);
-    }
-    granted--;
-    taken++;
-    void *block = malloc(size != 0 ? size : 1);
-    return answer_of(block != NULL, block);
+void *__wrap_realloc(void *block, size_t size) {
+    return is_granted() ? __real_realloc(block, size) : NULL;
 }
 
-rattle_answer rattle_realloc(void *block, size_t kept, size_t size, size_t align) {
-    rattle_answer grown = rattle_alloc(size, align);
-    if (grown.found) {
-        memcpy(grown.block, block, kept);
-        rattle_dealloc(block);
-    }
-    return grown;
+void __wrap_free(void *block) {
+    blocks -= block != NULL;
+    __real_free(block);
 }
-
-void rattle_dealloc(void *block) {
-    taken--;
-    free(block);
-}
-
-/* ---- the calls */
 
 static int failed;
 
@@ -58,404 +60,306 @@ static void check(bool holds, const char *what, const char *of, int request) {
     }
 }
 
-static void grant(int requests) {
-    granted = requests;
-    refused = false;
-}
+/* ---- the functions */
 
-/* The dialect that is asked. */
-static int32_t dialect;
-
-static bool is_of_tool(void) {
-    return dialect == SEMVER_PARSER_CARGO || dialect == SEMVER_PARSER_NPM;
-}
-
-/* A rule for pre-releases. */
-static int32_t rule_of_dialect(void) {
-    return is_of_tool() ? SEMVER_PARSER_DEFAULT : SEMVER_PARSER_INCLUDED;
-}
-
-/* A version that takes this many requests. */
-static void version_takes(const char *bytes, int requests, int32_t wanted) {
-    text of = {NULL, 0, 0};
-    text_add(&of, bytes, strlen(bytes));
-    for (int request = 0; request <= requests; request++) {
-        semver_parser_version read;
-        grant(request);
-        int32_t answered = read_version(&of, dialect, &read);
-        check(refused == (request < requests), "another number of requests", bytes, request);
-        check(answered == (refused ? SEMVER_PARSER_VERSION_OUT_OF_MEMORY : wanted),
-            "another answer", bytes, request);
-        check(taken == 0, "memory is kept", bytes, request);
-    }
-    text_free(&of);
-}
-
-/* Two versions whose order takes this many requests, all for the other one. */
-static void order_takes(
-    const char *bytes, const char *other, int requests, int32_t wanted, bool is_other) {
-    for (int request = 0; request <= requests; request++) {
-        int32_t order = 777;
-        bool in_other = !is_other;
-        grant(request);
-        int32_t answered = semver_parser_precedence((const uint8_t *)bytes, strlen(bytes),
-            (const uint8_t *)other, strlen(other), dialect, &order, &in_other);
-        check(refused == (request < requests), "another number of requests", other, request);
-        check(answered == (refused ? (int32_t)SEMVER_PARSER_VERSION_OUT_OF_MEMORY : wanted),
-            "another answer of an order", other, request);
-        check((order == 777) == (answered != SEMVER_PARSER_OK), "another order", other, request);
-        bool is_kept =
-            answered == SEMVER_PARSER_OK || answered == SEMVER_PARSER_NO_SUCH_DIALECT;
-        check(in_other == (is_kept ? !is_other : is_other), "another text at fault", other,
-            request);
-        check(taken == 0, "memory is kept", other, request);
-    }
-}
-
-/* A range whose rewriting takes requests, or takes none, by the call that prints, or by that of
- * comparators. */
-static void range_takes(const char *bytes, bool exact, bool tells, bool some, int32_t wanted) {
-    int request = 0;
-    do {
-        uint8_t out[64];
-        semver_parser_comparator comparators[4];
-        const uint8_t *put = (const uint8_t *)comparators;
-        memset(out, 'x', sizeof out);
-        memset(comparators, 'x', sizeof comparators);
-        size_t length = 777;
-        size_t count = 777;
-        const uint8_t *from = (const uint8_t *)bytes;
-        grant(request);
-        int32_t answered =
-            tells ? semver_parser_comparators(from, strlen(bytes), dialect, exact, comparators, 4,
-                                              &count, out, sizeof out, &length)
-                  : semver_parser_rewrite(from, strlen(bytes), dialect, exact, out, sizeof out,
-                                          &length);
-        check(answered == (refused ? (int32_t)SEMVER_PARSER_RANGE_OUT_OF_MEMORY : wanted),
-            "another answer", bytes, request);
-        bool is_kept = length == 777 && count == 777 && out[0] == 'x' &&
-                       memcmp(out, out + 1, sizeof out - 1) == 0 && put[0] == 'x' &&
-                       memcmp(put, put + 1, sizeof comparators - 1) == 0;
-        check(answered == SEMVER_PARSER_OK || answered == SEMVER_PARSER_NO_ROOM || is_kept,
-            "something changed", bytes, request);
-        check(taken == 0, "memory is kept", bytes, request);
-        request++;
-    } while (refused && request < 100);
-    check(!refused && (request > 1) == some, "another number of requests", bytes, request);
-}
-
-/* A range, and a version whose error takes so many requests: a range takes none. */
-static void meeting_takes(
-    const char *range, const char *version, int requests, int32_t wanted, bool meets) {
-    for (int request = 0; request <= requests; request++) {
-        bool met = !meets;
-        grant(request);
-        int32_t answered =
-            semver_parser_meets((const uint8_t *)range, strlen(range), dialect, rule_of_dialect(),
-                                (const uint8_t *)version, strlen(version), &met);
-        check(refused == (request < requests), "another number of requests", range, request);
-        check(answered == (refused ? (int32_t)SEMVER_PARSER_VERSION_OUT_OF_MEMORY : wanted),
-            "another answer", range, request);
-        check(met == (answered == SEMVER_PARSER_OK ? meets : !meets), "another meeting", range,
-            request);
-        check(taken == 0, "memory is kept", range, request);
-    }
-}
-
-/* A range whose least version takes requests, or takes none. */
-static void least_takes(const char *range, bool some, int32_t wanted, size_t bytes) {
-    int request = 0;
-    do {
-        uint8_t out[64];
-        memset(out, 'x', sizeof out);
-        size_t length = 777;
-        grant(request);
-        int32_t answered = semver_parser_least((const uint8_t *)range, strlen(range), dialect,
-                                               rule_of_dialect(), out, sizeof out, &length);
-        check(answered == (refused ? (int32_t)SEMVER_PARSER_RANGE_OUT_OF_MEMORY : wanted),
-            "another answer of the least", range, request);
-        check(length == (answered == SEMVER_PARSER_OK ? bytes : 777), "another length of the least",
-            range, request);
-        check(answered == SEMVER_PARSER_OK ||
-                  (out[0] == 'x' && memcmp(out, out + 1, sizeof out - 1) == 0),
-            "a byte at an error", range, request);
-        check(taken == 0, "memory is kept", range, request);
-        request++;
-    } while (refused && request < 100);
-    check(!refused && (request > 1) == some, "another number of requests", range, request);
-}
-
-/* The calls of sets as data, each of the set of a range and of that of another. */
-enum { MAKE, COMBINE, COMPARE, LEAST, PRINT, HAS, SET_CALLS };
-
-static const char set_range[] = ">=1.2.3-rc.1 <2.0.0";
-
-/* What a call may write to. */
+/* What a call is about, and what it may write to: bytes, which are compared, with a pointer to what
+ * it makes. */
 typedef struct {
-    semver_parser_switch made[16];
-    uint8_t out[64];
-    size_t count;
-    size_t length;
-    bool first;
-    bool second;
-} written;
+    semver_parser_string strings[2];
+    semver_parser_options options;
+    semver_parser_set *sets[2];
+    semver_parser_comparators *list;
+    const semver_parser_string *versions;
+    const char *saved;
+    size_t saved_length;
+    semver_parser_error *error;
+} arguments;
 
-static int32_t set_of(const char *range, written *to) {
-    return semver_parser_set((const uint8_t *)range, strlen(range), SEMVER_PARSER_CRATE_CARGO,
-                             SEMVER_PARSER_INCLUDED, to->made, 16, &to->count, to->out,
-                             sizeof to->out, &to->length);
+typedef union {
+    unsigned char bytes[64];
+    bool answers[4];
+    int order;
+    size_t index;
+    char *string;
+    semver_parser_set *set;
+    semver_parser_comparators *list;
+    semver_parser_version version;
+    struct {
+        char *bytes;
+        size_t length;
+    } saved;
+} outputs;
+
+typedef semver_parser_status calling(const arguments *with, outputs *to);
+
+static semver_parser_status satisfies(const arguments *with, outputs *to) {
+    return semver_parser_satisfies(
+        with->strings[0], with->strings[1], with->options, to->answers, with->error);
 }
 
-static int32_t ask_set(int call, semver_parser_flat_set set, semver_parser_flat_set other,
-                       written *to) {
-    switch (call) {
-    case MAKE: return set_of(set_range, to);
-    case COMBINE:
-        return semver_parser_combine(set, other, SEMVER_PARSER_UNION, to->made, 16, &to->count,
-                                     to->out, sizeof to->out, &to->length);
-    case COMPARE: return semver_parser_compare_sets(set, other, &to->first, &to->second);
-    case LEAST: return semver_parser_set_least(set, to->out, sizeof to->out, &to->length);
-    case PRINT: return semver_parser_print_set(set, true, to->out, sizeof to->out, &to->length);
-    default:
-        return semver_parser_set_has(set, (const uint8_t *)"1.2.3-rc.2", 10,
-                                     SEMVER_PARSER_CRATE_CARGO, &to->first);
+static semver_parser_status parse(const arguments *with, outputs *to) {
+    return semver_parser_parse_version(
+        with->strings[0], with->options.dialect, &to->version, with->error);
+}
+
+static semver_parser_status order(const arguments *with, outputs *to) {
+    return semver_parser_compare_versions(
+        with->strings[0], with->strings[1], with->options.dialect, &to->order, with->error);
+}
+
+static semver_parser_status make_set(const arguments *with, outputs *to) {
+    return semver_parser_set_of_range(with->strings[1], with->options, &to->set, with->error);
+}
+
+static semver_parser_status contains(const arguments *with, outputs *to) {
+    return semver_parser_set_contains(
+        with->sets[0], with->strings[0], to->answers, with->error);
+}
+
+static semver_parser_status contains_each(const arguments *with, outputs *to) {
+    return semver_parser_set_contains_each(
+        with->sets[0], with->versions, 4, to->answers, NULL, with->error);
+}
+
+static semver_parser_status highest(const arguments *with, outputs *to) {
+    return semver_parser_set_highest(with->sets[0], with->versions, 4, &to->index, with->error);
+}
+
+static semver_parser_status lowest(const arguments *with, outputs *to) {
+    return semver_parser_set_lowest(with->sets[0], with->versions, 4, &to->index, with->error);
+}
+
+static semver_parser_status unite(const arguments *with, outputs *to) {
+    return semver_parser_set_union(with->sets[0], with->sets[1], &to->set);
+}
+
+static semver_parser_status intersect(const arguments *with, outputs *to) {
+    return semver_parser_set_intersection(with->sets[0], with->sets[1], &to->set);
+}
+
+static semver_parser_status differ(const arguments *with, outputs *to) {
+    return semver_parser_set_difference(with->sets[0], with->sets[1], &to->set);
+}
+
+static semver_parser_status equal(const arguments *with, outputs *to) {
+    return semver_parser_set_equal(with->sets[0], with->sets[1], to->answers);
+}
+
+static semver_parser_status is_subset(const arguments *with, outputs *to) {
+    return semver_parser_set_is_subset(with->sets[0], with->sets[1], to->answers);
+}
+
+static semver_parser_status is_empty(const arguments *with, outputs *to) {
+    to->answers[0] = semver_parser_set_is_empty(with->sets[0]);
+    return SEMVER_PARSER_OK;
+}
+
+static semver_parser_status lowest_version(const arguments *with, outputs *to) {
+    return semver_parser_set_lowest_version(with->sets[0], &to->string);
+}
+
+static semver_parser_status print(const arguments *with, outputs *to) {
+    return semver_parser_set_to_string(with->sets[0], true, &to->string);
+}
+
+static semver_parser_status save(const arguments *with, outputs *to) {
+    return semver_parser_set_save(with->sets[0], &to->saved.bytes, &to->saved.length);
+}
+
+static semver_parser_status load(const arguments *with, outputs *to) {
+    return semver_parser_set_load(with->saved, with->saved_length, &to->set);
+}
+
+static semver_parser_status make_list(const arguments *with, outputs *to) {
+    return semver_parser_comparators_of_range(
+        with->strings[1], with->options.dialect, true, &to->list, with->error);
+}
+
+static semver_parser_status print_list(const arguments *with, outputs *to) {
+    return semver_parser_comparators_to_string(with->list, &to->string);
+}
+
+/* What a function makes, and whether the header says that it allocates if there is no error, and
+ * whether it has an `error`. */
+enum { NOTHING, STRING, SET, LIST };
+enum { MOST_REQUESTS = 1000 };
+static const struct {
+    calling *call;
+    const char *name;
+    int makes;
+    bool allocates;
+    bool has_error;
+} functions[] = {
+    {satisfies, "satisfies", NOTHING, false, true},
+    {parse, "parse_version", NOTHING, false, true},
+    {order, "compare_versions", NOTHING, false, true},
+    {make_set, "set_of_range", SET, true, true},
+    {contains, "set_contains", NOTHING, false, true},
+    {contains_each, "set_contains_each", NOTHING, true, true},
+    {highest, "set_highest", NOTHING, true, true},
+    {lowest, "set_lowest", NOTHING, true, true},
+    {unite, "set_union", SET, true, false},
+    {intersect, "set_intersection", SET, true, false},
+    {differ, "set_difference", SET, true, false},
+    {equal, "set_equal", NOTHING, true, false},
+    {is_subset, "set_is_subset", NOTHING, true, false},
+    {is_empty, "set_is_empty", NOTHING, false, false},
+    {lowest_version, "set_lowest_version", STRING, true, false},
+    {print, "set_to_string", STRING, true, false},
+    {save, "set_save", STRING, true, false},
+    {load, "set_load", SET, true, false},
+    {make_list, "comparators_of_range", LIST, true, true},
+    {print_list, "comparators_to_string", STRING, true, false},
+};
+
+static void free_made(int makes, outputs *made) {
+    switch (makes) {
+    case STRING: semver_parser_string_free(made->string); break;
+    case SET: semver_parser_set_free(made->set); break;
+    case LIST: semver_parser_comparators_free(made->list); break;
+    default: break;
     }
 }
 
-/* Each takes requests, but for the question of a version. */
-static void sets_take(void) {
-    static written first;
-    static written second;
-    grant(1000);
-    bool are_made = set_of(set_range, &first) == SEMVER_PARSER_OK
-                    && set_of("=3.0.0-a || 4", &second) == SEMVER_PARSER_OK;
-    check(are_made, "no set is made", set_range, 1000);
-    semver_parser_flat_set set = {first.made, first.count, first.out, first.length};
-    semver_parser_flat_set other = {second.made, second.count, second.out, second.length};
-    for (int call = MAKE; call < SET_CALLS; call++) {
+/* ---- each allocation refused */
+
+/* A call with so many allocations granted. Returns whether one was refused. */
+static bool call_once(size_t which, const arguments *with, int request,
+                      semver_parser_status wanted) {
+    outputs to;
+    outputs before;
+    const char *name = functions[which].name;
+    int kept = blocks;
+    memset(&to, 0xA5, sizeof to);
+    memset(&before, 0xA5, sizeof before);
+    refused = false;
+    granted = request;
+    semver_parser_status status = functions[which].call(with, &to);
+    granted = -1;
+    bool is_error = wanted != SEMVER_PARSER_OK;
+    bool runs_out = refused && (with->error != NULL || !is_error);
+    check(status == (runs_out ? SEMVER_PARSER_OUT_OF_MEMORY : wanted)
+              || (refused && is_error && status == wanted),
+          "another status", name, request);
+    if (status == SEMVER_PARSER_OK) {
+        free_made(functions[which].makes, &to);
+    } else {
+        check(memcmp(&to, &before, sizeof to) == 0, "an output that changes", name, request);
+    }
+    bool tells = with->error != NULL && functions[which].has_error && status != SEMVER_PARSER_OK;
+    check(!tells || with->error->status == status, "another status in the error", name, request);
+    check(blocks == kept, "a block that isn't freed", name, request);
+    return refused;
+}
+
+/* A call with each of its allocations refused, with an error and without. */
+static void call_all(size_t which, arguments *with, semver_parser_status wanted) {
+    semver_parser_error error;
+    for (int asks = 0; asks < 2; asks++) {
         int request = 0;
-        do {
-            written to;
-            written before;
-            memset(&to, 0, sizeof to);
-            memset(&before, 0, sizeof before);
-            grant(request);
-            int32_t answered = ask_set(call, set, other, &to);
-            check(answered == (refused ? (int32_t)SEMVER_PARSER_RANGE_OUT_OF_MEMORY
-                                       : (int32_t)SEMVER_PARSER_OK),
-                "another answer of a set", set_range, request);
-            check(!refused || memcmp(&to, &before, sizeof to) == 0, "written without memory",
-                set_range, request);
-            check(taken == 0, "memory is kept", set_range, request);
+        with->error = asks != 0 ? &error : NULL;
+        while (call_once(which, with, request, wanted) && request < MOST_REQUESTS) {
             request++;
-        } while (refused && request < 100);
-        check(!refused && (request > 1) == (call != HAS), "another number of requests", set_range,
-            call);
-    }
-}
-
-/* A text whose range is refused takes one request, or none where nothing is. */
-static void explanation_takes(const char *bytes, int requests, int32_t wanted) {
-    for (int request = 0; request <= requests; request++) {
-        size_t place = 777;
-        int32_t hint = 777;
-        grant(request);
-        int32_t answered = semver_parser_explain_range(
-            (const uint8_t *)bytes, strlen(bytes), dialect, &place, &hint);
-        check(refused == (request < requests), "another number of requests", bytes, request);
-        check(answered == (refused ? (int32_t)SEMVER_PARSER_RANGE_OUT_OF_MEMORY : wanted),
-            "another answer of a range", bytes, request);
-        check(!refused || (place == 777 && hint == 777), "written without memory", bytes, request);
-        check(taken == 0, "memory is kept", bytes, request);
-    }
-}
-
-/* Two ranges whose comparison takes requests, or takes none. Wherever memory runs out one number
- * tells it, and only in place of an answer: the error of a text comes all the same. */
-static void comparison_takes(
-    const char *old_range, const char *new_range, bool some, int32_t wanted, size_t bytes) {
-    int request = 0;
-    do {
-        uint8_t out[64];
-        semver_parser_comparison told;
-        const uint8_t *put = (const uint8_t *)&told;
-        memset(out, 'x', sizeof out);
-        memset(&told, 'x', sizeof told);
-        size_t length = 777;
-        grant(request);
-        int32_t answered = semver_parser_compare(
-            (const uint8_t *)old_range, strlen(old_range), (const uint8_t *)new_range,
-            strlen(new_range), dialect, rule_of_dialect(), out, sizeof out, &length, &told);
-        bool runs_out = refused && wanted == SEMVER_PARSER_OK;
-        check(answered == (runs_out ? (int32_t)SEMVER_PARSER_NEW_RANGE_OUT_OF_MEMORY : wanted),
-            "another answer of a comparison", old_range, request);
-        check(length == (answered == SEMVER_PARSER_OK ? bytes : 777),
-            "another length of a comparison", old_range, request);
-        bool is_kept = out[0] == 'x' && memcmp(out, out + 1, sizeof out - 1) == 0 &&
-                       put[0] == 'x' && memcmp(put, put + 1, sizeof told - 1) == 0;
-        check(answered == SEMVER_PARSER_OK || is_kept, "something changed at an error", old_range,
-            request);
-        check(taken == 0, "memory is kept", old_range, request);
-        request++;
-    } while (refused && request < 200);
-    check(!refused && (request > 1) == some, "another number of requests", old_range, request);
-}
-
-/* Many texts, of which the second takes requests to tell its error by the crate's dialects, and one
- * is at null where that is asked for: the texts are copied then, before the range is read. */
-static void many_take(const char *range, bool at_null, int32_t wanted) {
-    const semver_parser_text versions[] = {{(const uint8_t *)"1.2.3", 5},
-        {(const uint8_t *)"1.2.3-rc.1/", 11}, {at_null ? NULL : (const uint8_t *)"", 0},
-        {(const uint8_t *)"1.2.4", 5}};
-    int request = 0;
-    do {
-        uint8_t answers[4] = {'x', 'x', 'x', 'x'};
-        grant(request);
-        int32_t answered = semver_parser_meets_each((const uint8_t *)range, strlen(range), dialect,
-                                                    rule_of_dialect(), versions, 4, answers);
-        check(answered == wanted || (refused && answered == SEMVER_PARSER_RANGE_OUT_OF_MEMORY),
-            "another answer of many", range, request);
-        if (answered == SEMVER_PARSER_OK) {
-            int none = is_of_tool() ? SEMVER_PARSER_NOT_A_VERSION : SEMVER_PARSER_UNEXPECTED_END;
-            int faulty = is_of_tool() ? SEMVER_PARSER_NOT_A_VERSION
-                         : refused    ? SEMVER_PARSER_VERSION_OUT_OF_MEMORY
-                                      : SEMVER_PARSER_UNEXPECTED_CHAR;
-            check(answers[0] == SEMVER_PARSER_MEETS && answers[2] == none,
-                "another version's answer", range, request);
-            check(answers[1] == faulty, "the answer of a refusal", range, request);
-            check(!refused || !is_of_tool(), "a version that takes memory", range, request);
-            check(answers[3] == SEMVER_PARSER_DOES_NOT_MEET, "the answer after a refusal", range,
-                request);
+        }
+        bool allocates = request > 0;
+        if (wanted == SEMVER_PARSER_OK) {
+            check(allocates == functions[which].allocates, "it allocates, or doesn't",
+                  functions[which].name, request);
         } else {
-            check(memcmp(answers, "xxxx", 4) == 0, "an answer at an error", range, request);
+            check(!allocates || functions[which].allocates || asks != 0,
+                  "it allocates without an error", functions[which].name, request);
         }
-        check(taken == 0, "memory is kept", range, request);
-        request++;
-    } while (refused && request < 100);
-    check(!refused, "another number of requests", range, request);
-}
-
-/* Of at most three texts the range takes none. */
-static void few_take_none(const char *range, int32_t wanted) {
-    const semver_parser_text versions[] = {{(const uint8_t *)"1.2.3", 5},
-        {(const uint8_t *)"2.0.0", 5}, {(const uint8_t *)"1.2.4", 5}};
-    uint8_t answers[3];
-    for (size_t count = 0; count <= 3; count++) {
-        grant(0);
-        int32_t answered = semver_parser_meets_each((const uint8_t *)range, strlen(range), dialect,
-                                                    rule_of_dialect(), versions, count, answers);
-        check(answered == wanted && !refused, "few versions take memory", range, 0);
+        check(request < MOST_REQUESTS, "too many allocations", functions[which].name, request);
     }
 }
 
-/* A version takes none by any dialect, nor does its error by a tool's own. By the crate's the error
- * takes what is read before it. */
-static void versions_take_by_dialect(void) {
-    const int32_t none = SEMVER_PARSER_NOT_A_VERSION;
-    const int32_t unexpected_end = is_of_tool() ? none : (int32_t)SEMVER_PARSER_UNEXPECTED_END;
-    const int32_t unexpected_char = is_of_tool() ? none : (int32_t)SEMVER_PARSER_UNEXPECTED_CHAR;
-    const int32_t more_input = is_of_tool() ? none : (int32_t)SEMVER_PARSER_MORE_INPUT;
-    version_takes("1.2.3", 0, SEMVER_PARSER_OK);
-    version_takes("1.2.3-rc.1+b", 0, SEMVER_PARSER_OK);
-    version_takes("1.2.3-1", 0, SEMVER_PARSER_OK);
-    version_takes("1.2.3-rc.1/", is_of_tool() ? 0 : 2, unexpected_char);
-    version_takes("1.2.3 a", is_of_tool() ? 0 : 1, more_input);
-    version_takes("1.2", 0, unexpected_end);
-    version_takes("\xFF", 0, SEMVER_PARSER_VERSION_NOT_UTF8);
-    order_takes("1.2.3-rc.1+b", "1.2.3", 0, SEMVER_PARSER_OK, true);
-    order_takes("1.2.3", "1.2.3+b.1", 0, SEMVER_PARSER_OK, true);
-    order_takes("1.2.3", "1.2.3-1", 1, SEMVER_PARSER_OK, true);
-    order_takes("1.2.3", "1.2.3-rc.1", 2, SEMVER_PARSER_OK, true);
-    order_takes("1.2.3", "1.2.3-rc.1/", is_of_tool() ? 0 : 2, unexpected_char, true);
-    order_takes("1.2.3-rc.1/", "1.2.3-rc", is_of_tool() ? 0 : 2, unexpected_char, false);
-    order_takes("1.2", "1.2.3-rc", 0, unexpected_end, false);
-    if (is_of_tool()) {
-        version_takes("1.2.3--a", 0, SEMVER_PARSER_OK);
-        order_takes("1.2.3--a", "1.2.3--a--b", 2, SEMVER_PARSER_OK, true);
-        order_takes("1.2.3--a", "1.2.3-01", 0, none, true);
-    }
-}
-
-/* What each call takes by the dialect: the ranges of a text are separated by bars, and the
- * comparators by blanks or, as Cargo has them, by commas. The caret raises a bound, so the least pre-release of
- * 2.0.0 is gained where all pre-releases count. */
-static void takes_by_dialect(void) {
-    bool is_cargo = dialect == SEMVER_PARSER_CARGO;
-    const char *two = is_cargo ? "1.2.3-rc, 4" : "1.2.3-rc || 4";
-    const char *three = is_cargo ? "1, 2, 3" : "1 || 2 || 3";
-    const char *empty = is_cargo ? ">2.0.0, <1.0.0" : ">2.0.0 <1.0.0";
-    const char *other_empty = is_cargo ? ">3.0.0, <1.0.0" : ">3.0.0 <1.0.0";
-    for (int exact = 0; exact < 2; exact++) {
-        for (int which = 0; which < 2; which++) {
-            bool tells = which != 0;
-            int32_t of_many = tells ? (int32_t)SEMVER_PARSER_NO_ROOM : (int32_t)SEMVER_PARSER_OK;
-            range_takes("^1.2", exact != 0, tells, true, SEMVER_PARSER_OK);
-            range_takes(two, exact != 0, tells, true, SEMVER_PARSER_OK);
-            range_takes(three, exact != 0, tells, true, of_many);
-            range_takes("^", exact != 0, tells, false, SEMVER_PARSER_NOT_A_RANGE);
-            range_takes("<=18446744073709551615", exact != 0, tells, false,
-                        SEMVER_PARSER_NUMBER_TOO_LARGE);
-            range_takes("\xFF", exact != 0, tells, false, SEMVER_PARSER_RANGE_NOT_UTF8);
+/* A string of an error, and the status of the functions of versions and of ranges then. */
+static void errors_by(int dialect) {
+    static const struct {
+        const char *version;
+        const char *range;
+        semver_parser_status status;
+    } rows[] = {{"1.2.3-rc.1.007/", "*", SEMVER_PARSER_INVALID_VERSION},
+                {"1.2.3", "^1.2.3-rc.1 ^", SEMVER_PARSER_INVALID_RANGE},
+                {"1.2.3", "=1.2.3-rc.1\xFF", SEMVER_PARSER_INVALID_RANGE},
+                {"1.2.3", "=18446744073709551616", SEMVER_PARSER_NUMBER_TOO_LARGE}};
+    for (size_t at = 0; at < sizeof rows / sizeof *rows; at++) {
+        arguments with;
+        memset(&with, 0, sizeof with);
+        with.options.dialect = (semver_parser_dialect)dialect;
+        with.options.pre_releases = SEMVER_PARSER_INCLUDED;
+        with.strings[0] = semver_parser_str(rows[at].version);
+        with.strings[1] = semver_parser_str(rows[at].range);
+        semver_parser_status made = semver_parser_set_of_range(
+            semver_parser_str("*"), with.options, &with.sets[0], NULL);
+        check(made == SEMVER_PARSER_OK, "no set", "*", 0);
+        for (size_t which = 0; which < sizeof functions / sizeof *functions; which++) {
+            calling *call = functions[which].call;
+            bool is_of_version = call == parse || call == contains || call == order;
+            bool is_of_range = call == make_set || call == make_list;
+            bool is_version = rows[at].status == SEMVER_PARSER_INVALID_VERSION;
+            if (call == satisfies || (is_version ? is_of_version : is_of_range)) {
+                call_all(which, &with, rows[at].status);
+            }
         }
+        semver_parser_set_free(with.sets[0]);
     }
-    explanation_takes("^1.2", 0, SEMVER_PARSER_OK);
-    explanation_takes("\xFF", 0, SEMVER_PARSER_RANGE_NOT_UTF8);
-    explanation_takes("^1.2.3-rc |", 1, SEMVER_PARSER_NOT_A_RANGE);
-    explanation_takes("<=18446744073709551615", 0, SEMVER_PARSER_NUMBER_TOO_LARGE);
-    meeting_takes("1.2.3", "1.2.3", 0, SEMVER_PARSER_OK, true);
-    meeting_takes("1.2.3", "1.2.3-rc", 0, SEMVER_PARSER_OK, false);
-    meeting_takes("1.2.3", "1.2.3-rc.1/", is_of_tool() ? 0 : 2,
-        is_of_tool() ? SEMVER_PARSER_NOT_A_VERSION : SEMVER_PARSER_UNEXPECTED_CHAR, false);
-    meeting_takes("1.2.3", "1.2.3+b.rc", 0, SEMVER_PARSER_OK, true);
-    meeting_takes("1.2.3", "2.0.0-rc", 0, SEMVER_PARSER_OK, false);
-    meeting_takes(two, "1.2.3-rc", 0, SEMVER_PARSER_OK, !is_cargo);
-    meeting_takes(three, "3.1.0", 0, SEMVER_PARSER_OK, !is_cargo);
-    meeting_takes("^", "1.2.3-rc", 0, SEMVER_PARSER_NOT_A_RANGE, false);
-    meeting_takes("^", "1.2.3-rc.1/", 0, SEMVER_PARSER_NOT_A_RANGE, false);
-    meeting_takes("<=18446744073709551615", "1.2.3", 0, SEMVER_PARSER_NUMBER_TOO_LARGE, false);
-    least_takes("^1.2", true, SEMVER_PARSER_OK, 5);
-    least_takes(is_cargo ? ">=1.2.3-rc.1, <2" : ">=1.2.3-rc.1 <2", true, SEMVER_PARSER_OK, 10);
-    least_takes(empty, true, SEMVER_PARSER_OK, 0);
-    least_takes("^", false, SEMVER_PARSER_NOT_A_RANGE, 0);
-    least_takes("<=18446744073709551615", false, SEMVER_PARSER_NUMBER_TOO_LARGE, 0);
-    comparison_takes("^1.2.0", ">=1.4.0", true, SEMVER_PARSER_OK, is_of_tool() ? 15 : 17);
-    comparison_takes("=1.2.3-a.b", "=1.2.3-b", true, SEMVER_PARSER_OK, 16);
-    comparison_takes(empty, other_empty, true, SEMVER_PARSER_OK, 0);
-    comparison_takes("^", "^1", false, SEMVER_PARSER_NOT_A_RANGE, 0);
-    comparison_takes("^1", "^", true, SEMVER_PARSER_NEW_NOT_A_RANGE, 0);
-    comparison_takes("^1", "\xFF", true, SEMVER_PARSER_NEW_RANGE_NOT_UTF8, 0);
-    comparison_takes("<=18446744073709551615", "*", false, SEMVER_PARSER_NUMBER_TOO_LARGE, 0);
-    comparison_takes("^1", "<=18446744073709551615", true, SEMVER_PARSER_NEW_NUMBER_TOO_LARGE, 0);
-    for (int at_null = 0; at_null < 2; at_null++) {
-        many_take("=1.2.3", at_null != 0, SEMVER_PARSER_OK);
-        many_take("^", at_null != 0, SEMVER_PARSER_NOT_A_RANGE);
-        many_take("<=18446744073709551615", at_null != 0, SEMVER_PARSER_NUMBER_TOO_LARGE);
-    }
-    few_take_none(two, SEMVER_PARSER_OK);
-    few_take_none("^", SEMVER_PARSER_NOT_A_RANGE);
-    few_take_none("<=18446744073709551615", SEMVER_PARSER_NUMBER_TOO_LARGE);
 }
 
-/* `dialect` is the number of none then. */
-static void takes_nothing_by_no_dialect(void) {
-    version_takes("1.2.3", 0, SEMVER_PARSER_NO_SUCH_DIALECT);
-    version_takes("1.2.3-rc.1/", 0, SEMVER_PARSER_NO_SUCH_DIALECT);
-    order_takes("1.2.3", "1.2.3-rc.1", 0, SEMVER_PARSER_NO_SUCH_DIALECT, true);
-    range_takes("^1.2", false, false, false, SEMVER_PARSER_NO_SUCH_DIALECT);
-    range_takes("^1.2", true, true, false, SEMVER_PARSER_NO_SUCH_DIALECT);
-    meeting_takes("1.2.3", "1.2.3-rc.1/", 0, SEMVER_PARSER_NO_SUCH_DIALECT, false);
-    least_takes("^1.2", false, SEMVER_PARSER_NO_SUCH_DIALECT, 0);
-    comparison_takes("^1.2.0", ">=1.4.0", false, SEMVER_PARSER_NO_SUCH_DIALECT, 0);
-    many_take("=1.2.3", false, SEMVER_PARSER_NO_SUCH_DIALECT);
+/* The ranges of a set and of another: short ones, and such that don't fit the first buffers. */
+static void functions_by(int dialect, const char *range, const char *other) {
+    const semver_parser_string versions[] = {
+        {"1.2.3", 5}, {"1.2.3-rc.1.0/", 13}, {NULL, 0}, {"1.2.4", 5}};
+    arguments with;
+    char *bytes = NULL;
+    memset(&with, 0, sizeof with);
+    with.options.dialect = (semver_parser_dialect)dialect;
+    with.options.pre_releases = SEMVER_PARSER_INCLUDED;
+    with.strings[0] = semver_parser_str("1.2.3-rc.2");
+    with.strings[1] = semver_parser_str(range);
+    with.versions = versions;
+    bool is_made = semver_parser_set_of_range(with.strings[1], with.options, &with.sets[0], NULL)
+                       == SEMVER_PARSER_OK
+                   && semver_parser_set_of_range(semver_parser_str(other), with.options,
+                                                 &with.sets[1], NULL)
+                          == SEMVER_PARSER_OK
+                   && semver_parser_comparators_of_range(with.strings[1], with.options.dialect,
+                                                         true, &with.list, NULL)
+                          == SEMVER_PARSER_OK
+                   && semver_parser_set_save(with.sets[0], &bytes, &with.saved_length)
+                          == SEMVER_PARSER_OK;
+    check(is_made, "not made", range, 0);
+    with.saved = bytes;
+    for (size_t which = 0; is_made && which < sizeof functions / sizeof *functions; which++) {
+        if (functions[which].call == order) {
+            with.strings[1] = semver_parser_str("1.2.3-rc.10");
+        }
+        call_all(which, &with, SEMVER_PARSER_OK);
+        with.strings[1] = semver_parser_str(range);
+    }
+    semver_parser_set_free(with.sets[0]);
+    semver_parser_set_free(with.sets[1]);
+    semver_parser_comparators_free(with.list);
+    semver_parser_string_free(bytes);
 }
 
 int main(void) {
-    for (dialect = SEMVER_PARSER_CARGO; dialect <= SEMVER_PARSER_CRATE_NPM; dialect++) {
-        versions_take_by_dialect();
-        takes_by_dialect();
+    char many[1024] = "=0.0.1-rc.1";
+    char others[1024] = "=0.1.0-rc.1";
+    for (int at = 1; at < 12; at++) {
+        size_t length = strlen(many);
+        snprintf(many + length, sizeof many - length, " || =0.0.%d-rc.%d.abcdef", 2 * at, at);
+        length = strlen(others);
+        snprintf(others + length, sizeof others - length, " || =0.1.%d-rc.%d.abcdef", 2 * at, at);
     }
-    takes_nothing_by_no_dialect();
-    sets_take();
-    printf("refused memory: %s\n", failed == 0 ? "passed" : "failed");
+    for (int dialect = SEMVER_PARSER_CARGO; dialect <= SEMVER_PARSER_CRATE_NPM; dialect++) {
+        functions_by(dialect, "^1.2.3-rc.1", ">=1.4.0-a");
+        if (dialect != SEMVER_PARSER_CARGO) {
+            functions_by(dialect, many, others);
+        }
+        errors_by(dialect);
+    }
+    check(blocks == 0, "blocks that aren't freed", "at the end", blocks);
+    printf("refused: %s\n", failed == 0 ? "passed" : "failed");
     return failed == 0 ? 0 : 1;
 }

@@ -1,332 +1,408 @@
-/* Sets as data: what a range gives, what is asked of it, two of them combined and compared, and
- * data that is no set. Each buffer is a block of its own, of the size that is needed, and of each
- * smaller one. What is wanted follows from docs/MEANING.md. */
-#include "../../crates/semver_parser_c/include/semver_parser.h"
+/* Sets: what is printed of them, two of them combined and compared, saved and loaded ones, bytes
+ * that are no set, sets of other options, and the highest and lowest version of a list. What is
+ * expected follows from docs/MEANING.md. */
+#include "calls.h"
 
-#include <stdio.h>
 #include <stdlib.h>
 #include <string.h>
 
-enum {
-    CARGO = SEMVER_PARSER_CARGO,
-    NPM = SEMVER_PARSER_NPM,
-    CRATE_CARGO = SEMVER_PARSER_CRATE_CARGO,
-    RELEASES = SEMVER_PARSER_EXCLUDED,
-    ALL = SEMVER_PARSER_INCLUDED
+typedef void printing(text *to, const semver_parser_set *set);
+
+static void prints(const semver_parser_set *set, printing *print, const char *wanted) {
+    text printed = string("");
+    print(&printed, set);
+    check(strcmp(printed.bytes, wanted) == 0, "printed otherwise", wanted);
+    text_free(&printed);
+}
+
+static void set_prints(const char *range, int dialect, int rule, printing *print,
+                       const char *wanted) {
+    semver_parser_set *set = made_of(range, dialect, rule);
+    prints(set, print, wanted);
+    semver_parser_set_free(set);
+}
+
+/* ---- the lowest version */
+
+#define MOST "18446744073709551615"
+#define LAST MOST "." MOST "." MOST
+
+static const int rules[] = {EXCLUDED, DEFAULT, INCLUDED};
+
+/* A range and its lowest version: of releases only, by the default rule, and with all pre-releases.
+ * An empty string is none. */
+static const struct {
+    int dialect;
+    const char *range;
+    const char *lowest[RULES];
+} lowest_versions[] = {
+    {CRATE_CARGO, "^1.2.3", {"1.2.3", "1.2.3", "1.2.3"}},
+    {CRATE_CARGO, "", {"0.0.0", "0.0.0", "0.0.0"}},
+    {CRATE_NPM, "*", {"0.0.0", "0.0.0", "0.0.0"}},
+    {CRATE_CARGO, "3.x || ^1.2 || >=2", {"1.2.0", "1.2.0", "1.2.0"}},
+    {CRATE_CARGO, "<2.0.0", {"0.0.0", "0.0.0", "0.0.0-0"}},
+    {CRATE_CARGO, ">1.0.0-rc.1", {"1.0.0", "1.0.0-rc.1.0", "1.0.0-rc.1.0"}},
+    {CRATE_CARGO, ">1.2.3", {"1.2.4", "1.2.4", "1.2.4-0"}},
+    {CRATE_NPM, "=1.2.3-rc.01+b", {"", "1.2.3-rc.1", "1.2.3-rc.1"}},
+    {CRATE_NPM, "=2.0.1-a || >=2.0.0", {"2.0.0", "2.0.0", "2.0.0"}},
+    {CRATE_NPM, "=1.9.9-a || >=2.0.0", {"2.0.0", "1.9.9-a", "1.9.9-a"}},
+    {CRATE_NPM, ">2.0.0 <1.0.0", {"", "", ""}},
+    {CRATE_NPM, "<0.0.0", {"", "", "0.0.0-0"}},
+    {CRATE_NPM, ">0.0." MOST, {"0.1.0", "0.1.0", "0.1.0-0"}},
+    {CRATE_NPM, ">" LAST, {"", "", ""}},
+    {CRATE_NPM, "=0.0." MOST, {"0.0." MOST, "0.0." MOST, "0.0." MOST}},
+    {CRATE_CARGO, ">1.2", {"1.2.1", "1.2.1", NULL}},
+    {CRATE_NPM, "<1.0 >=1.0.0-a", {"", "1.0.0-a", NULL}},
+    {CARGO, "1.2", {"1.2.0", "1.2.0", NULL}},
+    {CARGO, ">1.2", {"1.3.0", "1.3.0", NULL}},
+    {CARGO, "^1.2.3-beta", {"1.2.3", "1.2.3-beta", NULL}},
+    {CARGO, "^1.2, >=1.2.0-a", {"1.2.0", "1.2.0-a", NULL}},
+    {CARGO, "=1.2, >=1.2.0-a", {"1.2.0", "1.2.0", NULL}},
+    {CARGO, ">=1, >=2.0.0-a", {"2.0.0", "2.0.0-a", NULL}},
+    {CARGO, "<0.0.0", {"", "", NULL}},
+    {NPM, ">1.2", {"1.3.0", "1.3.0", NULL}},
+    {NPM, "v1.2.3", {"1.2.3", "1.2.3", NULL}},
+    {NPM, "=1.2 >=1.2.3-a", {"1.2.3", "1.2.3-a", NULL}},
+    {NPM, "<1.0 >=1.0.0-a", {"", "", NULL}},
+    {NPM, ">=0 >=0.0.0-a", {"0.0.0", "0.0.0-a", NULL}},
+    {NPM, "* || =1.0.0-a", {"0.0.0", "0.0.0", NULL}},
 };
 
-static int failed;
-
-static void check(bool holds, const char *what, const char *of) {
-    if (!holds) {
-        printf("%s: %s\n", what, of);
-        failed++;
-    }
-}
-
-static const uint8_t *bytes_of(const char *string) {
-    return (const uint8_t *)string;
-}
-
-/* A block of so many bytes, filled; none of a block of 0 may be read. */
-static void *block(size_t size) {
-    void *made = malloc(size != 0 ? size : 1);
-    if (made == NULL) {
-        exit(2);
-    }
-    memset(made, 0xA5, size);
-    return made;
-}
-
-static bool is_filled(const void *made, size_t size) {
-    for (size_t at = 0; at < size; at++) {
-        if (((const unsigned char *)made)[at] != 0xA5) {
-            return false;
+static void lowest(void) {
+    for (size_t at = 0; at < sizeof lowest_versions / sizeof *lowest_versions; at++) {
+        for (int rule = 0; rule < RULES && lowest_versions[at].lowest[rule] != NULL; rule++) {
+            set_prints(lowest_versions[at].range, lowest_versions[at].dialect, rules[rule],
+                       say_lowest, lowest_versions[at].lowest[rule]);
         }
     }
-    return true;
+    text identifier = repeated(">=1.2.3-", "a", 3000, "");
+    set_prints(identifier.bytes, CRATE_CARGO, EXCLUDED, say_lowest, "1.2.3");
+    set_prints(identifier.bytes, CRATE_CARGO, DEFAULT, say_lowest, identifier.bytes + 2);
+    text_free(&identifier);
 }
 
-/* ---- a set in blocks of its own */
-
-typedef struct {
-    semver_parser_switch *switches;
-    size_t count;
-    uint8_t *bytes;
-    size_t length;
-} owned;
-
-static semver_parser_flat_set view(const owned *set) {
-    semver_parser_flat_set made = {set->switches, set->count, set->bytes, set->length};
-    return made;
-}
-
-static void release(owned *set) {
-    free(set->switches);
-    free(set->bytes);
-}
-
-/* What makes a set: a range, or two sets and an operation. */
-typedef struct {
-    const char *range;
-    int32_t dialect;
-    int32_t rule;
-    const owned *first;
-    const owned *second;
-    int32_t operation;
-} source;
-
-static int32_t put(const source *of, owned *made, size_t *count, size_t *length) {
-    if (of->range != NULL) {
-        return semver_parser_set(bytes_of(of->range), strlen(of->range), of->dialect, of->rule,
-                                 made->switches, made->count, count, made->bytes, made->length,
-                                 length);
+static void printed(void) {
+    set_prints(">1.0.0-rc.1", CRATE_CARGO, EXCLUDED, say_releases, ">=1.0.0");
+    set_prints(">1.0.0-rc.1", CRATE_CARGO, EXCLUDED, say_pre_releases, "<0.0.0-0");
+    set_prints(">1.2.3 <2.0.0-0", CRATE_CARGO, INCLUDED, say_pre_releases, ">=1.2.4-0 <2.0.0-0");
+    set_prints(">2 <1", NPM, INCLUDED, say_releases, "<0.0.0-0");
+    set_prints("*", NPM, EXCLUDED, say_releases, "*");
+    set_prints("^1.2", CARGO, DEFAULT, say_releases, ">=1.2.0 <2.0.0");
+    text many = string("=0.0.1");
+    text wanted = string("=0.0.1");
+    for (int at = 2; at < 300; at++) {
+        text_say(&many, " || =0.0.%d", 2 * at);
+        text_say(&wanted, " || =0.0.%d", 2 * at);
     }
-    return semver_parser_combine(view(of->first), view(of->second), of->operation, made->switches,
-                                 made->count, count, made->bytes, made->length, length);
-}
-
-/* It tries each pair of sizes that is too small, and leaves the set in blocks that fit. */
-static owned made_of(const source *of, const char *name) {
-    size_t count = 0;
-    size_t length = 0;
-    owned none = {NULL, 0, NULL, 0};
-    check(put(of, &none, &count, &length) == SEMVER_PARSER_NO_ROOM, "no size at null", name);
-    for (size_t switches = 0; switches <= count; switches++) {
-        size_t bytes = switches < count ? length : 0;
-        for (; bytes <= length; bytes++) {
-            owned made = {(semver_parser_switch *)block(switches * sizeof(semver_parser_switch)),
-                          switches, (uint8_t *)block(bytes), bytes};
-            size_t told_count = 0;
-            size_t told_length = 0;
-            int32_t answer = put(of, &made, &told_count, &told_length);
-            check(told_count == count && told_length == length, "other sizes", name);
-            if (switches == count && bytes == length) {
-                check(answer == SEMVER_PARSER_OK, "it doesn't fit", name);
-                return made;
-            }
-            check(answer == SEMVER_PARSER_NO_ROOM, "it fits", name);
-            check(is_filled(made.switches, switches * sizeof(semver_parser_switch))
-                      && is_filled(made.bytes, bytes),
-                  "written", name);
-            release(&made);
-        }
-    }
-    exit(2);
-}
-
-static owned set_of(const char *range, int32_t dialect, int32_t rule) {
-    source of = {range, dialect, rule, NULL, NULL, 0};
-    return made_of(&of, range);
-}
-
-static void set_is(const char *range, int32_t dialect, int32_t rule,
-                   const semver_parser_switch *switches, size_t count, const char *bytes) {
-    owned set = set_of(range, dialect, rule);
-    check(set.count == count
-              && memcmp(set.switches, switches, count * sizeof(semver_parser_switch)) == 0,
-          "other switches", range);
-    check(set.length == strlen(bytes) && memcmp(set.bytes, bytes, set.length) == 0, "other bytes",
-          range);
-    release(&set);
-}
-
-static void sets(void) {
-    static const semver_parser_switch caret[] = {{1, 2, 0, 0, 0}, {1, 2, 0, 0, 0}, {2, 0, 0, 0, 0}};
-    set_is("^1.2", CARGO, RELEASES, caret, 3, "");
-    set_is("1.2 - 1", NPM, RELEASES, caret, 3, "");
-    static const semver_parser_switch both[] = {{1, 2, 4, 0, 0}, {1, 2, 0, 0, 0}, {2, 0, 0, 0, 0},
-                                                {1, 2, 0, 0, 4}, {2, 0, 1, 4, 1}, {3, 0, 0, 5, 1},
-                                                {3, 0, 0, 6, 3}};
-    set_is(">=1.2.0-rc.1 <2.0.0 || =3.0.0-a", CRATE_CARGO, ALL, both, 7, "rc.10aa.0");
-    static const semver_parser_switch none[] = {{1, 0, 0, 0, 0}};
-    set_is(">2 <1", NPM, ALL, none, 1, "");
-}
-
-static void error_is(const char *range, int32_t dialect, int32_t rule, int32_t error) {
-    size_t count = 7;
-    size_t length = 7;
-    check(semver_parser_set(bytes_of(range), strlen(range), dialect, rule, NULL, 0, &count, NULL, 0,
-                            &length) == error
-              && count == 7 && length == 7,
-          "another error", range);
-}
-
-static void errors(void) {
-    error_is("", 4, 9, SEMVER_PARSER_NO_SUCH_DIALECT);
-    error_is("\xFF", CARGO, 9, SEMVER_PARSER_NO_SUCH_RULE);
-    error_is("\xFF", CARGO, ALL, SEMVER_PARSER_RANGE_NOT_UTF8);
-    error_is("1..2", NPM, ALL, SEMVER_PARSER_NOT_A_RANGE);
-    error_is("^18446744073709551615", CARGO, ALL, SEMVER_PARSER_NUMBER_TOO_LARGE);
-}
-
-/* ---- what is asked of a set */
-
-static int32_t has(const owned *set, const char *version, int32_t dialect) {
-    bool is_in = false;
-    int32_t answer = semver_parser_set_has(view(set), bytes_of(version), strlen(version), dialect,
-                                           &is_in);
-    return answer != SEMVER_PARSER_OK ? answer : (int32_t)(is_in ? -1 : -2);
-}
-
-enum { IN = -1, OUT = -2 };
-
-static void versions(void) {
-    owned set = set_of(">=1.2.0-rc.2 <2.0.0", CRATE_CARGO, ALL);
-    check(has(&set, "1.2.0-rc.2", CARGO) == IN, "the first is out", "");
-    check(has(&set, "1.2.0-rc.10+b", CARGO) == IN, "rc.10 is out", "");
-    check(has(&set, "1.2.0-rc.1", CARGO) == OUT, "rc.1 is in", "");
-    check(has(&set, "2.0.0-a", CARGO) == IN, "2.0.0-a is out", "");
-    check(has(&set, "2.0.0", CARGO) == OUT, "2.0.0 is in", "");
-    check(has(&set, " v1.9.0 ", NPM) == IN, "npm's spelling is out", "");
-    check(has(&set, "v1.9.0", CARGO) == SEMVER_PARSER_NOT_A_VERSION, "v is read", "");
-    check(has(&set, "1.9", CRATE_CARGO) == SEMVER_PARSER_UNEXPECTED_END, "1.9 is read", "");
-    check(has(&set, "\xFF", CARGO) == SEMVER_PARSER_VERSION_NOT_UTF8, "no UTF-8 is read", "");
-    owned none = {NULL, 0, NULL, 0};
-    check(has(&none, "1.9", CARGO) == SEMVER_PARSER_NOT_A_SET, "nothing is a set", "");
-    check(has(&none, "1.9", 4) == SEMVER_PARSER_NO_SUCH_DIALECT, "a dialect 4", "");
-    release(&set);
-}
-
-typedef int32_t (*printing)(const owned *set, uint8_t *out, size_t room, size_t *length);
-
-static int32_t releases_of(const owned *set, uint8_t *out, size_t room, size_t *length) {
-    return semver_parser_print_set(view(set), false, out, room, length);
-}
-
-static int32_t pre_releases_of(const owned *set, uint8_t *out, size_t room, size_t *length) {
-    return semver_parser_print_set(view(set), true, out, room, length);
-}
-
-static int32_t least_of(const owned *set, uint8_t *out, size_t room, size_t *length) {
-    return semver_parser_set_least(view(set), out, room, length);
-}
-
-static void prints(const owned *set, printing print, const char *wanted) {
-    for (size_t room = 0; room <= strlen(wanted); room++) {
-        uint8_t *out = (uint8_t *)block(room);
-        size_t length = 0;
-        int32_t answer = print(set, room != 0 ? out : NULL, room, &length);
-        check(length == strlen(wanted), "another length", wanted);
-        bool fits = room >= length;
-        check(answer == (fits ? (int32_t)SEMVER_PARSER_OK : (int32_t)SEMVER_PARSER_NO_ROOM),
-              "another answer", wanted);
-        check(answer == SEMVER_PARSER_OK ? memcmp(out, wanted, length) == 0 : is_filled(out, room),
-              "another text", wanted);
-        free(out);
-    }
-}
-
-static void texts(void) {
-    owned set = set_of(">1.0.0-rc.1", CRATE_CARGO, RELEASES);
-    prints(&set, least_of, "1.0.0");
-    prints(&set, releases_of, ">=1.0.0");
-    prints(&set, pre_releases_of, "<0.0.0-0");
-    release(&set);
-    set = set_of(">1.0.0-rc.1", CRATE_CARGO, ALL);
-    prints(&set, least_of, "1.0.0-rc.1.0");
-    release(&set);
-    set = set_of(">1.2.3 <2.0.0-0", CRATE_CARGO, ALL);
-    prints(&set, pre_releases_of, ">=1.2.4-0 <2.0.0-0");
-    release(&set);
-    set = set_of(">2 <1", NPM, ALL);
-    prints(&set, least_of, "");
-    prints(&set, releases_of, "<0.0.0-0");
-    release(&set);
-    set = set_of("*", NPM, RELEASES);
-    prints(&set, releases_of, "*");
-    release(&set);
+    set_prints(many.bytes, CRATE_NPM, DEFAULT, say_releases, wanted.bytes);
+    text_free(&many);
+    text_free(&wanted);
 }
 
 /* ---- two sets */
 
-static void combined_is(const owned *first, const owned *second, int32_t operation,
-                        const char *wanted) {
-    source of = {NULL, 0, 0, first, second, operation};
-    owned made = made_of(&of, wanted);
-    prints(&made, releases_of, wanted);
-    release(&made);
+/* Two ranges and the lowest version of what one alone, the other alone, and both have, by each
+ * rule. */
+static const struct {
+    int dialect;
+    const char *ranges[2];
+    const char *wanted[RULES][3];
+} pairs[] = {
+    {CRATE_CARGO, {"^1.2.3", "^1.2.3"}, {{"", "", "1.2.3"}, {"", "", "1.2.3"}, {"", "", "1.2.3"}}},
+    {CRATE_NPM, {"1.2.3+a", "1.2.3+b"}, {{"", "", "1.2.3"}, {"", "", "1.2.3"}, {"", "", "1.2.3"}}},
+    {CRATE_CARGO, {"", "*"}, {{"", "", "0.0.0"}, {"", "", "0.0.0"}, {"", "", "0.0.0"}}},
+    {CRATE_CARGO, {">2 <1", ">3 <2"}, {{"", "", ""}, {"", "", ""}, {"", "", ""}}},
+    {CRATE_CARGO, {"^1", ">2 <1"}, {{"1.0.0", "", ""}, {"1.0.0", "", ""}, {"1.0.0", "", ""}}},
+    {CRATE_CARGO,
+     {"^1", "^2"},
+     {{"1.0.0", "2.0.0", ""}, {"1.0.0", "2.0.0", ""}, {"1.0.0", "2.0.0", ""}}},
+    {CRATE_CARGO, {">=" LAST, ">" LAST}, {{LAST, "", ""}, {LAST, "", ""}, {LAST, "", ""}}},
+    {CRATE_CARGO,
+     {"^1.2.0", ">=1.4.0"},
+     {{"1.2.0", "2.0.0", "1.4.0"}, {"1.2.0", "2.0.0", "1.4.0"}, {"1.2.0", "2.0.0-0", "1.4.0"}}},
+    {CRATE_CARGO,
+     {"<2.0.0", "<2.0.0-0"},
+     {{"", "", "0.0.0"}, {"", "", "0.0.0"}, {"2.0.0-0", "", "0.0.0-0"}}},
+    {CRATE_CARGO,
+     {">1.0.0-rc.1", ">=1.0.0-rc.1"},
+     {{"", "", "1.0.0"},
+      {"", "1.0.0-rc.1", "1.0.0-rc.1.0"},
+      {"", "1.0.0-rc.1", "1.0.0-rc.1.0"}}},
+    {CRATE_NPM,
+     {"=2.0.1-a || >=2.0.0", ">=2.0.0"},
+     {{"", "", "2.0.0"}, {"2.0.1-a", "", "2.0.0"}, {"", "", "2.0.0"}}},
+    {CRATE_NPM,
+     {">=1.0.0-2 <1.0.0", ">=1.0.0-10 <1.0.0"},
+     {{"", "", ""}, {"1.0.0-2", "", "1.0.0-10"}, {"1.0.0-2", "", "1.0.0-10"}}},
+    {CRATE_NPM,
+     {"=1.2.3-01", "=1.2.3-1"},
+     {{"", "", ""}, {"", "", "1.2.3-1"}, {"", "", "1.2.3-1"}}},
+    {CARGO, {"1.2", "^1.2"}, {{"", "", "1.2.0"}, {"", "", "1.2.0"}, {NULL, NULL, NULL}}},
+    {NPM, {"1.2", "^1.2"}, {{"", "1.3.0", "1.2.0"}, {"", "1.3.0", "1.2.0"}, {NULL, NULL, NULL}}},
+    {NPM, {">1.2", ">=1.3.0"}, {{"", "", "1.3.0"}, {"", "", "1.3.0"}, {NULL, NULL, NULL}}},
+    {NPM, {"* || =1.0.0-a", "*"}, {{"", "", "0.0.0"}, {"", "", "0.0.0"}, {NULL, NULL, NULL}}},
+    {CRATE_NPM,
+     {"* || =1.0.0-a", "*"},
+     {{"", "", "0.0.0"}, {"1.0.0-a", "", "0.0.0"}, {NULL, NULL, NULL}}},
+    {CARGO,
+     {"^1.2, >=1.2.0-a", "=1.2, >=1.2.0-a"},
+     {{"1.3.0", "", "1.2.0"}, {"1.2.0-a", "", "1.2.0"}, {NULL, NULL, NULL}}},
+    {CARGO, {"*", ">=0.0.0-a"}, {{"", "", "0.0.0"}, {"", "0.0.0-a", "0.0.0"}, {NULL, NULL, NULL}}},
+};
+
+static void compared_is(const semver_parser_set *one, const semver_parser_set *other, bool within,
+                        bool same, const char *of) {
+    bool is_subset = !within;
+    bool equal = !same;
+    check(semver_parser_set_is_subset(one, other, &is_subset) == SEMVER_PARSER_OK
+              && is_subset == within,
+          "another subset", of);
+    check(semver_parser_set_equal(one, other, &equal) == SEMVER_PARSER_OK && equal == same,
+          "another equality", of);
 }
 
-static void compared_is(const owned *first, const owned *second, bool within, bool contains) {
-    bool is_within = !within;
-    bool does_contain = !contains;
-    check(semver_parser_compare_sets(view(first), view(second), &is_within, &does_contain)
-                  == SEMVER_PARSER_OK
-              && is_within == within && does_contain == contains,
-          "compared otherwise", "");
+/* Whether what an operation makes of two sets has a lowest version, and is a set of the same
+ * options. */
+static void combined_is(const semver_parser_set *one, char operation,
+                        const semver_parser_set *other, const char *wanted) {
+    semver_parser_set *made = combined(one, operation, other);
+    check(made != NULL, "not combined", wanted);
+    prints(made, say_lowest, wanted);
+    check(semver_parser_set_is_empty(made) == (wanted[0] == 0), "another emptiness", wanted);
+    semver_parser_options options = semver_parser_set_options(made);
+    semver_parser_options before = semver_parser_set_options(one);
+    check(options.dialect == before.dialect && options.pre_releases == before.pre_releases,
+          "other options", wanted);
+    semver_parser_set_free(made);
 }
 
-static void pairs(void) {
-    owned first = set_of(">=1.0.0 <1.5.0", CRATE_CARGO, RELEASES);
-    owned second = set_of(">=1.2.0 <2.0.0", CRATE_CARGO, RELEASES);
-    owned whole = set_of("^1", CARGO, RELEASES);
-    combined_is(&first, &second, SEMVER_PARSER_UNION, ">=1.0.0 <2.0.0");
-    combined_is(&first, &second, SEMVER_PARSER_INTERSECTION, ">=1.2.0 <1.5.0");
-    combined_is(&first, &second, SEMVER_PARSER_DIFFERENCE, ">=1.0.0 <1.2.0");
-    combined_is(&second, &first, SEMVER_PARSER_DIFFERENCE, ">=1.5.0 <2.0.0");
-    compared_is(&first, &second, false, false);
-    compared_is(&first, &whole, true, false);
-    compared_is(&whole, &first, false, true);
-    compared_is(&whole, &whole, true, true);
-    owned none = {NULL, 0, NULL, 0};
-    size_t count = 7;
-    size_t length = 7;
-    bool answer = true;
-    bool other = true;
-    check(semver_parser_combine(view(&none), view(&first), 3, NULL, 0, &count, NULL, 0, &length)
-              == SEMVER_PARSER_NO_SUCH_OPERATION,
-          "an operation 3", "");
-    check(semver_parser_combine(view(&first), view(&none), 0, NULL, 0, &count, NULL, 0, &length)
-                  == SEMVER_PARSER_NOT_A_SET
-              && count == 7 && length == 7,
-          "nothing is combined", "");
-    check(semver_parser_compare_sets(view(&none), view(&first), &answer, &other)
-              == SEMVER_PARSER_NOT_A_SET,
-          "nothing is compared", "");
-    release(&first);
-    release(&second);
-    release(&whole);
-}
-
-/* ---- data that is no set, or another one */
-
-/* Each byte of a set changed in turn: no call reads beyond the data, and all agree whether it is a
- * set. */
-static void changed(const char *range) {
-    owned set = set_of(range, CRATE_CARGO, ALL);
-    size_t of_switches = set.count * sizeof(semver_parser_switch);
-    for (size_t at = 0; at < of_switches + set.length; at++) {
-        for (int bit = 0; bit < 8; bit++) {
-            uint8_t *byte = at < of_switches ? (uint8_t *)set.switches + at
-                                             : set.bytes + (at - of_switches);
-            *byte ^= (uint8_t)(1 << bit);
-            bool is_set = has(&set, "1.2.3", CARGO) < 0;
-            uint8_t out[256];
-            size_t length;
-            bool within = false;
-            bool contains = false;
-            int32_t wanted = is_set ? SEMVER_PARSER_OK : SEMVER_PARSER_NOT_A_SET;
-            check(releases_of(&set, out, sizeof out, &length) == wanted, "releases", range);
-            check(pre_releases_of(&set, out, sizeof out, &length) == wanted, "pre-releases", range);
-            check(least_of(&set, out, sizeof out, &length) == wanted, "least", range);
-            check(semver_parser_compare_sets(view(&set), view(&set), &within, &contains) == wanted
-                      && within == is_set && contains == is_set,
-                  "compared", range);
-            *byte ^= (uint8_t)(1 << bit);
+static void two_sets(void) {
+    for (size_t at = 0; at < sizeof pairs / sizeof *pairs; at++) {
+        for (int rule = 0; rule < RULES && pairs[at].wanted[rule][0] != NULL; rule++) {
+            const char *const *wanted = pairs[at].wanted[rule];
+            const char *of = pairs[at].ranges[0];
+            semver_parser_set *one = made_of(of, pairs[at].dialect, rules[rule]);
+            semver_parser_set *other =
+                made_of(pairs[at].ranges[1], pairs[at].dialect, rules[rule]);
+            combined_is(one, '-', other, wanted[0]);
+            combined_is(other, '-', one, wanted[1]);
+            combined_is(one, '&', other, wanted[2]);
+            compared_is(one, other, wanted[0][0] == 0, wanted[0][0] + wanted[1][0] == 0, of);
+            compared_is(other, one, wanted[1][0] == 0, wanted[0][0] + wanted[1][0] == 0, of);
+            compared_is(one, one, true, true, of);
+            semver_parser_set_free(one);
+            semver_parser_set_free(other);
         }
     }
-    release(&set);
+}
+
+static void releases_are(const semver_parser_set *one, char operation,
+                         const semver_parser_set *other, const char *wanted) {
+    semver_parser_set *made = combined(one, operation, other);
+    prints(made, say_releases, wanted);
+    semver_parser_set_free(made);
+}
+
+static void whole_sets(void) {
+    semver_parser_set *one = made_of(">=1.0.0 <1.5.0", CRATE_CARGO, EXCLUDED);
+    semver_parser_set *other = made_of(">=1.2.0 <2.0.0", CRATE_CARGO, EXCLUDED);
+    releases_are(one, '|', other, ">=1.0.0 <2.0.0");
+    releases_are(one, '&', other, ">=1.2.0 <1.5.0");
+    releases_are(one, '-', other, ">=1.0.0 <1.2.0");
+    releases_are(other, '-', one, ">=1.5.0 <2.0.0");
+    semver_parser_set_free(one);
+    semver_parser_set_free(other);
+}
+
+/* Sets of other options are neither combined nor compared, also if they have the same versions. */
+static void other_options(void) {
+    semver_parser_set *sets[DIALECTS * RULES];
+    for (int at = 0; at < DIALECTS * RULES; at++) {
+        sets[at] = made_of("=1.2.3", at / RULES, at % RULES);
+    }
+    for (int at = 0; at < DIALECTS * RULES * DIALECTS * RULES; at++) {
+        const semver_parser_set *one = sets[at / (DIALECTS * RULES)];
+        const semver_parser_set *other = sets[at % (DIALECTS * RULES)];
+        semver_parser_status wanted =
+            one == other ? SEMVER_PARSER_OK : SEMVER_PARSER_INVALID_ARGUMENT;
+        bool answers[2] = {false, false};
+        check(semver_parser_set_equal(one, other, &answers[0]) == wanted
+                  && semver_parser_set_is_subset(one, other, &answers[1]) == wanted
+                  && answers[0] == (one == other) && answers[1] == (one == other),
+              "other options are compared", "=1.2.3");
+        for (int operation = 0; operation < 3; operation++) {
+            semver_parser_set *made = combined(one, "|&-"[operation], other);
+            check((made != NULL) == (one == other), "other options are combined", "=1.2.3");
+            semver_parser_set_free(made);
+        }
+    }
+    for (int at = 0; at < DIALECTS * RULES; at++) {
+        semver_parser_set_free(sets[at]);
+    }
+    semver_parser_set_free(NULL);
+    semver_parser_comparators_free(NULL);
+    semver_parser_string_free(NULL);
+}
+
+/* ---- saved sets */
+
+/* The bytes of a set in a block of their own. */
+static char *saved(const semver_parser_set *set, size_t *length) {
+    char *bytes = NULL;
+    check(semver_parser_set_save(set, &bytes, length) == SEMVER_PARSER_OK, "not saved", "a set");
+    char *alone = (char *)malloc(*length);
+    if (alone == NULL) {
+        exit(2);
+    }
+    memcpy(alone, bytes, *length);
+    semver_parser_string_free(bytes);
+    return alone;
+}
+
+/* Loads bytes from a block of that length. A set that is loaded is saved as the same bytes. */
+static bool is_loaded(const char *bytes, size_t length) {
+    char *alone = (char *)malloc(length != 0 ? length : 1);
+    semver_parser_set *set = NULL;
+    if (alone == NULL) {
+        exit(2);
+    }
+    memcpy(alone, bytes, length);
+    semver_parser_status status = semver_parser_set_load(alone, length, &set);
+    check(status == (set != NULL ? SEMVER_PARSER_OK : SEMVER_PARSER_INVALID_ARGUMENT),
+          "another status of bytes", "a saved set");
+    if (set != NULL) {
+        size_t again_length = 0;
+        char *again = saved(set, &again_length);
+        check(again_length == length && memcmp(again, bytes, length) == 0, "saved otherwise",
+              "a saved set");
+        text printed_set = string("");
+        say_lowest(&printed_set, set);
+        say_releases(&printed_set, set);
+        say_pre_releases(&printed_set, set);
+        text_free(&printed_set);
+        compared_is(set, set, true, true, "a saved set");
+        free(again);
+    }
+    free(alone);
+    semver_parser_set_free(set);
+    return set != NULL;
+}
+
+/* Each bit changed and each length cut: no function reads beyond a set, and what is no set isn't
+ * loaded. */
+static void changed(const char *range) {
+    semver_parser_set *set = made_of(range, CRATE_CARGO, INCLUDED);
+    semver_parser_set *loaded = NULL;
+    size_t length = 0;
+    char *bytes = saved(set, &length);
+    check(is_loaded(bytes, length), "not loaded", range);
+    check(semver_parser_set_load(bytes, length, &loaded) == SEMVER_PARSER_OK, "not loaded", range);
+    compared_is(set, loaded, true, true, range);
+    int sets = 0;
+    for (size_t at = 0; at < length; at++) {
+        check(!is_loaded(bytes, at), "a part is loaded", range);
+        for (int bit = 0; bit < 8; bit++) {
+            bytes[at] = (char)(bytes[at] ^ (1 << bit));
+            bool is_set = is_loaded(bytes, length);
+            /* The mark, and a dialect or rule that there isn't. */
+            check(!is_set || (at >= 6 && !((at == 6 || at == 7) && bit >= 2)),
+                  "another head is loaded", range);
+            sets += is_set;
+            bytes[at] = (char)(bytes[at] ^ (1 << bit));
+        }
+    }
+    check(sets > 0, "no number may be another", range);
+    char *longer = (char *)malloc(length + 1);
+    if (longer == NULL) {
+        exit(2);
+    }
+    memcpy(longer, bytes, length);
+    longer[length] = 0;
+    check(!is_loaded(longer, length + 1), "a byte more is loaded", range);
+    free(longer);
+    free(bytes);
+    semver_parser_set_free(loaded);
+    semver_parser_set_free(set);
+}
+
+/* Equal sets have equal bytes, and others haven't. */
+static void equal_bytes(void) {
+    static const char *const ranges[] = {"^1.2.3", ">=1.2.3 <2.0.0-0", "^1.2.4"};
+    char *bytes[3];
+    size_t lengths[3];
+    for (int at = 0; at < 3; at++) {
+        semver_parser_set *set = made_of(ranges[at], CRATE_NPM, INCLUDED);
+        bytes[at] = saved(set, &lengths[at]);
+        semver_parser_set_free(set);
+    }
+    check(lengths[0] == lengths[1] && memcmp(bytes[0], bytes[1], lengths[0]) == 0,
+          "equal sets have other bytes", ranges[0]);
+    check(lengths[0] != lengths[2] || memcmp(bytes[0], bytes[2], lengths[0]) != 0,
+          "other sets have equal bytes", ranges[0]);
+    for (int at = 0; at < 3; at++) {
+        free(bytes[at]);
+    }
+    semver_parser_set *set = NULL;
+    check(semver_parser_set_load(NULL, 0, &set) == SEMVER_PARSER_INVALID_ARGUMENT && set == NULL,
+          "nothing is loaded", "");
+}
+
+/* ---- the highest and the lowest of a list */
+
+/* Versions, of which the last is "", and the indices of the highest and the lowest: the first of
+ * equal ones, or how many there are if none is in the set. */
+static const struct {
+    int dialect;
+    int rule;
+    const char *range;
+    const char *versions[8];
+    size_t highest;
+    size_t lowest;
+} lists[] = {
+    {CARGO, DEFAULT, "^1", {"0.9.0", "1.2.0", "1.10.0", "1.9.0", "2.0.0", ""}, 2, 1},
+    {CARGO, DEFAULT, "^1", {"1.2.0+b", "1.2.0+a", "1.2.0", ""}, 0, 0},
+    {CARGO, DEFAULT, "^1", {"0.1.0", "1.2.0+b", "1.2.0+z", "1.1.0+b", "1.1.0", ""}, 1, 3},
+    {CARGO, DEFAULT, "^1", {"v1.5.0", "1.2", "1.2.0", "x", "1.3.0 ", ""}, 2, 2},
+    {CARGO, DEFAULT, "^1", {"0.9.0", "2.0.0", "v1.0.0", ""}, 3, 3},
+    {CARGO, DEFAULT, "^1", {""}, 0, 0},
+    {NPM, DEFAULT, "^1", {"v1.5.0", "1.2", "1.2.0", " 1.5.0", ""}, 0, 2},
+    {NPM, INCLUDED, ">=1.0.0-0", {"1.0.0-rc.1", "1.0.0", "1.0.0-alpha", ""}, 1, 2},
+    {NPM, DEFAULT, ">=1.0.0-0", {"1.0.0-rc.1", "1.0.1-rc.1", "1.0.0-alpha.1", ""}, 0, 2},
+    {NPM, EXCLUDED, ">=1.0.0-0", {"1.0.0-rc.1", "1.0.0-alpha.1", ""}, 2, 2},
+    {CRATE_NPM, INCLUDED, "*", {"1.0.0-2", "1.0.0-01", "1.0.0-10", ""}, 1, 0},
+    {CRATE_CARGO, INCLUDED, ">2 <1", {"1.0.0", "3.0.0", ""}, 2, 2},
+};
+
+static void highest_and_lowest(void) {
+    for (size_t at = 0; at < sizeof lists / sizeof *lists; at++) {
+        semver_parser_set *set = made_of(lists[at].range, lists[at].dialect, lists[at].rule);
+        semver_parser_string versions[8];
+        size_t count = 0;
+        for (; lists[at].versions[count][0] != 0; count++) {
+            versions[count] = semver_parser_str(lists[at].versions[count]);
+        }
+        size_t index = 77;
+        semver_parser_string *list = count == 0 ? NULL : versions;
+        check(semver_parser_set_highest(set, list, count, &index, NULL) == SEMVER_PARSER_OK
+                  && index == lists[at].highest,
+              "another highest version", lists[at].versions[0]);
+        check(semver_parser_set_lowest(set, list, count, &index, NULL) == SEMVER_PARSER_OK
+                  && index == lists[at].lowest,
+              "another lowest version", lists[at].versions[0]);
+        semver_parser_set_free(set);
+    }
 }
 
 int main(void) {
-    sets();
-    errors();
-    versions();
-    texts();
-    pairs();
+    lowest();
+    printed();
+    two_sets();
+    whole_sets();
+    other_options();
     changed(">=1.2.0-rc.1 <2.0.0 || =3.0.0-a.01x || 5");
     changed("1.2.3");
-    printf("sets of C: %s\n", failed == 0 ? "passed" : "failed");
-    return failed == 0 ? 0 : 1;
+    changed(">2 <1");
+    equal_bytes();
+    highest_and_lowest();
+    return finish("sets");
 }

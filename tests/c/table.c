@@ -93,10 +93,11 @@ void say_identifiers(text *to, const char *bytes, size_t length) {
     }
 }
 
-void say_fields(text *to, const text *of, const semver_parser_version *read) {
-    text_say(to, "%" PRIu64 " %" PRIu64 " %" PRIu64 " pre[", read->major, read->minor, read->patch);
-    say_identifiers(to, of->bytes + read->pre.offset, read->pre.length);
+void say_fields(text *to, const semver_parser_version *parsed) {
+    text_say(to, "%" PRIu64 " %" PRIu64 " %" PRIu64 " pre[", parsed->major, parsed->minor,
+             parsed->patch);
+    say_identifiers(to, parsed->pre.data, parsed->pre.length);
     text_say(to, "] build[");
-    say_identifiers(to, of->bytes + read->build.offset, read->build.length);
+    say_identifiers(to, parsed->build.data, parsed->build.length);
     text_say(to, "]");
 }

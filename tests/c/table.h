@@ -33,7 +33,7 @@ void row_free(row *it);
 /* Writes identifiers, which are joined by dots, as the table has them: by their variants. */
 void say_identifiers(text *to, const char *bytes, size_t length);
 
-/* Writes the fields of a version that was read from a text. */
-void say_fields(text *to, const text *of, const semver_parser_version *read);
+/* Writes the fields of a version. */
+void say_fields(text *to, const semver_parser_version *parsed);
 
 #endif

@@ -10,7 +10,8 @@ static void give_up(const char *why) {
     exit(2);
 }
 
-void text_add(text *to, const char *bytes, size_t length) {
+/* Makes room for bytes and a zero byte after them. */
+static void grow(text *to, size_t length) {
     if (to->room - to->length <= length) {
         to->room = 2 * (to->length + length) + 64;
         to->bytes = (char *)realloc(to->bytes, to->room);
@@ -18,21 +19,28 @@ void text_add(text *to, const char *bytes, size_t length) {
             give_up("no memory");
         }
     }
+}
+
+void text_add(text *to, const char *bytes, size_t length) {
+    grow(to, length);
     memcpy(to->bytes + to->length, bytes, length);
     to->length += length;
     to->bytes[to->length] = 0;
 }
 
 void text_say(text *to, const char *format, ...) {
-    char said[256];
     va_list arguments;
     va_start(arguments, format);
-    int length = vsnprintf(said, sizeof said, format, arguments);
+    int length = vsnprintf(NULL, 0, format, arguments);
     va_end(arguments);
-    if (length < 0 || (size_t)length >= sizeof said) {
-        give_up("too long to say");
+    if (length < 0) {
+        give_up("it can't be said");
     }
-    text_add(to, said, (size_t)length);
+    grow(to, (size_t)length);
+    va_start(arguments, format);
+    vsnprintf(to->bytes + to->length, (size_t)length + 1, format, arguments);
+    va_end(arguments);
+    to->length += (size_t)length;
 }
 
 void text_free(text *it) {

@@ -1,176 +1,156 @@
 /* Uses all that the header has, as a program in C or in C++ does: it is compiled by each standard
- * of both, with all warnings as errors. */
+ * of both, with all warnings as errors. And two threads that read one set and one list. */
 #include "../../crates/semver_parser_c/include/semver_parser.h"
 
+#include <pthread.h>
 #include <stdio.h>
 #include <string.h>
 
-#if SEMVER_PARSER_VERSION_MAJOR != 0 || SEMVER_PARSER_VERSION_MINOR < 4                            \
+#if SEMVER_PARSER_VERSION_MAJOR != 1 || SEMVER_PARSER_VERSION_MINOR < 0                            \
     || SEMVER_PARSER_VERSION_PATCH < 0
 #error "the version of another library"
 #endif
 
-static const uint8_t *bytes_of(const char *string) {
-    return (const uint8_t *)string;
+static const semver_parser_options npm = {SEMVER_PARSER_NPM, SEMVER_PARSER_DEFAULT};
+
+static bool is_string(semver_parser_string string, const char *wanted) {
+    return string.length == strlen(wanted) && memcmp(string.data, wanted, string.length) == 0;
 }
 
-static int use_rewriting(void) {
-    const char *range = "^1.2 || 3.x";
-    semver_parser_comparator comparators[4];
-    uint8_t out[64];
-    size_t count = 0;
-    size_t length = 0;
-    int32_t answer =
-        semver_parser_comparators(bytes_of(range), strlen(range), SEMVER_PARSER_NPM, false,
-                                  comparators, 4, &count, out, sizeof out, &length);
-    if (answer != SEMVER_PARSER_OK || comparators[1].op != SEMVER_PARSER_LESS ||
-        comparators[1].pre.length != 1 || out[comparators[1].pre.offset] != '0') {
-        return 1;
-    }
-    if (semver_parser_rewrite(NULL, 0, SEMVER_PARSER_CRATE_CARGO, false, NULL, 0, &length)
-        != SEMVER_PARSER_NO_ROOM) {
-        return 1;
-    }
-    answer = semver_parser_comparators(NULL, 0, SEMVER_PARSER_CRATE_NPM, false, NULL, 0, &count,
-                                       NULL, 0, &length);
-    return answer == SEMVER_PARSER_NO_ROOM && count == 1 && length == 0 ? 0 : 1;
+/* Whether a made string is as wanted, which is freed. */
+static bool is_made(semver_parser_status status, char *made, const char *wanted) {
+    bool is_same = status == SEMVER_PARSER_OK && strcmp(made, wanted) == 0;
+    semver_parser_string_free(made);
+    return is_same;
 }
 
-static int use_sets(void) {
-    semver_parser_switch made[8];
-    uint8_t out[64];
-    size_t count = 0;
-    size_t length = 0;
+static bool use_versions(void) {
+    semver_parser_version version;
+    semver_parser_error error;
     bool is_in = false;
-    bool within = false;
-    bool contains = false;
-    if (semver_parser_set(bytes_of("^1.2"), 4, SEMVER_PARSER_CARGO, SEMVER_PARSER_EXCLUDED,
-                          made, 8, &count, out, sizeof out, &length)
+    int order = 0;
+    if (semver_parser_parse_version(semver_parser_str("1.2.3-rc.1+b5"), SEMVER_PARSER_CARGO,
+                                    &version, NULL)
             != SEMVER_PARSER_OK
-        || count != 3 || made[2].major != 2 || made[2].pre_offset + made[2].pre_length != 0) {
-        return 1;
+        || version.major != 1 || version.minor != 2 || version.patch != 3
+        || !is_string(version.pre, "rc.1") || !is_string(version.build, "b5")) {
+        return false;
     }
-    semver_parser_flat_set set = {made, count, out, length};
-    semver_parser_flat_set none = {NULL, 0, NULL, 0};
-    if (semver_parser_set_has(set, bytes_of("1.9.0"), 5, SEMVER_PARSER_NPM, &is_in)
-            != SEMVER_PARSER_OK
-        || !is_in
-        || semver_parser_compare_sets(set, set, &within, &contains) != SEMVER_PARSER_OK || !within
-        || !contains) {
-        return 1;
-    }
-    if (semver_parser_combine(set, set, SEMVER_PARSER_DIFFERENCE, NULL, 0, &count, NULL, 0, &length)
-            != SEMVER_PARSER_NO_ROOM
-        || count != 1
-        || semver_parser_combine(set, set, SEMVER_PARSER_UNION + SEMVER_PARSER_INTERSECTION + 2,
-                                 NULL, 0, &count, NULL, 0, &length)
-               != SEMVER_PARSER_NO_SUCH_OPERATION) {
-        return 1;
-    }
-    if (semver_parser_set_least(set, out, sizeof out, &length) != SEMVER_PARSER_OK || length != 5
-        || semver_parser_print_set(set, false, out, sizeof out, &length) != SEMVER_PARSER_OK
-        || length != 14) {
-        return 1;
-    }
-    return semver_parser_set_least(none, NULL, 0, &length) == SEMVER_PARSER_NOT_A_SET ? 0 : 1;
-}
-
-static int use_meeting(void) {
-    semver_parser_text versions[2];
-    uint8_t answers[2];
-    bool meets = false;
-    versions[0].bytes = bytes_of("1.2.3");
-    versions[0].length = 5;
-    versions[1].bytes = NULL;
-    versions[1].length = 0;
-    if (semver_parser_meets(bytes_of("1"), 1, SEMVER_PARSER_CRATE_NPM,
-                            SEMVER_PARSER_DEFAULT, bytes_of("1.2.3"), 5, &meets)
-            != SEMVER_PARSER_OK
-        || !meets) {
-        return 1;
-    }
-    if (semver_parser_meets_each(bytes_of("1"), 1, SEMVER_PARSER_CARGO,
-                                 SEMVER_PARSER_EXCLUDED, versions, 2, answers)
-        != SEMVER_PARSER_OK) {
-        return 1;
-    }
-    return answers[0] == SEMVER_PARSER_MEETS && answers[1] == SEMVER_PARSER_NOT_A_VERSION ? 0 : 1;
-}
-
-static int use_least(void) {
-    uint8_t out[64];
-    size_t length = 0;
-    if (semver_parser_least(bytes_of("^1.2 || 3"), 9, SEMVER_PARSER_NPM,
-                            SEMVER_PARSER_DEFAULT, out, sizeof out, &length)
-        != SEMVER_PARSER_OK) {
-        return 1;
-    }
-    return length == 5 && memcmp(out, "1.2.0", 5) == 0 ? 0 : 1;
-}
-
-static int use_explaining(void) {
-    uint8_t buffer[14];
-    size_t place = 0;
-    int32_t hint = 0;
-    if (semver_parser_explain_version(
-            bytes_of("1.2.03"), 6, SEMVER_PARSER_CARGO, buffer, sizeof buffer, &place)
-            != SEMVER_PARSER_VERSION_LEADING_ZERO
-        || place != 5) {
-        return 1;
-    }
-    return semver_parser_explain_range(bytes_of("1 || 2"), 6, SEMVER_PARSER_CARGO, &place, &hint)
-                       == SEMVER_PARSER_NOT_A_RANGE
-                   && place == 2 && hint == SEMVER_PARSER_HINT_CARGO_BARS
-               ? 0
-               : 1;
-}
-
-static int use_precedence(void) {
-    int32_t order = 0;
-    bool in_other = false;
-    if (semver_parser_precedence(bytes_of("1.2.3-rc.4"), 10, bytes_of("1.2.3-rc.11"), 11,
-            SEMVER_PARSER_CARGO, &order, &in_other)
+    if (semver_parser_compare_versions(semver_parser_str("1.0.0-rc"), semver_parser_str("1.0.0"),
+                                       SEMVER_PARSER_CRATE_NPM, &order, &error)
             != SEMVER_PARSER_OK
         || order != -1) {
-        return 1;
+        return false;
     }
-    return semver_parser_precedence(
-               bytes_of("1.2.3"), 5, NULL, 0, SEMVER_PARSER_CRATE_NPM, &order, &in_other)
-                       == SEMVER_PARSER_UNEXPECTED_END
-                   && in_other
-               ? 0
-               : 1;
+    if (semver_parser_satisfies(semver_parser_str("1.9.0"), semver_parser_str("^1.2"), npm, &is_in,
+                                &error)
+            != SEMVER_PARSER_OK
+        || !is_in) {
+        return false;
+    }
+    return semver_parser_satisfies(semver_parser_str("1.2.03"), semver_parser_str("^1.2"), npm,
+                                   &is_in, &error)
+               == SEMVER_PARSER_INVALID_VERSION
+           && error.status == SEMVER_PARSER_INVALID_VERSION && error.argument == 0
+           && error.offset == 5 && error.reason == SEMVER_PARSER_REASON_LEADING_ZERO
+           && strlen(semver_parser_status_text(error.status)) > 0
+           && strlen(semver_parser_reason_text(error.reason)) > 0;
 }
 
-static int use_compare(void) {
-    uint8_t out[64];
+/* What one can ask of a set alone. */
+static bool use_set(const semver_parser_set *set) {
+    const semver_parser_string versions[] = {{"1.2.0", 5}, {NULL, 0}, {"1.9.0", 5}};
+    semver_parser_status statuses[3];
+    bool contains[3] = {false, false, false};
+    size_t highest = 7;
+    size_t lowest = 7;
+    bool is_in = false;
+    char *string = NULL;
+    semver_parser_status status = semver_parser_set_lowest_version(set, &string);
+    if (!is_made(status, string, "1.2.0")) {
+        return false;
+    }
+    status = semver_parser_set_to_string(set, false, &string);
+    if (!is_made(status, string, ">=1.2.0 <2.0.0")) {
+        return false;
+    }
+    return semver_parser_set_options(set).dialect == SEMVER_PARSER_NPM
+           && !semver_parser_set_is_empty(set)
+           && semver_parser_set_contains(set, versions[0], &is_in, NULL) == SEMVER_PARSER_OK
+           && is_in
+           && semver_parser_set_contains_each(set, versions, 3, contains, statuses, NULL)
+                  == SEMVER_PARSER_OK
+           && contains[0] && !contains[1] && contains[2]
+           && statuses[1] == SEMVER_PARSER_INVALID_VERSION
+           && semver_parser_set_highest(set, versions, 3, &highest, NULL) == SEMVER_PARSER_OK
+           && semver_parser_set_lowest(set, versions, 3, &lowest, NULL) == SEMVER_PARSER_OK
+           && highest == 2 && lowest == 0;
+}
+
+static bool use_two_sets(const semver_parser_set *set) {
+    semver_parser_set *made[4] = {NULL, NULL, NULL, NULL};
+    char *bytes = NULL;
     size_t length = 0;
-    semver_parser_comparison comparison;
-    int32_t answer = semver_parser_compare(bytes_of("^1.2.0"), 6, bytes_of(">=1.4.0"), 7,
-                                           SEMVER_PARSER_CARGO, SEMVER_PARSER_DEFAULT,
-                                           out, sizeof out, &length, &comparison);
-    if (answer != SEMVER_PARSER_OK || length != 15 || memcmp(out, "1.2.02.0.01.4.0", 15) != 0) {
-        return 1;
+    bool equal = false;
+    bool is_subset = false;
+    bool are_made = semver_parser_set_union(set, set, &made[0]) == SEMVER_PARSER_OK
+                    && semver_parser_set_intersection(set, set, &made[1]) == SEMVER_PARSER_OK
+                    && semver_parser_set_difference(set, set, &made[2]) == SEMVER_PARSER_OK
+                    && semver_parser_set_save(set, &bytes, &length) == SEMVER_PARSER_OK
+                    && semver_parser_set_load(bytes, length, &made[3]) == SEMVER_PARSER_OK
+                    && semver_parser_set_equal(made[0], made[3], &equal) == SEMVER_PARSER_OK
+                    && semver_parser_set_is_subset(made[1], set, &is_subset) == SEMVER_PARSER_OK
+                    && semver_parser_set_is_empty(made[2]);
+    for (int at = 0; at < 4; at++) {
+        semver_parser_set_free(made[at]);
     }
-    if (comparison.lost.offset != 0 || comparison.gained.offset != 5 ||
-        comparison.shared.offset != 10 || comparison.shared.length != 5) {
-        return 1;
+    semver_parser_string_free(bytes);
+    return are_made && equal && is_subset;
+}
+
+static bool use_list(const semver_parser_comparators *list) {
+    semver_parser_comparator last;
+    char *string = NULL;
+    semver_parser_status status = semver_parser_comparators_to_string(list, &string);
+    return is_made(status, string, ">=1.2.0 <2.0.0-0 || >=3.0.0 <4.0.0-0")
+           && semver_parser_comparators_count(list) == 4
+           && semver_parser_comparators_get(list, 3, &last) == SEMVER_PARSER_OK && last.range == 1
+           && last.op == SEMVER_PARSER_LESS && last.major == 4 && is_string(last.pre, "0")
+           && semver_parser_comparators_get(list, 4, &last) == SEMVER_PARSER_INVALID_ARGUMENT;
+}
+
+/* What both threads read, and whether each was right. */
+static semver_parser_set *shared_set;
+static semver_parser_comparators *shared_list;
+
+static void *use_shared(void *right) {
+    bool is_right = true;
+    for (int at = 0; at < 200; at++) {
+        is_right = is_right && use_set(shared_set) && use_two_sets(shared_set)
+                   && use_list(shared_list) && use_versions();
     }
-    return semver_parser_compare(NULL, 0, bytes_of("v1"), 2, SEMVER_PARSER_CRATE_NPM,
-                                 SEMVER_PARSER_INCLUDED, NULL, 0, &length, &comparison)
-                   == SEMVER_PARSER_NEW_NOT_A_RANGE
-               ? 0
-               : 1;
+    *(bool *)right = is_right;
+    return NULL;
 }
 
 int main(void) {
-    semver_parser_version version;
-    int32_t answer =
-        semver_parser_parse_version(bytes_of("1.2"), 3, SEMVER_PARSER_NPM, &version);
-    int failed = strcmp(semver_parser_library_version(), SEMVER_PARSER_VERSION) != 0 ||
-                 answer != SEMVER_PARSER_NOT_A_VERSION;
-    failed |= use_rewriting() | use_meeting() | use_least() | use_precedence() | use_compare();
-    failed |= use_explaining() | use_sets();
-    printf("uses: %s\n", failed ? "failed" : "passed");
-    return failed;
+    bool right[2] = {false, false};
+    pthread_t other;
+    bool passed =
+        strcmp(semver_parser_library_version(), SEMVER_PARSER_VERSION) == 0
+        && semver_parser_library_version_number() >= 1000000
+        && semver_parser_set_of_range(semver_parser_str("^1.2"), npm, &shared_set, NULL)
+               == SEMVER_PARSER_OK
+        && semver_parser_comparators_of_range(semver_parser_str("^1.2 || 3.x"), SEMVER_PARSER_NPM,
+                                              false, &shared_list, NULL)
+               == SEMVER_PARSER_OK
+        && pthread_create(&other, NULL, use_shared, &right[0]) == 0;
+    if (passed) {
+        use_shared(&right[1]);
+        passed = pthread_join(other, NULL) == 0 && right[0] && right[1];
+    }
+    semver_parser_set_free(shared_set);
+    semver_parser_comparators_free(shared_list);
+    printf("uses: %s\n", passed ? "passed" : "failed");
+    return passed ? 0 : 1;
 }

@@ -61,7 +61,7 @@ The status is 0 if both ranges mean the same versions, 1 if they differ, 0 for
 one range, and 2 after an error.";
 
 /// The version of this program, as the file VERSION has it.
-const VERSION: &str = "compare-ranges 0.7.0";
+const VERSION: &str = "compare-ranges 1.0.0";
 
 /// Why a run ended by an error.
 #[derive(Drop)]

@@ -66,7 +66,7 @@ The status is 0 if a line was written, 1 if none was, and 2 after an error,
 which standard error describes.";
 
 /// The version of this program, as the file VERSION has it.
-const VERSION: &str = "release-filter 0.7.0";
+const VERSION: &str = "release-filter 1.0.0";
 
 /// So many bytes of the input are read at once.
 const AT_ONCE: usize = 65536;
