@@ -179,8 +179,8 @@ void semver_parser_string_free(char *string);
 
 /* ---- versions and ranges */
 
-/* Whether a version satisfies a range: 1.9.0 satisfies `^1.2`. Build metadata is
- * ignored. INVALID_VERSION, INVALID_RANGE, NUMBER_TOO_LARGE. */
+/* Whether a version satisfies a range: 1.9.0 satisfies `^1.2`. Build metadata is ignored.
+ * INVALID_VERSION, INVALID_RANGE, NUMBER_TOO_LARGE. */
 SEMVER_PARSER_CHECKED(4)
 semver_parser_status semver_parser_satisfies(
     semver_parser_string version, semver_parser_string range, semver_parser_options options,
@@ -213,8 +213,7 @@ semver_parser_status semver_parser_compare_versions(
 
 typedef struct semver_parser_set semver_parser_set;
 
-/* Makes the set of the versions that satisfy a range. INVALID_RANGE, NUMBER_TOO_LARGE.
- */
+/* Makes the set of the versions that satisfy a range. INVALID_RANGE, NUMBER_TOO_LARGE. */
 SEMVER_PARSER_CHECKED(3)
 semver_parser_status semver_parser_set_of_range(
     semver_parser_string range, semver_parser_options options, semver_parser_set **set,
@@ -284,8 +283,7 @@ semver_parser_status semver_parser_set_lowest_version(
     const semver_parser_set *set, char **version);
 
 /* Prints the releases of a set, or its pre-releases, as a range: `>=1.2.0 <2.0.0`, `*` for all,
- * `<0.0.0-0` for none. By SEMVER_PARSER_CRATE_NPM
- * it reads back. */
+ * `<0.0.0-0` for none. It reads back by SEMVER_PARSER_CRATE_NPM. */
 SEMVER_PARSER_CHECKED(1, 3)
 semver_parser_status semver_parser_set_to_string(
     const semver_parser_set *set, bool pre_releases, char **string);
