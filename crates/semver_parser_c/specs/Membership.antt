@@ -11,9 +11,9 @@ use Rattle.semver_parser.specs.ToolVersions.{IsVersionTextIn, SpellsIn}
 use Rattle.semver_parser.specs.Versions.{PlainVersion, VersionValue}
 use Rattle.tool_ranges.specs.Dialects.{grammar_of}
 use Rattle.tool_ranges.specs.declared.dialect.Dialect.{Dialect}
-use Rattle.version_sets.specs.VersionSets.{SetValue, has}
+use Rattle.version_sets.specs.VersionSets.{HasSomeVersion, SetValue, has}
 use Rattle.semver_parser_c.specs.Numbers as number
-use Rattle.semver_parser_c.specs.Outcomes.{ByDialect, OfSet, OfVersion}
+use Rattle.semver_parser_c.specs.Outcomes.{ByDialect, OfSet, OfVersion, Refused}
 use Rattle.semver_parser_c.specs.Sets.{Given}
 
 -- whether a version is in a set
@@ -43,11 +43,12 @@ pub record HasByteForEach (d : Dialect) (set : SetValue) (texts : List (Bor Text
   pub after : (k : ℕ) → length texts ≤ k → slice_index new k ≡ slice_index old k
   pub length : length new ≡ length old
 
--- whether each of many versions is in a set
+-- whether each of many versions is in a set. Memory runs out only if it has a version
 abbrev pub ContainsEach : ℤ → Given → List (Bor Text) → List ℕ → List ℕ → ℤ → Type 0
 ContainsEach dialect given texts old new r = ByDialect dialect r (new ≡ old) (λ d.
     OfSet given.switches given.bytes r (new ≡ old) (λ set.
-    (r ≡ number.ok) × HasByteForEach d set texts old new))
+    (HasSomeVersion set × Refused number.out_of_memory r (new ≡ old))
+    ⊎ ((r ≡ number.ok) × HasByteForEach d set texts old new)))
 
 -- the string is a version that is in the set
 abbrev pub IsMemberText : Dialect → SetValue → Text → Type 0

@@ -464,6 +464,7 @@ pub fn one_membership(
 
 /// So each of many versions.
 pub fn one_memberships(
+    alloc: Global,
     switches: &[FlatSwitch],
     bytes: &[u8],
     versions: &[&[u8]],
@@ -472,13 +473,12 @@ pub fn one_memberships(
     others: &mut [u8],
 ) -> (i32, i32)
     requires { answers.old ≡ others.old }
-    ensures one { (result.0 ≡ result.1) × (answers.new ≡ others.new) }
+    ensures one { AreOne result.0 result.1 (answers.new ≡ others.new) }
 {
     one_flat();
     one_version_in();
-    let number = semver_parser_proved_contains_each(switches, bytes, versions, dialect, answers);
-    let other_number = semver_parser_proved_contains_each(
-        switches, bytes, versions, dialect, others,
+    let number = semver_parser_proved_contains_each(alloc, switches, bytes, versions, dialect, answers);
+    let other_number = semver_parser_proved_contains_each(alloc, switches, bytes, versions, dialect, others,
     );
     (number, other_number)
 }

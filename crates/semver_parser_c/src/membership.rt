@@ -17,8 +17,9 @@ use crate::options::dialect_of;
 use crate::versions::precedence;
 use semver_parser::laws::one_version_in;
 use semver_parser::version::{Outline, outline_in};
+use std::alloc::Global;
 use tool_ranges::dialect::Dialect;
-use version_sets::{FlatSet, FlatSwitch};
+use version_sets::{FlatSet, FlatSwitch, VersionSet};
 
 // Answer: law semver_parser_c::laws::one_membership.
 /// Finds whether a version is in a set: `OK` with the answer in `contains`. The version is read in
@@ -57,14 +58,15 @@ pub extern "C" fn semver_parser_proved_contains(
 // Answer: law semver_parser_c::laws::one_memberships.
 /// Finds whether each of many versions is in a set: `OK` with a byte in `answers` for each:
 /// `CONTAINED`, `NOT_CONTAINED`, or `NO_VERSION`. If `versions` and `answers` differ in length, as
-/// many are written as the shorter has. It does not allocate.
+/// many are written as the shorter has.
 ///
 /// # Errors
 ///
-/// `INVALID_ARGUMENT` if no dialect has the number, or the data is no set. Then `answers` is as it
-/// was.
+/// `INVALID_ARGUMENT` if no dialect has the number, or the data is no set, then `OUT_OF_MEMORY`.
+/// Then `answers` is as it was.
 #[unsafe(no_mangle)]
 pub extern "C" fn semver_parser_proved_contains_each(
+    alloc: Global,
     switches: &[FlatSwitch],
     bytes: &[u8],
     versions: &[&[u8]],
@@ -77,15 +79,19 @@ pub extern "C" fn semver_parser_proved_contains_each(
     let Some(dialect) = dialect_of(dialect) else {
         return numbers::INVALID_ARGUMENT;
     };
-    let Some(set) = FlatSet::read(switches, bytes) else {
+    let Some(flat) = FlatSet::read(switches, bytes) else {
         return numbers::INVALID_ARGUMENT;
+    };
+    // For speed it is asked of switches without pre-releases in their bytes.
+    let Ok(set) = flat.to_set(alloc) else {
+        return numbers::OUT_OF_MEMORY;
     };
     write_each(&set, versions, dialect, answers);
     numbers::OK
 }
 
 /// Writes a byte for each string, as far as there is room.
-fn write_each(set: &FlatSet<'_>, versions: &[&[u8]], dialect: Dialect, answers: &mut [u8])
+fn write_each(set: &VersionSet, versions: &[&[u8]], dialect: Dialect, answers: &mut [u8])
     ensures { HasByteForEach dialect set.now versions.now answers.old answers.new }
 {
     for at in 0..versions.len().min(answers.len()) {
@@ -95,7 +101,7 @@ fn write_each(set: &FlatSet<'_>, versions: &[&[u8]], dialect: Dialect, answers: 
 
 /// What is written for a string.
 #[inline(always)]
-fn byte_for(set: &FlatSet<'_>, version: &[u8], dialect: Dialect) -> u8
+fn byte_for(set: &VersionSet, version: &[u8], dialect: Dialect) -> u8
     ensures { IsByteFor dialect set.now version.now result }
 {
     match outline_in(version, dialect.grammar()) {
