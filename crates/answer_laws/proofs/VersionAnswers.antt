@@ -1,4 +1,4 @@
--- serves: answer_laws::versions::one_read
+-- serves: answer_laws::texts::one_whole_number
 -- Two answers about one version text are one.
 use Rattle.std.proofs.Common.{◌≡◌, ◌↔◌, ◌∙◌, ◌<◌, ◌^◌, ◌++◌, ◌∷◌, [], ℕ, List, refl, sym, ap, arith, length, decimal}
 use Rattle.std.proofs.Common.{Option, Some, None, Result, Ok, Err, IfOk, IfErr, MatchOption, option_map, alloc_error}

@@ -1,4 +1,4 @@
--- serves: tool_ranges::meaning::read
+-- serves: tool_ranges::cargo::rewrite
 -- The comparators of the tools' tables, with identifiers of digits as numbers of any size.
 use Rattle.std.proofs.Common.{◌≡◌, ℕ, Bool, true, not, ◌&&◌, ◌||◌, ◌==◌, List, [], ◌∷◌, ◌++◌, map, length, refl, sym, ap, ◌∙◌, if◌then◌else◌}
 use Rattle.std.proofs.lemmas.List.{map-append}

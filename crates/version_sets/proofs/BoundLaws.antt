@@ -1,4 +1,4 @@
--- serves: version_sets::of_comparators::VersionSet::of_set
+-- serves: version_sets::of_comparators::VersionSet::of_set_by
 -- What is at or above a version, what is above it, and what has its numbers.
 use Rattle.std.proofs.Common.{rules, arith, ◌≡◌, zero, suc, Bool, true, false, ◌&&◌, ◌||◌, not, List, [], ◌∷◌, ◌++◌, refl, sym}
 use Rattle.std.proofs.Common.{ap, ap₂, ◌∙◌}

@@ -1,4 +1,4 @@
--- serves: version_sets::least::VersionSet::least
+-- serves: version_sets::version_set::VersionSet::has
 -- Cloned identifiers have the same values.
 use Rattle.std.proofs.Common.{rules, ◌≡◌, List, [], ◌∷◌, map, refl, ap₂}
 use Rattle.std.specs.List.{AllZip}

@@ -1,4 +1,4 @@
--- serves: version_sets::version_set::VersionSet::of_set_by
+-- serves: version_sets::set_ranges::VersionSet::release_ranges
 -- What of identifiers and versions is the same however their digits are read, and how these are kept.
 use Rattle.std.proofs.Common.{◌≡◌, ℕ, ◌^◌, ◌<◌, ◌≤◌, Bool, true, false, ◌&&◌, not, List, [], ◌∷◌, map, arith, refl, sym, ap, ◌∙◌}
 use Rattle.std.specs.Prelude.{◌==◌, nat_lt, if◌then◌else◌}

@@ -1,4 +1,4 @@
--- serves: version_sets::flat_reading::FlatSet::read
+-- serves: version_sets::of_comparators::VersionSet::of_set_by
 -- The text of a pre-release, and the identifiers that it is read back as.
 use Rattle.std.proofs.Common.{◌≡◌, ℕ, ◌+◌, ◌^◌, ◌<◌, Bool, true, false, ◌&&◌, not, List, [], ◌∷◌, map, refl, sym, ap, ◌∙◌, subst, arith}
 use Rattle.std.proofs.Common.{Ordering, Less, Equal, Greater, decimal, get_or}

@@ -1,4 +1,4 @@
--- serves: version_sets::flat_sets::FlatSet::to_set, out_of_memory
+-- serves: version_sets::set_ranges::VersionSet::release_ranges
 -- The text of a set's ranges is read in npm mode as comparators that the same versions meet.
 use Rattle.std.proofs.Common.{arith, ◌≡◌, Bool, true, false, not, ◌&&◌, ◌||◌, cond, List, [], ◌∷◌, codes, refl, sym, ap, ◌∙◌, subst}
 use Rattle.std.proofs.Common.{IsTrue, All, is_ge}

@@ -1,4 +1,4 @@
--- serves: version_sets::of_comparators::VersionSet::of_set, meaning
+-- serves: version_sets::of_comparators::VersionSet::of_set_by, meaning
 -- What the walk over two lists of switches shows of them.
 use Rattle.std.proofs.Common.{arith, ◌≡◌, Bool, true, false, not, cond, List, [], ◌∷◌, map}
 use Rattle.std.proofs.Common.{refl, sym, ap, ap₂, ◌∙◌, true≢false, Ordering, Less, Equal, Greater, is_ge}
