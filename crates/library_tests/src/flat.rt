@@ -4,59 +4,85 @@ use std::alloc::Global;
 use std::io::{self, ErrorKind};
 use version_sets::{FlatSet, FlatSwitch, PreReleases, VersionSet};
 
-/// Three numbers, an offset and a length.
-type Row = (u64, u64, u64, usize, usize);
+/// Three numbers, an offset, a length, and how digits are read.
+type Row = (u64, u64, u64, usize, usize, u64);
 
 /// Switches, bytes, and whether they are a set.
-const DATA: [(&[Row], &str, bool); 24] = [
-    (&[(1, 0, 0, 0, 0)], "", true),
-    (&[(1, 1, 0, 0, 0), (0, 0, 0, 0, 0)], "", true),
-    (&[(1, 0, 1, 0, 0), (0, 0, 0, 0, 1)], "0", true),
+const DATA: [(&[Row], &str, bool); 29] = [
+    (&[(1, 0, 0, 0, 0, 0)], "", true),
+    (&[(1, 1, 0, 0, 0, 0), (0, 0, 0, 0, 0, 0)], "", true),
+    (&[(1, 0, 1, 0, 0, 0), (0, 0, 0, 0, 1, 0)], "0", true),
     (
-        &[(1, 0, 2, 0, 0), (1, 0, 0, 0, 4), (1, 0, 0, 4, 5)],
+        &[(1, 0, 2, 0, 0, 0), (1, 0, 0, 0, 4, 0), (1, 0, 0, 4, 5, 0)],
         "rc.2rc.10",
         true,
     ),
     // The head.
     (&[], "", false),
-    (&[(0, 0, 0, 0, 0)], "", false),
-    (&[(2, 0, 0, 0, 0)], "", false),
-    (&[(1, 0, 0, 1, 0)], "", false),
-    (&[(1, 0, 0, 0, 1)], "a", false),
-    (&[(1, 0, 0, 0, 0), (0, 0, 0, 0, 0)], "", false),
-    (&[(1, 0, 1, 0, 0)], "", false),
-    (&[(1, u64::MAX, 1, 0, 0), (0, 0, 0, 0, 0)], "", false),
+    (&[(0, 0, 0, 0, 0, 0)], "", false),
+    (&[(2, 0, 0, 0, 0, 0)], "", false),
+    (&[(1, 0, 0, 1, 0, 0)], "", false),
+    (&[(1, 0, 0, 0, 1, 0)], "a", false),
+    (&[(1, 0, 0, 0, 0, 0), (0, 0, 0, 0, 0, 0)], "", false),
+    (&[(1, 0, 1, 0, 0, 0)], "", false),
+    (&[(1, u64::MAX, 1, 0, 0, 0), (0, 0, 0, 0, 0, 0)], "", false),
     // The order.
     (
-        &[(1, 2, 0, 0, 0), (1, 0, 0, 0, 0), (1, 0, 0, 0, 0)],
+        &[(1, 2, 0, 0, 0, 0), (1, 0, 0, 0, 0, 0), (1, 0, 0, 0, 0, 0)],
         "",
         false,
     ),
     (
-        &[(1, 2, 0, 0, 0), (1, 0, 1, 0, 0), (1, 0, 0, 0, 0)],
+        &[(1, 2, 0, 0, 0, 0), (1, 0, 1, 0, 0, 0), (1, 0, 0, 0, 0, 0)],
         "",
         false,
     ),
     (
-        &[(1, 0, 2, 0, 0), (1, 0, 0, 0, 5), (1, 0, 0, 5, 4)],
+        &[(1, 0, 2, 0, 0, 0), (1, 0, 0, 0, 5, 0), (1, 0, 0, 5, 4, 0)],
         "rc.10rc.2",
         false,
     ),
     // The places of the texts.
-    (&[(1, 1, 0, 0, 0), (1, 0, 0, 0, 1)], "a", false),
-    (&[(1, 0, 1, 0, 0), (1, 0, 0, 0, 0)], "", false),
-    (&[(1, 0, 1, 0, 0), (1, 0, 0, 1, 1)], "aa", false),
-    (&[(1, 0, 1, 0, 0), (1, 0, 0, 0, 1)], "aa", false),
-    (&[(1, 0, 1, 0, 0), (1, 0, 0, 0, usize::MAX)], "a", false),
+    (&[(1, 1, 0, 0, 0, 0), (1, 0, 0, 0, 1, 0)], "a", false),
+    (&[(1, 0, 1, 0, 0, 0), (1, 0, 0, 0, 0, 0)], "", false),
+    (&[(1, 0, 1, 0, 0, 0), (1, 0, 0, 1, 1, 0)], "aa", false),
+    (&[(1, 0, 1, 0, 0, 0), (1, 0, 0, 0, 1, 0)], "aa", false),
     (
-        &[(1, 0, 1, 0, 0), (1, 0, 0, usize::MAX, usize::MAX)],
+        &[(1, 0, 1, 0, 0, 0), (1, 0, 0, 0, usize::MAX, 0)],
+        "a",
+        false,
+    ),
+    (
+        &[(1, 0, 1, 0, 0, 0), (1, 0, 0, usize::MAX, usize::MAX, 0)],
         "a",
         false,
     ),
     // The texts.
-    (&[(1, 0, 1, 0, 0), (1, 0, 0, 0, 4)], "a..b", false),
-    (&[(1, 0, 1, 0, 0), (1, 0, 0, 0, 4)], "a.01", false),
-    (&[(1, 0, 1, 0, 0), (1, 0, 0, 0, 2)], "é", false),
+    (&[(1, 0, 1, 0, 0, 0), (1, 0, 0, 0, 4, 0)], "a..b", false),
+    (&[(1, 0, 1, 0, 0, 0), (1, 0, 0, 0, 4, 0)], "a.01", false),
+    (&[(1, 0, 1, 0, 0, 0), (1, 0, 0, 0, 2, 0)], "é", false),
+    // How digits are read.
+    (
+        &[(1, 0, 1, 0, 0, 0), (1, 0, 0, 0, 20, 0)],
+        "18446744073709551616",
+        true,
+    ),
+    (
+        &[(1, 0, 1, 0, 0, 0), (1, 0, 0, 0, 20, 1)],
+        "18446744073709551616",
+        true,
+    ),
+    (
+        &[(1, 0, 1, 0, 0, 0), (1, 0, 0, 0, 20, 2)],
+        "18446744073709551616",
+        false,
+    ),
+    (
+        &[(1, 0, 1, 0, 0, 0), (1, 0, 0, 0, 20, 1)],
+        "18446744073709551615",
+        false,
+    ),
+    (&[(1, 0, 0, 0, 0, 1)], "", false),
 ];
 
 /// Writes the flat data of a set, whether two versions are in it, and the places of the data that
@@ -113,13 +139,14 @@ fn has(set: &FlatSet<'_>, text: &str) -> bool {
 /// Switches of these fields.
 fn switches_of(alloc: Global, rows: &[Row]) -> io::Result<Vec<FlatSwitch>> {
     let mut switches = Vec::new(alloc);
-    for (major, minor, patch, pre_offset, pre_length) in rows.iter() {
+    for (major, minor, patch, pre_offset, pre_length, digits) in rows.iter() {
         switches.push(FlatSwitch {
             major: *major,
             minor: *minor,
             patch: *patch,
             pre_offset: *pre_offset,
             pre_length: *pre_length,
+            digits: *digits,
         })?;
     }
     Ok(switches)

@@ -39,10 +39,11 @@ pub fn write_meant<W: Write>(
     };
     write!(out, "means")?;
     for (version, item) in versions.iter().zip(list.split(' ')) {
-        if set.has(version) {
+        let is_meant = set.has_by(version, tool.dialect.grammar().digits());
+        if is_meant {
             write!(out, " {version}")?;
         }
-        if !is_asked_so(tool, text, item, set.has(version)) {
+        if !is_asked_so(tool, text, item, is_meant) {
             write!(out, ", but asked of {version} it says the other")?;
         }
     }
@@ -51,7 +52,7 @@ pub fn write_meant<W: Write>(
 
 /// Whether a text that is asked of one version says this of it.
 fn is_asked_so(tool: Meaning, text: &str, item: &str, is_meant: bool) -> bool {
-    match version::outline(item) {
+    match version::outline_in(item.as_bytes(), tool.dialect.grammar()) {
         Some(outline) => matches!(meaning::meets(tool, text, &outline), Ok(met) if met == is_meant),
         None => false,
     }
