@@ -1,5 +1,5 @@
-/* The functions that are proved, as src/ has them. No pointer of theirs is null. They return a status
- * of semver_parser.h, or NO_ROOM. */
+/* The functions that are proved, as src/ has them. No pointer of theirs is null. They return a
+ * status of semver_parser.h, or NO_ROOM. */
 #ifndef SEMVER_PARSER_PROVED_H
 #define SEMVER_PARSER_PROVED_H
 

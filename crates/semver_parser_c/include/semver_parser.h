@@ -22,9 +22,9 @@
  * the errors of the arguments from left to right. OUT_OF_MEMORY may come in place of OK, or of
  * another error if `error` isn't null, and only if the function is said to allocate.
  *
- * THE CALLER MUST pass valid pointers, not null but where it is said, and not change what they point
- * to during a call. Threads may call concurrently, and read one set or list at once. In the child of
- * a fork of several threads only what POSIX has there may be called, which malloc isn't.
+ * THE CALLER MUST pass valid pointers, not null but where it is said, and not change what they
+ * point to during a call. Threads may call concurrently, and read one set or list at once. In the
+ * child of a fork of several threads only what POSIX has there may be called, which malloc isn't.
  *
  * MEMORY. Allocations are by malloc: for a range of n bytes up to 300 n + 1,000 bytes, and time
  * n log n. Satisfying, parsing and comparing take linear time.
@@ -159,8 +159,8 @@ typedef struct {
     /* Which string of the call it is about: 0 for the first, 1 for the second. */
     int argument;
     /* The offset in bytes of the first character that no version or range has there, or the length
-     * of the string if something is missing at its end. After NUMBER_TOO_LARGE, the end of the first
-     * term above the limit. */
+     * of the string if something is missing at its end. After NUMBER_TOO_LARGE, the end of the
+     * first term above the limit. */
     size_t offset;
     semver_parser_reason reason;
 } semver_parser_error;
@@ -252,8 +252,8 @@ semver_parser_status semver_parser_set_lowest(
     size_t *index, semver_parser_error *error);
 
 /* Makes the set of the versions that are in one or the other, in both, or in the first alone: the
- * difference of `^1.2` and `>=1.4` contains 1.2.0 and not 1.4.0. Both sets need the same options, or
- * it is INVALID_ARGUMENT. It allocates. */
+ * difference of `^1.2` and `>=1.4` contains 1.2.0 and not 1.4.0. Both sets need the same options,
+ * or it is INVALID_ARGUMENT. It allocates. */
 SEMVER_PARSER_MUST_USE SEMVER_PARSER_NONNULL(1, 2, 3)
 semver_parser_status semver_parser_set_union(
     const semver_parser_set *set, const semver_parser_set *other, semver_parser_set **made);
