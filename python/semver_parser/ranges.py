@@ -112,7 +112,7 @@ class Range:
         array = c_strings(strings)
         if not is_skipping:
             self._contains_each(strings, array, is_skipping)
-        check(function(self._set, array, len(array), index))
+        check(function(self._set, array, len(array), index, None))
         return given[index.value] if index.value < len(given) else None
 
     def _contains_each(
@@ -122,7 +122,7 @@ class Range:
         contains, statuses = (ctypes.c_bool * len(array))(), (ctypes.c_int * len(array))()
         check(
             LIBRARY.semver_parser_set_contains_each(
-                self._set, array, len(array), contains, statuses
+                self._set, array, len(array), contains, statuses, None
             )
         )
         if not is_skipping and any(statuses):

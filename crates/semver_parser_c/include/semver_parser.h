@@ -19,15 +19,16 @@
  *
  * ERRORS. A function returns SEMVER_PARSER_OK or the status of an error. After an error its outputs
  * are as they were, and `error`, which may be null, says more. INVALID_ARGUMENT comes first, then
- * the errors of the arguments from left to right. OUT_OF_MEMORY may come in place of OK, or of
- * another error if `error` isn't null, and only if the function is said to allocate.
+ * the errors of the arguments from left to right. OUT_OF_MEMORY comes only of a function that
+ * allocates: one that makes or prints something, combines or compares sets, takes an array, or
+ * fills `error` after another error, in place of that. The others don't allocate.
  *
  * THE CALLER MUST pass valid pointers, not null but where it is said, and not change what they
- * point to during a call. Threads may call concurrently, and read one set or list at once. In the
- * child of a fork of several threads only what POSIX has there may be called, which malloc isn't.
+ * point to during a call. Threads may call concurrently, and read one set or list at once. Not in
+ * the child of a fork of several threads, where POSIX doesn't allow malloc.
  *
- * MEMORY. Allocations are by malloc: for a range of n bytes up to 300 n + 1,000 bytes, and time
- * n log n. Satisfying, parsing and comparing take linear time.
+ * MEMORY. Allocations are by malloc: for a range of n bytes up to 300 n + 1,000 bytes, in time
+ * n log n. Satisfying, parsing and comparing versions take linear time.
  */
 #ifndef SEMVER_PARSER_H
 #define SEMVER_PARSER_H
@@ -47,12 +48,12 @@
 
 /* Attributes, for compilers that have them. */
 #if defined(__GNUC__)
-#define SEMVER_PARSER_MUST_USE __attribute__((warn_unused_result))
 #define SEMVER_PARSER_NONNULL(...) __attribute__((nonnull(__VA_ARGS__)))
+#define SEMVER_PARSER_CHECKED(...) __attribute__((warn_unused_result, nonnull(__VA_ARGS__)))
 #pragma GCC visibility push(default)
 #else
-#define SEMVER_PARSER_MUST_USE
 #define SEMVER_PARSER_NONNULL(...)
+#define SEMVER_PARSER_CHECKED(...)
 #endif
 
 #ifdef __cplusplus
@@ -178,9 +179,9 @@ void semver_parser_string_free(char *string);
 
 /* ---- versions and ranges */
 
-/* Whether a version satisfies a range: 1.9.0 satisfies `^1.2`. Build metadata is ignored. It
- * doesn't allocate, but for `error`. INVALID_VERSION, INVALID_RANGE, NUMBER_TOO_LARGE. */
-SEMVER_PARSER_MUST_USE SEMVER_PARSER_NONNULL(4)
+/* Whether a version satisfies a range: 1.9.0 satisfies `^1.2`. Build metadata is
+ * ignored. INVALID_VERSION, INVALID_RANGE, NUMBER_TOO_LARGE. */
+SEMVER_PARSER_CHECKED(4)
 semver_parser_status semver_parser_satisfies(
     semver_parser_string version, semver_parser_string range, semver_parser_options options,
     bool *satisfies, semver_parser_error *error);
@@ -194,16 +195,16 @@ typedef struct {
     semver_parser_string build;
 } semver_parser_version;
 
-/* Parses a version: `1.2.3-rc.1+b5` gives 1, 2, 3, `rc.1` and `b5`. It doesn't allocate, but for
- * `error`. INVALID_VERSION. */
-SEMVER_PARSER_MUST_USE SEMVER_PARSER_NONNULL(3)
+/* Parses a version: `1.2.3-rc.1+b5` gives 1, 2, 3, `rc.1` and `b5`.
+ * INVALID_VERSION. */
+SEMVER_PARSER_CHECKED(3)
 semver_parser_status semver_parser_parse_version(
     semver_parser_string version, semver_parser_dialect dialect, semver_parser_version *parsed,
     semver_parser_error *error);
 
 /* Compares two versions by precedence (SemVer 2.0.0, section 11): `order` is -1, 0 or 1, and -1 of
- * 1.0.0-rc and 1.0.0. It doesn't allocate, but for `error`. INVALID_VERSION. */
-SEMVER_PARSER_MUST_USE SEMVER_PARSER_NONNULL(4)
+ * 1.0.0-rc and 1.0.0. INVALID_VERSION. */
+SEMVER_PARSER_CHECKED(4)
 semver_parser_status semver_parser_compare_versions(
     semver_parser_string version, semver_parser_string other, semver_parser_dialect dialect,
     int *order, semver_parser_error *error);
@@ -212,9 +213,9 @@ semver_parser_status semver_parser_compare_versions(
 
 typedef struct semver_parser_set semver_parser_set;
 
-/* Makes the set of the versions that satisfy a range. It allocates. INVALID_RANGE,
- * NUMBER_TOO_LARGE. */
-SEMVER_PARSER_MUST_USE SEMVER_PARSER_NONNULL(3)
+/* Makes the set of the versions that satisfy a range. INVALID_RANGE, NUMBER_TOO_LARGE.
+ */
+SEMVER_PARSER_CHECKED(3)
 semver_parser_status semver_parser_set_of_range(
     semver_parser_string range, semver_parser_options options, semver_parser_set **set,
     semver_parser_error *error);
@@ -226,50 +227,49 @@ void semver_parser_set_free(semver_parser_set *set);
 SEMVER_PARSER_NONNULL(1)
 semver_parser_options semver_parser_set_options(const semver_parser_set *set);
 
-/* Whether a version is in the set, as semver_parser_satisfies says. It doesn't allocate, but for
- * `error`. INVALID_VERSION. */
-SEMVER_PARSER_MUST_USE SEMVER_PARSER_NONNULL(1, 3)
+/* Whether a version is in the set, as semver_parser_satisfies says. INVALID_VERSION. */
+SEMVER_PARSER_CHECKED(1, 3)
 semver_parser_status semver_parser_set_contains(
     const semver_parser_set *set, semver_parser_string version, bool *contains,
     semver_parser_error *error);
 
 /* Whether each of `count` versions is in the set. `statuses`, which may be null, gets OK or
- * INVALID_VERSION for each; an invalid version isn't contained. It allocates. */
-SEMVER_PARSER_MUST_USE SEMVER_PARSER_NONNULL(1)
+ * INVALID_VERSION for each; an invalid version isn't contained. */
+SEMVER_PARSER_CHECKED(1)
 semver_parser_status semver_parser_set_contains_each(
     const semver_parser_set *set, const semver_parser_string *versions, size_t count,
     bool *contains, semver_parser_status *statuses, semver_parser_error *error);
 
 /* Finds the highest or lowest of `count` versions that are in the set, the first of equal ones:
- * `index` becomes its index, or `count` if none is. Invalid versions are skipped. It allocates. */
-SEMVER_PARSER_MUST_USE SEMVER_PARSER_NONNULL(1, 4)
+ * `index` becomes its index, or `count` if none is. Invalid versions are skipped. */
+SEMVER_PARSER_CHECKED(1, 4)
 semver_parser_status semver_parser_set_highest(
     const semver_parser_set *set, const semver_parser_string *versions, size_t count,
     size_t *index, semver_parser_error *error);
-SEMVER_PARSER_MUST_USE SEMVER_PARSER_NONNULL(1, 4)
+SEMVER_PARSER_CHECKED(1, 4)
 semver_parser_status semver_parser_set_lowest(
     const semver_parser_set *set, const semver_parser_string *versions, size_t count,
     size_t *index, semver_parser_error *error);
 
 /* Makes the set of the versions that are in one or the other, in both, or in the first alone: the
  * difference of `^1.2` and `>=1.4` contains 1.2.0 and not 1.4.0. Both sets need the same options,
- * or it is INVALID_ARGUMENT. It allocates. */
-SEMVER_PARSER_MUST_USE SEMVER_PARSER_NONNULL(1, 2, 3)
+ * or it is INVALID_ARGUMENT. */
+SEMVER_PARSER_CHECKED(1, 2, 3)
 semver_parser_status semver_parser_set_union(
     const semver_parser_set *set, const semver_parser_set *other, semver_parser_set **made);
-SEMVER_PARSER_MUST_USE SEMVER_PARSER_NONNULL(1, 2, 3)
+SEMVER_PARSER_CHECKED(1, 2, 3)
 semver_parser_status semver_parser_set_intersection(
     const semver_parser_set *set, const semver_parser_set *other, semver_parser_set **made);
-SEMVER_PARSER_MUST_USE SEMVER_PARSER_NONNULL(1, 2, 3)
+SEMVER_PARSER_CHECKED(1, 2, 3)
 semver_parser_status semver_parser_set_difference(
     const semver_parser_set *set, const semver_parser_set *other, semver_parser_set **made);
 
 /* Whether two sets have the same versions, and whether each version of the first is in the other.
- * Both need the same options, or it is INVALID_ARGUMENT. They allocate. */
-SEMVER_PARSER_MUST_USE SEMVER_PARSER_NONNULL(1, 2, 3)
+ * Both need the same options, or it is INVALID_ARGUMENT. */
+SEMVER_PARSER_CHECKED(1, 2, 3)
 semver_parser_status semver_parser_set_equal(
     const semver_parser_set *set, const semver_parser_set *other, bool *equal);
-SEMVER_PARSER_MUST_USE SEMVER_PARSER_NONNULL(1, 2, 3)
+SEMVER_PARSER_CHECKED(1, 2, 3)
 semver_parser_status semver_parser_set_is_subset(
     const semver_parser_set *set, const semver_parser_set *other, bool *is_subset);
 
@@ -278,25 +278,26 @@ SEMVER_PARSER_NONNULL(1)
 bool semver_parser_set_is_empty(const semver_parser_set *set);
 
 /* Prints the lowest version of all that are in the set, which is null if it is empty: `^1.2.0` has
- * 1.2.0. It allocates. */
-SEMVER_PARSER_MUST_USE SEMVER_PARSER_NONNULL(1, 2)
+ * 1.2.0. */
+SEMVER_PARSER_CHECKED(1, 2)
 semver_parser_status semver_parser_set_lowest_version(
     const semver_parser_set *set, char **version);
 
 /* Prints the releases of a set, or its pre-releases, as a range: `>=1.2.0 <2.0.0`, `*` for all,
- * `<0.0.0-0` for none. It allocates. */
-SEMVER_PARSER_MUST_USE SEMVER_PARSER_NONNULL(1, 3)
+ * `<0.0.0-0` for none. By SEMVER_PARSER_CRATE_NPM
+ * it reads back. */
+SEMVER_PARSER_CHECKED(1, 3)
 semver_parser_status semver_parser_set_to_string(
     const semver_parser_set *set, bool pre_releases, char **string);
 
 /* Makes bytes of a set, with its options, which can be stored; equal sets have equal bytes.
- * semver_parser_string_free frees them. It allocates. */
-SEMVER_PARSER_MUST_USE SEMVER_PARSER_NONNULL(1, 2, 3)
+ * semver_parser_string_free frees them. */
+SEMVER_PARSER_CHECKED(1, 2, 3)
 semver_parser_status semver_parser_set_save(
     const semver_parser_set *set, char **bytes, size_t *length);
 
-/* Makes the set of such bytes. All other bytes are INVALID_ARGUMENT. It allocates. */
-SEMVER_PARSER_MUST_USE SEMVER_PARSER_NONNULL(3)
+/* Makes the set of such bytes. All other bytes are INVALID_ARGUMENT. */
+SEMVER_PARSER_CHECKED(3)
 semver_parser_status semver_parser_set_load(
     const char *bytes, size_t length, semver_parser_set **set);
 
@@ -325,8 +326,8 @@ typedef struct {
 
 /* Rewrites a range to plain comparators: `^1.2` gives `>=` 1.2.0 and `<` 2.0.0-0. By the crate's
  * dialects a raised bound is such only if `exact`, and else `<2.0.0`. They say which releases
- * satisfy the range; for pre-releases use a set. It allocates. INVALID_RANGE, NUMBER_TOO_LARGE. */
-SEMVER_PARSER_MUST_USE SEMVER_PARSER_NONNULL(4)
+ * satisfy the range; for pre-releases use a set. INVALID_RANGE, NUMBER_TOO_LARGE. */
+SEMVER_PARSER_CHECKED(4)
 semver_parser_status semver_parser_comparators_of_range(
     semver_parser_string range, semver_parser_dialect dialect, bool exact,
     semver_parser_comparators **comparators, semver_parser_error *error);
@@ -339,13 +340,13 @@ SEMVER_PARSER_NONNULL(1)
 size_t semver_parser_comparators_count(const semver_parser_comparators *comparators);
 
 /* Gives one of them. An index that is too large is INVALID_ARGUMENT. */
-SEMVER_PARSER_MUST_USE SEMVER_PARSER_NONNULL(1, 3)
+SEMVER_PARSER_CHECKED(1, 3)
 semver_parser_status semver_parser_comparators_get(
     const semver_parser_comparators *comparators, size_t index,
     semver_parser_comparator *comparator);
 
-/* Prints them: `>=1.2.0 <2.0.0-0 || >=3.0.0 <4.0.0-0`. It allocates. */
-SEMVER_PARSER_MUST_USE SEMVER_PARSER_NONNULL(1, 2)
+/* Prints them: `>=1.2.0 <2.0.0-0 || >=3.0.0 <4.0.0-0`. */
+SEMVER_PARSER_CHECKED(1, 2)
 semver_parser_status semver_parser_comparators_to_string(
     const semver_parser_comparators *comparators, char **string);
 
@@ -356,7 +357,7 @@ semver_parser_status semver_parser_comparators_to_string(
 #if defined(__GNUC__)
 #pragma GCC visibility pop
 #endif
-#undef SEMVER_PARSER_MUST_USE
 #undef SEMVER_PARSER_NONNULL
+#undef SEMVER_PARSER_CHECKED
 
 #endif

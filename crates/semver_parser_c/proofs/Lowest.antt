@@ -1,4 +1,4 @@
--- serves: semver_parser_c::sets::semver_parser_proved_lowest_version
+-- serves: semver_parser_c::laws::one_lowest_version
 -- The lowest version of a set, as it is answered.
 use Rattle.std.proofs.Common.{ap, ap₂, arith, refl, sym, ◌≡◌, ◌≢◌, ◌↔◌, ◌∙◌, [], Option, None, Some}
 use Rattle.std.specs.Ordering.{ordering_reverse}

@@ -1,13 +1,11 @@
--- serves: semver_parser_c::membership::semver_parser_proved_highest
+-- serves: semver_parser_c::laws::one_memberships
 -- The highest of the members of a set among the first of many strings.
-use Rattle.std.proofs.Common.{◌≡◌, ◌≢◌, ◌↔◌, ◌⊎◌, ◌∙◌, ◌<◌, ◌+◌, ℕ, ℤ, Bool, true, false, List, Option, Some, None, MatchOption, option_map, true≢false, arith, inl, inr, refl}
-use Rattle.std.proofs.Common.{rules, sym, ap, subst, ⊎_elim, length, slice_get, get_or, Less, Equal, Greater}
+use Rattle.std.proofs.Common.{◌≡◌, ◌≢◌, ◌↔◌, ◌⊎◌, ◌∙◌, ◌<◌, ◌+◌, ℕ, Bool, true, false, List, Option, Some, None, MatchOption, option_map, true≢false, arith, inl, inr}
+use Rattle.std.proofs.Common.{rules, sym, ap, subst, ⊎_elim, length, get_or, Less, Greater}
 use Rattle.std.proofs.lemmas.Option.{get_or_from_slice_get, slice_get_within}
 use Rattle.std.specs.Borrow.{Bor}
 use Rattle.std.specs.Cmp.{IsTotalOrder, back_total}
-use Rattle.std.specs.Ordering.{flip_args}
 use Rattle.std.specs.declared.cmp.Ordering.{Ordering}
-use Rattle.semver_parser.specs.Precedence.{precedence}
 use Rattle.semver_parser.specs.PrecedenceLaws.{precedence_total}
 use Rattle.semver_parser.specs.Texts.{Text}
 use Rattle.semver_parser.specs.ToolVersions.{SpellsIn}
@@ -16,7 +14,7 @@ use Rattle.semver_parser.specs.declared.version.Grammar.{Grammar}
 use Rattle.tool_ranges.specs.Dialects.{grammar_of}
 use Rattle.tool_ranges.specs.declared.dialect.Dialect.{Dialect}
 use Rattle.version_sets.specs.VersionSets.{SetValue, has}
-use Rattle.semver_parser_c.specs.Membership.{IsHighest, IsHighestIndex, IsMember, IsMemberText, order_for}
+use Rattle.semver_parser_c.specs.Membership.{IsHighestIndex, IsMember, IsMemberText, order_for}
 
 pub total_for : (lowest : Bool) → IsTotalOrder (order_for lowest)
 total_for true = back_total precedence_total
@@ -103,8 +101,8 @@ module _ (lowest : Bool) (d : Dialect) (set : SetValue) (texts : List (Bor Text)
     grind arith,
     one,
     λ k v member within. ⊎_elim (λ less. absurd (is.1 k v member less))
-    (λ e. let is_w = only v (subst (λ n. IsMember d set texts n v) e member) in
-    (λ less. absurd (apart k at less e), rw is_w (same (order_for lowest) (total_for lowest) w))) (less_one k at within),
+        (λ e. let is_w = only v (subst (λ n. IsMember d set texts n v) e member) in
+        (λ less. absurd (apart k at less e), rw is_w (same (order_for lowest) (total_for lowest) w))) (less_one k at within),
   )
 
   -- it is above the best so far
@@ -114,10 +112,10 @@ module _ (lowest : Bool) (d : Dialect) (set : SetValue) (texts : List (Bor Text)
     grind arith,
     one,
     λ k v member within. ⊎_elim
-    (λ early. let below = below_next (order_for lowest) (total_for lowest) v best w (all k v member early).1 less in
-    (λ _. below, λ e. absurd (less_greater _ below e)))
-    (λ e. let is_w = only v (subst (λ n. IsMember d set texts n v) e member) in
-    (λ early. absurd (apart k at early e), rw is_w (same (order_for lowest) (total_for lowest) w))) (less_one k at within),
+        (λ early. let below = below_next (order_for lowest) (total_for lowest) v best w (all k v member early).1 less in
+        (λ _. below, λ e. absurd (less_greater _ below e)))
+        (λ e. let is_w = only v (subst (λ n. IsMember d set texts n v) e member) in
+        (λ early. absurd (apart k at early e), rw is_w (same (order_for lowest) (total_for lowest) w))) (less_one k at within),
   )
 
   -- or it isn't
@@ -127,9 +125,10 @@ module _ (lowest : Bool) (d : Dialect) (set : SetValue) (texts : List (Bor Text)
     grind arith,
     old,
     λ k v member within. ⊎_elim (all k v member)
-    (λ e. let is_w = only v (subst (λ n. IsMember d set texts n v) e member) in
-    (λ early. absurd (later found at before (subst (λ n. n < found) e early)),
-    rw is_w (not_above (order_for lowest) (total_for lowest) best w low))) (less_one k at within),
+        (λ e. let is_w = only v (subst (λ n. IsMember d set texts n v) e member) in (
+          λ early. absurd (later found at before (subst (λ n. n < found) e early)),
+          rw is_w (not_above (order_for lowest) (total_for lowest) best w low),
+        )) (less_one k at within),
   )
 
   -- one string more, which is a member

@@ -1,6 +1,6 @@
 -- serves: semver_parser_c::laws::one_explanation
 -- A string is refused at one offset and for one reason.
-use Rattle.std.proofs.Common.{◌≡◌, ◌⊎◌, ◌∙◌, ◌+◌, ◌<◌, ◌≤◌, ◌≢◌, ℕ, ℤ, ap, arith, inl, inr, length, subst, sym, take, ⊎_elim, ap₂}
+use Rattle.std.proofs.Common.{◌≡◌, ◌⊎◌, ◌∙◌, ◌+◌, ◌<◌, ◌≤◌, ◌≢◌, ℕ, ℤ, ap, arith, inl, inr, length, subst, sym, take}
 use Rattle.std.specs.Prelude.{IsUtf8, Option, Some}
 use Rattle.std.specs.Str.Lossy.{utf8_valid_len}
 use Rattle.semver_parser.specs.Texts.{Text}
@@ -35,7 +35,7 @@ module _ (prefix : (g : Grammar) (t : Text) (m n : ℕ) → IsLongestVersionPref
       let same = prefix _ text m n p.longest q.longest in (
         same,
         p.number ∙ ap reason_number (reason _ _ _ p.why q.why (subst (λ k. IsReason (grammar_of d) (take k text) (byte_at text k) p.why) same p.is_why)
-        q.is_why) ∙ sym q.number,
+            q.is_why) ∙ sym q.number,
       )
 
   -- what is said of a string by the rooms of two buffers that are equal

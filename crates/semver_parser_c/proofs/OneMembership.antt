@@ -1,7 +1,7 @@
 -- serves: semver_parser_c::laws::one_memberships
 -- What is written for strings is one list, and the index of the highest is one.
-use Rattle.std.proofs.Common.{◌≡◌, ◌≢◌, ◌⊎◌, ◌∙◌, ◌<◌, ◌≤◌, ℕ, Bool, List, IfSome, Option, Some, None, arith, inl, inr, length, rules, sym, ap}
-use Rattle.std.proofs.Common.{Less, Greater, slice_get, get_or, subst, ⊎_elim}
+use Rattle.std.proofs.Common.{◌≡◌, ◌≢◌, ◌⊎◌, ◌∙◌, ◌<◌, ℕ, Bool, List, IfSome, Option, Some, None, arith, inl, inr, length, rules, sym, ap}
+use Rattle.std.proofs.Common.{Less, Greater, get_or, subst, ⊎_elim}
 use Rattle.std.proofs.lemmas.List.{ext_get_or}
 use Rattle.std.proofs.lemmas.Option.{slice_get_cases}
 use Rattle.std.specs.Borrow.{Bor}
@@ -12,7 +12,7 @@ use Rattle.semver_parser.specs.Versions.{PlainVersion, VersionValue}
 use Rattle.tool_ranges.specs.declared.dialect.Dialect.{Dialect}
 use Rattle.version_sets.specs.VersionSets.{SetValue, has}
 use Rattle.semver_parser_c.specs.Membership.{HasByteForEach, IsByteFor, IsHighest, IsHighestIndex, IsMember, membership_byte, order_for}
-use Rattle.semver_parser_c.proofs.Members.{inside, total_for}
+use Rattle.semver_parser_c.proofs.Members.{total_for}
 use Rattle.semver_parser_c.proofs.OneOutcome.{OneVersion}
 
 one_byte : OneVersion → (d : Dialect) (set : SetValue) (text : Text) (a b : ℕ) → IsByteFor d set text a → IsByteFor d set text b → a ≡ b

@@ -1,8 +1,7 @@
--- serves: semver_parser_c::laws::one_satisfaction
+-- serves: semver_parser_c::laws::one_parsed_version
 -- Two ends of a call with the same conditions are one.
-use Rattle.std.proofs.Common.{◌≡◌, ◌≢◌, ◌⊎◌, ◌∙◌, ◌↔◌, ℕ, ℤ, Bool, List, [], arith, inl, inr, refl, subst, sym, true, false, true≢false, ap, ⊎_elim}
+use Rattle.std.proofs.Common.{◌≡◌, ◌≢◌, ◌⊎◌, ◌∙◌, ◌↔◌, ℤ, Bool, List, arith, inl, inr, subst, sym, true, true≢false, ap, ⊎_elim}
 use Rattle.std.proofs.Common.{to_z, of_z, w32}
-use Rattle.std.specs.Prelude.{IsTrue, IsUtf8}
 use Rattle.semver_parser.specs.Texts.{Text}
 use Rattle.semver_parser.specs.ToolVersions.{SpellsIn}
 use Rattle.semver_parser.specs.Versions.{VersionValue}

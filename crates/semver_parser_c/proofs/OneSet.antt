@@ -1,13 +1,13 @@
 -- serves: semver_parser_c::laws::one_set
 -- A range has one set, and so has what an operation keeps of two.
-use Rattle.std.proofs.Common.{◌≡◌, ◌↔◌, ◌∙◌, ap, sym}
+use Rattle.std.proofs.Common.{◌≡◌, ◌↔◌, ◌∙◌, sym}
 use Rattle.semver_parser.specs.Texts.{Text}
-use Rattle.semver_parser.specs.Versions.{PlainVersion, VersionValue, without_build}
+use Rattle.semver_parser.specs.Versions.{PlainVersion, without_build}
 use Rattle.tool_ranges.specs.Dialects.{SpellsAs, TreeOf}
 use Rattle.tool_ranges.specs.Meanings.{MeansAs}
 use Rattle.tool_ranges.specs.declared.meaning.Meaning.{Meaning}
-use Rattle.version_sets.specs.VersionSets.{IsIn, IsNormal, SetValue, has}
-use Rattle.semver_parser_c.specs.Sets.{IsMadeOf, keeps}
+use Rattle.version_sets.specs.VersionSets.{IsIn, IsNormal, SetValue}
+use Rattle.semver_parser_c.specs.Sets.{IsMadeOf}
 use Rattle.semver_parser_c.specs.declared.sets.Operation.{Operation}
 
 -- two sets in the normal form with the same versions are the same

@@ -1,4 +1,4 @@
--- serves: semver_parser_c::versions::semver_parser_proved_parse_version, parts
+-- serves: semver_parser_c::ranges::semver_parser_proved_comparators, pre_releases
 -- No number is that of two dialects, rules or operations.
 use Rattle.std.proofs.Common.{◌≡◌, ◌∙◌, ℤ, arith, sym}
 use Rattle.tool_ranges.specs.declared.dialect.Dialect.{Dialect}

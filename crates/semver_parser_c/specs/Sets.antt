@@ -8,7 +8,7 @@ use Rattle.semver_parser.specs.VersionViews.{version_value}
 use Rattle.semver_parser.specs.declared.version.Version.{Version}
 use Rattle.tool_ranges.specs.Meanings.{MeansAs}
 use Rattle.version_sets.specs.Comparisons.{TellsLeast}
-use Rattle.version_sets.specs.Flat.{IsFlat, IsPrintable, flat_bytes, flat_switches}
+use Rattle.version_sets.specs.Flat.{IsPrintable, flat_bytes, flat_switches}
 use Rattle.version_sets.specs.SetRanges.{pre_release_ranges, ranges_text, release_ranges}
 use Rattle.version_sets.specs.VersionSets.{HasSomeVersion, IsIn, IsNormal, SetValue, has}
 use Rattle.version_sets.specs.declared.FlatSwitch.{FlatSwitch}

@@ -7,8 +7,12 @@ use crate::numbers;
 
 /// Writes how many items there are, and puts them at the front of the buffer if they fit.
 pub fn put<T: Copy>(items: &[T], out: &mut [T], length: &mut usize) -> i32
-    ensures { (n : ℕ) → Puts items.now (record { old = out.old; new = out.new; length_old = n;
-        length_new = length.new }) result }
+    ensures { (n : ℕ) → Puts items.now (record {
+      old = out.old;
+      new = out.new;
+      length_old = n;
+      length_new = length.new;
+    }) result }
 {
     let len = items.len();
     *length = len;

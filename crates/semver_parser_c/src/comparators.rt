@@ -7,7 +7,7 @@ ghost use Rattle.semver_parser.specs.RangeViews.{comparator_of, identifier_of, s
 ghost use Rattle.semver_parser_c.specs.Comparators.{comparators_of, op_number, pre_releases};
 ghost use Rattle.semver_parser_c.specs.Comparators.{listed_comparator, listed_comparators};
 
-use crate::{Part, ListedComparator, numbers};
+use crate::{ListedComparator, Part, numbers};
 use semver_parser::{Comparator, Identifier, Op, RangeSet};
 use semver_texts::printing::write_joined;
 use std::alloc::{AllocError, Global};

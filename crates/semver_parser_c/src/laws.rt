@@ -475,11 +475,7 @@ pub fn one_memberships(
     one_version_in();
     let number = semver_parser_proved_contains_each(switches, bytes, versions, dialect, answers);
     let other_number = semver_parser_proved_contains_each(
-        switches,
-        bytes,
-        versions,
-        dialect,
-        others,
+        switches, bytes, versions, dialect, others,
     );
     (number, other_number)
 }

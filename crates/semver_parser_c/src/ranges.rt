@@ -144,8 +144,12 @@ pub extern "C" fn semver_parser_proved_comparators(
     length: &mut usize,
 ) -> i32
     ensures lists { ListsComparators dialect exact range.now
-        (record { old = comparators.old; new = comparators.new; length_old = count.old;
-        length_new = count.new })
+        (record {
+          old = comparators.old;
+          new = comparators.new;
+          length_old = count.old;
+          length_new = count.new;
+        })
         (record { old = out.old; new = out.new; length_old = length.old; length_new = length.new })
         result }
     // Where each says, is its pre-release, its identifiers joined by dots.

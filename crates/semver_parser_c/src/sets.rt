@@ -76,17 +76,32 @@ fn put_set(
 ) -> i32
     requires { IsPrintable set.now }
     ensures { InMemory result
-        (IsSame (record { old = made.old; new = made.new; length_old = count.old;
-        length_new = count.new })
-        × IsSame (record { old = out.old; new = out.new; length_old = length.old;
-        length_new = length.new }))
+        (IsSame (record {
+          old = made.old;
+          new = made.new;
+          length_old = count.old;
+          length_new = count.new;
+        })
+        × IsSame (record {
+          old = out.old;
+          new = out.new;
+          length_old = length.old;
+          length_new = length.new;
+        }))
         (PutsSet set.now
         (record { old = made.old; new = made.new; length_old = count.old; length_new = count.new })
         (record { old = out.old; new = out.new; length_old = length.old; length_new = length.new })
         result) }
 {
     match set.to_flat(alloc) {
-        Ok(Some(flat)) => put_both(&flat.switches, flat.bytes.as_bytes(), made, count, out, length),
+        Ok(Some(flat)) => put_both(
+            &flat.switches,
+            flat.bytes.as_bytes(),
+            made,
+            count,
+            out,
+            length,
+        ),
         Ok(None) => unreachable!(),
         Err(_) => numbers::OUT_OF_MEMORY,
     }

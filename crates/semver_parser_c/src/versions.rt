@@ -16,7 +16,7 @@ ghost use Rattle.semver_parser_c.specs.Versions.{Compares, ExplainsVersion, Pars
 
 use crate::options::dialect_of;
 use crate::reasons::reason_number;
-use crate::{Part, ParsedVersion, numbers};
+use crate::{ParsedVersion, Part, numbers};
 use semver_parser::version::{Outline, outline_in};
 use semver_texts::identifiers::Joined;
 use semver_texts::precedence;

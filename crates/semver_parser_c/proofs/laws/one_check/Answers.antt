@@ -1,4 +1,4 @@
-use Rattle.std.proofs.Common.{◌≡◌, ◌∙◌, ◌↔◌, Bool, true, arith, refl, rules, sym}
+use Rattle.std.proofs.Common.{◌≡◌, ◌∙◌, rules, sym}
 use Rattle.semver_parser_c.proofs.OneOutcome.{of_set, plain, one_test, uncast}
 use Rattle.semver_parser_c.proofs.laws.one_check.Goals as goal
 

@@ -1,4 +1,4 @@
-use Rattle.std.proofs.Common.{◌≡◌, ◌∙◌, ℕ, ap, refl, rules, sym}
+use Rattle.std.proofs.Common.{◌≡◌, ◌∙◌, ℕ, ap, rules, sym}
 use Rattle.semver_parser.specs.RewritingTable.{PlainSet}
 use Rattle.semver_parser_c.specs.OneAnswer.{AreOne}
 use Rattle.semver_parser_c.specs.Printing.{Buffer}
@@ -12,8 +12,12 @@ returns c =
     let n = c.semver_parser_proved_comparators-number in
     let m = c.semver_parser_proved_comparators-other_number in
     let X = (n.new.comparators ≡ m.new.comparators) × (n.new.count ≡ m.new.count) × (n.new.out ≡ m.new.out) × (n.new.length ≡ m.new.length) in
-    let refused = in_one n.result m.result _ _ X (λ p q. (p.0.0 ∙ c.requires.comparators ∙ sym q.0.0, p.0.1 ∙ c.requires.count ∙ sym q.0.1, p.1.0 ∙ c.requires.out ∙ sym q.1.0,
-    p.1.1 ∙ c.requires.length ∙ sym q.1.1)) in
+    let refused = in_one n.result m.result _ _ X (λ p q. (
+      p.0.0 ∙ c.requires.comparators ∙ sym q.0.0,
+      p.0.1 ∙ c.requires.count ∙ sym q.0.1,
+      p.1.0 ∙ c.requires.out ∙ sym q.1.0,
+      p.1.1 ∙ c.requires.length ∙ sym q.1.1,
+    )) in
     let a : Buffer ListedComparator = record { old = c.args.comparators.now; new = n.new.comparators; length_old = c.args.count.now; length_new = n.new.count } in
     let a' : Buffer ListedComparator = record { old = c.args.others.now; new = m.new.comparators; length_old = c.args.other_count.now; length_new = m.new.count } in
     let b : Buffer ℕ = record { old = c.args.out.now; new = n.new.out; length_old = c.args.length.now; length_new = n.new.length } in

@@ -1,4 +1,4 @@
-use Rattle.std.proofs.Common.{◌≡◌, ◌∙◌, ap, refl, rules, sym}
+use Rattle.std.proofs.Common.{◌≡◌, ◌∙◌, rules, sym}
 use Rattle.semver_parser_c.proofs.OneOutcome.{by_dialect, of_set, plain, uncast}
 use Rattle.semver_parser_c.proofs.OneMembership.{one_index}
 use Rattle.semver_parser_c.proofs.laws.one_highest.Goals as goal

@@ -1,4 +1,4 @@
-use Rattle.std.proofs.Common.{◌≡◌, ◌∙◌, refl, rules, sym}
+use Rattle.std.proofs.Common.{◌≡◌, ◌∙◌, rules, sym}
 use Rattle.semver_parser_c.proofs.OneOutcome.{by_dialect, of_set, of_version, plain, uncast}
 use Rattle.semver_parser_c.proofs.laws.one_membership.Goals as goal
 

@@ -1,4 +1,4 @@
-use Rattle.std.proofs.Common.{◌≡◌, ◌∙◌, ℕ, ap, refl, rules, sym}
+use Rattle.std.proofs.Common.{◌≡◌, ◌∙◌, ℕ, refl, rules, sym}
 use Rattle.semver_parser_c.specs.Sets.{kind_text}
 use Rattle.semver_parser_c.specs.OneAnswer.{AreOne}
 use Rattle.semver_parser_c.specs.Printing.{Buffer}

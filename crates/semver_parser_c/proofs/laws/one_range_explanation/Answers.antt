@@ -1,5 +1,4 @@
-use Rattle.std.proofs.Common.{◌≡◌, ◌∙◌, rules, sym}
-use Rattle.semver_parser_c.specs.Numbers as number
+use Rattle.std.proofs.Common.{◌∙◌, rules, sym}
 use Rattle.semver_parser_c.proofs.OneExplanation.{OneRangeAnswer, one_range, refused}
 use Rattle.semver_parser_c.proofs.OneOutcome.{by_dialect, uncast}
 use Rattle.semver_parser_c.proofs.laws.one_range_explanation.Goals as goal

@@ -1,4 +1,4 @@
-use Rattle.std.proofs.Common.{◌≡◌, ◌∙◌, ℕ, ap, refl, rules, sym}
+use Rattle.std.proofs.Common.{◌≡◌, ◌∙◌, ℕ, ap, rules, sym}
 use Rattle.version_sets.specs.Flat.{flat_bytes, flat_switches}
 use Rattle.version_sets.specs.declared.FlatSwitch.{FlatSwitch}
 use Rattle.semver_parser_c.specs.OneAnswer.{AreOne}
@@ -12,8 +12,12 @@ returns c =
     let n = c.semver_parser_proved_set_of_range-number in
     let m = c.semver_parser_proved_set_of_range-other_number in
     let X = (n.new.made ≡ m.new.made) × (n.new.count ≡ m.new.count) × (n.new.out ≡ m.new.out) × (n.new.length ≡ m.new.length) in
-    let refused = in_one n.result m.result _ _ X (λ p q. (p.0.0 ∙ c.requires.made ∙ sym q.0.0, p.0.1 ∙ c.requires.count ∙ sym q.0.1, p.1.0 ∙ c.requires.out ∙ sym q.1.0,
-    p.1.1 ∙ c.requires.length ∙ sym q.1.1)) in
+    let refused = in_one n.result m.result _ _ X (λ p q. (
+      p.0.0 ∙ c.requires.made ∙ sym q.0.0,
+      p.0.1 ∙ c.requires.count ∙ sym q.0.1,
+      p.1.0 ∙ c.requires.out ∙ sym q.1.0,
+      p.1.1 ∙ c.requires.length ∙ sym q.1.1,
+    )) in
     let a : Buffer FlatSwitch = record { old = c.args.made.now; new = n.new.made; length_old = c.args.count.now; length_new = n.new.count } in
     let a' : Buffer FlatSwitch = record { old = c.args.other_made.now; new = m.new.made; length_old = c.args.other_count.now; length_new = m.new.count } in
     let b : Buffer ℕ = record { old = c.args.out.now; new = n.new.out; length_old = c.args.length.now; length_new = n.new.length } in

@@ -31,8 +31,8 @@ loop-at-preserved c =
     let step = stepped c.args.lowest c.args.dialect c.args.set.now c.args.versions.now c.loop-at.at c.loop-at.found _ w.plain c.is_above.result one
     only said c.loop-at.invariant in
     elim c.if-is_above.branch [
-      then-is_above b ↦ rw (b.found-is, b.best-is) (step.0 b.if-is_above.true)
-    | else-is_above b ↦ rw (b.found-is, b.best-is) (step.1 b.if-is_above.false)
+      | then-is_above b ↦ rw (b.found-is, b.best-is) (step.0 b.if-is_above.true)
+      | else-is_above b ↦ rw (b.found-is, b.best-is) (step.1 b.if-is_above.false)
     ]
 
 pub returns : goal.returns

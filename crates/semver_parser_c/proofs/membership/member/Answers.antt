@@ -1,4 +1,4 @@
-use Rattle.std.proofs.Common.{◌≡◌, ◌∙◌, ap, refl, sym, true, false, true≢false}
+use Rattle.std.proofs.Common.{◌∙◌, ap, sym, true≢false}
 use Rattle.semver_parser.specs.Versions.{VersionValue}
 use Rattle.version_sets.specs.VersionSets.{has}
 use Rattle.semver_parser_c.proofs.membership.member.Goals as goal

@@ -1,4 +1,4 @@
-use Rattle.std.proofs.Common.{◌≡◌, inr, rules}
+use Rattle.std.proofs.Common.{inr, rules}
 use Rattle.semver_parser.specs.RangeViews.{set_of}
 use Rattle.semver_parser_c.specs.Ranges.{IsSetFor}
 use Rattle.semver_parser_c.proofs.ListedComparators.{buffers_have}
@@ -8,8 +8,18 @@ use Rattle.semver_parser_c.proofs.ranges.semver_parser_proved_comparators.Goals 
 pub returns-in-Ok-list-clause-lists : goal.returns-in-Ok-list-clause-lists
 returns-in-Ok-list-clause-lists c =
     let is = c.in-Ok.ensures.as_rewritten in
-    inr (c.in-Some.dialect, search rules, inr (inr (is.0, inr (set_of c.in-Ok.set, is.1,
-    search (rules, c.put_both.ensures c.args.count.now c.args.length.now)))))
+    inr (
+      c.in-Some.dialect,
+      search rules,
+      inr (inr (
+        is.0,
+        inr (
+          set_of c.in-Ok.set,
+          is.1,
+          search (rules, c.put_both.ensures c.args.count.now c.args.length.now),
+        ),
+      )),
+    )
 
 pub returns-in-Ok-list-clause-pre_releases : goal.returns-in-Ok-list-clause-pre_releases
 returns-in-Ok-list-clause-pre_releases c = λ ok d named tree spells.

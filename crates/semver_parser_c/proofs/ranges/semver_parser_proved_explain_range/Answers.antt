@@ -13,8 +13,17 @@ returns-in-NotARange c =
     let e = c.in-Ok-Some.ensures in
     let some = c.in-Ok-Some.field-0-is in
     let as_it_is : to_z w32 (of_z w32 c.hint_number.result) ≡ c.hint_number.result = search rules in
-    inr (c.in-Some.dialect, search rules, inr (utf8, inr (inl (rw same at ((rw some at e.not_a_range).0 c.in-NotARange.is),
-    inr (refl, rw same at ((rw some at e.offset) c.in-NotARange.is), (c.in-Ok-Some.refusal.hint, rw as_it_is c.hint_number.ensures))))))
+    inr (
+      c.in-Some.dialect,
+      search rules,
+      inr (
+        utf8,
+        inr (inl (
+          rw same at ((rw some at e.not_a_range).0 c.in-NotARange.is),
+          inr (refl, rw same at ((rw some at e.offset) c.in-NotARange.is), (c.in-Ok-Some.refusal.hint, rw as_it_is c.hint_number.ensures)),
+        )),
+      ),
+    )
 
 pub returns-in-NumberTooLarge : goal.returns-in-NumberTooLarge
 returns-in-NumberTooLarge c =
@@ -22,8 +31,19 @@ returns-in-NumberTooLarge c =
     let e = c.in-Ok-Some.ensures in
     let some = c.in-Ok-Some.field-0-is in
     let as_it_is : to_z w32 (of_z w32 c.hint_number.result) ≡ c.hint_number.result = search rules in
-    inr (c.in-Some.dialect, search rules, inr (utf8, inr (inr (rw same at ((rw some at e.too_large).0 c.in-NumberTooLarge.is), refl,
-    rw same at ((rw some at e.limit) c.in-NumberTooLarge.is), rw (as_it_is, ← (rw some at e.limit_hint) c.in-NumberTooLarge.is) c.hint_number.ensures))))
+    inr (
+      c.in-Some.dialect,
+      search rules,
+      inr (
+        utf8,
+        inr (inr (
+          rw same at ((rw some at e.too_large).0 c.in-NumberTooLarge.is),
+          refl,
+          rw same at ((rw some at e.limit) c.in-NumberTooLarge.is),
+          rw (as_it_is, ← (rw some at e.limit_hint) c.in-NumberTooLarge.is) c.hint_number.ensures,
+        )),
+      ),
+    )
 
 pub returns-in-Err-refused : goal.returns-in-Err-refused
 returns-in-Err-refused c =

@@ -1,4 +1,4 @@
-use Rattle.std.proofs.Common.{◌≡◌, inr, rules, to_z, of_z, w32}
+use Rattle.std.proofs.Common.{inr, rules}
 use Rattle.semver_parser_c.proofs.sets.put_set.Goals as goal
 
 pub returns-in-Ok-Some : goal.returns-in-Ok-Some

@@ -11,9 +11,20 @@ returns-in-Ok-read c =
     let same = c.in-Ok.ensures.cases.0 in
     let as_it_is : to_z w32 (of_z w32 c.put_set.result) ≡ c.put_set.result = search rules in
     let means = rw same at c.in-Ok-read.ensures.meaning in
-    inr (c.in-Some.meaning, search rules, inr (inr ((c.in-Ok.ensures.cases.1, has_set _ _ _ _ same c.in-Ok-read.ensures.refusals),
-    rw as_it_is (⊎_elim (λ memory. inl memory) (λ puts. inr (c.in-Ok-read.set, c.is_normal.ensures.normal, c.in-Ok-read.ensures.printable, means,
-    puts)) c.put_set.ensures))))
+    inr (
+      c.in-Some.meaning,
+      search rules,
+      inr (inr (
+        (c.in-Ok.ensures.cases.1, has_set _ _ _ _ same c.in-Ok-read.ensures.refusals),
+        rw as_it_is (⊎_elim (λ memory. inl memory) (λ puts. inr (
+          c.in-Ok-read.set,
+          c.is_normal.ensures.normal,
+          c.in-Ok-read.ensures.printable,
+          means,
+          puts,
+        )) c.put_set.ensures),
+      )),
+    )
 
 pub returns-in-Err-NotARange : goal.returns-in-Err-NotARange
 returns-in-Err-NotARange c =

@@ -8,11 +8,28 @@ returns-in_default-outline_in c =
 
 pub returns-in_default-outline_in-2 : goal.returns-in_default-outline_in-2
 returns-in_default-outline_in-2 c =
-    inr (c.in-Some.dialect, search rules, inr (version_of c.in-Some-outline_in.first, rw c.grammar.ensures.grammar at c.in-Some-outline_in.ensures.version,
-    inl (rw c.grammar-2.ensures.grammar at (c.in_default-outline_in-2.ensures.none.0 refl), (refl, refl))))
+    inr (
+      c.in-Some.dialect,
+      search rules,
+      inr (
+        version_of c.in-Some-outline_in.first,
+        rw c.grammar.ensures.grammar at c.in-Some-outline_in.ensures.version,
+        inl (rw c.grammar-2.ensures.grammar at (c.in_default-outline_in-2.ensures.none.0 refl), (refl, refl)),
+      ),
+    )
 
 pub returns : goal.returns
 returns c =
-    inr (c.in-Some.dialect, search rules, inr (version_of c.in-Some-outline_in.first, rw c.grammar.ensures.grammar at c.in-Some-outline_in.ensures.version,
-    inr (version_of c.in-Some-outline_in-2.second, rw c.grammar-2.ensures.grammar at c.in-Some-outline_in-2.ensures.version,
-    (refl, search rules))))
+    inr (
+      c.in-Some.dialect,
+      search rules,
+      inr (
+        version_of c.in-Some-outline_in.first,
+        rw c.grammar.ensures.grammar at c.in-Some-outline_in.ensures.version,
+        inr (
+          version_of c.in-Some-outline_in-2.second,
+          rw c.grammar-2.ensures.grammar at c.in-Some-outline_in-2.ensures.version,
+          (refl, search rules),
+        ),
+      ),
+    )

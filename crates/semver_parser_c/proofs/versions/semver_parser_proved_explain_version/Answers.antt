@@ -11,9 +11,20 @@ returns c =
     let e = c.grammar-grammar.ensures.grammar in
     let as_it_is : to_z w32 (of_z w32 c.reason_number.result) ≡ c.reason_number.result = search rules in
     let refusal = c.in-Some-refused.ensures in
-    inr (c.in-Some.dialect, search rules, inr (rw e at refusal.version, inr (c.if-buffer-version.false, refl, record {
-      longest = rw e at refusal.offset;
-      why = c.in-Some-refused.refusal.reason;
-      is_why = rw e at refusal.reason;
-      number = rw as_it_is c.reason_number.ensures;
-    })))
+    inr (
+      c.in-Some.dialect,
+      search rules,
+      inr (
+        rw e at refusal.version,
+        inr (
+          c.if-buffer-version.false,
+          refl,
+          record {
+            longest = rw e at refusal.offset;
+            why = c.in-Some-refused.refusal.reason;
+            is_why = rw e at refusal.reason;
+            number = rw as_it_is c.reason_number.ensures;
+          },
+        ),
+      ),
+    )
