@@ -1,7 +1,6 @@
-/* Finds how much memory the calls that allocate hold at most for each byte of a range text, or of
- * the data of a set, beyond the first 1,000 bytes: on texts of many forms and lengths, by each
- * dialect and rule. It counts the memory itself, in place of c/heap.c. */
-#include "../../crates/semver_parser_c/c/heap.h"
+/* Finds how much memory the functions that allocate hold at most for each byte of a range, beyond
+ * the first 1,000 bytes: on ranges of many forms and lengths, by each dialect and rule. Linked by
+ * -Wl,--wrap=malloc,--wrap=realloc,--wrap=free, it counts all that the library allocates. */
 #include "../../crates/semver_parser_c/include/semver_parser.h"
 
 #include <stdio.h>
@@ -14,13 +13,19 @@ enum { BEFORE = 16 };
 
 static size_t held, most;
 
-static rattle_answer counted(unsigned char *block, size_t size) {
+void *__real_malloc(size_t size);
+void *__real_realloc(void *block, size_t size);
+void __real_free(void *block);
+void *__wrap_malloc(size_t size);
+void *__wrap_realloc(void *block, size_t size);
+void __wrap_free(void *block);
+
+static void *counted(unsigned char *block, size_t size) {
     if (block == NULL) abort();
     held += size;
     most = held > most ? held : most;
     memcpy(block, &size, sizeof size);
-    rattle_answer answer = {true, block + BEFORE};
-    return answer;
+    return block + BEFORE;
 }
 
 static size_t size_of(const unsigned char *block) {
@@ -29,121 +34,119 @@ static size_t size_of(const unsigned char *block) {
     return size;
 }
 
-rattle_answer rattle_alloc(size_t size, size_t align) {
-    (void)align;
-    return counted(malloc(size + BEFORE), size);
+void *__wrap_malloc(size_t size) {
+    return counted(__real_malloc(size + BEFORE), size);
 }
 
 /* While a block is moved, both are held. */
-rattle_answer rattle_realloc(void *block, size_t kept, size_t size, size_t align) {
+void *__wrap_realloc(void *block, size_t size) {
     size_t old = size_of(block);
-    (void)kept;
-    (void)align;
-    rattle_answer answer = counted(realloc((unsigned char *)block - BEFORE, size + BEFORE), size);
+    void *made = counted(__real_realloc((unsigned char *)block - BEFORE, size + BEFORE), size);
     held -= old;
-    return answer;
-}
-
-void rattle_dealloc(void *block) {
-    held -= size_of(block);
-    free((unsigned char *)block - BEFORE);
-}
-
-/* ---- calls */
-
-enum { LONGEST = 132000, ROWS = 2 * LONGEST };
-
-static uint8_t text[LONGEST], out[8 * LONGEST];
-static semver_parser_comparator comparators[ROWS];
-static semver_parser_switch switches[ROWS], more_switches[ROWS];
-
-/* How many bytes a call is given: those of the text, or of a set. */
-static size_t given;
-
-static int32_t rewrite(size_t length, int32_t dialect, int32_t rule) {
-    size_t needed;
-    (void)rule;
-    return semver_parser_rewrite(text, length, dialect, true, out, sizeof out, &needed);
-}
-
-static int32_t list(size_t length, int32_t dialect, int32_t rule) {
-    size_t count, needed;
-    (void)rule;
-    return semver_parser_comparators(
-        text, length, dialect, true, comparators, ROWS, &count, out, sizeof out, &needed);
-}
-
-static int32_t ask(size_t length, int32_t dialect, int32_t rule) {
-    static const semver_parser_text version = {(const uint8_t *)"1.2.3", 5};
-    const semver_parser_text versions[4] = {version, version, version, version};
-    uint8_t answers[4];
-    return semver_parser_meets_each(text, length, dialect, rule, versions, 4, answers);
-}
-
-static int32_t make(size_t length, int32_t dialect, int32_t rule) {
-    size_t count, needed;
-    return semver_parser_set(
-        text, length, dialect, rule, switches, ROWS, &count, out, sizeof out, &needed);
-}
-
-static int32_t least(size_t length, int32_t dialect, int32_t rule) {
-    size_t needed;
-    return semver_parser_least(text, length, dialect, rule, out, sizeof out, &needed);
-}
-
-static int32_t compare(size_t length, int32_t dialect, int32_t rule) {
-    size_t needed;
-    semver_parser_comparison comparison;
-    return semver_parser_compare(text, length, (const uint8_t *)"*", 1, dialect, rule, out,
-        sizeof out, &needed, &comparison);
-}
-
-/* The set of the text, as data. What making it takes is not counted. */
-static semver_parser_flat_set set_of(size_t length, int32_t dialect, int32_t rule) {
-    static uint8_t bytes[LONGEST];
-    size_t count = 0, needed = 0;
-    semver_parser_set(
-        text, length, dialect, rule, switches, ROWS, &count, bytes, sizeof bytes, &needed);
-    semver_parser_flat_set made = {switches, count, bytes, needed};
-    most = held = 0;
-    given = count * sizeof *switches + needed;
     return made;
 }
 
-static int32_t combine(size_t length, int32_t dialect, int32_t rule) {
-    size_t count, needed;
-    semver_parser_flat_set set = set_of(length, dialect, rule);
-    given *= 2;
-    return semver_parser_combine(set, set, SEMVER_PARSER_UNION, more_switches, ROWS, &count, out,
-        sizeof out, &needed);
+void __wrap_free(void *block) {
+    if (block == NULL) return;
+    held -= size_of(block);
+    __real_free((unsigned char *)block - BEFORE);
 }
 
-static int32_t compare_sets(size_t length, int32_t dialect, int32_t rule) {
-    bool is_within, contains;
-    semver_parser_flat_set set = set_of(length, dialect, rule);
-    given *= 2;
-    return semver_parser_compare_sets(set, set, &is_within, &contains);
+/* ---- functions, of a range that is one; what isn't counted is made before */
+
+enum { LONGEST = 132000 };
+
+static char text[LONGEST];
+static semver_parser_string range = {text, 0};
+static semver_parser_set *set;
+static semver_parser_comparators *list;
+
+static void begin(void) {
+    most = held = 0;
 }
 
-static int32_t set_least(size_t length, int32_t dialect, int32_t rule) {
-    size_t needed;
-    return semver_parser_set_least(set_of(length, dialect, rule), out, sizeof out, &needed);
+static bool make_set(semver_parser_options options) {
+    semver_parser_set_free(set);
+    set = NULL;
+    begin();
+    return semver_parser_set_of_range(range, options, &set, NULL) == SEMVER_PARSER_OK;
 }
 
-static int32_t print_set(size_t length, int32_t dialect, int32_t rule) {
-    size_t needed;
-    return semver_parser_print_set(
-        set_of(length, dialect, rule), false, out, sizeof out, &needed);
+static bool make_list(semver_parser_options options) {
+    semver_parser_comparators_free(list);
+    list = NULL;
+    begin();
+    return semver_parser_comparators_of_range(range, options.dialect, true, &list, NULL)
+           == SEMVER_PARSER_OK;
+}
+
+static bool print_list(semver_parser_options options) {
+    char *string = NULL;
+    if (!make_list(options)) return false;
+    begin();
+    bool is_ok = semver_parser_comparators_to_string(list, &string) == SEMVER_PARSER_OK;
+    semver_parser_string_free(string);
+    return is_ok;
+}
+
+static bool explain(semver_parser_options options) {
+    semver_parser_error error;
+    bool satisfies;
+    if (range.length >= LONGEST) return false;
+    text[range.length++] = '%';
+    begin();
+    bool is_error = semver_parser_satisfies(semver_parser_str("1.2.3"), range, options, &satisfies,
+                                            &error) == SEMVER_PARSER_INVALID_RANGE;
+    range.length--;
+    return is_error;
+}
+
+/* Functions of a set, for each byte of the range or ranges that it is of. */
+static bool unite(semver_parser_options options) {
+    semver_parser_set *made = NULL;
+    if (!make_set(options)) return false;
+    begin();
+    bool is_ok = semver_parser_set_union(set, set, &made) == SEMVER_PARSER_OK;
+    semver_parser_set_free(made);
+    return is_ok;
+}
+
+static bool equal(semver_parser_options options) {
+    bool is_equal;
+    if (!make_set(options)) return false;
+    begin();
+    return semver_parser_set_equal(set, set, &is_equal) == SEMVER_PARSER_OK;
+}
+
+static bool print_set(semver_parser_options options) {
+    char *string = NULL;
+    if (!make_set(options)) return false;
+    begin();
+    bool is_ok = semver_parser_set_to_string(set, false, &string) == SEMVER_PARSER_OK;
+    semver_parser_string_free(string);
+    return is_ok;
+}
+
+static bool save(semver_parser_options options) {
+    char *bytes = NULL;
+    size_t length;
+    if (!make_set(options)) return false;
+    begin();
+    bool is_ok = semver_parser_set_save(set, &bytes, &length) == SEMVER_PARSER_OK;
+    semver_parser_string_free(bytes);
+    return is_ok;
 }
 
 static const struct {
     const char *name;
-    int32_t (*run)(size_t length, int32_t dialect, int32_t rule);
-} calls[] = {{"rewrite", rewrite}, {"comparators", list}, {"meets_each", ask}, {"set", make},
-    {"least", least}, {"compare", compare}, {"combine", combine}, {"compare_sets", compare_sets},
-    {"set_least", set_least}, {"print_set", print_set}};
+    bool (*run)(semver_parser_options options);
+    int ranges;
+} calls[] = {{"set_of_range", make_set, 1}, {"comparators_of_range", make_list, 1},
+    {"comparators_to_string", print_list, 1}, {"satisfies, for an error", explain, 1},
+    {"set_union", unite, 2}, {"set_equal", equal, 2}, {"set_to_string", print_set, 1},
+    {"set_save", save, 1}};
 
-/* ---- texts: so many equal terms, and this again and again; # is another number each time */
+/* ---- ranges: so many equal terms, and this again and again; # is another number each time */
 
 static const char *const terms[] = {"", "*", "1", "^1", "<1", ">1", "1.1.1-0", "^1.1.1-0",
     "~1.1.1-a", ">1.1.1-0", "1.1.1-0.0.0", "#", "~#", "<#", "#.1.1-0", "^#.1.1-a", ">#.1.1-0"};
@@ -181,23 +184,22 @@ static void write_text(
     }
 }
 
-/* ---- the most that a call holds */
+/* ---- the most that a function holds */
 
 static double rate;
 static char shown[80];
 
-/* Runs a call on the text, by each dialect and rule. */
+/* Runs a function on the range, by each dialect and rule. */
 static void run(size_t call, const char *term, size_t count, size_t often) {
-    for (int32_t dialect = SEMVER_PARSER_CARGO; dialect <= SEMVER_PARSER_CRATE_NPM; dialect++) {
-        for (int32_t rule = 0; rule <= SEMVER_PARSER_EXCLUDED; rule++) {
-            most = held = 0;
-            given = length;
-            if (calls[call].run(length, dialect, rule) != SEMVER_PARSER_OK || most < 1000) continue;
-            double found = (double)(most - 1000) / (double)given;
-            if (found <= rate) continue;
-            rate = found;
-            snprintf(shown, sizeof shown, "%zu ranges of %zu times `%s`", often, count, term);
-        }
+    range.length = length;
+    for (int at = 0; at < 12; at++) {
+        semver_parser_options options = {
+            (semver_parser_dialect)(at / 3), (semver_parser_pre_releases)(at % 3)};
+        if (!calls[call].run(options) || most < 1000) continue;
+        double found = (double)(most - 1000) / (double)length / calls[call].ranges;
+        if (found <= rate) continue;
+        rate = found;
+        snprintf(shown, sizeof shown, "%zu ranges of %zu times `%s`", often, count, term);
     }
 }
 
@@ -210,7 +212,7 @@ static void run_all(size_t call, const char *term, size_t count, size_t often) {
 }
 
 int main(void) {
-    printf("| call | bytes for each byte | of what |\n|---|---|---|\n");
+    printf("| function | bytes for each byte | of what |\n|---|---|---|\n");
     for (size_t call = 0; call < sizeof calls / sizeof *calls; call++) {
         rate = 0;
         for (size_t t = 0; t < sizeof terms / sizeof *terms; t++) {

@@ -1,4 +1,5 @@
-/* Times `semver_parser_meets_each` for 1 to 6 versions: the best of many passes. */
+/* Times a set of a range that is asked of 1 to 6 versions, and `semver_parser_satisfies` of each:
+ * the best of many passes. */
 #define _POSIX_C_SOURCE 200809L
 #include "../../crates/semver_parser_c/include/semver_parser.h"
 
@@ -6,7 +7,7 @@
 #include <string.h>
 #include <time.h>
 
-enum { PASSES = 300, CALLS = 2000, MOST = 6 };
+enum { PASSES = 100, CALLS = 1000, MOST = 6 };
 
 static const char *const ranges[] = {"^1.2.3", ">=1.2.3, <2", "~1.2.3-rc.1"};
 static const char *const versions[MOST] = {"1.4.0", "1.2.2", "2.0.0", "1.9.12", "0.8.1", "1.2.3"};
@@ -17,33 +18,59 @@ static double now(void) {
     return (double)time.tv_sec * 1e9 + (double)time.tv_nsec;
 }
 
-/* Nanoseconds a call that asks a range of so many versions. */
-static double time_of(const char *range, size_t count) {
-    semver_parser_text texts[MOST];
-    uint8_t answers[MOST];
-    double best = 1e9;
-    for (size_t i = 0; i < MOST; i++) {
-        texts[i].bytes = (const uint8_t *)versions[i];
-        texts[i].length = strlen(versions[i]);
+static const semver_parser_options cargo = {SEMVER_PARSER_CARGO, SEMVER_PARSER_DEFAULT};
+static bool answers[MOST];
+
+/* A range that is read once, and one that is read for each version. */
+static bool ask_set(
+    semver_parser_string range, const semver_parser_string *strings, size_t count) {
+    semver_parser_set *set = NULL;
+    bool is_ok = semver_parser_set_of_range(range, cargo, &set, NULL) == SEMVER_PARSER_OK;
+    for (size_t i = 0; is_ok && i < count; i++) {
+        is_ok = semver_parser_set_contains(set, strings[i], &answers[i], NULL) == SEMVER_PARSER_OK;
     }
+    semver_parser_set_free(set);
+    return is_ok;
+}
+
+static bool ask_each(
+    semver_parser_string range, const semver_parser_string *strings, size_t count) {
+    bool is_ok = true;
+    for (size_t i = 0; is_ok && i < count; i++) {
+        is_ok = semver_parser_satisfies(strings[i], range, cargo, &answers[i], NULL)
+                == SEMVER_PARSER_OK;
+    }
+    return is_ok;
+}
+
+typedef bool asking(semver_parser_string range, const semver_parser_string *strings, size_t count);
+
+/* Nanoseconds that it takes to ask a range of so many versions. */
+static double time_of(asking *ask, const char *range, size_t count) {
+    semver_parser_string strings[MOST];
+    double best = 1e9;
+    bool is_ok = true;
+    for (size_t i = 0; i < MOST; i++) strings[i] = semver_parser_str(versions[i]);
     for (int pass = 0; pass < PASSES; pass++) {
         double begun = now();
         for (int call = 0; call < CALLS; call++) {
-            semver_parser_meets_each((const uint8_t *)range, strlen(range), SEMVER_PARSER_CARGO,
-                SEMVER_PARSER_DEFAULT, texts, count, answers);
+            is_ok &= ask(semver_parser_str(range), strings, count);
         }
         double taken = (now() - begun) / CALLS;
         best = taken < best ? taken : best;
     }
-    return best;
+    return is_ok ? best : -1;
 }
 
 int main(void) {
-    printf("| ns a call, for so many versions | 1 | 2 | 3 | 4 | 5 | 6 |\n");
+    static asking *const ways[] = {ask_set, ask_each};
+    printf("| ns for so many versions | 1 | 2 | 3 | 4 | 5 | 6 |\n");
     printf("|---|---|---|---|---|---|---|\n");
-    for (size_t i = 0; i < sizeof ranges / sizeof *ranges; i++) {
-        printf("| `%s` |", ranges[i]);
-        for (size_t count = 1; count <= MOST; count++) printf(" %.0f |", time_of(ranges[i], count));
+    for (size_t i = 0; i < 2 * sizeof ranges / sizeof *ranges; i++) {
+        printf("| `%s`, %s |", ranges[i / 2], i % 2 == 0 ? "as a set" : "read for each");
+        for (size_t count = 1; count <= MOST; count++) {
+            printf(" %.0f |", time_of(ways[i % 2], ranges[i / 2], count));
+        }
         printf("\n");
     }
     return 0;

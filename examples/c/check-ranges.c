@@ -7,11 +7,11 @@
  * prints the second. What follows another tab is ignored, and printed with its line. A line that is
  * invalid is reported on standard error with its number, and with the offset and the reason. The
  * status is 0 if all lines hold, 1 if one doesn't, and 2 if one is invalid, the input can't be read
- * to its end, or the output can't be written: then the rest is left unchecked, and that is reported.
+ * to its end, or the output can't be written: then the rest isn't checked, and that is reported.
  *
- * DIALECT is `npm`, the default, or `cargo`, with the pre-releases that the tool matches by default;
- * or `crate-npm` or `crate-cargo`, those of the Rust crate semver-parser, with each pre-release
- * within the bounds: 1.3.0-rc satisfies `^1.2.0`, and 2.0.0-rc doesn't. */
+ * DIALECT is `npm`, the default, or `cargo`, with the pre-releases that the tool matches by
+ * default; or `crate-npm` or `crate-cargo`, those of the Rust crate semver-parser, with each
+ * pre-release within the bounds: 1.3.0-rc satisfies `^1.2.0`, and 2.0.0-rc doesn't. */
 #define _POSIX_C_SOURCE 200809L
 #include <errno.h>
 #include <semver_parser.h>

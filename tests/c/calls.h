@@ -1,7 +1,7 @@
-/* The calls of the library, made with care: each string is a block of its own with nothing after it
- * that may be read, and an empty one is passed at null too; each output has guard bytes after it;
- * each call is made without and with an `error`; and after an error outputs have to be as they were.
- * What isn't as the header says ends the program. */
+/* The functions of the library, called with care: each string is a block of its own with nothing
+ * after it that may be read, and an empty one is passed at null too; each output has guard bytes
+ * after it; each call is made without and with an `error`; and after an error outputs have to be as
+ * they were. What isn't as the header says ends the program. */
 #ifndef CALLS_H
 #define CALLS_H
 

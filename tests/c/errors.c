@@ -152,7 +152,7 @@ static void arguments(void) {
     text_free(&range);
 }
 
-/* Texts are phrases of one line, each of its own; of OUT_OF_MEMORY tests/c/refused.c has the rest. */
+/* Texts are phrases of one line, each of its own. tests/c/refused.c has OUT_OF_MEMORY returned. */
 static void texts(void) {
     const char *no_status = semver_parser_status_text((semver_parser_status)STATUSES);
     const char *no_reason = semver_parser_reason_text((semver_parser_reason)REASONS);

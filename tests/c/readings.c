@@ -1,6 +1,6 @@
 /* How the four dialects read versions and ranges: the parts of versions, precedence, what ranges
- * are rewritten to, and comparators. What is expected is in the tables of docs/MEANING.md, above all
- * in that of "Which dialect?", and in those of docs/GRAMMAR.md. */
+ * are rewritten to, and comparators. What is expected is in the tables of docs/GRAMMAR.md and of
+ * docs/MEANING.md, above all in that of "Which dialect?". */
 #include "calls.h"
 
 #include <stdio.h>

@@ -1,7 +1,7 @@
 /* Refuses each allocation of a function in turn: it has to return OUT_OF_MEMORY, or without an
- * `error` the error that it would return, to leave its outputs as they were, and to free all that it
- * allocated. With no allocation refused it has to return what it does with ample memory, and
- * allocates only if the header says so. Linked by -Wl,--wrap=malloc,--wrap=realloc,--wrap=free. */
+ * `error` the error that it returns with ample memory, to leave its outputs as they were, and to
+ * free all that it allocated. It may allocate only if the header says so. Linked by
+ * -Wl,--wrap=malloc,--wrap=realloc,--wrap=free. */
 #include "../../crates/semver_parser_c/include/semver_parser.h"
 
 #include <stdio.h>

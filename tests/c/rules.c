@@ -288,7 +288,8 @@ static void no_such_options(void) {
             int order;
             semver_parser_version parsed;
             int number = numbers[at];
-            check(satisfies(&of, &of, NPM, number, &answer).status == SEMVER_PARSER_INVALID_ARGUMENT,
+            check(satisfies(&of, &of, NPM, number, &answer).status
+                      == SEMVER_PARSER_INVALID_ARGUMENT,
                   "a rule", of.bytes);
             number = number == 3 ? 4 : number;
             check(satisfies(&of, &of, number, at % 4, &answer).status

@@ -99,6 +99,28 @@ static void printed(void) {
     text_free(&wanted);
 }
 
+/* What is printed of a set reads back in the crate's npm mode: the releases, and the pre-releases,
+ * but `*`, which has those above 0.0.0 alone there. */
+static void reads_back(void) {
+    static const char *const ranges[] = {"^1.2.3", ">1.0.0-rc.1", "=3.0.0-a || >5", "<*", ">2 <1",
+                                         "*", ">=0.0.0-0", "<0.0.0-a.1 || =1.2.3-rc.0.b"};
+    for (int at = 0; at < (int)(sizeof ranges / sizeof *ranges) * RULES; at++) {
+        semver_parser_set *set = made_of(ranges[at / RULES], CRATE_NPM, at % RULES);
+        text releases = string("");
+        text pre_releases = string("");
+        say_releases(&releases, set);
+        say_pre_releases(&pre_releases, set);
+        set_prints(releases.bytes, CRATE_NPM, EXCLUDED, say_releases, releases.bytes);
+        if (strcmp(pre_releases.bytes, "*") != 0) {
+            set_prints(pre_releases.bytes, CRATE_NPM, INCLUDED, say_pre_releases,
+                       pre_releases.bytes);
+        }
+        text_free(&releases);
+        text_free(&pre_releases);
+        semver_parser_set_free(set);
+    }
+}
+
 /* ---- two sets */
 
 /* Two ranges and the lowest version of what one alone, the other alone, and both have, by each
@@ -396,6 +418,7 @@ static void highest_and_lowest(void) {
 int main(void) {
     lowest();
     printed();
+    reads_back();
     two_sets();
     whole_sets();
     other_options();

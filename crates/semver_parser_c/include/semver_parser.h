@@ -283,7 +283,7 @@ semver_parser_status semver_parser_set_lowest_version(
     const semver_parser_set *set, char **version);
 
 /* Prints the releases of a set, or its pre-releases, as a range: `>=1.2.0 <2.0.0`, `*` for all,
- * `<0.0.0-0` for none. It reads back by SEMVER_PARSER_CRATE_NPM. */
+ * `<0.0.0-0` for none. It reads back by SEMVER_PARSER_CRATE_NPM, but for `*` of pre-releases. */
 SEMVER_PARSER_CHECKED(1, 3)
 semver_parser_status semver_parser_set_to_string(
     const semver_parser_set *set, bool pre_releases, char **string);
