@@ -477,8 +477,11 @@ pub fn one_memberships(
 {
     one_flat();
     one_version_in();
-    let number = semver_parser_proved_contains_each(alloc, switches, bytes, versions, dialect, answers);
-    let other_number = semver_parser_proved_contains_each(alloc, switches, bytes, versions, dialect, others,
+    let number = semver_parser_proved_contains_each(
+        alloc, switches, bytes, versions, dialect, answers,
+    );
+    let other_number = semver_parser_proved_contains_each(
+        alloc, switches, bytes, versions, dialect, others,
     );
     (number, other_number)
 }
