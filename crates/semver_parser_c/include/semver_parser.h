@@ -27,7 +27,7 @@
  * point to during a call. Threads may call concurrently, and read one set or list at once. Not in
  * the child of a fork of several threads, where POSIX doesn't allow malloc.
  *
- * MEMORY. Allocations are by malloc: for a range of n bytes up to 300 n + 1,000 bytes, in time
+ * MEMORY. Allocations are by malloc: for a range of n bytes up to 360 n + 1,000 bytes, in time
  * n log n. Satisfying, parsing and comparing versions take linear time.
  */
 #ifndef SEMVER_PARSER_H
