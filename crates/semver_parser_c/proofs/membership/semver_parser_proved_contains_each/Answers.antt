@@ -1,5 +1,5 @@
 use Rattle.std.proofs.Common.{inl, inr, refl, rules, subst}
-use Rattle.version_sets.specs.VersionSets.{HasSomeVersion, SetValue}
+use Rattle.version_sets.specs.VersionSets.{SetValue}
 use Rattle.semver_parser_c.specs.Membership.{HasByteForEach}
 use Rattle.semver_parser_c.proofs.membership.semver_parser_proved_contains_each.Goals as goal
 
