@@ -366,6 +366,12 @@ static void many_comparators(void) {
 
 /* npm has a comparator's version of 256 characters at most. */
 static void long_identifiers(void) {
+    /* Strings of each length about that of the first buffer. */
+    for (int count = 40; count < 80; count++) {
+        text near = repeated("=1.2.3-", "a", count, "");
+        is_rewritten(CARGO, true, &near, near.bytes);
+        text_free(&near);
+    }
     for (int count = 250; count <= 3000; count += count < 251 ? 1 : 2749) {
         text of = repeated("=1.2.3-", "a", count, "");
         for (int dialect = 0; dialect < DIALECTS; dialect++) {

@@ -75,6 +75,12 @@ static void lowest(void) {
                        say_lowest, lowest_versions[at].lowest[rule]);
         }
     }
+    /* Strings of each length about that of the first buffer. */
+    for (int count = 40; count < 80; count++) {
+        text near = repeated(">=1.2.3-", "a", count, "");
+        set_prints(near.bytes, CRATE_CARGO, DEFAULT, say_lowest, near.bytes + 2);
+        text_free(&near);
+    }
     text identifier = repeated(">=1.2.3-", "a", 3000, "");
     set_prints(identifier.bytes, CRATE_CARGO, EXCLUDED, say_lowest, "1.2.3");
     set_prints(identifier.bytes, CRATE_CARGO, DEFAULT, say_lowest, identifier.bytes + 2);
@@ -347,6 +353,31 @@ static void changed(const char *range) {
     semver_parser_set_free(set);
 }
 
+static void put_number(char *to, uint64_t number) {
+    for (int at = 0; at < 8; at++) {
+        to[at] = (char)(unsigned char)(number >> (8 * at));
+    }
+}
+
+/* Numbers of switches that are too large: with as many bytes as are left then, by numbers of 64
+ * bits, where there are less than none. */
+static void wrong_counts(void) {
+    static const uint64_t counts[] = {0, 1, 2, 4, 5, 100, UINT64_MAX / 40, UINT64_MAX / 40 + 1,
+                                      (uint64_t)1 << 61, (uint64_t)1 << 63, UINT64_MAX};
+    semver_parser_set *set = made_of("^1.2.3-rc.1", CRATE_CARGO, EXCLUDED);
+    size_t length = 0;
+    char *bytes = saved(set, &length);
+    /* The head, two numbers, and three switches of five numbers. */
+    check(length == 8 + 2 * 8 + 3 * 40, "another length", "^1.2.3-rc.1");
+    for (size_t at = 0; at < sizeof counts / sizeof *counts; at++) {
+        put_number(bytes + 8, counts[at]);
+        put_number(bytes + 16, 3 * 40 - 40 * counts[at]);
+        check(!is_loaded(bytes, length), "another number of switches is loaded", "^1.2.3-rc.1");
+    }
+    free(bytes);
+    semver_parser_set_free(set);
+}
+
 /* Equal sets have equal bytes, and others haven't. */
 static void equal_bytes(void) {
     static const char *const ranges[] = {"^1.2.3", ">=1.2.3 <2.0.0-0", "^1.2.4"};
@@ -425,6 +456,7 @@ int main(void) {
     changed(">=1.2.0-rc.1 <2.0.0 || =3.0.0-a.01x || 5");
     changed("1.2.3");
     changed(">2 <1");
+    wrong_counts();
     equal_bytes();
     highest_and_lowest();
     return finish("sets");
