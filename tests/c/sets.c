@@ -362,16 +362,16 @@ static void put_number(char *to, uint64_t number) {
 /* Numbers of switches that are too large: with as many bytes as are left then, by numbers of 64
  * bits, where there are less than none. */
 static void wrong_counts(void) {
-    static const uint64_t counts[] = {0, 1, 2, 4, 5, 100, UINT64_MAX / 40, UINT64_MAX / 40 + 1,
+    static const uint64_t counts[] = {0, 1, 2, 4, 5, 100, UINT64_MAX / 48, UINT64_MAX / 48 + 1,
                                       (uint64_t)1 << 61, (uint64_t)1 << 63, UINT64_MAX};
     semver_parser_set *set = made_of("^1.2.3-rc.1", CRATE_CARGO, EXCLUDED);
     size_t length = 0;
     char *bytes = saved(set, &length);
-    /* The head, two numbers, and three switches of five numbers. */
-    check(length == 8 + 2 * 8 + 3 * 40, "another length", "^1.2.3-rc.1");
+    /* The head, two numbers, and three switches of six numbers. */
+    check(length == 8 + 2 * 8 + 3 * 48, "another length", "^1.2.3-rc.1");
     for (size_t at = 0; at < sizeof counts / sizeof *counts; at++) {
         put_number(bytes + 8, counts[at]);
-        put_number(bytes + 16, 3 * 40 - 40 * counts[at]);
+        put_number(bytes + 16, 3 * 48 - 48 * counts[at]);
         check(!is_loaded(bytes, length), "another number of switches is loaded", "^1.2.3-rc.1");
     }
     free(bytes);
