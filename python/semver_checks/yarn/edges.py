@@ -3,7 +3,8 @@
 WHO ASKS. Each package asks for its `dependencies` and `optionalDependencies`. What no package asks
 for, the project or a workspace does: in a lock file of yarn 1 these aren't packages.
 
-WHAT IS FOUND. The package whose key has what is asked for, as `numbers@^1.0.0`.
+WHAT IS FOUND. The package whose key has what is asked for, as `numbers@^1.0.0`. Berry installs the
+version in its `resolution`.
 
 RESOLUTIONS. They are in the project's package.json. An ask that one of them is for is judged by
 what it puts there, if the version isn't what is asked for.
@@ -17,7 +18,7 @@ from typing import Dict, Iterator, List, NamedTuple, Optional, Set
 from semver_parser import Dialect
 
 from ..files import Entry, texts_at
-from ..judging import NO_VERSION, NOT_THERE, SKIPPED, Finding, is_version
+from ..judging import ANOTHER_VERSION, NO_VERSION, NOT_THERE, SKIPPED, Finding, is_version
 from ..npm.specs import CATALOG, MET, Override, has_name, name_and_rest, verdict_by, verdict_on
 from .lock import Package, Tree, asks_of, name_of, packages_of, spec_of
 
@@ -112,6 +113,16 @@ def of_ask(ask: Ask, found: Package, resolved: List[str]) -> Iterator[Finding]:
         yield Finding(spec, found.version, who, verdict, is_strict=verdict == SKIPPED)
 
 
+def of_version(package: Package) -> Iterator[Finding]:
+    """What there is to say of a package whose version yarn refuses, or whose entry has another one
+    than yarn installs. Build metadata isn't compared: `version` is written without it."""
+    version, who = package.version, name_of(package.patterns[0])
+    if version != WORKSPACE and not is_version(version, Dialect.NPM):
+        yield Finding("", version, who, NO_VERSION)
+    if version.partition("+")[0] != package.entry_version.partition("+")[0]:
+        yield Finding(package.entry_version, version, who, ANOTHER_VERSION)
+
+
 def asked_patterns(packages: List[Package]) -> Set[str]:
     """What the packages of a file ask for."""
     return {f"{name}@{spec}" for package in packages for name, spec in asks_of(package)}
@@ -142,8 +153,7 @@ def findings(tree: Tree, resolutions: Resolutions) -> Iterator[Finding]:
     is_berry = "__metadata" in tree
     asked = every if is_berry else asked_patterns(packages)
     for package in packages:
-        if package.version != WORKSPACE and not is_version(package.version, Dialect.NPM):
-            yield Finding("", package.version, name_of(package.patterns[0]), NO_VERSION)
+        yield from of_version(package)
         for ask in asks_for(package, asked):
             resolved = [it.spec for it in resolutions.get(ask.name, []) if is_for(it, ask)]
             # In yarn 1 a package that a resolution puts there is for what is asked for, too.
