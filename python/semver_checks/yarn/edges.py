@@ -1,8 +1,8 @@
 """The findings of a `yarn.lock`.
 
 WHO ASKS. Each package asks for its `dependencies` and `optionalDependencies`. A key that no package
-asks for is asked for by the project: in a lock file of yarn 1 it and its workspaces aren't packages,
-and in one of berry the keys of catalogs and patches are.
+asks for the project does: yarn 1 has neither it nor its workspaces as packages, and in a file
+of berry there are keys of catalogs and patches.
 
 WHAT IS FOUND. The package whose key has what is asked for, as `numbers@^1.0.0`. Berry installs the
 version in its `resolution`.
@@ -83,6 +83,12 @@ def wanted_of(name: str, spec: str) -> str:
     name, spec = name_and_rest(source_of(f"{name}@{spec}"))
     spec = of_yarn(spec)
     return spec if alias_of(spec) is not None or is_elsewhere(spec) else f"npm:{name}@{spec}"
+
+
+def wanted_of_classic(spec: str) -> str:
+    """What yarn 1 asks for as npm has it: `npm:NAME` without a range is for the tag `latest`."""
+    name, rest = alias_of(spec) or ("", spec)
+    return f"npm:{name}@latest" if name and not rest else spec
 
 
 # ---- resolutions
@@ -166,7 +172,8 @@ def edge_of(
     keys = {spec: key_for(ask.name, spec, by_key) for spec in specs}
     spec = next((it for it in specs if keys[it] is not None), ask.spec)
     if not is_berry:
-        return Edge(ask, ask.spec, ask.spec, {it: it for it in resolved}, keys[spec])
+        written = {wanted_of_classic(it): it for it in resolved}
+        return Edge(ask, ask.spec, wanted_of_classic(ask.spec), written, keys[spec])
     wanted = wanted_of(ask.name, spec)
     return Edge(ask, spec, wanted, {wanted: spec} if spec in resolved else {}, keys[spec])
 
