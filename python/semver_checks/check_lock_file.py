@@ -23,6 +23,7 @@ from .files import (
 )
 from .judging import Finding
 from .npm import edges as npm
+from .others import refuse_others
 from .pnpm import edges as pnpm
 from .program import Misuse, Options, Outcome, Program, joined, run
 from .yarn import edges as yarn
@@ -88,6 +89,7 @@ def refuse_manifest(options: Options) -> None:
 
 def findings(options: Options, manifest_at: Optional[str], text: bytes) -> Iterator[Finding]:
     """What there is to say of a lock file, by what it is."""
+    refuse_others(text)
     if text.lstrip()[:1] == b"{":
         yield from of_json(options, manifest_at, json_object(text))
     elif b"yarn lockfile v1" in text or b"\n__metadata:" in text:
