@@ -4,11 +4,13 @@ import re
 
 from .files import Unreadable
 
+DENO = rb'\{\s*"version"\s*:\s*"\d"\s*,\s*"(?:specifiers|packages|remote|redirects|jsr|npm)"\s*:'
+
 # What only one file has at its beginning, the file, and whose it is.
 BY_BEGINNING = (
     (rb'\{(?:\s*"\w+"\s*:\s*\d+\s*,)*\s*"workspaces"\s*:\s*\{', "bun.lock", "of Bun"),
     (rb"#!/usr/bin/env bun\n", "bun.lockb", "of Bun"),
-    (rb'\{\s*"version"\s*:\s*"\d"\s*,\s*"[a-z]+"\s*:\s*\{', "deno.lock", "of Deno"),
+    (DENO, "deno.lock", "of Deno"),
     (rb'\{\s*"_meta"\s*:', "Pipfile.lock", "Python's Pipenv"),
     (rb'\{\s*"_readme"\s*:', "composer.lock", "PHP's Composer"),
     (rb"(?:GIT|PATH|GEM)\r?\n  remote:", "Gemfile.lock", "Ruby's Bundler"),

@@ -30,7 +30,7 @@ def packages_of(lock: Entry) -> List[Package]:
     found = []
     # Cargo.lock files of before 2017 have the package itself in a table of its own.
     own = [lock["root"]] if "root" in lock else []
-    for value in (*own, *list_at(lock.get("package", [] if own else None), "package")):
+    for value in (*own, *list_at(lock.get("package", []), "package")):
         entry = object_at(value, "package")
         name = text_at(entry.get("name"), "package: name")
         depends = list_at(entry.get("dependencies", []), f"{name}: dependencies")
