@@ -24,6 +24,7 @@ from .files import (
     yaml_object,
 )
 from .judging import Finding
+from .manifests import Project, needs_of, project_of
 from .npm import edges as npm
 from .others import refuse_others
 from .pnpm import edges as pnpm
@@ -85,6 +86,14 @@ def read_manifest(
         return manifest, take(manifest)
 
 
+def project_beside(path: Optional[str], manifest: Entry) -> Project:
+    """The package.json of a project of yarn, which is at a path, and those of its workspaces."""
+    is_file = path is not None and path != STANDARD_INPUT
+    with taking(path or "", "package.json"):
+        list(needs_of(manifest))
+        return project_of(manifest, os.path.dirname(path) if path and is_file else None)
+
+
 def refuse_manifest(options: Options) -> None:
     """Refuses a package.json that is named beside a file of another tool."""
     if "--package-json" in options.given:
@@ -101,8 +110,9 @@ def findings(options: Options, manifest_at: Optional[str], text: bytes) -> Itera
     if text.lstrip()[:1] == b"{":
         yield from of_json(options, manifest_at, lock_at(path, text))
     elif YARN.search(text) or is_empty_of_yarn(path, text):
-        tree = tree_of(utf8(text))
-        yield from yarn.findings(tree, read_manifest(manifest_at, yarn.resolutions_of)[1])
+        manifest, resolutions = read_manifest(manifest_at, yarn.resolutions_of)
+        project = {} if manifest is None else project_beside(manifest_at, manifest)
+        yield from yarn.findings(tree_of(utf8(text)), resolutions, project)
     elif PNPM.search(text):
         refuse_manifest(options)
         yield from pnpm.findings(yaml_object(text))

@@ -14,11 +14,13 @@ NOT IN THE FILE. Who provides a peer, the version of a workspace, and which key 
 """
 
 import re
-from typing import Dict, Iterator, List, NamedTuple, Optional, Set
+from typing import Dict, Iterable, Iterator, List, NamedTuple, Optional, Set
 
 from semver_parser import Dialect
 
 from ..files import Entry, texts_at
+from ..manifests import TOP, Project
+from ..manifests import needs_of as needs_of_manifest
 from ..judging import ANOTHER_VERSION, NO_VERSION, NOT_THERE, SKIPPED, Finding, is_version
 from ..npm.specs import (
     CATALOG,
@@ -27,11 +29,12 @@ from ..npm.specs import (
     alias_of,
     has_name,
     is_elsewhere,
+    is_no_range,
     name_and_rest,
     verdict_by,
     verdict_on,
 )
-from .lock import Package, Tree, asks_of, name_of, packages_of, source_of
+from .lock import Package, Tree, name_of, needs_of, packages_of, source_of
 
 # The version that a workspace of the project has in a lock file.
 WORKSPACE = "0.0.0-use.local"
@@ -46,17 +49,20 @@ Resolutions = Dict[str, List[Override]]
 
 
 class Ask(NamedTuple):
-    """Who asks for which name, and for what. Without a package it is the project."""
+    """Who asks for which name, and for what, and whether that has to be there. Without a package it
+    is the project, or in yarn 1 a workspace, in its folder."""
 
     package: Optional[Package]
     name: str
     spec: str
+    is_required: bool = True
+    folder: str = TOP
 
     @property
     def asker(self) -> str:
         """Who asks, as it is printed."""
         if self.package is None:
-            return "the project"
+            return "the project" if self.folder == TOP else self.folder
         name = name_of(self.package.patterns[0])
         return name if self.package.version == WORKSPACE else f"{name} {self.package.version}"
 
@@ -129,13 +135,22 @@ def key_for(name: str, spec: str, by_key: Dict[str, Package]) -> Optional[str]:
     return next((key for key in keys if key in by_key), None)
 
 
-def of_edge(edge: Edge, found: Optional[Package]) -> Iterator[Finding]:
-    """What there is to say of what is asked for, and found or not."""
+def of_missing(edge: Edge) -> Iterator[Finding]:
+    """What there is to say of what is asked for and not found. A tag, a path or a URL may have been
+    written in another way."""
+    spec, who = edge.ask.spec, f"{edge.ask.asker} asks for {edge.ask.name}"
+    if spec.startswith(CATALOG):
+        yield Finding(spec, "", who, SKIPPED, is_strict=True)
+    elif edge.ask.is_required:
+        yield Finding(spec, "", who, NOT_THERE, is_no_range(edge.wanted))
+
+
+def of_edge(edge: Edge, found: Package) -> Iterator[Finding]:
+    """What there is to say of what is asked for and found."""
     ask, spec, wanted, resolved, _ = edge
     who = f"{ask.asker} asks for {ask.name}"
-    if found is None or found.version == WORKSPACE:
-        is_there = found is not None or ask.spec.startswith(CATALOG)
-        yield Finding(ask.spec, "", who, SKIPPED if is_there else NOT_THERE, is_strict=True)
+    if found.version == WORKSPACE:
+        yield Finding(ask.spec, "", who, SKIPPED, is_strict=True)
         return
     if found.name and not any(has_name(found.name, it) for it in (wanted, *resolved)):
         yield Finding(spec, found.name, who, "another package")
@@ -187,22 +202,61 @@ def asks_of_project(package: Package, used: Set[Optional[str]]) -> Iterator[Ask]
             yield Ask(None, name, spec)
 
 
-def findings(tree: Tree, resolutions: Resolutions) -> Iterator[Finding]:
-    """What there is to say of a lock file, in its order, beside the project's resolutions."""
+def asks_of(package: Package, project: Project) -> Iterator[Ask]:
+    """What a package asks for: a workspace of berry by its package.json, where that is there."""
+    manifest = project.get(folder_of(package))
+    needs = needs_of(package) if manifest is None else needs_of_manifest(manifest)
+    for need in needs:
+        yield Ask(package, need.name, need.spec, not need.is_optional)
+
+
+def asks_of_folders(project: Project, packages: List[Package]) -> Iterator[Ask]:
+    """What the project and its workspaces ask for that aren't in the file, but for each other."""
+    known = {folder_of(package) for package in packages}
+    versions = {it.get("name"): it.get("version") for it in project.values()}
+    for folder, manifest in project.items():
+        for need in [] if folder in known else needs_of_manifest(manifest):
+            version = versions.get(need.name)
+            is_own = isinstance(version, str) and verdict_on(version, need.spec) == MET
+            if not is_own:
+                yield Ask(None, need.name, need.spec, not need.is_optional, folder)
+
+
+def folder_of(package: Package) -> str:
+    """The folder of a workspace; empty for another package."""
+    spec = name_and_rest(package.resolution)[1]
+    return spec[len(OWN) :] if spec.startswith(OWN) else ""
+
+
+def findings(tree: Tree, resolutions: Resolutions, project: Project) -> Iterator[Finding]:
+    """What there is to say of a lock file, in its order, beside the project's resolutions and the
+    package.json files of it and its workspaces. First comes what is asked for outside the file."""
     packages, is_berry = list(packages_of(tree)), "__metadata" in tree
     by_key = {bare(pattern): package for package in packages for pattern in package.patterns}
-    edges = [
-        [
-            edge_of(Ask(package, name, spec), by_key, resolutions, is_berry)
-            for name, spec in asks_of(package)
-        ]
-        for package in packages
-    ]
-    used = {edge.key for each in edges for edge in each}
+
+    def edges_for(asks: Iterable[Ask]) -> List[Edge]:
+        return [edge_of(ask, by_key, resolutions, is_berry) for ask in asks]
+
+    outside = edges_for(asks_of_folders(project, packages))
+    edges = [edges_for(asks_of(package, project)) for package in packages]
+    used = {edge.key for each in (outside, *edges) for edge in each}
+    yield from of_edges(outside, by_key, project)
     # A key of berry has what a resolution put there.
     of_keys: Resolutions = {} if is_berry else resolutions
     for package, its_edges in zip(packages, edges):
         yield from of_version(package)
-        own = (edge_of(it, by_key, of_keys, is_berry) for it in asks_of_project(package, used))
-        for edge in (*own, *its_edges):
-            yield from of_edge(edge, None if edge.key is None else by_key[edge.key])
+        own = [edge_of(it, by_key, of_keys, is_berry) for it in asks_of_project(package, used)]
+        yield from of_edges([*own, *its_edges], by_key, project)
+
+
+def of_edges(
+    edges: List[Edge], by_key: Dict[str, Package], project: Project
+) -> Iterator[Finding]:
+    """What there is to say of several. Without a package.json the resolutions aren't known, which
+    may be why one isn't there."""
+    for edge in edges:
+        if edge.key is not None:
+            yield from of_edge(edge, by_key[edge.key])
+        else:
+            for it in of_missing(edge):
+                yield it._replace(is_strict=it.is_strict or not project)

@@ -9,6 +9,7 @@ from typing import Dict, Iterator, List, NamedTuple, Optional, Tuple, Union
 from urllib.parse import unquote
 
 from ..files import Unreadable, WrongShape
+from ..manifests import Need
 from ..npm.specs import name_and_rest
 
 Tree = Dict[str, Union[str, "Tree"]]
@@ -22,7 +23,8 @@ NAME_AT = re.compile(r"/((?:@[^/]+/)?[^/]+)/-/")
 # Before the source of a package that berry patches, in which `:` is `%3A`.
 PATCH = "patch:"
 
-MET_BY = ("dependencies", "optionalDependencies")
+OPTIONAL = "optionalDependencies"
+MET_BY = ("dependencies", OPTIONAL)
 
 
 class Package(NamedTuple):
@@ -146,8 +148,9 @@ def version_of(resolution: str) -> Optional[str]:
     return reference[4:] if reference.startswith("npm:") else None
 
 
-def asks_of(package: Package) -> Iterator[Tuple[str, str]]:
-    """What a package asks for: names, and for what."""
+def needs_of(package: Package) -> Iterator[Need]:
+    """What a package asks for."""
+    metas = package.fields.get("dependenciesMeta", {})
     for kind in MET_BY:
         asked = package.fields.get(kind, {})
         if not isinstance(asked, dict):
@@ -155,7 +158,9 @@ def asks_of(package: Package) -> Iterator[Tuple[str, str]]:
         for name, spec in asked.items():
             if not isinstance(spec, str):
                 raise WrongShape(f": {package.patterns[0]}: {kind}: {name} isn't a text")
-            yield name, spec
+            meta = metas.get(name) if isinstance(metas, dict) else None
+            is_optional = isinstance(meta, dict) and meta.get("optional") == "true"
+            yield Need(name, spec, is_optional or kind == OPTIONAL)
 
 
 def name_of(pattern: str) -> str:
