@@ -106,6 +106,7 @@ def refuse_manifest(options: Options) -> None:
 def findings(options: Options, manifest_at: Optional[str], text: bytes) -> Iterator[Finding]:
     """What there is to say of a lock file, by what it is."""
     path = options.files[0]
+    folder = None if path == STANDARD_INPUT else os.path.dirname(path)
     refuse_others(text)
     if text.lstrip()[:1] == b"{":
         yield from of_json(options, manifest_at, lock_at(path, text))
@@ -115,10 +116,9 @@ def findings(options: Options, manifest_at: Optional[str], text: bytes) -> Itera
         yield from yarn.findings(tree_of(utf8(text)), resolutions, project)
     elif PNPM.search(text):
         refuse_manifest(options)
-        yield from pnpm.findings(yaml_object(text))
+        yield from pnpm.findings(yaml_object(text), folder)
     elif CARGO.search(text):
         refuse_manifest(options)
-        folder = None if path == STANDARD_INPUT else os.path.dirname(path)
         yield from cargo_lock.findings(toml_object(text), folder)
     else:
         refuse_conflict(text)
@@ -131,8 +131,8 @@ def is_empty_of_yarn(path: str, text: bytes) -> bool:
 
 
 def lock_at(path: str, text: bytes) -> Entry:
-    """The object of a lock file of JSON. npm reads an npm-shrinkwrap.json without lockfileVersion as
-    one of lockfileVersion 1."""
+    """The object of a lock file of JSON. npm reads an npm-shrinkwrap.json without lockfileVersion
+    as one of lockfileVersion 1."""
     lock = json_object(text)
     is_old = os.path.basename(path) == "npm-shrinkwrap.json" and "lockfileVersion" not in lock
     return {"lockfileVersion": 1, **lock} if is_old else lock

@@ -1,8 +1,8 @@
 """The findings of a `pnpm-lock.yaml`.
 
-WHO ASKS. The project and its workspaces (`importers`), for what they depend on directly, the
-catalogs, from which importers take ranges, and each package for its peers. The other ranges of
-packages aren't in such a file.
+WHO ASKS. The project and its workspaces (`importers`), for what they depend on directly, by their
+package.json files where these are there, the catalogs, from which importers take ranges, and each
+package for its peers. The other ranges of packages aren't in such a file.
 
 WHAT IS FOUND. Of an importer and a catalog the version beside what it asks for, and of a peer the
 package of that name among the dependencies of the package, where pnpm puts it. What is at an
@@ -12,6 +12,7 @@ OVERRIDES. They are in the file. An ask that one of them is for is judged by wha
 the version isn't what is asked for.
 """
 
+import os
 import re
 from typing import Dict, Iterator, List, NamedTuple, Optional, Tuple
 
@@ -19,12 +20,14 @@ from semver_parser import Dialect
 
 from ..files import Entry, WrongShape, object_at, objects_at, text_at, texts_at
 from ..judging import NO_VERSION, NOT_THERE, SKIPPED, Finding, is_met, is_version
+from ..manifests import TOP, manifest_in, needs_of
 from ..npm.specs import (
     CATALOG,
     MET,
     Override,
     alias_of,
     has_name,
+    is_no_range,
     may_overlap,
     name_and_rest,
     range_of,
@@ -57,14 +60,16 @@ class Found(NamedTuple):
 
 
 class Ask(NamedTuple):
-    """Who asks for which name, for what, what is found, whether that has to be there, and the name
-    and the version of the package that asks, if it is one that is called by them."""
+    """Who asks for which name, for what, what is found, whether that has to be there and is listed
+    only with `--strict` if it isn't, and the name and the version of the package that asks, if it is
+    one that is called by them."""
 
     asker: str
     name: str
     spec: str
     found: Optional[Found]
     is_required: bool
+    is_strict: bool = False
     parent: Optional[Tuple[str, str]] = None
 
 
@@ -116,11 +121,14 @@ def importers_of(lock: Entry) -> Dict[str, Entry]:
     return {".": {kind: lock[kind] for kind in (*KINDS, "specifiers") if kind in lock}}
 
 
-def asks_of_importer(folder: str, importer: Entry, packages: Packages) -> Iterator[Ask]:
-    """What the project or a workspace asks for. In lockfileVersion 5 that is apart from what is
-    found."""
-    asker = "the project" if folder == "." else folder
+def asks_of_importer(
+    folder: str, importer: Entry, packages: Packages, manifest: Optional[Entry]
+) -> Iterator[Ask]:
+    """What the project or a workspace asks for, by its package.json where that is there. In
+    lockfileVersion 5 that is apart from what is found."""
+    asker = "the project" if folder == TOP else folder
     specs = texts_at(importer.get("specifiers", {}), f"{folder}: specifiers")
+    needs = {need.name: need for need in needs_of(manifest or {})}
     for kind in KINDS:
         for name, value in object_at(importer.get(kind, {}), f"{folder}: {kind}").items():
             where = f"{folder}: {kind}: {name}"
@@ -129,7 +137,12 @@ def asks_of_importer(folder: str, importer: Entry, packages: Packages) -> Iterat
                 value = value.get("version")
             else:
                 spec = text_at(specs.get(name), f"{folder}: specifiers: {name}")
+            need = needs.pop(name, None)
+            spec = spec if need is None else need.spec
             yield Ask(asker, name, spec, found_at(text_at(value, where), name, packages), True)
+    for need in needs.values():
+        is_required, is_strict = not need.is_optional, is_no_range(need.spec)
+        yield Ask(asker, need.name, need.spec, None, is_required, is_strict)
 
 
 def asks_of_catalogs(lock: Entry, packages: Packages) -> Iterator[Ask]:
@@ -165,7 +178,7 @@ def packages_of(lock: Entry, packages: Packages) -> Iterator[Tuple[str, Entry, E
 
 
 def asks_of_package(
-    key: str, fields: Entry, depends: Entry, packages: Packages
+    key: str, fields: Entry, depends: Entry, packages: Packages, is_strict: bool
 ) -> Iterator[Ask]:
     """The peers that a package asks for."""
     called = called_by(key)
@@ -179,7 +192,7 @@ def asks_of_package(
     for name, spec in peers.items():
         found = found_at(given[name], name, packages) if name in given else None
         is_optional = metas.get(name, {}).get("optional") in ("true", True)
-        yield Ask(asker, name, spec, found, not is_optional, called)
+        yield Ask(asker, name, spec, found, not is_optional, is_strict, called)
 
 
 # ---- the findings
@@ -193,8 +206,7 @@ def overrides_of(lock: Entry) -> Dict[str, List[Override]]:
     for key, spec in texts_at(lock.get("overrides") or {}, "overrides").items():
         *outer, last = re.split(r"(?<=[^ |@])>", key, maxsplit=1)
         name, within = name_and_rest(last)
-        if spec != REMOVED:
-            overrides.setdefault(name, []).append(Override("".join(outer), within, spec))
+        overrides.setdefault(name, []).append(Override("".join(outer), within, spec))
     return overrides
 
 
@@ -211,11 +223,12 @@ def is_for(override: Override, ask: Ask) -> bool:
 
 def of_ask(ask: Ask, overrides: Dict[str, List[Override]]) -> Iterator[Finding]:
     """What there is to say of what is asked for."""
-    replaced = [it.spec for it in overrides.get(ask.name, []) if is_for(it, ask)]
+    specs = [it.spec for it in overrides.get(ask.name, []) if is_for(it, ask)]
+    replaced = [spec for spec in specs if spec != REMOVED]
     who, found = f"{ask.asker} asks for {ask.name}", ask.found
     if found is None:
-        if ask.is_required:
-            yield Finding(ask.spec, "", who, NOT_THERE, is_strict=True)
+        if ask.is_required and REMOVED not in specs:
+            yield Finding(ask.spec, "", who, NOT_THERE, ask.is_strict)
         return
     if found.version is None:
         yield Finding(ask.spec, "", who, SKIPPED, is_strict=True)
@@ -237,19 +250,32 @@ def check_version(lock: Entry) -> None:
         raise WrongShape(" of lockfileVersion 5, 6 or 9")
 
 
-def findings(lock: Entry) -> Iterator[Finding]:
-    """What there is to say of a lock file, in its order."""
+def manifest_of(lock: Entry, top: Optional[str], folder: str) -> Optional[Entry]:
+    """The package.json of the project or a workspace, where that is there. A file of a project with
+    a `.pnpmfile.cjs`, which may change what a package.json asks for, has a sum of that."""
+    if top is None or "pnpmfileChecksum" in lock or "\0" in folder:
+        return None
+    return manifest_in(os.path.join(top, folder))
+
+
+def findings(lock: Entry, top: Optional[str]) -> Iterator[Finding]:
+    """What there is to say of a lock file, in its order, beside the package.json files in and below
+    a folder, if it is known."""
     check_version(lock)
     packages = objects_at(lock.get("packages") or {}, "packages")
     overrides, catalogs = overrides_of(lock), list(asks_of_catalogs(lock, packages))
     for ask in catalogs:
         yield from of_ask(ask, overrides)
     for folder, importer in importers_of(lock).items():
-        for ask in asks_of_importer(folder, importer, packages):
+        manifest = manifest_of(lock, top, folder)
+        for ask in asks_of_importer(folder, importer, packages, manifest):
             yield from of_ask(by_catalog(ask, catalogs), overrides)
+    settings = object_at(lock.get("settings") or {}, "settings")
+    # Without this setting pnpm only warns of a peer that isn't there.
+    is_strict = settings.get("autoInstallPeers") != "true"
     for key, fields, depends in packages_of(lock, packages):
         called = called_by(key)
         if called is not None and not is_version(called[1], Dialect.NPM):
             yield Finding("", called[1], called[0], NO_VERSION)
-        for ask in asks_of_package(key, fields, depends, packages):
+        for ask in asks_of_package(key, fields, depends, packages, is_strict):
             yield from of_ask(ask, overrides)

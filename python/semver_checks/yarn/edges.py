@@ -19,9 +19,9 @@ from typing import Dict, Iterable, Iterator, List, NamedTuple, Optional, Set
 from semver_parser import Dialect
 
 from ..files import Entry, texts_at
+from ..judging import ANOTHER_VERSION, NO_VERSION, NOT_THERE, SKIPPED, Finding, is_version
 from ..manifests import TOP, Project
 from ..manifests import needs_of as needs_of_manifest
-from ..judging import ANOTHER_VERSION, NO_VERSION, NOT_THERE, SKIPPED, Finding, is_version
 from ..npm.specs import (
     CATALOG,
     MET,
