@@ -6,7 +6,7 @@ package for its peers. The other ranges of packages aren't in such a file.
 
 WHAT IS FOUND. Of an importer and a catalog the version beside what it asks for, and of a peer the
 package of that name among the dependencies of the package, where pnpm puts it. What is at an
-address has its version at its package.
+address has its version at its package, and a workspace in its package.json.
 
 OVERRIDES. They are in the file. An ask that one of them is for is judged by what it puts there, if
 the version isn't what is asked for.
@@ -14,13 +14,13 @@ the version isn't what is asked for.
 
 import os
 import re
-from typing import Dict, Iterator, List, NamedTuple, Optional, Tuple
+from typing import Callable, Dict, Iterator, List, NamedTuple, Optional, Tuple
 
 from semver_parser import Dialect
 
 from ..files import Entry, WrongShape, object_at, objects_at, text_at, texts_at
 from ..judging import NO_VERSION, NOT_THERE, SKIPPED, Finding, is_met, is_version
-from ..manifests import TOP, manifest_in, needs_of
+from ..manifests import TOP, Need, manifest_in, needs_of
 from ..npm.specs import (
     CATALOG,
     MET,
@@ -34,13 +34,18 @@ from ..npm.specs import (
     verdict_by,
     verdict_on,
 )
+from .specs import of_jsr, of_workspace, takes_peer
 
 KINDS = ("dependencies", "devDependencies", "optionalDependencies")
 
 # What an override has in place of what is asked for if that is removed.
 REMOVED = "-"
 
+# What the version of a workspace or another folder has before its path.
+LINK = "link:"
+
 Packages = Dict[str, Entry]
+Reader = Callable[[str], Optional[Entry]]
 
 # What a package is called: NAME@VERSION, or /NAME/VERSION or /NAME@VERSION, before which its
 # registry may be, and what follows of peers.
@@ -60,9 +65,9 @@ class Found(NamedTuple):
 
 
 class Ask(NamedTuple):
-    """Who asks for which name, for what, what is found, whether that has to be there and is listed
-    only with `--strict` if it isn't, and the name and the version of the package that asks, if it is
-    one that is called by them."""
+    """Who asks for which name, for what, what is found, whether that has to be there, and is listed
+    only with `--strict` if it isn't, and the name and the version of the package that asks, if it
+    is one that is called by them. Packages ask for peers."""
 
     asker: str
     name: str
@@ -71,6 +76,7 @@ class Ask(NamedTuple):
     is_required: bool
     is_strict: bool = False
     parent: Optional[Tuple[str, str]] = None
+    is_peer: bool = False
 
 
 def called_by(text: str) -> Optional[Tuple[str, str]]:
@@ -121,14 +127,22 @@ def importers_of(lock: Entry) -> Dict[str, Entry]:
     return {".": {kind: lock[kind] for kind in (*KINDS, "specifiers") if kind in lock}}
 
 
+def found_by_link(text: str, folder: str, read: Reader) -> Found:
+    """What is found in the folder that a link leads to from another folder."""
+    manifest = read(os.path.normpath(os.path.join(folder, text[len(LINK) :]))) or {}
+    own, version = manifest.get("name"), manifest.get("version")
+    return Found(
+        own if isinstance(own, str) else None, version if isinstance(version, str) else None
+    )
+
+
 def asks_of_importer(
-    folder: str, importer: Entry, packages: Packages, manifest: Optional[Entry]
+    folder: str, importer: Entry, packages: Packages, needs: Dict[str, Need], read: Reader
 ) -> Iterator[Ask]:
     """What the project or a workspace asks for, by its package.json where that is there. In
     lockfileVersion 5 that is apart from what is found."""
     asker = "the project" if folder == TOP else folder
     specs = texts_at(importer.get("specifiers", {}), f"{folder}: specifiers")
-    needs = {need.name: need for need in needs_of(manifest or {})}
     for kind in KINDS:
         for name, value in object_at(importer.get(kind, {}), f"{folder}: {kind}").items():
             where = f"{folder}: {kind}: {name}"
@@ -137,9 +151,10 @@ def asks_of_importer(
                 value = value.get("version")
             else:
                 spec = text_at(specs.get(name), f"{folder}: specifiers: {name}")
-            need = needs.pop(name, None)
-            spec = spec if need is None else need.spec
-            yield Ask(asker, name, spec, found_at(text_at(value, where), name, packages), True)
+            need, text = needs.pop(name, None), text_at(value, where)
+            is_link = text.startswith(LINK)
+            found = found_by_link(text, folder, read) if is_link else found_at(text, name, packages)
+            yield Ask(asker, name, spec if need is None else need.spec, found, True)
     for need in needs.values():
         is_required, is_strict = not need.is_optional, is_no_range(need.spec)
         yield Ask(asker, need.name, need.spec, None, is_required, is_strict)
@@ -153,7 +168,7 @@ def asks_of_catalogs(lock: Entry, packages: Packages) -> Iterator[Ask]:
             spec = text_at(entry.get("specifier"), f"{where}: specifier")
             text = text_at(entry.get("version"), f"{where}: version")
             _, version = found_at(text, name, packages)
-            named, _ = alias_of(spec) or (None, "")
+            named, _ = alias_of(of_jsr(name, spec)) or (None, "")
             yield Ask(f"catalog {catalog}", name, spec, Found(named, version), True)
 
 
@@ -192,7 +207,7 @@ def asks_of_package(
     for name, spec in peers.items():
         found = found_at(given[name], name, packages) if name in given else None
         is_optional = metas.get(name, {}).get("optional") in ("true", True)
-        yield Ask(asker, name, spec, found, not is_optional, is_strict, called)
+        yield Ask(asker, name, spec, found, not is_optional, is_strict, called, True)
 
 
 # ---- the findings
@@ -221,6 +236,13 @@ def is_for(override: Override, ask: Ask) -> bool:
     return not override.within or may_overlap(range_of(ask.spec), override.within)
 
 
+def wanted_of(ask: Ask, spec: str, version: str) -> str:
+    """What is asked for as npm has it, where this version is found, for which a peer's range may be
+    by pnpm's own rule."""
+    wanted = of_workspace(of_jsr(ask.name, spec), version)
+    return version if ask.is_peer and takes_peer(wanted, version) else wanted
+
+
 def of_ask(ask: Ask, overrides: Dict[str, List[Override]]) -> Iterator[Finding]:
     """What there is to say of what is asked for."""
     specs = [it.spec for it in overrides.get(ask.name, []) if is_for(it, ask)]
@@ -234,11 +256,14 @@ def of_ask(ask: Ask, overrides: Dict[str, List[Override]]) -> Iterator[Finding]:
         yield Finding(ask.spec, "", who, SKIPPED, is_strict=True)
         return
     name = found.name or ask.name
-    if not any(has_name(name, spec) for spec in (ask.spec, *replaced)):
-        yield Finding(ask.spec, name, who, "another package")
-    spec, verdict = ask.spec, verdict_on(found.version, ask.spec)
-    if verdict not in (MET, SKIPPED) and replaced:
-        spec, verdict = verdict_by(found.version, replaced)
+    spec, wanted = ask.spec, wanted_of(ask, ask.spec, found.version)
+    others = {wanted_of(ask, it, found.version): it for it in replaced}
+    if not any(has_name(name, it) for it in (wanted, *others)):
+        yield Finding(spec, name, who, "another package")
+    verdict = verdict_on(found.version, wanted)
+    if verdict not in (MET, SKIPPED) and others:
+        wanted, verdict = verdict_by(found.version, list(others))
+        spec = others[wanted]
     if verdict != MET:
         yield Finding(spec, found.version, who, verdict, is_strict=verdict == SKIPPED)
 
@@ -250,12 +275,17 @@ def check_version(lock: Entry) -> None:
         raise WrongShape(" of lockfileVersion 5, 6 or 9")
 
 
-def manifest_of(lock: Entry, top: Optional[str], folder: str) -> Optional[Entry]:
-    """The package.json of the project or a workspace, where that is there. A file of a project with
-    a `.pnpmfile.cjs`, which may change what a package.json asks for, has a sum of that."""
-    if top is None or "pnpmfileChecksum" in lock or "\0" in folder:
-        return None
-    return manifest_in(os.path.join(top, folder))
+def reader_of(top: Optional[str]) -> Reader:
+    """What reads the package.json of a folder below another one once, where that is known."""
+    known: Dict[str, Optional[Entry]] = {}
+
+    def read(folder: str) -> Optional[Entry]:
+        if folder not in known:
+            is_path = top is not None and "\0" not in folder
+            known[folder] = manifest_in(os.path.join(top or "", folder)) if is_path else None
+        return known[folder]
+
+    return read
 
 
 def findings(lock: Entry, top: Optional[str]) -> Iterator[Finding]:
@@ -266,9 +296,12 @@ def findings(lock: Entry, top: Optional[str]) -> Iterator[Finding]:
     overrides, catalogs = overrides_of(lock), list(asks_of_catalogs(lock, packages))
     for ask in catalogs:
         yield from of_ask(ask, overrides)
+    read = reader_of(top)
     for folder, importer in importers_of(lock).items():
-        manifest = manifest_of(lock, top, folder)
-        for ask in asks_of_importer(folder, importer, packages, manifest):
+        # With this sum there is a `.pnpmfile.cjs`, which may change what a package.json asks for.
+        manifest = None if "pnpmfileChecksum" in lock else read(folder)
+        needs = {need.name: need for need in needs_of(manifest or {})}
+        for ask in asks_of_importer(folder, importer, packages, needs, read):
             yield from of_ask(by_catalog(ask, catalogs), overrides)
     settings = object_at(lock.get("settings") or {}, "settings")
     # Without this setting pnpm only warns of a peer that isn't there.
