@@ -47,6 +47,18 @@ def manifest_in(folder: str) -> Optional[Entry]:
         return manifest
 
 
+def version_in(manifest: Entry) -> Optional[str]:
+    """The version in a package.json, if that is a text."""
+    version = manifest.get("version")
+    return version if isinstance(version, str) else None
+
+
+def name_in(manifest: Entry) -> Optional[str]:
+    """The name in a package.json, if that is a text."""
+    name = manifest.get("name")
+    return name if isinstance(name, str) else None
+
+
 def project_of(manifest: Entry, folder: Optional[str]) -> Project:
     """The package.json of a project of yarn, and those of the workspaces that it names, if its
     folder is known."""
@@ -65,12 +77,13 @@ def folders_of(manifest: Entry, top: str) -> Iterator[str]:
     if isinstance(named, dict):
         named = named.get("packages", [])
     patterns = [text_at(it, "workspaces") for it in list_at(named, "workspaces")]
-    if any("\0" in pattern for pattern in patterns):
-        raise WrongShape(": workspaces has a zero byte")
-    excluded = {it for text in patterns if text[:1] == "!" for it in places_at(text[1:], top)}
-    for pattern in patterns:
-        if pattern[:1] != "!":
-            yield from (it for it in places_at(pattern, top) if it not in excluded)
+    try:
+        excluded = {it for text in patterns if text[:1] == "!" for it in places_at(text[1:], top)}
+        for pattern in patterns:
+            if pattern[:1] != "!":
+                yield from (it for it in places_at(pattern, top) if it not in excluded)
+    except ValueError:
+        raise WrongShape(": workspaces: no folder has such a name") from None
 
 
 def places_at(pattern: str, top: str) -> Iterator[str]:

@@ -18,7 +18,7 @@ from .metadata import NOT_READ
 
 
 class Package(NamedTuple):
-    """A package of a lock file, whether it has a source, as one of a registry or of git has, and the
+    """A package of a lock file, whether it has a source, as one of a registry or of git, and the
     names and versions that it depends on."""
 
     name: str

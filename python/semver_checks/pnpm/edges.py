@@ -20,7 +20,7 @@ from semver_parser import Dialect
 
 from ..files import Entry, WrongShape, object_at, objects_at, text_at, texts_at
 from ..judging import NO_VERSION, NOT_THERE, SKIPPED, Finding, is_met, is_version
-from ..manifests import TOP, Need, manifest_in, needs_of
+from ..manifests import TOP, Need, manifest_in, name_in, needs_of, version_in
 from ..npm.specs import (
     CATALOG,
     MET,
@@ -130,10 +130,7 @@ def importers_of(lock: Entry) -> Dict[str, Entry]:
 def found_by_link(text: str, folder: str, read: Reader) -> Found:
     """What is found in the folder that a link leads to from another folder."""
     manifest = read(os.path.normpath(os.path.join(folder, text[len(LINK) :]))) or {}
-    own, version = manifest.get("name"), manifest.get("version")
-    return Found(
-        own if isinstance(own, str) else None, version if isinstance(version, str) else None
-    )
+    return Found(name_in(manifest), version_in(manifest))
 
 
 def asks_of_importer(

@@ -20,7 +20,7 @@ from semver_parser import Dialect
 
 from ..files import Entry, texts_at
 from ..judging import ANOTHER_VERSION, NO_VERSION, NOT_THERE, SKIPPED, Finding, is_version
-from ..manifests import TOP, Project
+from ..manifests import TOP, Project, name_in, version_in
 from ..manifests import needs_of as needs_of_manifest
 from ..npm.specs import (
     CATALOG,
@@ -213,12 +213,11 @@ def asks_of(package: Package, project: Project) -> Iterator[Ask]:
 def asks_of_folders(project: Project, packages: List[Package]) -> Iterator[Ask]:
     """What the project and its workspaces ask for that aren't in the file, but for each other."""
     known = {folder_of(package) for package in packages}
-    versions = {it.get("name"): it.get("version") for it in project.values()}
+    versions = {name_in(it): version_in(it) for it in project.values()}
     for folder, manifest in project.items():
         for need in [] if folder in known else needs_of_manifest(manifest):
             version = versions.get(need.name)
-            is_own = isinstance(version, str) and verdict_on(version, need.spec) == MET
-            if not is_own:
+            if version is None or verdict_on(version, need.spec) != MET:
                 yield Ask(None, need.name, need.spec, not need.is_optional, folder)
 
 
