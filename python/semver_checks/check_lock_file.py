@@ -112,7 +112,7 @@ def findings(options: Options, manifest_at: Optional[str], text: bytes) -> Itera
         yield from of_json(options, manifest_at, lock_at(path, text))
     elif YARN.search(text) or is_empty_of_yarn(path, text):
         manifest, resolutions = read_manifest(manifest_at, yarn.resolutions_of)
-        project = {} if manifest is None else project_beside(manifest_at, manifest)
+        project: Project = {} if manifest is None else project_beside(manifest_at, manifest)
         yield from yarn.findings(tree_of(utf8(text)), resolutions, project)
     elif PNPM.search(text):
         refuse_manifest(options)

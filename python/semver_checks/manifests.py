@@ -2,14 +2,17 @@
 
 import os
 from glob import escape, glob
-from typing import Dict, Iterator, NamedTuple, Optional
+from typing import Dict, Iterator, NamedTuple, Optional, Tuple
 
 from .files import Entry, WrongShape, bytes_of, json_object, list_at, taking, text_at, texts_at
 
 MANIFEST = "package.json"
 
-# The kinds of requirements, that first which replaces the same name in the others.
-KINDS = ("optionalDependencies", "dependencies", "devDependencies")
+# The kinds of requirements, that first which replaces the same name in the others: of pnpm and yarn
+# 1, and of yarn 2 and later.
+OPTIONAL, USUAL, FOR_DEVELOPMENT = "optionalDependencies", "dependencies", "devDependencies"
+KINDS = (OPTIONAL, USUAL, FOR_DEVELOPMENT)
+KINDS_OF_BERRY = (FOR_DEVELOPMENT, OPTIONAL, USUAL)
 
 # The folder of the project itself.
 TOP = "."
@@ -26,14 +29,14 @@ class Need(NamedTuple):
     is_optional: bool
 
 
-def needs_of(manifest: Entry) -> Iterator[Need]:
+def needs_of(manifest: Entry, kinds: Tuple[str, ...] = KINDS) -> Iterator[Need]:
     """What a package.json requires, each name once."""
     seen = set()
-    for kind in KINDS:
+    for kind in kinds:
         for name, spec in texts_at(manifest.get(kind, {}), kind).items():
             if name not in seen:
                 seen.add(name)
-                yield Need(name, spec, kind == KINDS[0])
+                yield Need(name, spec, kind == OPTIONAL)
 
 
 def manifest_in(folder: str) -> Optional[Entry]:

@@ -20,7 +20,7 @@ from semver_parser import Dialect
 
 from ..files import Entry, texts_at
 from ..judging import ANOTHER_VERSION, NO_VERSION, NOT_THERE, SKIPPED, Finding, is_version
-from ..manifests import TOP, Project, name_in, version_in
+from ..manifests import KINDS_OF_BERRY, TOP, Project, name_in, version_in
 from ..manifests import needs_of as needs_of_manifest
 from ..npm.specs import (
     CATALOG,
@@ -205,8 +205,8 @@ def asks_of_project(package: Package, used: Set[Optional[str]]) -> Iterator[Ask]
 def asks_of(package: Package, project: Project) -> Iterator[Ask]:
     """What a package asks for: a workspace of berry by its package.json, where that is there."""
     manifest = project.get(folder_of(package))
-    needs = needs_of(package) if manifest is None else needs_of_manifest(manifest)
-    for need in needs:
+    by_manifest = needs_of_manifest(manifest or {}, KINDS_OF_BERRY)
+    for need in needs_of(package) if manifest is None else by_manifest:
         yield Ask(package, need.name, need.spec, not need.is_optional)
 
 
