@@ -5,6 +5,7 @@ tabs, and a fourth field if there is more to know. man/check-lock-file.1 describ
 """
 
 import os
+import re
 import sys
 from typing import Callable, Iterator, Optional, Tuple, TypeVar
 
@@ -16,19 +17,27 @@ from .files import (
     WrongShape,
     bytes_of,
     json_object,
+    refuse_conflict,
     taking,
     toml_object,
     utf8,
     yaml_object,
 )
 from .judging import Finding
+from .manifests import Project, needs_of, project_of
 from .npm import edges as npm
+from .others import refuse_others
 from .pnpm import edges as pnpm
 from .program import Misuse, Options, Outcome, Program, joined, run
 from .yarn import edges as yarn
 from .yarn.lock import tree_of
 
 Taken = TypeVar("Taken")
+
+# What only the file of a tool has. Without packages a Cargo.lock has its version alone.
+YARN = re.compile(rb"yarn lockfile v1|\n__metadata:")
+PNPM = re.compile(rb"(?:\A|\n)lockfileVersion:")
+CARGO = re.compile(rb"\[\[package\]\]|(?:\A|\n)\[root\]|\A(?:#.*\n|\s)*version = [0-9]+\s*\Z")
 
 PAGE = """\
 usage: check-lock-file [--strict] [--package-json FILE] LOCK-FILE
@@ -77,6 +86,14 @@ def read_manifest(
         return manifest, take(manifest)
 
 
+def project_beside(path: Optional[str], manifest: Entry) -> Project:
+    """The package.json of a project of yarn, which is at a path, and those of its workspaces."""
+    is_file = path is not None and path != STANDARD_INPUT
+    with taking(path or "", "package.json"):
+        list(needs_of(manifest))
+        return project_of(manifest, os.path.dirname(path) if path and is_file else None)
+
+
 def refuse_manifest(options: Options) -> None:
     """Refuses a package.json that is named beside a file of another tool."""
     if "--package-json" in options.given:
@@ -88,21 +105,37 @@ def refuse_manifest(options: Options) -> None:
 
 def findings(options: Options, manifest_at: Optional[str], text: bytes) -> Iterator[Finding]:
     """What there is to say of a lock file, by what it is."""
+    path = options.files[0]
+    folder = None if path == STANDARD_INPUT else os.path.dirname(path)
+    refuse_others(text)
     if text.lstrip()[:1] == b"{":
-        yield from of_json(options, manifest_at, json_object(text))
-    elif b"yarn lockfile v1" in text or b"\n__metadata:" in text:
-        tree = tree_of(utf8(text))
-        yield from yarn.findings(tree, read_manifest(manifest_at, yarn.resolutions_of)[1])
-    elif text.startswith(b"lockfileVersion:") or b"\nlockfileVersion:" in text:
+        yield from of_json(options, manifest_at, lock_at(path, text))
+    elif YARN.search(text) or is_empty_of_yarn(path, text):
+        manifest, resolutions = read_manifest(manifest_at, yarn.resolutions_of)
+        project: Project = {} if manifest is None else project_beside(manifest_at, manifest)
+        yield from yarn.findings(tree_of(utf8(text)), resolutions, project)
+    elif PNPM.search(text):
         refuse_manifest(options)
-        yield from pnpm.findings(yaml_object(text))
-    elif b"[[package]]" in text or text.startswith(b"[root]") or b"\n[root]" in text:
+        yield from pnpm.findings(yaml_object(text), folder)
+    elif CARGO.search(text):
         refuse_manifest(options)
-        path = options.files[0]
-        folder = None if path == STANDARD_INPUT else os.path.dirname(path)
         yield from cargo_lock.findings(toml_object(text), folder)
     else:
+        refuse_conflict(text)
         raise WrongShape(" that is known")
+
+
+def is_empty_of_yarn(path: str, text: bytes) -> bool:
+    """Whether a file is an empty yarn.lock, by which yarn knows the top of a project."""
+    return os.path.basename(path) == "yarn.lock" and not text.strip()
+
+
+def lock_at(path: str, text: bytes) -> Entry:
+    """The object of a lock file of JSON. npm reads an npm-shrinkwrap.json without lockfileVersion
+    as one of lockfileVersion 1."""
+    lock = json_object(text)
+    is_old = os.path.basename(path) == "npm-shrinkwrap.json" and "lockfileVersion" not in lock
+    return {"lockfileVersion": 1, **lock} if is_old else lock
 
 
 def of_json(options: Options, manifest_at: Optional[str], lock: Entry) -> Iterator[Finding]:

@@ -1,6 +1,7 @@
 """Files, what they hold, and the shapes that they have to have."""
 
 import json
+import re
 import sys
 from contextlib import contextmanager
 from typing import Any, Dict, Iterator, List, NoReturn
@@ -8,6 +9,9 @@ from typing import Any, Dict, Iterator, List, NoReturn
 Entry = Dict[str, Any]
 
 STANDARD_INPUT = "-"
+
+# What git writes before one side of a conflict; a file of none of the notations has it.
+CONFLICT = re.compile(rb"(?:\A|\n)<<<<<<< ")
 
 BYTE_ORDER_MARK = b"\xef\xbb\xbf"
 
@@ -66,8 +70,17 @@ def refuse_constant(name: str) -> NoReturn:
     raise ValueError(f"{name} isn't JSON")
 
 
+def refuse_conflict(text: bytes) -> None:
+    """Refuses a file in which git left a conflict."""
+    found = CONFLICT.search(text)
+    if found is not None:
+        line = text.count(b"\n", 0, found.end()) + 1
+        raise Unreadable(f"merge conflict at line {line}")
+
+
 def json_object(text: bytes) -> Entry:
     """The object that a text of JSON is."""
+    refuse_conflict(text)
     try:
         value = json.loads(text, parse_constant=refuse_constant)
     except json.JSONDecodeError as error:
@@ -108,6 +121,7 @@ def yaml_object(text: bytes) -> Entry:
 
 def utf8(text: bytes) -> str:
     """The text that bytes are."""
+    refuse_conflict(text)
     try:
         return text.decode("utf-8")
     except UnicodeDecodeError:

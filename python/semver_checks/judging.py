@@ -4,6 +4,7 @@ from typing import NamedTuple, Optional
 
 from semver_parser import Dialect, Range, RangeError, VersionError, parse_version, satisfies
 
+ANOTHER_VERSION = "another version"
 NO_VERSION = "no version"
 NOT_THERE = "not there"
 SKIPPED = "skipped"

@@ -18,10 +18,12 @@ from .metadata import NOT_READ
 
 
 class Package(NamedTuple):
-    """A package of a lock file, and the names and versions that it depends on."""
+    """A package of a lock file, whether it has a source, as one of a registry or of git, and the
+    names and versions that it depends on."""
 
     name: str
     version: str
+    has_source: bool
     depends: List[str]
 
 
@@ -30,7 +32,7 @@ def packages_of(lock: Entry) -> List[Package]:
     found = []
     # Cargo.lock files of before 2017 have the package itself in a table of its own.
     own = [lock["root"]] if "root" in lock else []
-    for value in (*own, *list_at(lock.get("package", [] if own else None), "package")):
+    for value in (*own, *list_at(lock.get("package", []), "package")):
         entry = object_at(value, "package")
         name = text_at(entry.get("name"), "package: name")
         depends = list_at(entry.get("dependencies", []), f"{name}: dependencies")
@@ -38,6 +40,7 @@ def packages_of(lock: Entry) -> List[Package]:
             Package(
                 name,
                 text_at(entry.get("version"), f"{name}: version"),
+                "source" in entry,
                 [text_at(it, f"{name}: dependencies") for it in depends],
             )
         )
@@ -72,9 +75,10 @@ def of_need(member: Package, need: Need, by_name: Dict[str, List[str]]) -> Itera
 
 
 def member_of(manifest: Manifest, packages: List[Package]) -> Optional[Package]:
-    """The package of a lock file that a manifest is of."""
+    """The package of a lock file that a manifest is of. That has no source."""
     for package in packages:
-        if package.name == manifest.name and manifest.version in (None, package.version):
+        is_of_path = package.name == manifest.name and not package.has_source
+        if is_of_path and manifest.version in (None, package.version):
             return package
     return None
 

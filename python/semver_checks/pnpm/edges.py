@@ -1,43 +1,51 @@
 """The findings of a `pnpm-lock.yaml`.
 
-WHO ASKS. The project and its workspaces (`importers`), for what they depend on directly, the
-catalogs, from which importers take ranges, and each package for its peers. The other ranges of
-packages aren't in such a file.
+WHO ASKS. The project and its workspaces (`importers`), for what they depend on directly, by their
+package.json files where these are there, the catalogs, from which importers take ranges, and each
+package for its peers. The other ranges of packages aren't in such a file.
 
 WHAT IS FOUND. Of an importer and a catalog the version beside what it asks for, and of a peer the
 package of that name among the dependencies of the package, where pnpm puts it. What is at an
-address has its version at its package.
+address has its version at its package, and a workspace in its package.json.
 
 OVERRIDES. They are in the file. An ask that one of them is for is judged by what it puts there, if
 the version isn't what is asked for.
 """
 
+import os
 import re
-from typing import Dict, Iterator, List, NamedTuple, Optional, Tuple
+from typing import Callable, Dict, Iterator, List, NamedTuple, Optional, Tuple
 
 from semver_parser import Dialect
 
 from ..files import Entry, WrongShape, object_at, objects_at, text_at, texts_at
 from ..judging import NO_VERSION, NOT_THERE, SKIPPED, Finding, is_met, is_version
+from ..manifests import TOP, Need, manifest_in, name_in, needs_of, version_in
 from ..npm.specs import (
     CATALOG,
     MET,
     Override,
     alias_of,
     has_name,
+    is_no_range,
     may_overlap,
     name_and_rest,
     range_of,
     verdict_by,
     verdict_on,
 )
+from .specs import of_jsr, of_workspace, takes_peer
 
 KINDS = ("dependencies", "devDependencies", "optionalDependencies")
 
 # What an override has in place of what is asked for if that is removed.
 REMOVED = "-"
 
+# What the version of a workspace or another folder has before its path.
+LINK = "link:"
+
 Packages = Dict[str, Entry]
+Reader = Callable[[str], Optional[Entry]]
 
 # What a package is called: NAME@VERSION, or /NAME/VERSION or /NAME@VERSION, before which its
 # registry may be, and what follows of peers.
@@ -57,15 +65,18 @@ class Found(NamedTuple):
 
 
 class Ask(NamedTuple):
-    """Who asks for which name, for what, what is found, whether that has to be there, and the name
-    and the version of the package that asks, if it is one that is called by them."""
+    """Who asks for which name, for what, what is found, whether that has to be there, and is listed
+    only with `--strict` if it isn't, and the name and the version of the package that asks, if it
+    is one that is called by them. Packages ask for peers."""
 
     asker: str
     name: str
     spec: str
     found: Optional[Found]
     is_required: bool
+    is_strict: bool = False
     parent: Optional[Tuple[str, str]] = None
+    is_peer: bool = False
 
 
 def called_by(text: str) -> Optional[Tuple[str, str]]:
@@ -116,10 +127,18 @@ def importers_of(lock: Entry) -> Dict[str, Entry]:
     return {".": {kind: lock[kind] for kind in (*KINDS, "specifiers") if kind in lock}}
 
 
-def asks_of_importer(folder: str, importer: Entry, packages: Packages) -> Iterator[Ask]:
-    """What the project or a workspace asks for. In lockfileVersion 5 that is apart from what is
-    found."""
-    asker = "the project" if folder == "." else folder
+def found_by_link(text: str, folder: str, read: Reader) -> Found:
+    """What is found in the folder that a link leads to from another folder."""
+    manifest = read(os.path.normpath(os.path.join(folder, text[len(LINK) :]))) or {}
+    return Found(name_in(manifest), version_in(manifest))
+
+
+def asks_of_importer(
+    folder: str, importer: Entry, packages: Packages, needs: Dict[str, Need], read: Reader
+) -> Iterator[Ask]:
+    """What the project or a workspace asks for, by its package.json where that is there. In
+    lockfileVersion 5 that is apart from what is found."""
+    asker = "the project" if folder == TOP else folder
     specs = texts_at(importer.get("specifiers", {}), f"{folder}: specifiers")
     for kind in KINDS:
         for name, value in object_at(importer.get(kind, {}), f"{folder}: {kind}").items():
@@ -129,7 +148,13 @@ def asks_of_importer(folder: str, importer: Entry, packages: Packages) -> Iterat
                 value = value.get("version")
             else:
                 spec = text_at(specs.get(name), f"{folder}: specifiers: {name}")
-            yield Ask(asker, name, spec, found_at(text_at(value, where), name, packages), True)
+            need, text = needs.pop(name, None), text_at(value, where)
+            is_link = text.startswith(LINK)
+            found = found_by_link(text, folder, read) if is_link else found_at(text, name, packages)
+            yield Ask(asker, name, spec if need is None else need.spec, found, True)
+    for need in needs.values():
+        is_required, is_strict = not need.is_optional, is_no_range(need.spec)
+        yield Ask(asker, need.name, need.spec, None, is_required, is_strict)
 
 
 def asks_of_catalogs(lock: Entry, packages: Packages) -> Iterator[Ask]:
@@ -140,7 +165,7 @@ def asks_of_catalogs(lock: Entry, packages: Packages) -> Iterator[Ask]:
             spec = text_at(entry.get("specifier"), f"{where}: specifier")
             text = text_at(entry.get("version"), f"{where}: version")
             _, version = found_at(text, name, packages)
-            named, _ = alias_of(spec) or (None, "")
+            named, _ = alias_of(of_jsr(name, spec)) or (None, "")
             yield Ask(f"catalog {catalog}", name, spec, Found(named, version), True)
 
 
@@ -165,7 +190,7 @@ def packages_of(lock: Entry, packages: Packages) -> Iterator[Tuple[str, Entry, E
 
 
 def asks_of_package(
-    key: str, fields: Entry, depends: Entry, packages: Packages
+    key: str, fields: Entry, depends: Entry, packages: Packages, is_strict: bool
 ) -> Iterator[Ask]:
     """The peers that a package asks for."""
     called = called_by(key)
@@ -179,7 +204,7 @@ def asks_of_package(
     for name, spec in peers.items():
         found = found_at(given[name], name, packages) if name in given else None
         is_optional = metas.get(name, {}).get("optional") in ("true", True)
-        yield Ask(asker, name, spec, found, not is_optional, called)
+        yield Ask(asker, name, spec, found, not is_optional, is_strict, called, True)
 
 
 # ---- the findings
@@ -193,8 +218,7 @@ def overrides_of(lock: Entry) -> Dict[str, List[Override]]:
     for key, spec in texts_at(lock.get("overrides") or {}, "overrides").items():
         *outer, last = re.split(r"(?<=[^ |@])>", key, maxsplit=1)
         name, within = name_and_rest(last)
-        if spec != REMOVED:
-            overrides.setdefault(name, []).append(Override("".join(outer), within, spec))
+        overrides.setdefault(name, []).append(Override("".join(outer), within, spec))
     return overrides
 
 
@@ -209,23 +233,34 @@ def is_for(override: Override, ask: Ask) -> bool:
     return not override.within or may_overlap(range_of(ask.spec), override.within)
 
 
+def wanted_of(ask: Ask, spec: str, version: str) -> str:
+    """What is asked for as npm has it, where this version is found, for which a peer's range may be
+    by pnpm's own rule."""
+    wanted = of_workspace(of_jsr(ask.name, spec), version)
+    return version if ask.is_peer and takes_peer(wanted, version) else wanted
+
+
 def of_ask(ask: Ask, overrides: Dict[str, List[Override]]) -> Iterator[Finding]:
     """What there is to say of what is asked for."""
-    replaced = [it.spec for it in overrides.get(ask.name, []) if is_for(it, ask)]
+    specs = [it.spec for it in overrides.get(ask.name, []) if is_for(it, ask)]
+    replaced = [spec for spec in specs if spec != REMOVED]
     who, found = f"{ask.asker} asks for {ask.name}", ask.found
     if found is None:
-        if ask.is_required:
-            yield Finding(ask.spec, "", who, NOT_THERE, is_strict=True)
+        if ask.is_required and REMOVED not in specs:
+            yield Finding(ask.spec, "", who, NOT_THERE, ask.is_strict)
         return
     if found.version is None:
         yield Finding(ask.spec, "", who, SKIPPED, is_strict=True)
         return
     name = found.name or ask.name
-    if not any(has_name(name, spec) for spec in (ask.spec, *replaced)):
-        yield Finding(ask.spec, name, who, "another package")
-    spec, verdict = ask.spec, verdict_on(found.version, ask.spec)
-    if verdict not in (MET, SKIPPED) and replaced:
-        spec, verdict = verdict_by(found.version, replaced)
+    spec, wanted = ask.spec, wanted_of(ask, ask.spec, found.version)
+    others = {wanted_of(ask, it, found.version): it for it in replaced}
+    if not any(has_name(name, it) for it in (wanted, *others)):
+        yield Finding(spec, name, who, "another package")
+    verdict = verdict_on(found.version, wanted)
+    if verdict not in (MET, SKIPPED) and others:
+        wanted, verdict = verdict_by(found.version, list(others))
+        spec = others[wanted]
     if verdict != MET:
         yield Finding(spec, found.version, who, verdict, is_strict=verdict == SKIPPED)
 
@@ -237,19 +272,40 @@ def check_version(lock: Entry) -> None:
         raise WrongShape(" of lockfileVersion 5, 6 or 9")
 
 
-def findings(lock: Entry) -> Iterator[Finding]:
-    """What there is to say of a lock file, in its order."""
+def reader_of(top: Optional[str]) -> Reader:
+    """What reads the package.json of a folder below another one once, where that is known."""
+    known: Dict[str, Optional[Entry]] = {}
+
+    def read(folder: str) -> Optional[Entry]:
+        if folder not in known:
+            is_path = top is not None and "\0" not in folder
+            known[folder] = manifest_in(os.path.join(top or "", folder)) if is_path else None
+        return known[folder]
+
+    return read
+
+
+def findings(lock: Entry, top: Optional[str]) -> Iterator[Finding]:
+    """What there is to say of a lock file, in its order, beside the package.json files in and below
+    a folder, if it is known."""
     check_version(lock)
     packages = objects_at(lock.get("packages") or {}, "packages")
     overrides, catalogs = overrides_of(lock), list(asks_of_catalogs(lock, packages))
     for ask in catalogs:
         yield from of_ask(ask, overrides)
+    read = reader_of(top)
     for folder, importer in importers_of(lock).items():
-        for ask in asks_of_importer(folder, importer, packages):
+        # With this sum there is a `.pnpmfile.cjs`, which may change what a package.json asks for.
+        manifest = None if "pnpmfileChecksum" in lock else read(folder)
+        needs = {need.name: need for need in needs_of(manifest or {})}
+        for ask in asks_of_importer(folder, importer, packages, needs, read):
             yield from of_ask(by_catalog(ask, catalogs), overrides)
+    settings = object_at(lock.get("settings") or {}, "settings")
+    # Without this setting pnpm only warns of a peer that isn't there.
+    is_strict = settings.get("autoInstallPeers") != "true"
     for key, fields, depends in packages_of(lock, packages):
         called = called_by(key)
         if called is not None and not is_version(called[1], Dialect.NPM):
             yield Finding("", called[1], called[0], NO_VERSION)
-        for ask in asks_of_package(key, fields, depends, packages):
+        for ask in asks_of_package(key, fields, depends, packages, is_strict):
             yield from of_ask(ask, overrides)

@@ -1,28 +1,46 @@
 """The findings of a `yarn.lock`.
 
-WHO ASKS. Each package asks for its `dependencies` and `optionalDependencies`. What no package asks
-for, the project or a workspace does: in a lock file of yarn 1 these aren't packages.
+WHO ASKS. Each package asks for its `dependencies` and `optionalDependencies`. A key that no package
+asks for the project does: yarn 1 has neither it nor its workspaces as packages, and in a file
+of berry there are keys of catalogs and patches.
 
-WHAT IS FOUND. The package whose key has what is asked for, as `numbers@^1.0.0`.
+WHAT IS FOUND. The package whose key has what is asked for, as `numbers@^1.0.0`. Berry installs the
+version in its `resolution`.
 
 RESOLUTIONS. They are in the project's package.json. An ask that one of them is for is judged by
 what it puts there, if the version isn't what is asked for.
 
-NOT IN THE FILE. Who provides a peer, the version of a workspace, and the ranges of catalogs.
+NOT IN THE FILE. Who provides a peer, the version of a workspace, and which key a catalog is for.
 """
 
 import re
-from typing import Dict, Iterator, List, NamedTuple, Optional, Set
+from typing import Dict, Iterable, Iterator, List, NamedTuple, Optional, Set
 
 from semver_parser import Dialect
 
 from ..files import Entry, texts_at
-from ..judging import NO_VERSION, NOT_THERE, SKIPPED, Finding, is_version
-from ..npm.specs import CATALOG, MET, Override, has_name, name_and_rest, verdict_by, verdict_on
-from .lock import Package, Tree, asks_of, name_of, packages_of, spec_of
+from ..judging import ANOTHER_VERSION, NO_VERSION, NOT_THERE, SKIPPED, Finding, is_version
+from ..manifests import KINDS_OF_BERRY, TOP, Project, name_in, version_in
+from ..manifests import needs_of as needs_of_manifest
+from ..npm.specs import (
+    CATALOG,
+    MET,
+    Override,
+    alias_of,
+    has_name,
+    is_elsewhere,
+    is_no_range,
+    name_and_rest,
+    verdict_by,
+    verdict_on,
+)
+from .lock import Package, Tree, name_of, needs_of, packages_of, source_of
 
 # The version that a workspace of the project has in a lock file.
 WORKSPACE = "0.0.0-use.local"
+
+# What the key of a workspace has before its folder.
+OWN = "workspace:"
 
 # A step of the path of a resolution: a name, and perhaps a range.
 STEP = re.compile(r"(?:@[^/]+/)?[^/]+")
@@ -31,24 +49,52 @@ Resolutions = Dict[str, List[Override]]
 
 
 class Ask(NamedTuple):
-    """Who asks for which name, and for what. Without a package it is the project of yarn 1."""
+    """Who asks for which name, and for what, and whether that has to be there. Without a package it
+    is the project, or in yarn 1 a workspace, in its folder."""
 
     package: Optional[Package]
     name: str
     spec: str
+    is_required: bool = True
+    folder: str = TOP
 
     @property
     def asker(self) -> str:
         """Who asks, as it is printed."""
         if self.package is None:
-            return "the project"
+            return "the project" if self.folder == TOP else self.folder
         name = name_of(self.package.patterns[0])
         return name if self.package.version == WORKSPACE else f"{name} {self.package.version}"
 
 
+class Edge(NamedTuple):
+    """What is asked for, by which text that is judged, that as npm has it, what resolutions put in
+    place of it, each by what npm has for it, and the key that is for it."""
+
+    ask: Ask
+    spec: str
+    wanted: str
+    resolved: Dict[str, str]
+    key: Optional[str]
+
+
 def of_yarn(spec: str) -> str:
-    """What is asked for as npm has it: yarn also writes a range as `npm:RANGE`."""
+    """What is asked for without the `npm:` that berry writes before a range."""
     return spec[4:] if spec.startswith("npm:") and "@" not in spec[5:] else spec
+
+
+def wanted_of(name: str, spec: str) -> str:
+    """What berry asks for as npm has it: a range with the name of its package, also inside
+    `patch:`."""
+    name, spec = name_and_rest(source_of(f"{name}@{spec}"))
+    spec = of_yarn(spec)
+    return spec if alias_of(spec) is not None or is_elsewhere(spec) else f"npm:{name}@{spec}"
+
+
+def wanted_of_classic(spec: str) -> str:
+    """What yarn 1 asks for as npm has it: `npm:NAME` without a range is for the tag `latest`."""
+    name, rest = alias_of(spec) or ("", spec)
+    return f"npm:{name}@latest" if name and not rest else spec
 
 
 # ---- resolutions
@@ -83,75 +129,133 @@ def is_for(resolution: Override, ask: Ask) -> bool:
 # ---- the findings
 
 
-def found_for(
-    name: str, specs: List[str], by_pattern: Dict[str, Package]
-) -> Optional[Package]:
-    """The package that is for the first of these asks for a name that one is for. yarn 2 and later
-    write `npm:` before a range."""
-    for spec in specs:
-        for pattern in (f"{name}@{spec}", f"{name}@npm:{spec}"):
-            if pattern in by_pattern:
-                return by_pattern[pattern]
-    return None
+def key_for(name: str, spec: str, by_key: Dict[str, Package]) -> Optional[str]:
+    """The key that is for what is asked for. yarn 2 and later write `npm:` before a range."""
+    keys = (f"{name}@{bare(spec)}", f"{name}@npm:{spec}")
+    return next((key for key in keys if key in by_key), None)
 
 
-def of_ask(ask: Ask, found: Package, resolved: List[str]) -> Iterator[Finding]:
-    """What there is to say of what is asked for and found."""
-    who, spec, wanted = f"{ask.asker} asks for {ask.name}", ask.spec, of_yarn(ask.spec)
-    if found.version == WORKSPACE:
+def of_missing(edge: Edge) -> Iterator[Finding]:
+    """What there is to say of what is asked for and not found. A tag, a path or a URL may have been
+    written in another way."""
+    spec, who = edge.ask.spec, f"{edge.ask.asker} asks for {edge.ask.name}"
+    if spec.startswith(CATALOG):
         yield Finding(spec, "", who, SKIPPED, is_strict=True)
+    elif edge.ask.is_required:
+        yield Finding(spec, "", who, NOT_THERE, is_no_range(edge.wanted))
+
+
+def of_edge(edge: Edge, found: Package) -> Iterator[Finding]:
+    """What there is to say of what is asked for and found."""
+    ask, spec, wanted, resolved, _ = edge
+    who = f"{ask.asker} asks for {ask.name}"
+    if found.version == WORKSPACE:
+        yield Finding(ask.spec, "", who, SKIPPED, is_strict=True)
         return
-    written = {of_yarn(it): it for it in resolved}
-    if found.name and not any(has_name(found.name, it) for it in (wanted, *written)):
+    if found.name and not any(has_name(found.name, it) for it in (wanted, *resolved)):
         yield Finding(spec, found.name, who, "another package")
     verdict = verdict_on(found.version, wanted)
     if verdict not in (MET, SKIPPED) and resolved:
-        wanted, verdict = verdict_by(found.version, list(written))
-        spec = written[wanted]
+        wanted, verdict = verdict_by(found.version, list(resolved))
+        spec = resolved[wanted]
     if verdict != MET:
         yield Finding(spec, found.version, who, verdict, is_strict=verdict == SKIPPED)
 
 
-def asked_patterns(packages: List[Package]) -> Set[str]:
-    """What the packages of a file ask for."""
-    return {f"{name}@{spec}" for package in packages for name, spec in asks_of(package)}
+def of_version(package: Package) -> Iterator[Finding]:
+    """What there is to say of a package whose version yarn refuses, or whose entry has another one
+    than yarn installs. Build metadata isn't compared: `version` is written without it."""
+    version, who = package.version, name_of(package.patterns[0])
+    if version != WORKSPACE and not is_version(version, Dialect.NPM):
+        yield Finding("", version, who, NO_VERSION)
+    if version.partition("+")[0] != package.entry_version.partition("+")[0]:
+        yield Finding(package.entry_version, version, who, ANOTHER_VERSION)
 
 
-def asks_for(package: Package, asked: Set[str]) -> Iterator[Ask]:
-    """Who asks for what: first the project, for what no package asks for, and then the package."""
+def bare(pattern: str) -> str:
+    """What is asked for, without the place that a link or a patch belongs to."""
+    return pattern.partition("::")[0]
+
+
+def edge_of(
+    ask: Ask, by_key: Dict[str, Package], resolutions: Resolutions, is_berry: bool
+) -> Edge:
+    """What is found for what is asked for: in berry that by a resolution first. In yarn 1 a package
+    that a resolution puts there is for what is asked for, too."""
+    resolved = [it.spec for it in resolutions.get(ask.name, []) if is_for(it, ask)]
+    specs = [*resolved, ask.spec] if is_berry else [ask.spec, *resolved]
+    keys = {spec: key_for(ask.name, spec, by_key) for spec in specs}
+    spec = next((it for it in specs if keys[it] is not None), ask.spec)
+    if not is_berry:
+        written = {wanted_of_classic(it): it for it in resolved}
+        return Edge(ask, ask.spec, wanted_of_classic(ask.spec), written, keys[spec])
+    wanted = wanted_of(ask.name, spec)
+    return Edge(ask, spec, wanted, {wanted: spec} if spec in resolved else {}, keys[spec])
+
+
+def asks_of_project(package: Package, used: Set[Optional[str]]) -> Iterator[Ask]:
+    """The keys of a package that no package asks for: the project does, itself in yarn 1, and in
+    later ones by a catalog, a resolution or a patch. A workspace's own key is asked for by none."""
     for pattern in package.patterns:
-        if pattern not in asked:
-            yield Ask(None, name_of(pattern), spec_of(pattern))
-    for name, spec in asks_of(package):
-        yield Ask(package, name, spec)
+        name, spec = name_and_rest(pattern)
+        if bare(pattern) not in used and not spec.startswith(OWN):
+            yield Ask(None, name, spec)
 
 
-def by_patterns(packages: List[Package]) -> Dict[str, Package]:
-    """The packages by what they are for, without the place that a link belongs to."""
-    return {
-        pattern.partition("::")[0]: package for package in packages for pattern in package.patterns
-    }
+def asks_of(package: Package, project: Project) -> Iterator[Ask]:
+    """What a package asks for: a workspace of berry by its package.json, where that is there."""
+    manifest = project.get(folder_of(package))
+    by_manifest = needs_of_manifest(manifest or {}, KINDS_OF_BERRY)
+    for need in needs_of(package) if manifest is None else by_manifest:
+        yield Ask(package, need.name, need.spec, not need.is_optional)
 
 
-def findings(tree: Tree, resolutions: Resolutions) -> Iterator[Finding]:
-    """What there is to say of a lock file, in its order, beside the project's resolutions."""
-    packages = list(packages_of(tree))
-    by_pattern = by_patterns(packages)
-    # From yarn 2 on the project and its workspaces are packages, and ask for all that is there.
-    every = {pattern for package in packages for pattern in package.patterns}
-    is_berry = "__metadata" in tree
-    asked = every if is_berry else asked_patterns(packages)
-    for package in packages:
-        if package.version != WORKSPACE and not is_version(package.version, Dialect.NPM):
-            yield Finding("", package.version, name_of(package.patterns[0]), NO_VERSION)
-        for ask in asks_for(package, asked):
-            resolved = [it.spec for it in resolutions.get(ask.name, []) if is_for(it, ask)]
-            # In yarn 1 a package that a resolution puts there is for what is asked for, too.
-            specs = [*resolved, ask.spec] if is_berry else [ask.spec, *resolved]
-            found = found_for(ask.name, specs, by_pattern)
-            if found is not None:
-                yield from of_ask(ask, found, resolved)
-            else:
-                who = f"{ask.asker} asks for {ask.name}"
-                kind = SKIPPED if ask.spec.startswith(CATALOG) else NOT_THERE
-                yield Finding(ask.spec, "", who, kind, is_strict=True)
+def asks_of_folders(project: Project, packages: List[Package]) -> Iterator[Ask]:
+    """What the project and its workspaces ask for that aren't in the file, but for each other."""
+    known = {folder_of(package) for package in packages}
+    versions = {name_in(it): version_in(it) for it in project.values()}
+    for folder, manifest in project.items():
+        for need in [] if folder in known else needs_of_manifest(manifest):
+            version = versions.get(need.name)
+            if version is None or verdict_on(version, need.spec) != MET:
+                yield Ask(None, need.name, need.spec, not need.is_optional, folder)
+
+
+def folder_of(package: Package) -> str:
+    """The folder of a workspace; empty for another package."""
+    spec = name_and_rest(package.resolution)[1]
+    return spec[len(OWN) :] if spec.startswith(OWN) else ""
+
+
+def findings(tree: Tree, resolutions: Resolutions, project: Project) -> Iterator[Finding]:
+    """What there is to say of a lock file, in its order, beside the project's resolutions and the
+    package.json files of it and its workspaces. First comes what is asked for outside the file."""
+    packages, is_berry = list(packages_of(tree)), "__metadata" in tree
+    by_key = {bare(pattern): package for package in packages for pattern in package.patterns}
+
+    def edges_for(asks: Iterable[Ask]) -> List[Edge]:
+        return [edge_of(ask, by_key, resolutions, is_berry) for ask in asks]
+
+    outside = edges_for(asks_of_folders(project, packages))
+    edges = [edges_for(asks_of(package, project)) for package in packages]
+    used = {edge.key for each in (outside, *edges) for edge in each}
+    yield from of_edges(outside, by_key, project)
+    # A key of berry has what a resolution put there.
+    of_keys: Resolutions = {} if is_berry else resolutions
+    for package, its_edges in zip(packages, edges):
+        yield from of_version(package)
+        own = [edge_of(it, by_key, of_keys, is_berry) for it in asks_of_project(package, used)]
+        yield from of_edges([*own, *its_edges], by_key, project)
+
+
+def of_edges(
+    edges: List[Edge], by_key: Dict[str, Package], project: Project
+) -> Iterator[Finding]:
+    """What there is to say of several. Without a package.json the resolutions aren't known, which
+    may be why one isn't there."""
+    for edge in edges:
+        if edge.key is not None:
+            yield from of_edge(edge, by_key[edge.key])
+        else:
+            for it in of_missing(edge):
+                yield it._replace(is_strict=it.is_strict or not project)

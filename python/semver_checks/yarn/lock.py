@@ -5,10 +5,11 @@ has a key, and then a value or, on the lines below, an object.
 
 import json
 import re
-from typing import Dict, Iterator, List, NamedTuple, Tuple, Union
+from typing import Dict, Iterator, List, NamedTuple, Optional, Tuple, Union
 from urllib.parse import unquote
 
 from ..files import Unreadable, WrongShape
+from ..manifests import Need
 from ..npm.specs import name_and_rest
 
 Tree = Dict[str, Union[str, "Tree"]]
@@ -19,16 +20,21 @@ TOKEN = re.compile(r'"(?:[^"\\]|\\.)*"|[^\s,"][^\s,"]*')
 # The name of a package in its address at a registry, as https://example.org/NAME/-/FILE.
 NAME_AT = re.compile(r"/((?:@[^/]+/)?[^/]+)/-/")
 
-MET_BY = ("dependencies", "optionalDependencies")
+# Before the source of a package that berry patches, in which `:` is `%3A`.
+PATCH = "patch:"
+
+OPTIONAL = "optionalDependencies"
+MET_BY = ("dependencies", OPTIONAL)
 
 
 class Package(NamedTuple):
-    """A package of the file: the asks that it is for, as `numbers@^1.0.0`, its version, its fields,
-    by what it is resolved, if the file is berry's, and its own name, which yarn 1 has only in an
-    address."""
+    """A package of the file: the asks that it is for, as `numbers@^1.0.0`, the version that yarn
+    installs, that of its entry, its fields, by what it is resolved, if the file is berry's, and its
+    own name, which yarn 1 has only in a URL."""
 
     patterns: List[str]
     version: str
+    entry_version: str
     fields: Tree
     resolution: str
     name: str
@@ -120,14 +126,31 @@ def packages_of(tree: Tree) -> Iterator[Package]:
             raise WrongShape(f": {key}: version isn't a text")
         resolution = str(fields.get("resolution", ""))
         name_at = NAME_AT.search(str(fields.get("resolved", "")))
-        name = unquote(name_at.group(1)) if name_at is not None else name_of(resolution)
+        name = unquote(name_at.group(1)) if name_at is not None else name_of(source_of(resolution))
         # A name alone is for the tag `latest`, as yarn 1 has it.
         patterns = [it if "@" in it[1:] else f"{it}@latest" for it in key.split(between)]
-        yield Package(patterns, version, fields, resolution, name)
+        installed = version_of(resolution) or version
+        yield Package(patterns, installed, version, fields, resolution, name)
 
 
-def asks_of(package: Package) -> Iterator[Tuple[str, str]]:
-    """What a package asks for: names, and for what."""
+def source_of(text: str) -> str:
+    """The `NAME@REST` that is patched, in `NAME@patch:SOURCE#PATCH`; any other is its own."""
+    rest = spec_of(text)
+    while rest.startswith(PATCH):
+        text = unquote(rest[len(PATCH) :].partition("#")[0])
+        rest = spec_of(text)
+    return text
+
+
+def version_of(resolution: str) -> Optional[str]:
+    """The version in what a package is resolved by, if it comes from a registry."""
+    reference = spec_of(source_of(resolution)).partition("::")[0]
+    return reference[4:] if reference.startswith("npm:") else None
+
+
+def needs_of(package: Package) -> Iterator[Need]:
+    """What a package asks for."""
+    metas = package.fields.get("dependenciesMeta", {})
     for kind in MET_BY:
         asked = package.fields.get(kind, {})
         if not isinstance(asked, dict):
@@ -135,7 +158,9 @@ def asks_of(package: Package) -> Iterator[Tuple[str, str]]:
         for name, spec in asked.items():
             if not isinstance(spec, str):
                 raise WrongShape(f": {package.patterns[0]}: {kind}: {name} isn't a text")
-            yield name, spec
+            meta = metas.get(name) if isinstance(metas, dict) else None
+            is_optional = isinstance(meta, dict) and meta.get("optional") == "true"
+            yield Need(name, spec, is_optional or kind == OPTIONAL)
 
 
 def name_of(pattern: str) -> str:

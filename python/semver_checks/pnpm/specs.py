@@ -1,0 +1,46 @@
+"""What pnpm asks for, as npm has it: `jsr:`, `workspace:` and the ranges of peers."""
+
+import re
+
+from semver_parser import Dialect, satisfies
+
+from ..judging import is_range, is_version
+from ..npm.specs import name_and_rest
+
+JSR = "jsr:"
+WORKSPACE = "workspace:"
+
+# A version with a pre-release, and its release.
+PRE_RELEASE = re.compile(r"([0-9]+\.[0-9]+\.[0-9]+)-[0-9A-Za-z.-]+", re.A)
+
+
+def of_jsr(name: str, spec: str) -> str:
+    """`jsr:RANGE` or `jsr:@SCOPE/NAME@RANGE` as the package of npm's registry that JSR has for it.
+    Any other is its own."""
+    if not spec.startswith(JSR):
+        return spec
+    rest = spec[len(JSR) :]
+    own, within = name_and_rest(rest) if rest.startswith("@") else (name, rest)
+    return f"npm:@jsr/{own[1:].replace('/', '__')}@{within or 'latest'}"
+
+
+def of_workspace(spec: str, version: str) -> str:
+    """`workspace:RANGE` or `workspace:NAME@RANGE` by the version that is there, for which `*`, `^`
+    and `~` are. A path, and any other, is its own."""
+    rest = spec[len(WORKSPACE) :]
+    if not spec.startswith(WORKSPACE) or rest.startswith("."):
+        return spec
+    name, within = name_and_rest(rest)
+    if name and within:
+        return f"npm:{name}@{of_workspace(WORKSPACE + within, version)}"
+    marks = {"": "", "*": "", "^": "^", "~": "~"}
+    return marks[rest] + version if rest in marks else rest
+
+
+def takes_peer(spec: str, version: str) -> bool:
+    """Whether a peer's range takes a version, or its release, with all pre-releases, as pnpm has
+    it."""
+    if not is_range(spec, Dialect.NPM) or not is_version(version, Dialect.NPM):
+        return False
+    versions = (version, PRE_RELEASE.sub(r"\1", version))
+    return any(satisfies(it, spec, dialect="npm", pre_releases="included") for it in versions)
