@@ -1,10 +1,10 @@
 """The findings of a lock file of npm, of lockfileVersion 1, 2 or 3.
 
-WHO ASKS. Each package asks for its `dependencies`, `optionalDependencies` and `peerDependencies`,
+WHO ASKS. Each package asks for its `peerDependencies`, `dependencies` and `optionalDependencies`,
 and the project and its workspaces, which are below no `node_modules`, for their `devDependencies`
-too. A name in `dependencies` and `optionalDependencies` is asked for by the latter alone, as npm
-has it. In lockfileVersion 1 each package asks for what it `requires`. What the project asks for is
-in its package.json, and in the lock file too from lockfileVersion 2 on, where it may be stale.
+too. Of one name in several of these npm keeps the last, in this order. In lockfileVersion 1 each
+package asks for what it `requires`. What the project asks for is in its package.json, and in the
+lock file too from lockfileVersion 2 on, where it may be stale.
 
 WHAT IS FOUND. The nearest package of the name: in the package's own `node_modules`, or else in
 that of a folder round it. A peer is looked for from the folder round the package on; those of the

@@ -11,7 +11,8 @@ from .specs import alias_of, range_of
 
 Packages = Dict[str, Entry]
 
-ASKS_OF_EACH = ("dependencies", "optionalDependencies", "peerDependencies")
+# The kinds in npm's order: of one name in several of them the last replaces the others.
+ASKS_OF_EACH = ("peerDependencies", "dependencies", "optionalDependencies")
 ASKS_OF_TOPS = (*ASKS_OF_EACH, "devDependencies")
 OF_PROJECT = (*ASKS_OF_TOPS, "peerDependenciesMeta")
 
@@ -186,12 +187,13 @@ def asks_at(packages: Packages, place: str) -> Iterator[Ask]:
 def asked_at(place: str, entry: Entry) -> Iterator[Tuple[str, str, str]]:
     """What the package at a place asks for: in which way, for which name, and for what."""
     where = place or "the project"
-    optional = object_at(entry.get("optionalDependencies", {}), f"{where}: optionalDependencies")
+    kinds = ASKS_OF_TOPS if is_top(place) else ASKS_OF_EACH
+    specs = {kind: object_at(entry.get(kind, {}), f"{where}: {kind}") for kind in kinds}
+    last = {name: kind for kind in kinds for name in specs[kind]}
     for kind in entry:
-        if kind in (ASKS_OF_TOPS if is_top(place) else ASKS_OF_EACH):
-            for name, spec in object_at(entry[kind], f"{where}: {kind}").items():
-                if kind != "dependencies" or name not in optional:
-                    yield kind, name, text_at(spec, f"{where}: {kind}: {name}")
+        for name, spec in specs.get(kind, {}).items():
+            if last[name] == kind:
+                yield kind, name, text_at(spec, f"{where}: {kind}: {name}")
 
 
 def has_to_be_there(place: str, entry: Entry, kind: str, name: str) -> bool:
@@ -202,6 +204,4 @@ def has_to_be_there(place: str, entry: Entry, kind: str, name: str) -> bool:
         return True
     where = f"{place or 'the project'}: peerDependenciesMeta"
     meta = objects_at(entry.get("peerDependenciesMeta", {}), where)
-    return not meta.get(name, {}).get("optional") and name not in entry.get(
-        "optionalDependencies", {}
-    )
+    return not meta.get(name, {}).get("optional")
