@@ -23,7 +23,7 @@ from ..files import Entry, objects_at, texts_at
 from ..judging import NO_VERSION, NOT_THERE, SKIPPED, Finding, is_version
 from .lock import ASKS_OF_TOPS, Ask, asks_at, is_pinned, packages_of, version_at
 from .overrides import Rule, rule_for, rules_of, where_rules_hold
-from .specs import MET, NOT_MET, NOT_READ, has_name, verdict_on
+from .specs import MET, NOT_MET, NOT_READ, has_name, is_any, verdict_on
 
 # The verdicts on a version, the worst first.
 VERDICTS = (NOT_MET, NO_VERSION, NOT_READ, SKIPPED, MET)
@@ -46,7 +46,8 @@ def judged_by(spec: str, is_overridden: bool, ask: Ask) -> Judgement:
     """The judgement of what is found by a text."""
     name, version = (None, None) if ask.found is None else ask.found[1:]
     is_named = name is None or has_name(name, spec)
-    return Judgement(spec, is_overridden, is_named, verdict_on(version, spec))
+    verdict = MET if name is not None and is_any(spec) else verdict_on(version, spec)
+    return Judgement(spec, is_overridden, is_named, verdict)
 
 
 def judged(ask: Ask, rules: List[Rule], is_pinned: bool) -> Judgement:
