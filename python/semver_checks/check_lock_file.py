@@ -21,7 +21,7 @@ from .files import (
     utf8,
     yaml_object,
 )
-from .judging import Finding
+from .judging import FROM_LOCK, Finding
 from .npm import edges as npm
 from .pnpm import edges as pnpm
 from .program import Misuse, Options, Outcome, Program, joined, run
@@ -64,6 +64,14 @@ def manifest_path(options: Options) -> Optional[str]:
         return named
     beside = os.path.join(os.path.dirname(path), "package.json")
     return beside if os.path.exists(beside) else None
+
+
+def project_folder(options: Options, manifest_at: Optional[str]) -> Optional[str]:
+    """The folder of the project: that of the lock file, or of the package.json that is named beside
+    standard input."""
+    path = options.files[0]
+    at = manifest_at if path == STANDARD_INPUT else path
+    return None if at is None or at == STANDARD_INPUT else os.path.dirname(at)
 
 
 def read_manifest(
@@ -111,7 +119,8 @@ def of_json(options: Options, manifest_at: Optional[str], lock: Entry) -> Iterat
         refuse_manifest(options)
         yield from cargo_metadata.findings(lock)
     else:
-        yield from npm.findings(lock, *read_manifest(manifest_at, npm.rules_of_manifest))
+        project = project_folder(options, manifest_at)
+        yield from npm.findings(lock, project, *read_manifest(manifest_at, npm.rules_of_manifest))
 
 
 # ---- the program
@@ -122,12 +131,16 @@ def check(options: Options) -> Outcome:
     path, manifest_at = options.files[0], manifest_path(options)
     is_strict = "--strict" in options.given
     with taking(path, "lock file"):
-        found = list(findings(options, manifest_at, bytes_of(path)))
+        everything = list(findings(options, manifest_at, bytes_of(path)))
+    found = [it for it in everything if it.kind != FROM_LOCK]
     wrong = [finding for finding in found if is_strict or not finding.is_strict]
     lines = [joined(*(it[:4] if it.kind else it[:3])) for it in wrong]
     skipped = sum(it.is_strict for it in found)
     why = "not judged, since it is no range or its version is not in the file"
     notes = [f"{why}: {skipped}; --strict lists them"] if skipped and not is_strict else []
+    if len(everything) > len(found):
+        why = "workspaces and links taken from the lock file, since they are not beside it"
+        notes.append(f"{why}: {len(everything) - len(found)}")
     return Outcome(lines, notes, int(bool(wrong)))
 
 

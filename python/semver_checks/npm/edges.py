@@ -3,8 +3,8 @@
 WHO ASKS. Each package asks for its `peerDependencies`, `dependencies` and `optionalDependencies`,
 and the project and its workspaces, which are below no `node_modules`, for their `devDependencies`
 too. Of one name in several of these npm keeps the last, in this order. In lockfileVersion 1 each
-package asks for what it `requires`. What the project asks for is in its package.json, and in the
-lock file too from lockfileVersion 2 on, where it may be stale.
+package asks for what it `requires`. What the project, its workspaces and linked directories ask for
+is in their package.json, and in the lock file too from lockfileVersion 2 on, where it may be stale.
 
 WHAT IS FOUND. The nearest package of the name: in the package's own `node_modules`, or else in
 that of a folder round it. A peer is looked for from the folder round the package on; those of the
@@ -19,9 +19,10 @@ from typing import Iterator, List, NamedTuple, Optional
 
 from semver_parser import Dialect
 
-from ..files import Entry, objects_at, texts_at
+from ..files import Entry
 from ..judging import NO_VERSION, NOT_THERE, SKIPPED, Finding, is_version
-from .lock import ASKS_OF_TOPS, Ask, asks_at, is_pinned, packages_of, version_at
+from .disk import check_manifest, read_links
+from .lock import Ask, asks_at, is_pinned, packages_of, version_at
 from .overrides import Rule, rule_for, rules_of, where_rules_hold
 from .specs import MET, NOT_MET, NOT_READ, has_name, is_any, verdict_on
 
@@ -95,16 +96,17 @@ def of_version(place: str, version: Optional[str]) -> Iterator[Finding]:
 
 def rules_of_manifest(manifest: Entry) -> Rule:
     """The rules of a package.json, whose dependencies are texts."""
-    for kind in ASKS_OF_TOPS:
-        texts_at(manifest.get(kind, {}), kind)
-    objects_at(manifest.get("peerDependenciesMeta", {}), "peerDependenciesMeta")
+    check_manifest(manifest)
     return rules_of(manifest)
 
 
-def findings(lock: Entry, manifest: Optional[Entry], outermost: Rule) -> Iterator[Finding]:
-    """What there is to say of a lock file, in its order, beside the project's package.json, where
-    there is one, and the rules of its overrides."""
+def findings(
+    lock: Entry, project: Optional[str], manifest: Optional[Entry], outermost: Rule
+) -> Iterator[Finding]:
+    """What there is to say of a lock file, in its order, by the folder of the project and its
+    package.json, where these are there, and by the rules of its overrides."""
     packages = packages_of(lock, manifest)
+    yield from read_links(packages, project)
     asks = {place: list(asks_at(packages, place)) for place in packages}
     versions = {
         place: None if entry.get("link") else version_at(entry, place or "the project")

@@ -14,7 +14,7 @@ Packages = Dict[str, Entry]
 # The kinds in npm's order: of one name in several of them the last replaces the others.
 ASKS_OF_EACH = ("peerDependencies", "dependencies", "optionalDependencies")
 ASKS_OF_TOPS = (*ASKS_OF_EACH, "devDependencies")
-OF_PROJECT = (*ASKS_OF_TOPS, "peerDependenciesMeta")
+OF_MANIFEST = ("name", "version", *ASKS_OF_TOPS, "peerDependenciesMeta")
 
 
 class Package(NamedTuple):
@@ -102,10 +102,14 @@ def packages_of(lock: Entry, manifest: Optional[Entry]) -> Packages:
     else:
         packages = objects_at(lock.get("packages"), "packages")
     if manifest is not None:
-        own = {key: it for key, it in packages.get("", {}).items() if key not in OF_PROJECT}
-        told = {key: it for key, it in manifest.items() if key in OF_PROJECT}
-        packages[""] = {**own, **told}
+        packages[""] = with_manifest(packages.get("", {}), manifest)
     return packages
+
+
+def with_manifest(entry: Entry, manifest: Entry) -> Entry:
+    """A package of a lock file, with what its package.json has in place of the lock file's."""
+    own = {key: it for key, it in entry.items() if key not in OF_MANIFEST}
+    return {**own, **{key: it for key, it in manifest.items() if key in OF_MANIFEST}}
 
 
 def packages_inside(holder: Entry, place: str) -> Iterator[Tuple[str, Entry]]:
