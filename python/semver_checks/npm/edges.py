@@ -20,9 +20,10 @@ from typing import Iterator, List, NamedTuple, Optional
 from semver_parser import Dialect
 
 from ..files import Entry
-from ..judging import NO_VERSION, NOT_THERE, SKIPPED, Finding, is_version
+from ..judging import NO_VERSION, NOT_THERE, SKIPPED, Finding, is_met, is_version
+from .archives import archive_at
 from .disk import check_manifest, read_links
-from .lock import Ask, asks_at, is_pinned, packages_of, version_at
+from .lock import Ask, Packages, asks_at, is_pinned, package_at, packages_of, version_at
 from .overrides import Rule, rule_for, rules_of, where_rules_hold
 from .specs import MET, NOT_MET, NOT_READ, has_name, is_any, verdict_on
 
@@ -88,10 +89,20 @@ def of_ask(ask: Ask, judgement: Judgement) -> Iterator[Finding]:
         yield Finding(spec, ask.found.version or "", who, kind, is_strict=verdict == SKIPPED)
 
 
-def of_version(place: str, version: Optional[str]) -> Iterator[Finding]:
-    """What there is to say of a package with a version that npm wouldn't take."""
-    if version is not None and not is_version(version, Dialect.NPM):
-        yield Finding("", version, place or "the project", NO_VERSION)
+def of_version(packages: Packages, place: str) -> Iterator[Finding]:
+    """What there is to say of a package with a version that npm wouldn't take, or another one than
+    the archive that npm installs."""
+    entry, who = packages[place], place or "the project"
+    version = None if entry.get("link") else version_at(entry, who)
+    if version is None:
+        return
+    if not is_version(version, Dialect.NPM):
+        yield Finding("", version, who, NO_VERSION)
+        return
+    resolved, name = entry.get("resolved"), package_at(packages, place).name or ""
+    archive = archive_at(name, resolved) if isinstance(resolved, str) else None
+    if archive is not None and not is_met(archive.version, version, Dialect.NPM):
+        yield Finding(str(resolved), version, who, "another version")
 
 
 def rules_of_manifest(manifest: Entry) -> Rule:
@@ -108,13 +119,9 @@ def findings(
     packages = packages_of(lock, manifest)
     yield from read_links(packages, project)
     asks = {place: list(asks_at(packages, place)) for place in packages}
-    versions = {
-        place: None if entry.get("link") else version_at(entry, place or "the project")
-        for place, entry in packages.items()
-    }
     held = where_rules_hold(packages, asks, outermost)
     for place in packages:
-        yield from of_version(place, versions[place])
+        yield from of_version(packages, place)
         for ask in asks[place]:
             pinned = ask.found is not None and is_pinned(packages, ask.found.place)
             yield from of_ask(ask, judged(ask, held[place], pinned))

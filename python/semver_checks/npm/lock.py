@@ -133,6 +133,7 @@ def of_this_day(old: Entry, place: str) -> Entry:
         entry["name"], version = alias
     if ":" not in version and "/" not in version:
         entry["version"] = version
+        entry["resolved"] = old.get("resolved")
     return entry
 
 
