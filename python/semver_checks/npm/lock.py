@@ -7,6 +7,7 @@ and nothing for the project itself.
 from typing import Dict, Iterator, NamedTuple, Optional, Tuple
 
 from ..files import Entry, WrongShape, object_at, objects_at, text_at, texts_at
+from .archives import archive_at
 from .specs import alias_of, range_of
 
 Packages = Dict[str, Entry]
@@ -122,7 +123,8 @@ def packages_inside(holder: Entry, place: str) -> Iterator[Tuple[str, Entry]]:
 
 
 def of_this_day(old: Entry, place: str) -> Entry:
-    """A package of lockfileVersion 1 as lockfileVersion 2 and 3 have it."""
+    """A package of lockfileVersion 1 as lockfileVersion 2 and 3 have it. One from an archive has
+    the version in the name of that."""
     entry: Entry = {"inBundle": old.get("bundled", False)}
     requires = old.get("requires", {})
     if not isinstance(requires, bool):
@@ -134,6 +136,9 @@ def of_this_day(old: Entry, place: str) -> Entry:
     if ":" not in version and "/" not in version:
         entry["version"] = version
         entry["resolved"] = old.get("resolved")
+    elif version.startswith(("http:", "https:", "file:")):
+        archive = archive_at(name_by_place(place), version)
+        entry.update({} if archive is None else archive._asdict())
     return entry
 
 
