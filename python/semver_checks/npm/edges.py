@@ -74,13 +74,14 @@ def judged_under(ask: Ask, here: Rule, is_pinned: bool) -> Judgement:
 # ---- the findings
 
 
-def of_ask(ask: Ask, judgement: Judgement) -> Iterator[Finding]:
-    """What there is to say of what is asked for."""
+def of_ask(ask: Ask, judgement: Judgement, is_old: bool) -> Iterator[Finding]:
+    """What there is to say of what is asked for. What isn't there counts by `--strict` only in an
+    old file, of lockfileVersion 1, which doesn't say what is optional."""
     who = f"{ask.place or 'the project'} asks for {ask.name}"
     spec, verdict = judgement.spec, judgement.verdict
     if ask.found is None:
         if ask.is_required:
-            yield Finding(spec, "", who, NOT_THERE, is_strict=True)
+            yield Finding(spec, "", who, NOT_THERE, is_strict=is_old)
         return
     if not judgement.has_name:
         yield Finding(spec, ask.found.name or "", who, "another package")
@@ -124,4 +125,4 @@ def findings(
         yield from of_version(packages, place)
         for ask in asks[place]:
             pinned = ask.found is not None and is_pinned(packages, ask.found.place)
-            yield from of_ask(ask, judged(ask, held[place], pinned))
+            yield from of_ask(ask, judged(ask, held[place], pinned), lock["lockfileVersion"] == 1)

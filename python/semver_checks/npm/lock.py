@@ -207,8 +207,9 @@ def asked_at(place: str, entry: Entry) -> Iterator[Tuple[str, str, str]]:
 
 
 def has_to_be_there(place: str, entry: Entry, kind: str, name: str) -> bool:
-    """Whether what a package asks for in a way has to be in the file."""
-    if is_outside(place) or kind == "optionalDependencies":
+    """Whether what a package asks for in a way has to be in the file. What an optional one asks for
+    hasn't: it may be for another platform."""
+    if is_outside(place) or entry.get("optional") or kind == "optionalDependencies":
         return False
     if kind != "peerDependencies":
         return True
