@@ -23,6 +23,7 @@ from .files import (
 )
 from .judging import FROM_LOCK, Finding
 from .npm import edges as npm
+from .npm.settings import has_legacy_peers
 from .pnpm import edges as pnpm
 from .program import Misuse, Options, Outcome, Program, joined, run
 from .yarn import edges as yarn
@@ -30,8 +31,10 @@ from .yarn.lock import tree_of
 
 Taken = TypeVar("Taken")
 
+NO_PEERS = "--no-peers"
+
 PAGE = """\
-usage: check-lock-file [--strict] [--package-json FILE] LOCK-FILE
+usage: check-lock-file [--strict] [--no-peers] [--package-json FILE] LOCK-FILE
 
 Lists the versions of a lock file that are not what is asked for, as the tool
 that wrote it reads ranges and versions. The content shows which tool that is:
@@ -46,6 +49,8 @@ that wrote it reads ranges and versions. The content shows which tool that is:
 
     --strict             also list what isn't judged, since it is no range or
                          its version is not in the file
+    --no-peers           leave out the peers of a file of npm, as it does by its
+                         setting legacy-peer-deps
     --package-json FILE  take this package.json, and not that beside the lock file
                          of npm or yarn
     -h, --help           print this
@@ -91,6 +96,12 @@ def refuse_manifest(options: Options) -> None:
         raise Misuse("--package-json is for files of npm and yarn")
 
 
+def refuse_peers(options: Options) -> None:
+    """Refuses that peers don't count in a file of another tool than npm."""
+    if NO_PEERS in options.given:
+        raise Misuse(f"{NO_PEERS} is for files of npm")
+
+
 # ---- which file it is
 
 
@@ -98,7 +109,9 @@ def findings(options: Options, manifest_at: Optional[str], text: bytes) -> Itera
     """What there is to say of a lock file, by what it is."""
     if text.lstrip()[:1] == b"{":
         yield from of_json(options, manifest_at, json_object(text))
-    elif b"yarn lockfile v1" in text or b"\n__metadata:" in text:
+        return
+    refuse_peers(options)
+    if b"yarn lockfile v1" in text or b"\n__metadata:" in text:
         tree = tree_of(utf8(text))
         yield from yarn.findings(tree, read_manifest(manifest_at, yarn.resolutions_of)[1])
     elif text.startswith(b"lockfileVersion:") or b"\nlockfileVersion:" in text:
@@ -117,10 +130,13 @@ def of_json(options: Options, manifest_at: Optional[str], lock: Entry) -> Iterat
     """What there is to say of a file of npm, or of what `cargo metadata` writes."""
     if "workspace_members" in lock or "resolve" in lock:
         refuse_manifest(options)
+        refuse_peers(options)
         yield from cargo_metadata.findings(lock)
     else:
-        project = project_folder(options, manifest_at)
-        yield from npm.findings(lock, project, *read_manifest(manifest_at, npm.rules_of_manifest))
+        folder = project_folder(options, manifest_at)
+        has_peers = NO_PEERS not in options.given and not has_legacy_peers(folder)
+        manifest, rules = read_manifest(manifest_at, npm.rules_of_manifest)
+        yield from npm.findings(lock, npm.Project(folder, manifest, rules, has_peers))
 
 
 # ---- the program
@@ -147,7 +163,7 @@ def check(options: Options) -> Outcome:
 PROGRAM = Program(
     "check-lock-file",
     PAGE,
-    {"--strict": False, "--package-json": True},
+    {"--strict": False, "--package-json": True, NO_PEERS: False},
     lambda options: len(options.files) == 1,
     check,
 )

@@ -23,7 +23,7 @@ from ..files import Entry
 from ..judging import NO_VERSION, NOT_THERE, SKIPPED, Finding, is_met, is_version
 from .archives import archive_at
 from .disk import check_manifest, read_links
-from .lock import Ask, Packages, asks_at, is_pinned, package_at, packages_of, version_at
+from .lock import Ask, Packages, asks_at, is_pinned, package_at, packages_of, version_at, without_peers
 from .overrides import Rule, rule_for, rules_of, where_rules_hold
 from .specs import MET, NOT_MET, NOT_READ, has_name, is_any, verdict_on
 
@@ -39,6 +39,16 @@ class Judgement(NamedTuple):
     is_overridden: bool
     has_name: bool
     verdict: str
+
+
+class Project(NamedTuple):
+    """The project of a lock file: its folder and its package.json, where these are known, the rules
+    of its overrides, and whether peers count."""
+
+    folder: Optional[str]
+    manifest: Optional[Entry]
+    rules: Rule
+    has_peers: bool
 
 
 # ---- the judgement
@@ -112,15 +122,14 @@ def rules_of_manifest(manifest: Entry) -> Rule:
     return rules_of(manifest)
 
 
-def findings(
-    lock: Entry, project: Optional[str], manifest: Optional[Entry], outermost: Rule
-) -> Iterator[Finding]:
-    """What there is to say of a lock file, in its order, by the folder of the project and its
-    package.json, where these are there, and by the rules of its overrides."""
-    packages = packages_of(lock, manifest)
-    yield from read_links(packages, project)
+def findings(lock: Entry, project: Project) -> Iterator[Finding]:
+    """What there is to say of a lock file, in its order."""
+    packages = packages_of(lock, project.manifest)
+    yield from read_links(packages, project.folder)
+    if not project.has_peers:
+        packages = {place: without_peers(entry) for place, entry in packages.items()}
     asks = {place: list(asks_at(packages, place)) for place in packages}
-    held = where_rules_hold(packages, asks, outermost)
+    held = where_rules_hold(packages, asks, project.rules)
     for place in packages:
         yield from of_version(packages, place)
         for ask in asks[place]:

@@ -113,6 +113,11 @@ def with_manifest(entry: Entry, manifest: Entry) -> Entry:
     return {**own, **{key: it for key, it in manifest.items() if key in OF_MANIFEST}}
 
 
+def without_peers(entry: Entry) -> Entry:
+    """A package that has no peers."""
+    return {key: it for key, it in entry.items() if key != "peerDependencies"}
+
+
 def packages_inside(holder: Entry, place: str) -> Iterator[Tuple[str, Entry]]:
     """The packages inside a package or the project of lockfileVersion 1, each with its place."""
     where = f"{place}: dependencies" if place else "dependencies"
