@@ -23,7 +23,16 @@ from ..files import Entry
 from ..judging import NO_VERSION, NOT_THERE, SKIPPED, Finding, is_met, is_version
 from .archives import archive_at
 from .disk import check_manifest, read_links
-from .lock import Ask, Packages, asks_at, is_pinned, package_at, packages_of, version_at, without_peers
+from .lock import (
+    Ask,
+    Packages,
+    asks_at,
+    is_pinned,
+    package_at,
+    packages_of,
+    version_at,
+    without_peers,
+)
 from .overrides import Rule, rule_for, rules_of, where_rules_hold
 from .specs import MET, NOT_MET, NOT_READ, has_name, is_any, verdict_on
 
