@@ -28,6 +28,7 @@ from .lock import (
     Packages,
     asks_at,
     is_pinned,
+    is_top,
     package_at,
     packages_of,
     version_at,
@@ -35,6 +36,7 @@ from .lock import (
 )
 from .overrides import Rule, rule_for, rules_of, where_rules_hold
 from .specs import MET, NOT_MET, NOT_READ, has_name, is_any, verdict_on
+from .workspaces import is_workspace
 
 # The verdicts on a version, the worst first.
 VERDICTS = (NOT_MET, NO_VERSION, NOT_READ, SKIPPED, MET)
@@ -71,21 +73,26 @@ def judged_by(spec: str, is_overridden: bool, ask: Ask) -> Judgement:
     return Judgement(spec, is_overridden, is_named, verdict)
 
 
-def judged(ask: Ask, rules: List[Rule], is_pinned: bool) -> Judgement:
+def is_beside_overrides(packages: Packages, place: str) -> bool:
+    """Whether overrides leave alone what a package asks for: npm refuses one that differs from what
+    the project itself asks for, and has none for a linked folder that is no workspace."""
+    return is_top(place) and not (place and is_workspace(packages.get("", {}), place))
+
+
+def judged(ask: Ask, rules: List[Rule]) -> Judgement:
     """The judgement of what is found: of the ways in which who asks is reached, the one by which
     the most is right."""
     return max(
-        (judged_under(ask, rule, is_pinned) for rule in rules),
+        (judged_under(ask, rule) for rule in rules),
         key=lambda it: (it.has_name, VERDICTS.index(it.verdict)),
     )
 
 
-def judged_under(ask: Ask, here: Rule, is_pinned: bool) -> Judgement:
-    """The judgement of what is found where a rule holds. The project itself asks for what it asks
-    for: npm refuses an override that differs."""
+def judged_under(ask: Ask, here: Rule) -> Judgement:
+    """The judgement of what is found where a rule holds."""
     version = None if ask.found is None else ask.found.version
     rule = rule_for(here, ask.name, ask.range, version)
-    if rule is None or rule.spec is None or is_pinned or not ask.place:
+    if rule is None or rule.spec is None:
         return judged_by(ask.spec, False, ask)
     return judged_by(rule.spec, rule.spec != ask.spec, ask)
 
@@ -141,6 +148,9 @@ def findings(lock: Entry, project: Project) -> Iterator[Finding]:
     held = where_rules_hold(packages, asks, project.rules)
     for place in packages:
         yield from of_version(packages, place)
+        is_beside = is_beside_overrides(packages, place)
         for ask in asks[place]:
             pinned = ask.found is not None and is_pinned(packages, ask.found.place)
-            yield from of_ask(ask, judged(ask, held[place], pinned), lock["lockfileVersion"] == 1)
+            is_plain = is_beside or pinned
+            judgement = judged_by(ask.spec, False, ask) if is_plain else judged(ask, held[place])
+            yield from of_ask(ask, judgement, lock["lockfileVersion"] == 1)

@@ -15,7 +15,7 @@ Packages = Dict[str, Entry]
 # The kinds in npm's order: of one name in several of them the last replaces the others.
 ASKS_OF_EACH = ("peerDependencies", "dependencies", "optionalDependencies")
 ASKS_OF_TOPS = (*ASKS_OF_EACH, "devDependencies")
-OF_MANIFEST = ("name", "version", *ASKS_OF_TOPS, "peerDependenciesMeta")
+OF_MANIFEST = ("name", "version", "workspaces", *ASKS_OF_TOPS, "peerDependenciesMeta")
 
 
 class Package(NamedTuple):
