@@ -34,7 +34,7 @@ from .lock import (
     version_at,
     without_peers,
 )
-from .overrides import Rule, rule_for, rules_of, where_rules_hold
+from .overrides import Rule, rules_in_turn, rules_of, where_rules_hold
 from .specs import MET, NOT_MET, NOT_READ, has_name, is_any, verdict_on
 from .workspaces import is_workspace
 
@@ -89,12 +89,11 @@ def judged(ask: Ask, rules: List[Rule]) -> Judgement:
 
 
 def judged_under(ask: Ask, here: Rule) -> Judgement:
-    """The judgement of what is found where a rule holds."""
-    version = None if ask.found is None else ask.found.version
-    rule = rule_for(here, ask.name, ask.range, version)
-    if rule is None or rule.spec is None:
-        return judged_by(ask.spec, False, ask)
-    return judged_by(rule.spec, rule.spec != ask.spec, ask)
+    """The judgement of what is found where a rule holds, by the first text by which it is right."""
+    rules = rules_in_turn(here, ask)
+    specs = [rule.spec for rule in rules if rule.spec is not None] or [ask.spec]
+    found = [judged_by(spec, spec != ask.spec, ask) for spec in specs]
+    return next((it for it in found if it.has_name and it.verdict == MET), found[0])
 
 
 # ---- the findings
