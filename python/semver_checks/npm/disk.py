@@ -6,14 +6,14 @@ from typing import Iterator, Optional
 
 from ..files import Entry, bytes_of, json_object, objects_at, taking, text_at, texts_at
 from ..judging import FROM_LOCK, Finding
-from .lock import ASKS_OF_TOPS, Packages, is_top, with_manifest
+from .lock import ACCEPTED, ASKS_OF_TOPS, Packages, is_top, with_manifest
 
 
 def check_manifest(manifest: Entry) -> None:
     """Refuses a package.json whose names, versions and requirements aren't texts."""
     for key in ("name", "version"):
         text_at(manifest.get(key, ""), key)
-    for kind in ASKS_OF_TOPS:
+    for kind in (*ASKS_OF_TOPS, ACCEPTED):
         texts_at(manifest.get(kind, {}), kind)
     objects_at(manifest.get("peerDependenciesMeta", {}), "peerDependenciesMeta")
 

@@ -25,6 +25,7 @@ from .archives import archive_at
 from .disk import check_manifest, read_links
 from .lock import (
     Ask,
+    Package,
     Packages,
     asks_at,
     is_pinned,
@@ -67,10 +68,19 @@ class Project(NamedTuple):
 
 def judged_by(spec: str, is_overridden: bool, ask: Ask) -> Judgement:
     """The judgement of what is found by a text."""
-    name, version = (None, None) if ask.found is None else ask.found[1:]
+    name = None if ask.found is None else ask.found.name
     is_named = name is None or has_name(name, spec)
-    verdict = MET if name is not None and is_any(spec) else verdict_on(version, spec)
+    verdict = verdict_by_npm(spec, ask.found)
+    if ask.accepted is not None and verdict_by_npm(ask.accepted, ask.found) == MET:
+        verdict = MET
     return Judgement(spec, is_overridden, is_named, verdict)
+
+
+def verdict_by_npm(spec: str, found: Optional[Package]) -> str:
+    """The verdict on what is found: npm takes each package for `*`."""
+    if found is not None and found.name is not None and is_any(spec):
+        return MET
+    return verdict_on(None if found is None else found.version, spec)
 
 
 def is_beside_overrides(packages: Packages, place: str) -> bool:

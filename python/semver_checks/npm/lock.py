@@ -15,7 +15,8 @@ Packages = Dict[str, Entry]
 # The kinds in npm's order: of one name in several of them the last replaces the others.
 ASKS_OF_EACH = ("peerDependencies", "dependencies", "optionalDependencies")
 ASKS_OF_TOPS = (*ASKS_OF_EACH, "devDependencies")
-OF_MANIFEST = ("name", "version", "workspaces", *ASKS_OF_TOPS, "peerDependenciesMeta")
+ACCEPTED = "acceptDependencies"
+OF_MANIFEST = ("name", "version", "workspaces", *ASKS_OF_TOPS, "peerDependenciesMeta", ACCEPTED)
 
 
 class Package(NamedTuple):
@@ -28,13 +29,14 @@ class Package(NamedTuple):
 
 
 class Ask(NamedTuple):
-    """Who asks for what, whether that has to be there, and what is found."""
+    """Who asks for what, whether that has to be there, what is found, and what else would do."""
 
     place: str
     name: str
     spec: str
     is_required: bool
     found: Optional[Package]
+    accepted: Optional[str]
 
     @property
     def range(self) -> str:
@@ -190,13 +192,15 @@ def asks_at(packages: Packages, place: str) -> Iterator[Ask]:
     entry = packages[place]
     if entry.get("link"):
         return
+    accepted = texts_at(entry.get(ACCEPTED, {}), f"{place or 'the project'}: {ACCEPTED}")
     for kind, name, spec in asked_at(place, entry):
         is_peer = kind == "peerDependencies" and not is_top(place)
         start = folder_round(place) if is_peer else place
         places = (inside(folder, name) for folder in folders(start))
         at = next((it for it in places if it in packages), None)
         found = None if at is None else package_at(packages, at)
-        yield Ask(place, name, spec, has_to_be_there(place, entry, kind, name), found)
+        is_required = has_to_be_there(place, entry, kind, name)
+        yield Ask(place, name, spec, is_required, found, accepted.get(name))
 
 
 def asked_at(place: str, entry: Entry) -> Iterator[Tuple[str, str, str]]:
