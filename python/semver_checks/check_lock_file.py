@@ -23,9 +23,10 @@ from .files import (
     utf8,
     yaml_object,
 )
-from .judging import Finding
+from .judging import FROM_LOCK, Finding
 from .manifests import Project, needs_of, project_of
 from .npm import edges as npm
+from .npm.settings import has_legacy_peers
 from .others import refuse_others
 from .pnpm import edges as pnpm
 from .program import Misuse, Options, Outcome, Program, joined, run
@@ -34,13 +35,15 @@ from .yarn.lock import tree_of
 
 Taken = TypeVar("Taken")
 
+NO_PEERS = "--no-peers"
+
 # What only the file of a tool has. Without packages a Cargo.lock has its version alone.
 YARN = re.compile(rb"yarn lockfile v1|\n__metadata:")
 PNPM = re.compile(rb"(?:\A|\n)lockfileVersion:")
 CARGO = re.compile(rb"\[\[package\]\]|(?:\A|\n)\[root\]|\A(?:#.*\n|\s)*version = [0-9]+\s*\Z")
 
 PAGE = """\
-usage: check-lock-file [--strict] [--package-json FILE] LOCK-FILE
+usage: check-lock-file [--strict] [--no-peers] [--package-json FILE] LOCK-FILE
 
 Lists the versions of a lock file that are not what is asked for, as the tool
 that wrote it reads ranges and versions. The content shows which tool that is:
@@ -55,6 +58,8 @@ that wrote it reads ranges and versions. The content shows which tool that is:
 
     --strict             also list what isn't judged, since it is no range or
                          its version is not in the file
+    --no-peers           leave out the peers of a file of npm, as it does by its
+                         setting legacy-peer-deps
     --package-json FILE  take this package.json, and not that beside the lock file
                          of npm or yarn
     -h, --help           print this
@@ -73,6 +78,14 @@ def manifest_path(options: Options) -> Optional[str]:
         return named
     beside = os.path.join(os.path.dirname(path), "package.json")
     return beside if os.path.exists(beside) else None
+
+
+def project_folder(options: Options, manifest_at: Optional[str]) -> Optional[str]:
+    """The folder of the project: that of the lock file, or of the package.json that is named beside
+    standard input."""
+    path = options.files[0]
+    at = manifest_at if path == STANDARD_INPUT else path
+    return None if at is None or at == STANDARD_INPUT else os.path.dirname(at)
 
 
 def read_manifest(
@@ -100,6 +113,12 @@ def refuse_manifest(options: Options) -> None:
         raise Misuse("--package-json is for files of npm and yarn")
 
 
+def refuse_peers(options: Options) -> None:
+    """Refuses that peers don't count in a file of another tool than npm."""
+    if NO_PEERS in options.given:
+        raise Misuse(f"{NO_PEERS} is for files of npm")
+
+
 # ---- which file it is
 
 
@@ -110,7 +129,9 @@ def findings(options: Options, manifest_at: Optional[str], text: bytes) -> Itera
     refuse_others(text)
     if text.lstrip()[:1] == b"{":
         yield from of_json(options, manifest_at, lock_at(path, text))
-    elif YARN.search(text) or is_empty_of_yarn(path, text):
+        return
+    refuse_peers(options)
+    if YARN.search(text) or is_empty_of_yarn(path, text):
         manifest, resolutions = read_manifest(manifest_at, yarn.resolutions_of)
         project: Project = {} if manifest is None else project_beside(manifest_at, manifest)
         yield from yarn.findings(tree_of(utf8(text)), resolutions, project)
@@ -142,9 +163,13 @@ def of_json(options: Options, manifest_at: Optional[str], lock: Entry) -> Iterat
     """What there is to say of a file of npm, or of what `cargo metadata` writes."""
     if "workspace_members" in lock or "resolve" in lock:
         refuse_manifest(options)
+        refuse_peers(options)
         yield from cargo_metadata.findings(lock)
     else:
-        yield from npm.findings(lock, *read_manifest(manifest_at, npm.rules_of_manifest))
+        folder = project_folder(options, manifest_at)
+        has_peers = NO_PEERS not in options.given and not has_legacy_peers(folder)
+        manifest, rules = read_manifest(manifest_at, npm.rules_of_manifest)
+        yield from npm.findings(lock, npm.Project(folder, manifest, rules, has_peers))
 
 
 # ---- the program
@@ -155,19 +180,23 @@ def check(options: Options) -> Outcome:
     path, manifest_at = options.files[0], manifest_path(options)
     is_strict = "--strict" in options.given
     with taking(path, "lock file"):
-        found = list(findings(options, manifest_at, bytes_of(path)))
+        everything = list(findings(options, manifest_at, bytes_of(path)))
+    found = [it for it in everything if it.kind != FROM_LOCK]
     wrong = [finding for finding in found if is_strict or not finding.is_strict]
     lines = [joined(*(it[:4] if it.kind else it[:3])) for it in wrong]
     skipped = sum(it.is_strict for it in found)
     why = "not judged, since it is no range or its version is not in the file"
     notes = [f"{why}: {skipped}; --strict lists them"] if skipped and not is_strict else []
+    if len(everything) > len(found):
+        why = "workspaces and links taken from the lock file, since they are not beside it"
+        notes.append(f"{why}: {len(everything) - len(found)}")
     return Outcome(lines, notes, int(bool(wrong)))
 
 
 PROGRAM = Program(
     "check-lock-file",
     PAGE,
-    {"--strict": False, "--package-json": True},
+    {"--strict": False, "--package-json": True, NO_PEERS: False},
     lambda options: len(options.files) == 1,
     check,
 )

@@ -9,6 +9,9 @@ NO_VERSION = "no version"
 NOT_THERE = "not there"
 SKIPPED = "skipped"
 
+FROM_LOCK = "from the lock file"
+"""Of a package whose package.json isn't there. It is counted, and has no line."""
+
 
 class Finding(NamedTuple):
     """What there is to say of a version: what was asked for, what was found, who asks for which

@@ -7,13 +7,16 @@ and nothing for the project itself.
 from typing import Dict, Iterator, NamedTuple, Optional, Tuple
 
 from ..files import Entry, WrongShape, object_at, objects_at, text_at, texts_at
+from .archives import archive_at
 from .specs import alias_of, range_of
 
 Packages = Dict[str, Entry]
 
-ASKS_OF_EACH = ("dependencies", "optionalDependencies", "peerDependencies")
+# The kinds in npm's order: of one name in several of them the last replaces the others.
+ASKS_OF_EACH = ("peerDependencies", "dependencies", "optionalDependencies")
 ASKS_OF_TOPS = (*ASKS_OF_EACH, "devDependencies")
-OF_PROJECT = (*ASKS_OF_TOPS, "peerDependenciesMeta")
+ACCEPTED = "acceptDependencies"
+OF_MANIFEST = ("name", "version", "workspaces", *ASKS_OF_TOPS, "peerDependenciesMeta", ACCEPTED)
 
 
 class Package(NamedTuple):
@@ -26,13 +29,14 @@ class Package(NamedTuple):
 
 
 class Ask(NamedTuple):
-    """Who asks for what, whether that has to be there, and what is found."""
+    """Who asks for what, whether that has to be there, what is found, and what else would do."""
 
     place: str
     name: str
     spec: str
     is_required: bool
     found: Optional[Package]
+    accepted: Optional[str]
 
     @property
     def range(self) -> str:
@@ -101,10 +105,19 @@ def packages_of(lock: Entry, manifest: Optional[Entry]) -> Packages:
     else:
         packages = objects_at(lock.get("packages"), "packages")
     if manifest is not None:
-        own = {key: it for key, it in packages.get("", {}).items() if key not in OF_PROJECT}
-        told = {key: it for key, it in manifest.items() if key in OF_PROJECT}
-        packages[""] = {**own, **told}
+        packages[""] = with_manifest(packages.get("", {}), manifest)
     return packages
+
+
+def with_manifest(entry: Entry, manifest: Entry) -> Entry:
+    """A package of a lock file, with what its package.json has in place of the lock file's."""
+    own = {key: it for key, it in entry.items() if key not in OF_MANIFEST}
+    return {**own, **{key: it for key, it in manifest.items() if key in OF_MANIFEST}}
+
+
+def without_peers(entry: Entry) -> Entry:
+    """A package that has no peers."""
+    return {key: it for key, it in entry.items() if key != "peerDependencies"}
 
 
 def packages_inside(holder: Entry, place: str) -> Iterator[Tuple[str, Entry]]:
@@ -117,7 +130,8 @@ def packages_inside(holder: Entry, place: str) -> Iterator[Tuple[str, Entry]]:
 
 
 def of_this_day(old: Entry, place: str) -> Entry:
-    """A package of lockfileVersion 1 as lockfileVersion 2 and 3 have it."""
+    """A package of lockfileVersion 1 as lockfileVersion 2 and 3 have it. One from an archive has
+    the version in the name of that."""
     entry: Entry = {"inBundle": old.get("bundled", False)}
     requires = old.get("requires", {})
     if not isinstance(requires, bool):
@@ -128,6 +142,10 @@ def of_this_day(old: Entry, place: str) -> Entry:
         entry["name"], version = alias
     if ":" not in version and "/" not in version:
         entry["version"] = version
+        entry["resolved"] = old.get("resolved")
+    elif version.startswith(("http:", "https:", "file:")):
+        archive = archive_at(name_by_place(place), version)
+        entry.update({} if archive is None else archive._asdict())
     return entry
 
 
@@ -174,34 +192,36 @@ def asks_at(packages: Packages, place: str) -> Iterator[Ask]:
     entry = packages[place]
     if entry.get("link"):
         return
+    accepted = texts_at(entry.get(ACCEPTED, {}), f"{place or 'the project'}: {ACCEPTED}")
     for kind, name, spec in asked_at(place, entry):
         is_peer = kind == "peerDependencies" and not is_top(place)
         start = folder_round(place) if is_peer else place
         places = (inside(folder, name) for folder in folders(start))
         at = next((it for it in places if it in packages), None)
         found = None if at is None else package_at(packages, at)
-        yield Ask(place, name, spec, has_to_be_there(place, entry, kind, name), found)
+        is_required = has_to_be_there(place, entry, kind, name)
+        yield Ask(place, name, spec, is_required, found, accepted.get(name))
 
 
 def asked_at(place: str, entry: Entry) -> Iterator[Tuple[str, str, str]]:
     """What the package at a place asks for: in which way, for which name, and for what."""
     where = place or "the project"
-    optional = object_at(entry.get("optionalDependencies", {}), f"{where}: optionalDependencies")
+    kinds = ASKS_OF_TOPS if is_top(place) else ASKS_OF_EACH
+    specs = {kind: object_at(entry.get(kind, {}), f"{where}: {kind}") for kind in kinds}
+    last = {name: kind for kind in kinds for name in specs[kind]}
     for kind in entry:
-        if kind in (ASKS_OF_TOPS if is_top(place) else ASKS_OF_EACH):
-            for name, spec in object_at(entry[kind], f"{where}: {kind}").items():
-                if kind != "dependencies" or name not in optional:
-                    yield kind, name, text_at(spec, f"{where}: {kind}: {name}")
+        for name, spec in specs.get(kind, {}).items():
+            if last[name] == kind:
+                yield kind, name, text_at(spec, f"{where}: {kind}: {name}")
 
 
 def has_to_be_there(place: str, entry: Entry, kind: str, name: str) -> bool:
-    """Whether what a package asks for in a way has to be in the file."""
-    if is_outside(place) or kind == "optionalDependencies":
+    """Whether what a package asks for in a way has to be in the file. What an optional one asks for
+    hasn't: it may be for another platform."""
+    if is_outside(place) or entry.get("optional") or kind == "optionalDependencies":
         return False
     if kind != "peerDependencies":
         return True
     where = f"{place or 'the project'}: peerDependenciesMeta"
     meta = objects_at(entry.get("peerDependenciesMeta", {}), where)
-    return not meta.get(name, {}).get("optional") and name not in entry.get(
-        "optionalDependencies", {}
-    )
+    return not meta.get(name, {}).get("optional")

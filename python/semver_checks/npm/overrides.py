@@ -14,7 +14,7 @@ from semver_parser import Dialect
 from ..files import Entry, WrongShape, object_at, text_at
 from ..judging import is_met, is_range
 from .lock import Ask, Packages, is_top, package_at
-from .specs import may_overlap, name_and_rest
+from .specs import may_overlap, name_and_rest, range_of
 
 ANY = "*"
 
@@ -94,6 +94,17 @@ def rule_for(here: Rule, name: str, spec: str, version: Optional[str]) -> Option
     """The rule for what is asked for where a rule holds, and for the version that is found."""
     rules = (rule for rule in rules_from(here) if rule.name == name)
     return next((rule for rule in rules if is_concerned(rule, spec, version)), None)
+
+
+def rules_in_turn(here: Rule, ask: Ask) -> List[Rule]:
+    """The rule for what is asked for, and those that npm 10.8.2 may take in its place: it compares
+    the range of a key also with what another rule has already put there."""
+    rule = rule_for(here, ask.name, ask.range, None if ask.found is None else ask.found.version)
+    found: List[Rule] = []
+    while rule is not None and rule.spec is not None and rule not in found:
+        found.append(rule)
+        rule = rule_for(here, ask.name, range_of(rule.spec), None)
+    return found
 
 
 def is_concerned(rule: Rule, spec: str, version: Optional[str]) -> bool:

@@ -53,6 +53,13 @@ def has_name(name: str, spec: str) -> bool:
     return alias is None or alias[0] == name
 
 
+def is_any(spec: str) -> bool:
+    """Whether npm takes each package for what is required, also without a valid version."""
+    alias = alias_of(spec)
+    wanted = spec if alias is None else alias[1]
+    return not wanted or wanted.strip() == "*"
+
+
 def git_range_of(spec: str) -> Optional[Tuple[str, str]]:
     """The address and the range of `ADDRESS#semver:RANGE`; None where it is no such address."""
     found = GIT_RANGE.fullmatch(spec) if alias_of(spec) is None else None

@@ -1,0 +1,43 @@
+"""The name and the version in the name of a package's archive, as npm's `versionFromTgz` has it."""
+
+import re
+from dataclasses import replace
+from typing import NamedTuple, Optional
+
+from semver_parser import Dialect, VersionError, parse_version
+
+# What parts the scope of a package, which begins with `@`, from its name.
+SLASH = re.compile("/|%2f", re.I)
+
+
+class Archive(NamedTuple):
+    """What the name of an archive says."""
+
+    name: str
+    version: str
+
+
+def archive_at(name: str, address: str) -> Optional[Archive]:
+    """The archive at an address, of the package that a registry's address names, and else of that
+    of a name. None if the name of the archive isn't made of that and a version."""
+    file = address.rstrip("/").rpartition("/")[2]
+    if not file.endswith(".tgz"):
+        return None
+    if address.startswith(("http:/", "https:/")):
+        package, _, last = address.split("/", 3)[-1].rpartition("/-/")
+        if package and last == file:
+            return archive_of(package, file)
+    return archive_of(name, file)
+
+
+def archive_of(path: str, file: str) -> Optional[Archive]:
+    """The archive of a package whose name ends a path."""
+    *_, scope, name = ["", *SLASH.split(path)]
+    if not file.startswith(f"{name}-"):
+        return None
+    try:
+        version = parse_version(file[len(name) + 1 : -len(".tgz")], dialect=Dialect.NPM)
+    except VersionError:
+        return None
+    whole = f"{scope}/{name}" if scope.startswith("@") else name
+    return Archive(whole, str(replace(version, build=())))
