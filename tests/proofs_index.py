@@ -24,17 +24,15 @@ names:
 - **a law** by its name: a function that makes the call twice with the same arguments. Its clause says that both results
   are equal, or that one is out of memory. Its proof sees the clauses of the call only. Some say less: if a text is
   refused as a version, memory may run out before the error is found (`one_version_of_parser`, `one_version_parse`,
-  `one_parse_by_tokens`; of C `one_parsed_version`, `one_precedence`, `one_membership`, `one_meeting`, `one_meetings`),
-  and which hint there is may be open (`one_range_explanation`). A law doesn't say when memory runs out: a clause of the
+  `one_parse_by_tokens`), and which hint there is may be open (`one_range_explanation`). A law doesn't say when memory runs out: a clause of the
   call does, if it has one (`out_of_memory`, `no_memory`).
 - **free**: what the clauses leave open, and the mutant that they still reject, or the file of tests that shows it.
 
 Ten calls are free, and two more leave something open if memory ran out: how many tokens `Parser::version` took, and how
 much of a piece `Lines::push` did. What is left then is an end part of the tokens (`out_of_memory`; of
 `Parser::identifier` the law fixes it), and what `Lines::push` appended is what that much ends. The clauses of `Lines`
-don't speak of a reader or a writer: they are functions of the bytes. The sort is `Vec::sort_by` of the kit. In C,
-`refusals` is one clause for all errors of a range, and what the caller gave to write to is unchanged after an error
-(`unchanged` and its kin).
+don't speak of a reader or a writer: they are functions of the bytes. The sort is `Vec::sort_by` of the kit. In C
+a clause lists a function's outcomes: each status, and what it leaves (`Outcomes`).
 '''
 
 
