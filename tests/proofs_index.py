@@ -16,7 +16,7 @@ means of proof: it says what the code does step by step, and no clause of a call
 
 ## One answer for each call
 
-Can a wrong body be proved? A public call rules that out in one of three ways, which the comment `// Answer: ..` above it
+Can a wrong body be proved? A public call rules that out in one of four ways, which the comment `// Answer: ..` above it
 names:
 
 - **equation**: a clause gives what the call returns and leaves as a function of what it was given, always, or if it
@@ -26,6 +26,7 @@ names:
   refused as a version, memory may run out before the error is found (`one_version_of_parser`, `one_version_parse`,
   `one_parse_by_tokens`), and which hint there is may be open (`one_range_explanation`). A law doesn't say when memory runs out: a clause of the
   call does, if it has one (`out_of_memory`, `no_memory`).
+- **as** another function: its contract is that function's, to the letter, which `tests/documents` compares.
 - **free**: what the clauses leave open, and the mutant that they still reject, or the file of tests that shows it.
 
 Ten calls are free, and two more leave something open if memory ran out: how many tokens `Parser::version` took, and how
@@ -105,7 +106,7 @@ def row(top, crate, path, lines, at, name, comment, answer):
     folder = '/'.join(([] if module in ('lib', 'main') else [module]) + parts)
     known = imports('\n'.join(lines), crate)
     shown = ', '.join(clauses(head))
-    by = f'`{answer}`' if answer and not answer.startswith(('equation', 'free')) else answer or ''
+    by = f'`{answer}`' if answer and not answer.startswith(('equation', 'as ', 'free')) else answer or ''
     cells = [
         f'`{name}`', first_sentence(comment), by, shown, ', '.join(f'`{it}`' for it in cited(head, known)),
         ', '.join(f'`{it}`' for it in lemmas(top, crate, folder)),
@@ -161,8 +162,8 @@ def rows_of(top, crate, path, lines, public, exported, traits, answer_of):
             yield '| ' + ' | '.join(cells) + ' |'
         found = answer_of.fullmatch(bare)
         if found:
-            law = found.group(2)
-            answer = law.split('::')[-1] if law else 'equation' if not found.group(4) else f'free: {found.group(3)} (`{os.path.basename(found.group(4))}`)'
+            law, same = found.group(2), found.group(1).startswith('as ')
+            answer = found.group(1) if same else law.split('::')[-1] if law else 'equation' if not found.group(4) else f'free: {found.group(3)} (`{os.path.basename(found.group(4))}`)'
         elif bare.startswith('///'):
             comment.append(bare)
         elif not bare.startswith(('#[', '// ')):

@@ -144,3 +144,17 @@ remove_all() {
         rmdir -- "$to/${folder#./}" 2> /dev/null || :
     done
 }
+
+# lower FROM TO: lowers a WebAssembly module to 32-bit memory, which each engine has, and refuses one
+# that has any other left.
+lower() {
+    for tool in wasm-opt=binaryen wasm-validate=wabt; do
+        command -v "${tool%=*}" > /dev/null ||
+            refuse "needs ${tool%=*} (Debian: apt-get install ${tool#*=})"
+    done
+    wasm-opt --enable-memory64 --enable-bulk-memory --enable-mutable-globals --enable-sign-ext \
+        --enable-nontrapping-float-to-int --enable-multivalue --enable-simd --memory64-lowering \
+        -O3 --flatten --rereloop -O3 --converge --strip-producers --strip-target-features \
+        "$1" -o "$2" || refuse "wasm-opt cannot lower $1"
+    wasm-validate "$2" || refuse "$2 has memory of 64 bits"
+}

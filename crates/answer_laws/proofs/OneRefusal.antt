@@ -1,30 +1,21 @@
 -- serves: answer_laws::ranges::one_refusal
 -- A range text has one error, at one offset.
-use Rattle.std.proofs.Common.{◌≡◌, ◌≢◌, ◌↔◌, ◌∙◌, ℕ, Option, Some, None, IfSome, option_map, refl, sym, ap}
+use Rattle.std.proofs.Common.{◌≡◌, ◌∙◌, ℕ, Option, Some, None, option_map, refl, sym, ap}
 use Rattle.semver_texts.specs.Texts.{Text}
 use Rattle.semver_parser.specs.declared.RangeError.{RangeError}
 use Rattle.semver_parser.specs.declared.RangeError.TheVariants.{NotARange, NumberTooLarge, OutOfMemory}
 use Rattle.text_prefixes.specs.Prefixes.{IsLongestPrefix}
 use Rattle.tool_ranges.specs.Prefixes.{BeginsAs}
 use Rattle.tool_ranges.specs.TooLarge.{IsLimitOffset}
-use Rattle.tool_ranges.specs.Dialects.{HasSetAs, IsTextAs, IsTooLargeAs}
+use Rattle.tool_ranges.specs.Refusals.{IsRefusalAs}
 use Rattle.tool_ranges.specs.declared.dialect.Dialect.{Dialect}
 use Rattle.tool_ranges.specs.declared.refusals.Refusal.{Refusal}
 use Rattle.answer_laws.specs.SeenTexts.{seen_refusal}
 
--- what is said of a text by a refusal, or by none
-pub record Says (dialect : Dialect) (t : Text) (found : Option Refusal) : Type 0 where
-  pub range : (found ≡ None) ↔ HasSetAs dialect t
-  pub not_a_range : IfSome found (λ r. (r.error ≡ NotARange) ↔ ¬ (IsTextAs dialect t))
-  pub too_large : IfSome found (λ r. (r.error ≡ NumberTooLarge) ↔ IsTooLargeAs dialect t)
-  pub no_memory : IfSome found (λ r. r.error ≢ OutOfMemory)
-  pub offset : IfSome found (λ r. r.error ≡ NotARange → IsLongestPrefix (BeginsAs dialect) t r.offset)
-  pub limit : IfSome found (λ r. r.error ≡ NumberTooLarge → IsLimitOffset dialect t r.offset)
-
 module _ (dialect : Dialect) (t : Text)
     (one_offset : (m n : ℕ) → IsLongestPrefix (BeginsAs dialect) t m → IsLongestPrefix (BeginsAs dialect) t n → m ≡ n)
     (one_limit : (m n : ℕ) → IsLimitOffset dialect t m → IsLimitOffset dialect t n → m ≡ n) where
-  by_error : (e : RangeError) (r s : Refusal) → r.error ≡ e → Says dialect t (Some r) → Says dialect t (Some s)
+  by_error : (e : RangeError) (r s : Refusal) → r.error ≡ e → IsRefusalAs dialect t (Some r) → IsRefusalAs dialect t (Some s)
       → seen_refusal r ≡ seen_refusal s
   by_error NotARange r s is a b =
       let also = b.not_a_range.1 (a.not_a_range.0 is) in
@@ -34,7 +25,7 @@ module _ (dialect : Dialect) (t : Text)
       (λ i. ((is ∙ sym also) i, one_limit r.offset s.offset (a.limit is) (b.limit also) i))
   by_error OutOfMemory r s is a b = absurd (a.no_memory is)
 
-  pub one_refused : (x y : Option Refusal) → Says dialect t x → Says dialect t y
+  pub one_refused : (x y : Option Refusal) → IsRefusalAs dialect t x → IsRefusalAs dialect t y
       → option_map seen_refusal x ≡ option_map seen_refusal y
   one_refused None y a b = ap (option_map seen_refusal) (sym (b.range.1 (a.range.0 refl)))
   one_refused x None a b = ap (option_map seen_refusal) (a.range.1 (b.range.0 refl))

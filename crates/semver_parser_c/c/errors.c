@@ -18,21 +18,27 @@ semver_parser_status semver_parser_refuse(semver_parser_status status, semver_pa
     return error == NULL ? status : fill(error, status, 0, 0, SEMVER_PARSER_REASON_NONE);
 }
 
+/* A buffer with 8 bytes more than a string, to find its error in. */
+static uint8_t *buffer_for(semver_parser_string string) {
+    size_t room = string.length + 8;
+    return room > string.length ? malloc(room) : NULL;
+}
+
 semver_parser_status semver_parser_refuse_version(
     semver_parser_string version, semver_parser_dialect dialect, int argument,
     semver_parser_error *error) {
     if (error == NULL) {
         return SEMVER_PARSER_INVALID_VERSION;
     }
-    size_t room = version.length + 8;
-    uint8_t *buffer = room > version.length ? malloc(room) : NULL;
+    uint8_t *buffer = buffer_for(version);
     if (buffer == NULL) {
         return fill(error, SEMVER_PARSER_OUT_OF_MEMORY, argument, 0, SEMVER_PARSER_REASON_NONE);
     }
     size_t offset = 0;
     int32_t reason = SEMVER_PARSER_REASON_NONE;
     int32_t status = semver_parser_proved_explain_version(
-        bytes_of(version), version.length, (int32_t)dialect, buffer, room, &offset, &reason);
+        bytes_of(version), version.length, (int32_t)dialect, buffer, version.length + 8, &offset,
+        &reason);
     free(buffer);
     return fill(error, status, argument, offset, reason);
 }
@@ -43,10 +49,22 @@ semver_parser_status semver_parser_refuse_range(
     if (error == NULL) {
         return status;
     }
+    uint8_t *buffer = semver_parser_no_byte;
+    size_t room = 0;
+    if (status == SEMVER_PARSER_INVALID_RANGE) {
+        buffer = buffer_for(range);
+        room = range.length + 8;
+    }
+    if (buffer == NULL) {
+        return fill(error, SEMVER_PARSER_OUT_OF_MEMORY, argument, 0, SEMVER_PARSER_REASON_NONE);
+    }
     size_t offset = 0;
     int32_t reason = SEMVER_PARSER_REASON_NONE;
     int32_t explained = semver_parser_proved_explain_range(
-        bytes_of(range), range.length, (int32_t)dialect, &offset, &reason);
+        bytes_of(range), range.length, (int32_t)dialect, buffer, room, &offset, &reason);
+    if (room > 0) {
+        free(buffer);
+    }
     return fill(error, explained, argument, offset, reason);
 }
 

@@ -74,7 +74,8 @@ int32_t semver_parser_proved_satisfies(
     int32_t dialect, int32_t pre_releases, bool *satisfies);
 
 int32_t semver_parser_proved_explain_range(
-    const uint8_t *range, size_t range_length, int32_t dialect, size_t *offset, int32_t *reason);
+    const uint8_t *range, size_t range_length, int32_t dialect, uint8_t *buffer, size_t room,
+    size_t *offset, int32_t *reason);
 
 int32_t semver_parser_proved_comparators(
     const uint8_t *range, size_t range_length, int32_t dialect, bool exact,

@@ -1,9 +1,8 @@
-mod OptionNumbers
+mod OperationNumbers
+mod RangeSets
 mod ListedComparators
 mod Members
-mod RangeErrors
 mod Lowest
 mod OneOutcome
-mod OneExplanation
 mod OneSet
 mod OneMembership

@@ -13,7 +13,7 @@ use Rattle.tool_ranges.specs.declared.dialect.Dialect.{Dialect}
 use Rattle.version_sets.specs.VersionSets.{SetValue, has}
 use Rattle.semver_parser_c.specs.Membership.{HasByteForEach, IsByteFor, IsHighest, IsHighestIndex, IsMember, membership_byte, order_for}
 use Rattle.semver_parser_c.proofs.Members.{total_for}
-use Rattle.semver_parser_c.proofs.OneOutcome.{OneVersion}
+use Rattle.plain_calls.proofs.OneOutcome.{OneVersion}
 
 one_byte : OneVersion → (d : Dialect) (set : SetValue) (text : Text) (a b : ℕ) → IsByteFor d set text a → IsByteFor d set text b → a ≡ b
 one_byte one d set text a b (inl p) (inl q) = p.1 ∙ sym q.1

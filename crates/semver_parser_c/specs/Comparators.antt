@@ -8,16 +8,16 @@ use Rattle.semver_parser.specs.Texts.{Text}
 use Rattle.semver_parser.specs.Outlines.{dotted_text}
 use Rattle.semver_parser.specs.RewritingTable.{PlainComparator, PlainRange, PlainSet}
 use Rattle.semver_parser_c.specs.declared.ListedComparator.{ListedComparator}
-use Rattle.semver_parser_c.specs.Numbers as number
-use Rattle.semver_parser_c.specs.Parts.{bytes_at}
+use Rattle.plain_calls.specs.Numbers as number
+use Rattle.plain_calls.specs.Parts.{bytes_at}
 
 -- the number of an operator
 abbrev pub op_number : Op → ℤ
-op_number Lt = number.less
-op_number Lte = number.less_equal
-op_number Gt = number.greater
-op_number Gte = number.greater_equal
-op_number Eq = number.equal
+op_number Lt = pos 0
+op_number Lte = pos 1
+op_number Gt = pos 2
+op_number Gte = pos 3
+op_number Eq = pos 4
 
 -- a comparator, and the number of the range that it belongs to
 pub record Numbered : Type 0 where

@@ -1,14 +1,8 @@
 pub mod Numbers
-pub mod Options
 pub mod Outcomes
 pub mod Printing
-pub mod Parts
-pub mod Orders
-pub mod Reasons
-pub mod Versions
 pub mod Comparators
 pub mod Ranges
 pub mod Sets
 pub mod Membership
 pub mod OneAnswer
-pub mod Steps

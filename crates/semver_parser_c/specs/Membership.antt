@@ -12,8 +12,9 @@ use Rattle.semver_parser.specs.Versions.{PlainVersion, VersionValue}
 use Rattle.tool_ranges.specs.Dialects.{grammar_of}
 use Rattle.tool_ranges.specs.declared.dialect.Dialect.{Dialect}
 use Rattle.version_sets.specs.VersionSets.{HasSomeVersion, SetValue, has}
-use Rattle.semver_parser_c.specs.Numbers as number
-use Rattle.semver_parser_c.specs.Outcomes.{ByDialect, OfSet, OfVersion, Refused}
+use Rattle.plain_calls.specs.Numbers as number
+use Rattle.plain_calls.specs.Outcomes.{ByDialect, OfVersion, Refused}
+use Rattle.semver_parser_c.specs.Outcomes.{OfSet}
 use Rattle.semver_parser_c.specs.Sets.{Given}
 
 -- whether a version is in a set
@@ -25,13 +26,17 @@ Contains dialect given version old new r = ByDialect dialect r (new ≡ old) (λ
 
 -- what is written for whether a version is in a set
 abbrev pub membership_byte : Bool → ℕ
-membership_byte true = number.contained
-membership_byte false = number.not_contained
+membership_byte true = 1
+membership_byte false = 0
+
+-- what is written for an invalid version
+abbrev pub no_version_byte : ℕ
+no_version_byte = 2
 
 -- what is written for a string
 abbrev pub IsByteFor : Dialect → SetValue → Text → ℕ → Type 0
 IsByteFor d set text byte =
-    ((¬ IsVersionTextIn (grammar_of d) text) × (byte ≡ number.no_version))
+    ((¬ IsVersionTextIn (grammar_of d) text) × (byte ≡ no_version_byte))
     ⊎ ((v : VersionValue) × SpellsIn (grammar_of d) v text
     × (byte ≡ membership_byte (has set v.plain)))
 

@@ -1,6 +1,6 @@
 -- Two answers of one call: both are the same, or memory ran out in one of them.
 use Rattle.std.specs.Prelude.{ℤ, ◌≡◌, ◌⊎◌, ◌≢◌}
-use Rattle.semver_parser_c.specs.Numbers as number
+use Rattle.plain_calls.specs.Numbers as number
 
 -- two statuses are one, and so is what is written beside them, unless memory ran out in one call;
 -- then the other is no error. It is said of any two answers, so also of these the other way round

@@ -16,21 +16,13 @@ use Rattle.tool_ranges.specs.declared.dialect.Dialect.{Dialect}
 use Rattle.tool_ranges.specs.declared.dialect.Dialect.TheVariants.{CrateCargo, CrateNpm}
 use Rattle.tool_ranges.specs.declared.hints.Hint.{Hint}
 use Rattle.semver_parser_c.specs.Comparators.{comparators_of, listed_comparators, pre_releases}
-use Rattle.semver_parser_c.specs.Numbers as number
-use Rattle.semver_parser_c.specs.Outcomes.{ByDialect, ByMeaning, InMemory, OfRange, OfVersion}
-use Rattle.semver_parser_c.specs.Outcomes.{Refused}
+use Rattle.plain_calls.specs.Numbers as number
+use Rattle.plain_calls.specs.Outcomes.{ByDialect, ByMeaning, OfRange, OfVersion}
+use Rattle.semver_parser_c.specs.Outcomes.{InMemory}
+use Rattle.plain_calls.specs.Outcomes.{Refused}
 use Rattle.semver_parser_c.specs.Printing.{Buffer, IsSame, Puts, PutsBoth}
-use Rattle.semver_parser_c.specs.Reasons.{hint_number}
+use Rattle.plain_calls.specs.Reasons.{hint_number}
 use Rattle.semver_parser_c.specs.declared.ListedComparator.{ListedComparator}
-
--- whether a version satisfies a range: whether the string of the range means it
-abbrev pub Satisfies : ℤ → ℤ → Text → Text → Bool → Bool → ℤ → Type 0
-Satisfies dialect rule version range old new r =
-    ByMeaning dialect rule r (new ≡ old) (λ m.
-    OfVersion m.dialect version r (new ≡ old) (λ v.
-    OfRange m.dialect range r (new ≡ old)
-    ((r ≡ number.ok)
-    × ((tree : TreeOf m.dialect) → SpellsAs m.dialect tree range → new ≡ meant_as m tree v))))
 
 -- what a tree is rewritten to, with exact bounds or without: those of a tool are always exact
 abbrev pub set_for : Bool → (dialect : Dialect) → TreeOf dialect → PlainSet
@@ -58,16 +50,3 @@ PrintsComparators dialect exact range buffer r = ByDialect dialect r (IsSame buf
     OfRange d range r (IsSame buffer)
     (InMemory r (IsSame buffer)
     ((set : PlainSet) × IsSetFor exact d range set × Puts (set_text set) buffer r)))
-
--- where and why a string is no range, or has a number that is too large
-abbrev pub ExplainsRange : ℤ → Text → ℕ → ℤ → Type 0 → ℤ → Type 0
-ExplainsRange dialect text offset reason Same r = ByDialect dialect r Same (λ d.
-    ((¬ IsUtf8 text) × (r ≡ number.invalid_range) × (offset ≡ utf8_valid_len text)
-    × (reason ≡ number.reason_not_utf8))
-    ⊎ (IsUtf8 text
-    × ((HasSetAs d text × Refused number.ok r Same)
-    ⊎ ((¬ IsTextAs d text) × InMemory r Same
-    ((r ≡ number.invalid_range) × IsLongestPrefix (BeginsAs d) text offset
-    × ((hint : Option Hint) × (reason ≡ hint_number hint))))
-    ⊎ (IsTooLargeAs d text × (r ≡ number.number_too_large) × IsLimitOffset d text offset
-    × (reason ≡ hint_number (Some (limit_of d)))))))

@@ -13,8 +13,9 @@ use Rattle.version_sets.specs.Flat.{IsPrintable, flat_bytes, flat_switches}
 use Rattle.version_sets.specs.SetRanges.{pre_release_ranges, ranges_text, release_ranges}
 use Rattle.version_sets.specs.VersionSets.{HasSomeVersion, IsIn, IsNormal, SetValue, has}
 use Rattle.version_sets.specs.declared.FlatSwitch.{FlatSwitch}
-use Rattle.semver_parser_c.specs.Numbers as number
-use Rattle.semver_parser_c.specs.Outcomes.{ByMeaning, InMemory, OfRange, OfSet, Refused}
+use Rattle.plain_calls.specs.Numbers as number
+use Rattle.plain_calls.specs.Outcomes.{ByMeaning, OfRange, Refused}
+use Rattle.semver_parser_c.specs.Outcomes.{InMemory, OfSet}
 use Rattle.semver_parser_c.specs.Printing.{Buffer, IsSame, Puts, PutsBoth}
 use Rattle.semver_parser_c.specs.declared.sets.Operation.{Operation}
 use Rattle.semver_parser_c.specs.declared.sets.Operation.TheVariants.{Union, Intersection}
@@ -33,9 +34,9 @@ MakesSet dialect rule range a b r = ByMeaning dialect rule r (IsSame a × IsSame
 
 -- the number of an operation on two sets
 abbrev pub operation_number : Operation → ℤ
-operation_number Union = number.union
-operation_number Intersection = number.intersection
-operation_number Difference = number.difference
+operation_number Union = pos 0
+operation_number Intersection = pos 1
+operation_number Difference = pos 2
 
 abbrev pub IsOperation : ℤ → Type 0
 IsOperation n = (o : Operation) × (n ≡ operation_number o)

@@ -3,7 +3,7 @@
 ghost use Rattle.std.specs.Prelude.{ℕ};
 ghost use Rattle.semver_parser_c.specs.Printing.{Puts, PutsBoth};
 
-use crate::numbers;
+use plain_calls::numbers;
 
 /// Writes how many items there are, and puts them at the front of the buffer if they fit.
 pub fn put<T: Copy>(items: &[T], out: &mut [T], length: &mut usize) -> i32

@@ -7,11 +7,23 @@ ghost use Rattle.semver_parser.specs.RangeViews.{comparator_of, identifier_of, s
 ghost use Rattle.semver_parser_c.specs.Comparators.{comparators_of, op_number, pre_releases};
 ghost use Rattle.semver_parser_c.specs.Comparators.{listed_comparator, listed_comparators};
 
-use crate::{ListedComparator, Part, numbers};
+use crate::ListedComparator;
+use plain_calls::Part;
 use semver_parser::{Comparator, Identifier, Op, RangeSet};
 use semver_texts::printing::write_joined;
 use std::alloc::{AllocError, Global};
 use std::fmt;
+
+/// The operator `<`.
+pub const LESS: i32 = 0;
+/// The operator `<=`.
+pub const LESS_EQUAL: i32 = 1;
+/// The operator `>`.
+pub const GREATER: i32 = 2;
+/// The operator `>=`.
+pub const GREATER_EQUAL: i32 = 3;
+/// The operator `=`.
+pub const EQUAL: i32 = 4;
 
 /// Comparators, and the texts of their pre-releases.
 #[derive(Drop)]
@@ -83,10 +95,10 @@ fn op_number(op: &Op) -> i32
     ensures { result ≡ op_number op.now }
 {
     match op {
-        Op::Lt => numbers::LESS,
-        Op::Lte => numbers::LESS_EQUAL,
-        Op::Gt => numbers::GREATER,
-        Op::Gte => numbers::GREATER_EQUAL,
-        Op::Eq => numbers::EQUAL,
+        Op::Lt => LESS,
+        Op::Lte => LESS_EQUAL,
+        Op::Gt => GREATER,
+        Op::Gte => GREATER_EQUAL,
+        Op::Eq => EQUAL,
     }
 }

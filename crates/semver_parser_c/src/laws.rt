@@ -3,153 +3,23 @@
 //! two answers is what the clause of the function says.
 
 ghost use Rattle.std.specs.Prelude.{◌≡◌, ◌≢◌, ◌⊎◌, length};
-ghost use Rattle.semver_parser_c.specs.Numbers as number;
+ghost use Rattle.plain_calls.specs.Numbers as number;
 ghost use Rattle.semver_parser_c.specs.OneAnswer.{AreOne};
 
+use crate::ListedComparator;
 use crate::membership::{
     semver_parser_proved_contains, semver_parser_proved_contains_each, semver_parser_proved_highest,
 };
-use crate::ranges::{
-    semver_parser_proved_comparators, semver_parser_proved_explain_range,
-    semver_parser_proved_print_comparators, semver_parser_proved_satisfies,
-};
+use crate::ranges::{semver_parser_proved_comparators, semver_parser_proved_print_comparators};
 use crate::sets::{
     semver_parser_proved_check_set, semver_parser_proved_combine,
     semver_parser_proved_compare_sets, semver_parser_proved_lowest_version,
     semver_parser_proved_print_set, semver_parser_proved_set_of_range,
 };
-use crate::versions::{
-    semver_parser_proved_compare_versions, semver_parser_proved_explain_version,
-    semver_parser_proved_parse_version,
-};
-use crate::{ListedComparator, ParsedVersion};
 use semver_parser::laws::one_version_in;
 use std::alloc::Global;
-use text_prefixes::laws::{one_longest_prefix, one_reason};
-use tool_ranges::laws::{one_limit_offset, one_offset};
 use version_sets::FlatSwitch;
 use version_sets::laws::{one_flat, one_set as one_normal_set};
-
-/// A string is parsed as one version, or refused by one status.
-pub fn one_parsed_version(
-    version: &[u8],
-    dialect: i32,
-    out: &mut ParsedVersion,
-    other_out: &mut ParsedVersion,
-) -> (i32, i32)
-    requires { out.old ≡ other_out.old }
-    ensures one { (result.0 ≡ result.1) × (out.new ≡ other_out.new) }
-{
-    one_version_in();
-    let number = semver_parser_proved_parse_version(version, dialect, out);
-    let other_number = semver_parser_proved_parse_version(version, dialect, other_out);
-    (number, other_number)
-}
-
-/// Two versions compare in one way, or are refused by one status.
-pub fn one_precedence(
-    version: &[u8],
-    other: &[u8],
-    dialect: i32,
-    order: &mut i32,
-    other_order: &mut i32,
-) -> (i32, i32)
-    requires { order.old ≡ other_order.old }
-    ensures one { (result.0 ≡ result.1) × (order.new ≡ other_order.new) }
-{
-    one_version_in();
-    let number = semver_parser_proved_compare_versions(version, other, dialect, order);
-    let other_number = semver_parser_proved_compare_versions(version, other, dialect, other_order);
-    (number, other_number)
-}
-
-/// A string is a version, or none at one offset and for one reason, or the buffers are too small.
-/// What these hold doesn't matter.
-pub fn one_explanation(
-    version: &[u8],
-    dialect: i32,
-    buffer: &mut [u8],
-    other_buffer: &mut [u8],
-    offset: &mut usize,
-    other_offset: &mut usize,
-    reason: &mut i32,
-    other_reason: &mut i32,
-) -> (i32, i32)
-    requires room { length buffer.old ≡ length other_buffer.old }
-    requires offset { offset.old ≡ other_offset.old }
-    requires reason { reason.old ≡ other_reason.old }
-    ensures one { (result.0 ≡ result.1)
-        × ((offset.new ≡ other_offset.new) × (reason.new ≡ other_reason.new)) }
-{
-    one_longest_prefix();
-    one_reason();
-    let number = semver_parser_proved_explain_version(version, dialect, buffer, offset, reason);
-    let other_number = semver_parser_proved_explain_version(
-        version,
-        dialect,
-        other_buffer,
-        other_offset,
-        other_reason,
-    );
-    (number, other_number)
-}
-
-/// A version satisfies a range or it doesn't, or one of the strings is refused by one status.
-pub fn one_satisfaction(
-    version: &[u8],
-    range: &[u8],
-    dialect: i32,
-    pre_releases: i32,
-    satisfies: &mut bool,
-    other_satisfies: &mut bool,
-) -> (i32, i32)
-    requires { satisfies.old ≡ other_satisfies.old }
-    ensures one { (result.0 ≡ result.1) × (satisfies.new ≡ other_satisfies.new) }
-{
-    one_version_in();
-    let number = semver_parser_proved_satisfies(version, range, dialect, pre_releases, satisfies);
-    let other_number = semver_parser_proved_satisfies(
-        version,
-        range,
-        dialect,
-        pre_releases,
-        other_satisfies,
-    );
-    (number, other_number)
-}
-
-/// A string is a range, or none at one offset, or memory ran out in place of that.
-pub fn one_range_explanation(
-    alloc: Global,
-    range: &[u8],
-    dialect: i32,
-    offset: &mut usize,
-    other_offset: &mut usize,
-    reason: &mut i32,
-    other_reason: &mut i32,
-) -> (i32, i32)
-    requires offset { offset.old ≡ other_offset.old }
-    requires reason { reason.old ≡ other_reason.old }
-    ensures one { result.0 ≢ number.out_of_memory → result.1 ≢ number.out_of_memory
-        → (result.0 ≡ result.1) × (offset.new ≡ other_offset.new) }
-    ensures beside_memory { result.0 ≡ number.out_of_memory
-        → (result.1 ≡ number.invalid_range) ⊎ (result.1 ≡ number.out_of_memory) }
-    // The hint of a string that is no range is free.
-    ensures reason { result.0 ≡ result.1 → result.0 ≢ number.invalid_range
-        → reason.new ≡ other_reason.new }
-{
-    one_offset();
-    one_limit_offset();
-    let number = semver_parser_proved_explain_range(alloc, range, dialect, offset, reason);
-    let other_number = semver_parser_proved_explain_range(
-        alloc,
-        range,
-        dialect,
-        other_offset,
-        other_reason,
-    );
-    (number, other_number)
-}
 
 /// A range is rewritten to one list of comparators, or refused by one status.
 pub fn one_comparators(

@@ -2,7 +2,7 @@
 //! into buffers of the caller. `c/` makes the functions of `include/semver_parser.h` of these: it
 //! holds the memory, and asks for an error where one is wanted.
 //!
-//! Each function returns one of the numbers in `numbers`. Its one clause says in which order its
+//! Each function returns one of the numbers in `plain_calls::numbers`. Its one clause says in which order its
 //! conditions are asked, and what it writes (`specs/Outcomes`).
 #![tactic(auto)]
 
@@ -10,40 +10,11 @@ mod buffers;
 mod comparators;
 pub mod laws;
 mod membership;
-mod numbers;
-mod options;
 mod ranges;
-mod reasons;
 mod sets;
-mod versions;
+mod shared;
 
-/// Where a part of a string is: `length` bytes from `offset` on. Both are 0 where there is no such
-/// part.
-#[repr(C)]
-#[derive(Clone, Copy)]
-pub struct Part {
-    /// How many bytes are before it.
-    pub offset: usize,
-    /// How many bytes it has.
-    pub length: usize,
-}
-
-/// A version as it was parsed: its three numbers, and where its string has the pre-release and the
-/// build metadata.
-#[repr(C)]
-#[derive(Clone, Copy)]
-pub struct ParsedVersion {
-    /// The first number.
-    pub major: u64,
-    /// The second number.
-    pub minor: u64,
-    /// The third number.
-    pub patch: u64,
-    /// The identifiers of the pre-release, joined by dots, without the `-` before them.
-    pub pre: Part,
-    /// The identifiers of the build metadata, joined by dots, without the `+` before them.
-    pub build: Part,
-}
+use plain_calls::Part;
 
 /// A comparator of a rewritten range: an operator, and the version that it compares with.
 #[repr(C)]

@@ -12,14 +12,21 @@ ghost use Rattle.semver_parser_c.specs.Membership.{HasByteForEach};
 ghost use Rattle.semver_parser_c.specs.Membership.{IsByteFor, IsHighestIndex, IsMemberText};
 ghost use Rattle.semver_parser_c.specs.Membership.{order_for};
 
-use crate::numbers;
-use crate::options::dialect_of;
-use crate::versions::precedence;
+use plain_calls::numbers;
+use plain_calls::options::dialect_of;
+use plain_calls::versions::precedence;
 use semver_parser::laws::one_version_in;
 use semver_parser::version::{Outline, outline_in};
 use std::alloc::Global;
 use tool_ranges::dialect::Dialect;
 use version_sets::{FlatSet, FlatSwitch, VersionSet};
+
+/// What is written for a version that isn't in the set, where there are many.
+pub const NOT_CONTAINED: u8 = 0;
+/// What is written for a version that is in the set.
+pub const CONTAINED: u8 = 1;
+/// What is written for an invalid version.
+pub const NO_VERSION: u8 = 2;
 
 // Answer: law semver_parser_c::laws::one_membership.
 /// Finds whether a version is in a set: `OK` with the answer in `contains`. The version is read in
@@ -105,9 +112,9 @@ fn byte_for(set: &VersionSet, version: &[u8], dialect: Dialect) -> u8
     ensures { IsByteFor dialect set.now version.now result }
 {
     match outline_in(version, dialect.grammar()) {
-        None => numbers::NO_VERSION,
-        Some(outline) if set.has_outline(&outline) => numbers::CONTAINED,
-        Some(_) => numbers::NOT_CONTAINED,
+        None => NO_VERSION,
+        Some(outline) if set.has_outline(&outline) => CONTAINED,
+        Some(_) => NOT_CONTAINED,
     }
 }
 

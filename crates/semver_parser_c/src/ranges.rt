@@ -1,119 +1,23 @@
-//! The functions on ranges: whether a version satisfies one, its comparators, and why a string is
-//! none.
+//! The functions that rewrite a range into comparators.
 
 ghost use Rattle.std.specs.Prelude.{◌≡◌, IfErr, IfOk, IsUtf8, take};
 ghost use Rattle.semver_parser.specs.RangeViews.{set_of};
 ghost use Rattle.tool_ranges.specs.Dialects.{HasSetAs, RefusesAs, SpellsAs, TreeOf};
 ghost use Rattle.tool_ranges.specs.declared.dialect.Dialect.{Dialect as SomeDialect};
 ghost use Rattle.semver_parser_c.specs.Comparators.{HasPreReleases, comparators_of};
-ghost use Rattle.semver_parser_c.specs.Numbers as number;
-ghost use Rattle.semver_parser_c.specs.Options.{dialect_number};
-ghost use Rattle.semver_parser_c.specs.Ranges.{ExplainsRange, IsSetFor, ListsComparators};
-ghost use Rattle.semver_parser_c.specs.Ranges.{PrintsComparators, Satisfies, set_for};
-ghost use Rattle.semver_parser_c.specs.Steps.RangeErrors.{IsRefusedFor};
+ghost use Rattle.plain_calls.specs.Numbers as number;
+ghost use Rattle.plain_calls.specs.Options.{dialect_number};
+ghost use Rattle.semver_parser_c.specs.Ranges.{IsSetFor, ListsComparators, PrintsComparators};
+ghost use Rattle.semver_parser_c.specs.Ranges.{set_for};
+ghost use Rattle.plain_calls.specs.Steps.RangeErrors.{IsRefusedFor};
 
 use crate::buffers::{put, put_both};
-use crate::options::{dialect_of, meaning_of};
-use crate::reasons::hint_number;
-use crate::{ListedComparator, comparators, numbers};
-use semver_parser::version::outline_in;
+use crate::{ListedComparator, comparators};
+use plain_calls::numbers;
+use plain_calls::options::dialect_of;
 use semver_parser::{Compat, RangeError, RangeSet};
 use std::alloc::Global;
 use tool_ranges::dialect::{self, Dialect};
-use tool_ranges::meaning;
-use tool_ranges::refusals::refused;
-
-// Answer: law semver_parser_c::laws::one_satisfaction.
-/// Finds whether a version satisfies a range, by a dialect and by a rule for pre-releases: `OK`
-/// with the answer in `satisfies`. It does not allocate.
-///
-/// It goes by what the range means, and not by comparators.
-///
-/// # Errors
-///
-/// `INVALID_ARGUMENT` if a number names no dialect or rule, then `INVALID_VERSION`, and then
-/// `INVALID_RANGE` or `NUMBER_TOO_LARGE`. Then `satisfies` is as it was.
-#[unsafe(no_mangle)]
-pub extern "C" fn semver_parser_proved_satisfies(
-    version: &[u8],
-    range: &[u8],
-    dialect: i32,
-    pre_releases: i32,
-    satisfies: &mut bool,
-) -> i32
-    ensures { Satisfies dialect pre_releases version.now range.now satisfies.old satisfies.new
-        result }
-{
-    let Some(meaning) = meaning_of(dialect, pre_releases) else {
-        return numbers::INVALID_ARGUMENT;
-    };
-    let Some(outline) = outline_in(version, meaning.dialect.grammar()) else {
-        return numbers::INVALID_VERSION;
-    };
-    let Ok(text) = std::str::from_utf8(range) else {
-        return numbers::INVALID_RANGE;
-    };
-    match meaning::meets(meaning, text, &outline) {
-        Ok(met) => {
-            *satisfies = met;
-            numbers::OK
-        }
-        Err(RangeError::NotARange) => numbers::INVALID_RANGE,
-        Err(RangeError::NumberTooLarge) => numbers::NUMBER_TOO_LARGE,
-        Err(RangeError::OutOfMemory) => unreachable!(),
-    }
-}
-
-// Answer: free, the hint (else law laws::one_range_explanation): ../replayed_cases/stdin.
-/// Finds where and why a string is no range of a dialect: `OK` if it is one whose numbers fit, else
-/// `INVALID_RANGE` or `NUMBER_TOO_LARGE` with `offset` and the number of the reason.
-///
-/// `1 || 2` by `CARGO` gives 2 and `REASON_CARGO_BARS`. After `INVALID_RANGE` `offset` is that of
-/// the first character that no range has there, or the length of the string if something is missing
-/// at its end; if the bytes aren't UTF-8, that is the reason, and `offset` that of the first byte
-/// that isn't. After `NUMBER_TOO_LARGE` it is the end of the first term that states a number, or
-/// has a raised bound, above the limit of the dialect.
-///
-/// # Errors
-///
-/// `INVALID_ARGUMENT` if no dialect has the number, and `OUT_OF_MEMORY` in place of
-/// `INVALID_RANGE`. After these and `OK` all is as it was.
-#[unsafe(no_mangle)]
-pub extern "C" fn semver_parser_proved_explain_range(
-    alloc: Global,
-    range: &[u8],
-    dialect: i32,
-    offset: &mut usize,
-    reason: &mut i32,
-) -> i32
-    ensures { ExplainsRange dialect range.now offset.new reason.new
-        ((offset.new ≡ offset.old) × (reason.new ≡ reason.old)) result }
-{
-    let Some(dialect) = dialect_of(dialect) else {
-        return numbers::INVALID_ARGUMENT;
-    };
-    let text = match std::str::from_utf8(range) {
-        Ok(text) => text,
-        Err(error) => {
-            *offset = error.valid_up_to();
-            *reason = numbers::REASON_NOT_UTF8;
-            return numbers::INVALID_RANGE;
-        }
-    };
-    match refused(alloc, dialect, text) {
-        Ok(None) => numbers::OK,
-        Ok(Some(refusal)) => {
-            *offset = refusal.offset;
-            *reason = hint_number(refusal.hint);
-            match refusal.error {
-                RangeError::NotARange => numbers::INVALID_RANGE,
-                RangeError::NumberTooLarge => numbers::NUMBER_TOO_LARGE,
-                RangeError::OutOfMemory => unreachable!(),
-            }
-        }
-        Err(_) => numbers::OUT_OF_MEMORY,
-    }
-}
 
 // Answer: law semver_parser_c::laws::one_comparators.
 /// Rewrites a range into plain comparators: `OK` with these at the front of `comparators`, and at

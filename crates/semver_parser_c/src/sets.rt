@@ -10,13 +10,20 @@ ghost use Rattle.semver_parser_c.specs.Sets.{PutsSet};
 ghost use Rattle.semver_parser_c.specs.Sets.{kind_text, operation_number, text_of};
 
 use crate::buffers::{put, put_both};
-use crate::numbers;
-use crate::options::meaning_of;
+use plain_calls::numbers;
+use plain_calls::options::meaning_of;
 use semver_parser::RangeError;
 use semver_parser::version::Version;
 use std::alloc::{AllocError, Global};
 use tool_ranges::meaning;
 use version_sets::{FlatSet, FlatSwitch, VersionSet};
+
+/// What is in one set or the other.
+pub const UNION: i32 = 0;
+/// What is in both sets.
+pub const INTERSECTION: i32 = 1;
+/// What is in the first set alone.
+pub const DIFFERENCE: i32 = 2;
 
 // Answer: law semver_parser_c::laws::one_set.
 /// Makes the set of the versions that satisfy a range, as flat data: `OK` with its switches at the
@@ -124,9 +131,9 @@ fn operation_of(number: i32) -> Option<Operation>
         (λ operation. number ≡ operation_number operation) }
 {
     match number {
-        numbers::UNION => Some(Operation::Union),
-        numbers::INTERSECTION => Some(Operation::Intersection),
-        numbers::DIFFERENCE => Some(Operation::Difference),
+        UNION => Some(Operation::Union),
+        INTERSECTION => Some(Operation::Intersection),
+        DIFFERENCE => Some(Operation::Difference),
         _ => None,
     }
 }

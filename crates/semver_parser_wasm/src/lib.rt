@@ -1,124 +1,111 @@
-//! One range asked of one version, for WebAssembly: a module of one call, which allocates nothing.
+//! The functions of `plain_calls` for WebAssembly: a version satisfies a range, versions are parsed
+//! and compared, and where and why a string is none. None of them allocates.
 //!
-//! The caller writes both texts into the module's memory of 4 MiB, from `__heap_base` on. In
-//! JavaScript, where addresses and lengths are of type `BigInt`:
+//! The caller writes strings into the module's memory of 4 MiB, from `__heap_base` on, and reads
+//! there what a function writes. A string is an address and a length. In JavaScript, where both are
+//! of type `BigInt`:
 //!
 //! ```text
-//! const source = await WebAssembly.instantiateStreaming(fetch('semver_parser.wasm'))
-//! const { memory, meets, __heap_base } = source.instance.exports
-//! const [range, version] = ['^1.2', '1.9.0'].map((text) => new TextEncoder().encode(text))
-//! const begin = __heap_base.value
-//! new Uint8Array(memory.buffer).set([...range, ...version], Number(begin))
-//! const [length, other] = [range, version].map((text) => BigInt(text.length))
-//! meets(begin, length, 0, begin + length, other) // 1, by Cargo's dialect
+//! const { memory, satisfies, __heap_base } = new WebAssembly.Instance(module).exports
+//! const texts = ['1.9.0', '^1.2'].map((text) => new TextEncoder().encode(text))
+//! const bytes = new Uint8Array(memory.buffer)
+//! const begin = Number(__heap_base.value)
+//! bytes.set(texts[0], begin + 8)
+//! bytes.set(texts[1], begin + 8 + texts[0].length)
+//! const [at, length, other] = [begin + 8, texts[0].length, texts[1].length].map(BigInt)
+//! satisfies(at, length, at + length, other, 1, 0, BigInt(begin)) // 0: both strings were read
+//! bytes[begin] // 1: to npm 1.9.0 satisfies ^1.2
 //! ```
+//!
+//! `js/` is a package over it. The numbers are those of `plain_calls::numbers`.
 #![tactic(auto)]
 
-ghost use Rattle.std.specs.Prelude.{◌≡◌, ◌≢◌, MatchOption};
-ghost use Rattle.semver_parser.specs.declared.RangeError.TheVariants.{OutOfMemory};
-ghost use Rattle.tool_ranges.specs.declared.meaning.Meaning.{Meaning as SomeMeaning};
-ghost use Rattle.semver_parser_wasm.specs.Answers.{Decides, IsAnswer, IsDialect, IsNamed};
-ghost use Rattle.semver_parser_wasm.specs.Answers.{by_default, error_number, no_such_dialect};
+ghost use Rattle.std.specs.Prelude.{◌≡◌, length};
+ghost use Rattle.semver_parser.specs.Outlines.{dotted_text};
+ghost use Rattle.semver_parser.specs.ToolVersions.{SpellsIn};
+ghost use Rattle.semver_parser.specs.Versions.{VersionValue};
+ghost use Rattle.tool_ranges.specs.Dialects.{grammar_of};
+ghost use Rattle.tool_ranges.specs.declared.dialect.Dialect.{Dialect};
+ghost use Rattle.plain_calls.specs.Numbers as number;
+ghost use Rattle.plain_calls.specs.Options.{dialect_number};
+ghost use Rattle.plain_calls.specs.Parts.{bytes_at};
+ghost use Rattle.plain_calls.specs.Ranges.{ExplainsRange, Satisfies};
+ghost use Rattle.plain_calls.specs.Versions.{Compares, ExplainsVersion, Parses};
 
-pub mod laws;
+use plain_calls::{ParsedVersion, ranges, versions};
 
-use semver_parser::{RangeError, laws as of_versions, version};
-use tool_ranges::dialect::Dialect;
-use tool_ranges::meaning::{self, Meaning};
-use version_sets::PreReleases;
-
-/// The range does not mean the version.
-pub const DOES_NOT_MEET: i32 = 0;
-/// The range means the version.
-pub const MEETS: i32 = 1;
-/// The bytes of the range are not UTF-8.
-pub const RANGE_NOT_UTF8: i32 = 2;
-/// The dialect has no such range.
-pub const NOT_A_RANGE: i32 = 3;
-/// A number of the range, or a bound that is raised by one, is above the dialect's limit.
-pub const NUMBER_TOO_LARGE: i32 = 4;
-/// The dialect has no such version.
-pub const NOT_A_VERSION: i32 = 5;
-/// No dialect has this number.
-pub const NO_SUCH_DIALECT: i32 = 6;
-
-// Answer: law semver_parser_wasm::laws::one_meets.
-/// Returns whether a range means a version: `MEETS` for `^1.2` and `1.9.0`, and `DOES_NOT_MEET` for
-/// `^1.2` and `2.0.0`, in each dialect. It does not allocate.
-///
-/// The dialect is 0 for Cargo's, 1 for npm's, and 2 and 3 for the Rust crate's in Cargo and in npm
-/// mode. It is that of the range and of the version. Pre-releases count by the default rule of npm
-/// and Cargo (docs/MEANING.md), in the crate's modes too.
-///
-/// # Errors
-///
-/// `NO_SUCH_DIALECT` for any other number. Then the errors of the range, whatever the version is:
-/// `RANGE_NOT_UTF8`, `NOT_A_RANGE` and `NUMBER_TOO_LARGE`. Then `NOT_A_VERSION`.
+// Answer: as plain_calls::versions::parse_version.
+/// Parses a version in a dialect.
 #[unsafe(no_mangle)]
-pub extern "C" fn meets(range: &[u8], dialect: i32, version: &[u8]) -> i32
-    // The answer is that of the meaning, and each error is exact.
-    ensures answer { Decides (IsDialect dialect) (result ≡ no_such_dialect)
-        ((m : SomeMeaning) → IsNamed m dialect → IsAnswer m range.now version.now result) }
+pub extern "C" fn parse_version(version: &[u8], dialect: i32, out: &mut ParsedVersion) -> i32
+    ensures parses { Parses dialect version.now out.old out.new result }
+    // The parts are the identifiers of the version that the string spells, joined by dots.
+    ensures parts { result ≡ number.ok → (d : Dialect) → dialect ≡ dialect_number d
+        → (v : VersionValue) → SpellsIn (grammar_of d) v version.now
+        → (bytes_at out.new.pre version.now ≡ dotted_text v.plain.pre)
+        × (bytes_at out.new.build version.now ≡ dotted_text v.build) }
 {
-    match meaning_of(dialect) {
-        Some(meaning) => answer(meaning, range, version),
-        None => NO_SUCH_DIALECT,
-    }
+    versions::parse_version(version, dialect, out)
 }
 
-/// What a dialect's number names.
-fn meaning_of(dialect: i32) -> Option<Meaning>
-    ensures { MatchOption result (¬ (IsDialect dialect)) (λ m. IsNamed m dialect
-        × ((other : SomeMeaning) → IsNamed other dialect → m ≡ other)) }
+// Answer: as plain_calls::versions::compare_versions.
+/// Compares two versions of a dialect by precedence.
+#[unsafe(no_mangle)]
+pub extern "C" fn compare_versions(
+    version: &[u8],
+    other: &[u8],
+    dialect: i32,
+    order: &mut i32,
+) -> i32
+    ensures { Compares dialect version.now other.now order.old order.new result }
 {
-    match dialect {
-        0 => Some(by_default(Dialect::Cargo)),
-        1 => Some(by_default(Dialect::Npm)),
-        2 => Some(by_default(Dialect::CrateCargo)),
-        3 => Some(by_default(Dialect::CrateNpm)),
-        _ => None,
-    }
+    versions::compare_versions(version, other, dialect, order)
 }
 
-/// A dialect with the default rule for pre-releases.
-fn by_default(dialect: Dialect) -> Meaning
-    ensures { result ≡ by_default dialect }
+// Answer: as plain_calls::versions::explain_version.
+/// Finds where and why a string is no version of a dialect.
+#[unsafe(no_mangle)]
+pub extern "C" fn explain_version(
+    version: &[u8],
+    dialect: i32,
+    buffer: &mut [u8],
+    offset: &mut usize,
+    reason: &mut i32,
+) -> i32
+    ensures { ExplainsVersion dialect version.now (length buffer.old) offset.new reason.new
+        ((offset.new ≡ offset.old) × (reason.new ≡ reason.old) × (buffer.new ≡ buffer.old)) result }
 {
-    Meaning {
-        dialect,
-        pre_releases: PreReleases::Default,
-    }
+    versions::explain_version(version, dialect, buffer, offset, reason)
 }
 
-/// What a range and a version have for an answer by a meaning.
-fn answer(meaning: Meaning, range: &[u8], version: &[u8]) -> i32
-    ensures { IsAnswer meaning range.now version.now result }
+// Answer: as plain_calls::ranges::satisfies.
+/// Finds whether a version satisfies a range, by a dialect and by a rule for pre-releases.
+#[unsafe(no_mangle)]
+pub extern "C" fn satisfies(
+    version: &[u8],
+    range: &[u8],
+    dialect: i32,
+    pre_releases: i32,
+    satisfies: &mut bool,
+) -> i32
+    ensures { Satisfies dialect pre_releases version.now range.now satisfies.old satisfies.new
+        result }
 {
-    of_versions::one_version_in();
-    let Ok(range) = std::str::from_utf8(range) else {
-        return RANGE_NOT_UTF8;
-    };
-    match version::outline_in(version, meaning.dialect.grammar()) {
-        Some(outline) => match meaning::meets(meaning, range, &outline) {
-            Ok(true) => MEETS,
-            Ok(false) => DOES_NOT_MEET,
-            Err(error) => number_of(error),
-        },
-        None => match meaning::check(meaning, range) {
-            Ok(()) => NOT_A_VERSION,
-            Err(error) => number_of(error),
-        },
-    }
+    ranges::satisfies(version, range, dialect, pre_releases, satisfies)
 }
 
-/// The number of an error of a range that is not out of memory.
-fn number_of(error: RangeError) -> i32
-    requires { error ≢ OutOfMemory }
-    ensures { result ≡ error_number error }
+// Answer: as plain_calls::ranges::explain_range.
+/// Finds where and why a string is no range of a dialect.
+#[unsafe(no_mangle)]
+pub extern "C" fn explain_range(
+    range: &[u8],
+    dialect: i32,
+    buffer: &mut [u8],
+    offset: &mut usize,
+    reason: &mut i32,
+) -> i32
+    ensures { ExplainsRange dialect range.now (length buffer.old) offset.new reason.new
+        ((offset.new ≡ offset.old) × (reason.new ≡ reason.old)) result }
 {
-    match error {
-        RangeError::NotARange => NOT_A_RANGE,
-        RangeError::NumberTooLarge => NUMBER_TOO_LARGE,
-        RangeError::OutOfMemory => unreachable!(),
-    }
+    ranges::explain_range(range, dialect, buffer, offset, reason)
 }

@@ -13,3 +13,4 @@ pub mod Prefixes
 pub mod TooLarge
 pub mod Hints
 pub mod Meanings
+pub mod Refusals

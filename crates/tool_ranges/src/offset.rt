@@ -2,7 +2,7 @@
 //! with. It is found by asking the dialect itself what completes a prefix, so there is no second
 //! grammar.
 
-ghost use Rattle.std.specs.Prelude.{◌≡◌, ◌≢◌, ◌↔◌, IfErr, IfOk, IsTrue};
+ghost use Rattle.std.specs.Prelude.{◌≡◌, ◌≢◌, ◌↔◌, ◌+◌, ◌≤◌, IfErr, IfOk, IsTrue, length};
 ghost use Rattle.text_prefixes.specs.Prefixes.{IsLongestPrefix};
 ghost use Rattle.tool_ranges.specs.Dialects.{IsTextAs, RefusesAs};
 ghost use Rattle.tool_ranges.specs.Prefixes.{BeginsAs};
@@ -64,11 +64,21 @@ pub fn error_offset(alloc: Global, dialect: Dialect, text: &str) -> Result<usize
         return Ok(text.len());
     }
     let mut buffer = Vec::from_elem(alloc, 0, text.len().saturating_add(8))?;
-    Ok(longest_prefix(&RangeTexts { dialect }, text, buffer.as_mut_slice()))
+    Ok(error_offset_in(dialect, text, buffer.as_mut_slice()))
 }
 
-/// Whether a text is a range text: also one with a number that is too large.
-fn is_range(dialect: Dialect, text: &str) -> bool
+/// The offset, found in a buffer that has 8 bytes more than the text.
+pub(crate) fn error_offset_in(dialect: Dialect, text: &str, buffer: &mut [u8]) -> usize
+    requires { length text.now + 8 ≤ length buffer.old }
+    ensures { IsLongestPrefix (BeginsAs dialect) text.now result }
+{
+    longest_prefix(&RangeTexts { dialect }, text, buffer)
+}
+
+// Answer: equation.
+/// Returns whether a text is a range text of a dialect: also one with a number that is too large.
+/// `1.2 || 3` is one as npm reads it, and none as Cargo does. It does not allocate.
+pub fn is_range(dialect: Dialect, text: &str) -> bool
     ensures { IsTrue result ↔ IsTextAs dialect text.now }
 {
     match check(dialect, text) {

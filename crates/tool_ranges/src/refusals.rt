@@ -1,19 +1,19 @@
 //! Where a text stops being a range, and why.
 
-ghost use Rattle.std.specs.Prelude.{◌≡◌, ◌≢◌, ◌↔◌, IfErr, IfOk, IfSome, None, Some};
+ghost use Rattle.std.specs.Prelude.{◌≡◌, ◌≢◌, ◌+◌, ◌≤◌, IfErr, IfOk, Some, length};
 ghost use Rattle.semver_ranges.specs.declared.range_set.RangeError.TheVariants.{NotARange};
 ghost use Rattle.semver_ranges.specs.declared.range_set.RangeError.TheVariants.{NumberTooLarge};
-ghost use Rattle.semver_ranges.specs.declared.range_set.RangeError.TheVariants.{OutOfMemory};
 ghost use Rattle.text_prefixes.specs.Prefixes.{IsLongestPrefix};
 ghost use Rattle.tool_ranges.specs.Prefixes.{BeginsAs};
 ghost use Rattle.tool_ranges.specs.Hints.{limit_of};
-ghost use Rattle.tool_ranges.specs.Dialects.{HasSetAs, IsTextAs, IsTooLargeAs, SpellsAs, TreeOf};
-ghost use Rattle.tool_ranges.specs.TooLarge.{IsLimitOffset, limit_offset};
+ghost use Rattle.tool_ranges.specs.Dialects.{IsTextAs, SpellsAs, TreeOf};
+ghost use Rattle.tool_ranges.specs.Refusals.{IsRefusalAs};
+ghost use Rattle.tool_ranges.specs.TooLarge.{limit_offset};
 
 use crate::dialect::Dialect;
 use crate::hints::{self, Hint};
 use crate::limit::limit_offset;
-use crate::offset::{check, error_offset};
+use crate::offset::{check, error_offset_in, is_range};
 use semver_ranges::RangeError;
 use std::alloc::{AllocError, Global};
 
@@ -41,60 +41,56 @@ pub struct Refusal {
 /// `AllocError` if an allocation fails. It allocates only if the text is no range text, and then
 /// one buffer of about its length.
 pub fn refused(alloc: Global, dialect: Dialect, text: &str) -> Result<Option<Refusal>, AllocError>
-    // Nothing is refused of a text that gives a range.
-    ensures range { IfOk result (λ found. (found ≡ None) ↔ HasSetAs dialect text.now) }
-    ensures not_a_range { IfOk result (λ found. IfSome found (λ refusal.
-        (refusal.error ≡ NotARange) ↔ ¬ (IsTextAs dialect text.now))) }
-    ensures too_large { IfOk result (λ found. IfSome found (λ refusal.
-        (refusal.error ≡ NumberTooLarge) ↔ IsTooLargeAs dialect text.now)) }
-    ensures no_memory { IfOk result (λ found. IfSome found (λ refusal.
-        refusal.error ≢ OutOfMemory)) }
-    // Some range text begins with what is before the offset, and none with a longer prefix.
-    ensures offset { IfOk result (λ found. IfSome found (λ refusal. refusal.error ≡ NotARange
-        → IsLongestPrefix (BeginsAs dialect) text.now refusal.offset)) }
-    // It is the end of the first term that does not fit.
-    ensures limit { IfOk result (λ found. IfSome found (λ refusal. refusal.error ≡ NumberTooLarge
-        → IsLimitOffset dialect text.now refusal.offset)) }
-    // The hint of a number that is too large is the limit of the dialect.
-    ensures limit_hint { IfOk result (λ found. IfSome found (λ refusal.
-        refusal.error ≡ NumberTooLarge → refusal.hint ≡ Some (limit_of dialect))) }
+    ensures refused { IfOk result (IsRefusalAs dialect text.now) }
     // Memory runs out only in place of `NotARange`.
     ensures out_of_memory { IfErr result (λ _. ¬ (IsTextAs dialect text.now)) }
 {
+    if is_range(dialect, text) {
+        return Ok(refused_in(dialect, text, &mut []));
+    }
+    let mut buffer = Vec::from_elem(alloc, 0, text.len().saturating_add(8))?;
+    Ok(refused_in(dialect, text, buffer.as_mut_slice()))
+}
+
+// Answer: free, the hint (else law answer_laws::ranges::one_refusal_in): ../replayed_cases/stdin.
+/// Returns what [`refused`] does, without allocating. If the text is no range text, the buffer must
+/// have at least 8 bytes more than the text; what it holds then is not specified.
+pub fn refused_in(dialect: Dialect, text: &str, buffer: &mut [u8]) -> Option<Refusal>
+    requires { ¬ (IsTextAs dialect text.now) → length text.now + 8 ≤ length buffer.old }
+    ensures refused { IsRefusalAs dialect text.now result }
+{
     let Err(error) = check(dialect, text) else {
-        return Ok(None);
+        return None;
     };
-    let (offset, hint) = explained(alloc, dialect, text, &error)?;
-    Ok(Some(Refusal {
+    let (offset, hint) = explained(dialect, text, &error, buffer);
+    Some(Refusal {
         error,
         offset,
         hint,
-    }))
+    })
 }
 
 /// The offset of an error of a text, and the hint.
 fn explained(
-    alloc: Global,
     dialect: Dialect,
     text: &str,
     error: &RangeError,
-) -> Result<(usize, Option<Hint>), AllocError>
-    ensures offset { IfOk result (λ told. error.now ≡ NotARange
-        → IsLongestPrefix (BeginsAs dialect) text.now told.0) }
-    ensures limit { IfOk result (λ told. error.now ≡ NumberTooLarge → (tree : TreeOf dialect)
-        → SpellsAs dialect tree text.now → told.0 ≡ limit_offset dialect tree text.now) }
-    ensures limit_hint { IfOk result (λ told. error.now ≡ NumberTooLarge
-        → told.1 ≡ Some (limit_of dialect)) }
-    ensures out_of_memory { IfErr result (λ _. ¬ (IsTextAs dialect text.now)) }
+    buffer: &mut [u8],
+) -> (usize, Option<Hint>)
+    requires { error.now ≢ NumberTooLarge → length text.now + 8 ≤ length buffer.old }
+    ensures offset { error.now ≡ NotARange → IsLongestPrefix (BeginsAs dialect) text.now result.0 }
+    ensures limit { error.now ≡ NumberTooLarge → (tree : TreeOf dialect)
+        → SpellsAs dialect tree text.now → result.0 ≡ limit_offset dialect tree text.now }
+    ensures limit_hint { error.now ≡ NumberTooLarge → result.1 ≡ Some (limit_of dialect) }
 {
     match error {
         RangeError::NumberTooLarge => {
             let offset = limit_offset(dialect, text);
-            Ok((offset, Some(hints::limit(dialect))))
+            (offset, Some(hints::limit(dialect)))
         }
         _ => {
-            let offset = error_offset(alloc, dialect, text)?;
-            Ok((offset, hints::hint_at(dialect, text, offset)))
+            let offset = error_offset_in(dialect, text, buffer);
+            (offset, hints::hint_at(dialect, text, offset))
         }
     }
 }

@@ -1,5 +1,6 @@
 use Rattle.std.proofs.Common.{◌≡◌, ◌∙◌, rules, sym}
-use Rattle.semver_parser_c.proofs.OneOutcome.{of_set, plain, one_test, uncast}
+use Rattle.plain_calls.proofs.OneOutcome.{plain, uncast}
+use Rattle.semver_parser_c.proofs.OneOutcome.{of_set, one_test}
 use Rattle.semver_parser_c.proofs.laws.one_check.Goals as goal
 
 pub returns : goal.returns

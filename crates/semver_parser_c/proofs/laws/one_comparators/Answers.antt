@@ -4,7 +4,8 @@ use Rattle.semver_parser_c.specs.OneAnswer.{AreOne}
 use Rattle.semver_parser_c.specs.Printing.{Buffer}
 use Rattle.semver_parser_c.specs.Comparators.{comparators_of, listed_comparators, pre_releases}
 use Rattle.semver_parser_c.specs.declared.ListedComparator.{ListedComparator}
-use Rattle.semver_parser_c.proofs.OneOutcome.{both_done, both_once, by_dialect, in_memory, in_one, of_range, uncast}
+use Rattle.plain_calls.proofs.OneOutcome.{by_dialect, of_range, uncast}
+use Rattle.semver_parser_c.proofs.OneOutcome.{both_done, both_once, in_memory, in_one}
 use Rattle.semver_parser_c.proofs.laws.one_comparators.Goals as goal
 
 pub returns : goal.returns

@@ -1,5 +1,6 @@
 use Rattle.std.proofs.Common.{◌≡◌, ◌∙◌, rules, sym}
-use Rattle.semver_parser_c.proofs.OneOutcome.{by_dialect, of_set, plain, uncast}
+use Rattle.plain_calls.proofs.OneOutcome.{by_dialect, plain, uncast}
+use Rattle.semver_parser_c.proofs.OneOutcome.{of_set}
 use Rattle.semver_parser_c.proofs.OneMembership.{one_index}
 use Rattle.semver_parser_c.proofs.laws.one_highest.Goals as goal
 

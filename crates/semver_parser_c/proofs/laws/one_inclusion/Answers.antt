@@ -1,6 +1,7 @@
 use Rattle.std.proofs.Common.{◌≡◌, ◌∙◌, inl, rules, sym}
 use Rattle.semver_parser_c.specs.OneAnswer.{AreOne}
-use Rattle.semver_parser_c.proofs.OneOutcome.{in_memory_of, in_one, of_set, one_test, uncast}
+use Rattle.plain_calls.proofs.OneOutcome.{uncast}
+use Rattle.semver_parser_c.proofs.OneOutcome.{in_memory_of, in_one, of_set, one_test}
 use Rattle.semver_parser_c.proofs.laws.one_inclusion.Goals as goal
 
 pub returns : goal.returns

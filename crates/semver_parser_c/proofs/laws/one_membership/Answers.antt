@@ -1,5 +1,6 @@
 use Rattle.std.proofs.Common.{◌≡◌, ◌∙◌, rules, sym}
-use Rattle.semver_parser_c.proofs.OneOutcome.{by_dialect, of_set, of_version, plain, uncast}
+use Rattle.plain_calls.proofs.OneOutcome.{by_dialect, of_version, plain, uncast}
+use Rattle.semver_parser_c.proofs.OneOutcome.{of_set}
 use Rattle.semver_parser_c.proofs.laws.one_membership.Goals as goal
 
 pub returns : goal.returns

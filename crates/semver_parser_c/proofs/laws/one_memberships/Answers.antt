@@ -1,7 +1,8 @@
 use Rattle.std.proofs.Common.{◌≡◌, ◌∙◌, inl, rules, sym}
 use Rattle.semver_parser_c.specs.OneAnswer.{AreOne}
 use Rattle.semver_parser_c.proofs.OneMembership.{one_list}
-use Rattle.semver_parser_c.proofs.OneOutcome.{by_dialect, in_memory_of, in_one, of_set, uncast}
+use Rattle.plain_calls.proofs.OneOutcome.{by_dialect, uncast}
+use Rattle.semver_parser_c.proofs.OneOutcome.{in_memory_of, in_one, of_set}
 use Rattle.semver_parser_c.proofs.laws.one_memberships.Goals as goal
 
 pub returns : goal.returns

@@ -2,7 +2,8 @@ use Rattle.std.proofs.Common.{◌≡◌, ◌∙◌, ℕ, refl, rules, sym}
 use Rattle.semver_parser_c.specs.Sets.{kind_text}
 use Rattle.semver_parser_c.specs.OneAnswer.{AreOne}
 use Rattle.semver_parser_c.specs.Printing.{Buffer}
-use Rattle.semver_parser_c.proofs.OneOutcome.{in_memory, in_one, of_set, put_done, put_once, uncast}
+use Rattle.plain_calls.proofs.OneOutcome.{uncast}
+use Rattle.semver_parser_c.proofs.OneOutcome.{in_memory, in_one, of_set, put_done, put_once}
 use Rattle.semver_parser_c.proofs.laws.one_printed_set.Goals as goal
 
 pub returns : goal.returns

@@ -2,7 +2,8 @@ use Rattle.std.proofs.Common.{◌≡◌, ◌∙◌, ℕ, ap, rules, sym}
 use Rattle.semver_parser.specs.PrintedRanges.{set_text}
 use Rattle.semver_parser_c.specs.OneAnswer.{AreOne}
 use Rattle.semver_parser_c.specs.Printing.{Buffer}
-use Rattle.semver_parser_c.proofs.OneOutcome.{by_dialect, in_memory, in_one, of_range, put_done, put_once, uncast}
+use Rattle.plain_calls.proofs.OneOutcome.{by_dialect, of_range, uncast}
+use Rattle.semver_parser_c.proofs.OneOutcome.{in_memory, in_one, put_done, put_once}
 use Rattle.semver_parser_c.proofs.laws.one_rewriting.Goals as goal
 
 pub returns : goal.returns

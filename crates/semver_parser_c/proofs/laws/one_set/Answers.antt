@@ -3,7 +3,8 @@ use Rattle.version_sets.specs.Flat.{flat_bytes, flat_switches}
 use Rattle.version_sets.specs.declared.FlatSwitch.{FlatSwitch}
 use Rattle.semver_parser_c.specs.OneAnswer.{AreOne}
 use Rattle.semver_parser_c.specs.Printing.{Buffer}
-use Rattle.semver_parser_c.proofs.OneOutcome.{both_done, both_once, by_meaning, in_memory, in_one, of_range, uncast}
+use Rattle.plain_calls.proofs.OneOutcome.{by_meaning, of_range, uncast}
+use Rattle.semver_parser_c.proofs.OneOutcome.{both_done, both_once, in_memory, in_one}
 use Rattle.semver_parser_c.proofs.OneSet.{of_range as same_set}
 use Rattle.semver_parser_c.proofs.laws.one_set.Goals as goal
 

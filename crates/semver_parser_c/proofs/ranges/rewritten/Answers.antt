@@ -1,4 +1,4 @@
-use Rattle.semver_parser_c.proofs.RangeErrors.{refused_bytes, set_of_bytes}
+use Rattle.semver_parser_c.proofs.RangeSets.{refused_bytes, set_of_bytes}
 use Rattle.semver_parser_c.proofs.ranges.rewritten.Goals as goal
 
 pub returns-clause-as_rewritten : goal.returns-clause-as_rewritten

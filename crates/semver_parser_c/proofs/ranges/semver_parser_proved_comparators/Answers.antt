@@ -2,7 +2,7 @@ use Rattle.std.proofs.Common.{inr, rules}
 use Rattle.semver_parser.specs.RangeViews.{set_of}
 use Rattle.semver_parser_c.specs.Ranges.{IsSetFor}
 use Rattle.semver_parser_c.proofs.ListedComparators.{buffers_have}
-use Rattle.semver_parser_c.proofs.OptionNumbers.{one_dialect}
+use Rattle.plain_calls.proofs.OptionNumbers.{one_dialect}
 use Rattle.semver_parser_c.proofs.ranges.semver_parser_proved_comparators.Goals as goal
 
 pub returns-in-Ok-list-clause-lists : goal.returns-in-Ok-list-clause-lists

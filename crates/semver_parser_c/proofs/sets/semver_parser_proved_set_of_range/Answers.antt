@@ -1,5 +1,5 @@
 use Rattle.std.proofs.Common.{◌≡◌, inl, inr, refl, rules, to_z, of_z, w32, ⊎_elim}
-use Rattle.semver_parser_c.proofs.RangeErrors.{has_set, refused_for}
+use Rattle.plain_calls.proofs.RangeErrors.{has_set, refused_for}
 use Rattle.semver_parser_c.proofs.sets.semver_parser_proved_set_of_range.Goals as goal
 
 pub returns-in_default-from_utf8 : goal.returns-in_default-from_utf8

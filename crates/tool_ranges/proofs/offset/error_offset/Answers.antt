@@ -9,9 +9,3 @@ returns-then-is_range-clause-offset c =
     longest_as c.args.dialect c.args.text.now c.utf8.text _
     (whole_text_longest (IsTextAs c.args.dialect) range_completions c.args.text.now (completed c.args.dialect)
     (c.is_range.ensures.0 c.if-is_range.true))
-
-pub longest_prefix-requires-clause-completions : goal.longest_prefix-requires-clause-completions
-longest_prefix-requires-clause-completions c = completed c.args.dialect
-
-pub returns-clause-offset : goal.returns-clause-offset
-returns-clause-offset c = longest_as c.args.dialect c.args.text.now c.utf8.text c.longest_prefix.result c.longest_prefix.ensures

@@ -1,0 +1,5 @@
+pub mod OptionNumbers
+pub mod RangeErrors
+pub mod OneOutcome
+mod OneExplanation
+mod OneOption

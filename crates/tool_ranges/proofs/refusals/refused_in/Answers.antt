@@ -1,0 +1,21 @@
+use Rattle.tool_ranges.proofs.RangeErrors.{has_error}
+use Rattle.tool_ranges.proofs.refusals.refused_in.Goals as goal
+
+pub returns : goal.returns
+returns c =
+    let error = has_error c.args.dialect c.args.text.now c.check.result c.check.ensures.refusals c.check.ensures.no_memory
+    c.in-Err.error c.in-Err.is in
+    let told = c.explained-offset.ensures in
+    record {
+      refused = record {
+        range = (λ h. cc, λ set. absurd (error.no_set set));
+        not_a_range = error.not_a_range;
+        too_large = error.too_large;
+        no_memory = error.kept;
+        offset = told.offset;
+        limit = λ is.
+            let large = error.too_large.0 is in
+            record { tree = large.0; spelled = large.1; is = told.limit is large.0 large.1 };
+        limit_hint = told.limit_hint;
+      };
+    }

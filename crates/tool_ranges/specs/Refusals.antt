@@ -1,0 +1,28 @@
+-- Where a text stops being a range, and why.
+use Rattle.std.specs.Prelude.{◌≡◌, ◌≢◌, ◌↔◌, Option, Some, None, IfSome}
+use Rattle.semver_texts.specs.Texts.{Text}
+use Rattle.semver_ranges.specs.declared.range_set.RangeError.TheVariants.{NotARange}
+use Rattle.semver_ranges.specs.declared.range_set.RangeError.TheVariants.{NumberTooLarge}
+use Rattle.semver_ranges.specs.declared.range_set.RangeError.TheVariants.{OutOfMemory}
+use Rattle.text_prefixes.specs.Prefixes.{IsLongestPrefix}
+use Rattle.tool_ranges.specs.Dialects.{HasSetAs, IsTextAs, IsTooLargeAs}
+use Rattle.tool_ranges.specs.Hints.{limit_of}
+use Rattle.tool_ranges.specs.Prefixes.{BeginsAs}
+use Rattle.tool_ranges.specs.TooLarge.{IsLimitOffset}
+use Rattle.tool_ranges.specs.declared.dialect.Dialect.{Dialect}
+use Rattle.tool_ranges.specs.declared.refusals.Refusal.{Refusal}
+
+-- what is refused of a text, or that nothing is
+pub record IsRefusalAs (d : Dialect) (text : Text) (found : Option Refusal) : Type 0 where
+  -- nothing is refused of a text that gives a range
+  pub range : (found ≡ None) ↔ HasSetAs d text
+  pub not_a_range : IfSome found (λ r. (r.error ≡ NotARange) ↔ ¬ (IsTextAs d text))
+  pub too_large : IfSome found (λ r. (r.error ≡ NumberTooLarge) ↔ IsTooLargeAs d text)
+  pub no_memory : IfSome found (λ r. r.error ≢ OutOfMemory)
+  -- some range text begins with what is before the offset, and none with a longer prefix
+  pub offset : IfSome found (λ r.
+      r.error ≡ NotARange → IsLongestPrefix (BeginsAs d) text r.offset)
+  -- it is the end of the first term that does not fit
+  pub limit : IfSome found (λ r. r.error ≡ NumberTooLarge → IsLimitOffset d text r.offset)
+  -- the hint of a number that is too large is the limit of the dialect
+  pub limit_hint : IfSome found (λ r. r.error ≡ NumberTooLarge → r.hint ≡ Some (limit_of d))
