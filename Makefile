@@ -5,6 +5,8 @@
 #   make uninstall            removes what was installed under PREFIX
 #   make archive              makes OUT/semver-parser-VERSION-linux-x86_64.tar.gz
 #   make wheel                makes a wheel in OUT, for pip: the Python package with the library
+#   make js                   makes the JavaScript package in OUT, for npm
+#   make page                 makes OUT/semver-ranges.html, the page of web/ in one file
 #   make clean                removes what was compiled of C; what is proved stays
 #   dpkg-buildpackage -b -uc  makes the Debian packages, in the folder above this one
 PREFIX ?= /usr/local
@@ -15,7 +17,7 @@ export PREFIX OUT
 MAKEFLAGS += -r -j$(shell nproc) --no-print-directory
 .ONESHELL .SILENT .DELETE_ON_ERROR:
 .SHELLFLAGS := -euc
-.PHONY: all stage stage-python install install-python uninstall archive wheel clean
+.PHONY: all stage stage-python install install-python uninstall archive wheel js page clean
 
 programs := semver-parser release-filter compare-ranges
 checkers := check-lock-file compare-requirements
@@ -183,3 +185,28 @@ wheel: out/lib/$(shared)
 	name=$$(python3 tools/make-wheel "$$work/library" "$$work")
 	mkdir -p "$$OUT" && to=$$OUT put "$$work" "./$$name"
 	echo "made $$OUT/$$name"
+
+# The module for JavaScript, lowered to 32-bit memory.
+module := out/built/semver_parser.wasm
+$(module): crates/semver_parser_wasm/out/proved
+	$(begin)
+	mkdir -p $(@D)
+	lower crates/semver_parser_wasm/out/semver_parser_wasm.wasm $@.half && mv -f $@.half $@
+
+js: $(module)
+	$(begin)
+	may_write "$$OUT"
+	command -v npm > /dev/null || refuse 'needs the command npm (Debian: apt-get install npm)'
+	js/build $(module) "$$work/package"
+	cd "$$work"
+	name=$$(npm pack --silent ./package)
+	mkdir -p "$$top/$$OUT" && cd "$$top" && to=$$OUT put "$$work" "./$$name"
+	echo "made $$OUT/$$name"
+
+page: $(module)
+	$(begin)
+	may_write "$$OUT"
+	js/build $(module) "$$work/package"
+	web/build "$$work/package" "$$work/semver-ranges.html"
+	mkdir -p "$$OUT" && to=$$OUT put "$$work" ./semver-ranges.html
+	echo "made $$OUT/semver-ranges.html"
