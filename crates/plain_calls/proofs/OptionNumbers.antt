@@ -1,4 +1,4 @@
--- serves: plain_calls::laws::one_satisfaction
+-- serves: plain_calls::laws::one_dialect
 -- No number is that of two dialects or rules.
 use Rattle.std.proofs.Common.{◌≡◌, ◌∙◌, ℤ, arith, sym}
 use Rattle.tool_ranges.specs.declared.dialect.Dialect.{Dialect}

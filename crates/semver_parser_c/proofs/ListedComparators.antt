@@ -8,7 +8,7 @@ use Rattle.semver_parser.specs.Outlines.{dotted_text}
 use Rattle.semver_parser.specs.RangeViews.{comparator_of}
 use Rattle.semver_parser.specs.declared.Comparator.{Comparator}
 use Rattle.semver_parser_c.specs.declared.ListedComparator.{ListedComparator}
-use Rattle.semver_parser_c.specs.Numbers.{ok}
+use Rattle.plain_calls.specs.Numbers.{ok}
 use Rattle.semver_parser_c.specs.Comparators.{HasPreReleases, Numbered, pre_release, pre_releases}
 use Rattle.semver_parser_c.specs.Comparators.{listed_comparator, listed_comparators, listed_from}
 use Rattle.semver_parser_c.specs.Printing.{Buffer, HasAtFront, PutsBoth}

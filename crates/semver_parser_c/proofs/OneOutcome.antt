@@ -1,4 +1,4 @@
--- serves: semver_parser_c::laws::one_set
+-- serves: semver_parser_c::laws::one_comparators
 -- Two ends of a call with the same conditions are one, or memory ran out.
 use Rattle.std.proofs.Common.{◌≡◌, ◌≢◌, ◌⊎◌, ◌∙◌, ◌↔◌, ℤ, Bool, List, arith, inl, inr, subst, sym, true, ⊎_elim}
 use Rattle.semver_parser.specs.Texts.{Text}

@@ -1,4 +1,4 @@
--- serves: semver_parser_c::laws::one_combination
+-- serves: semver_parser_c::laws::one_comparators
 -- No number is that of two operations.
 use Rattle.std.proofs.Common.{◌≡◌, ◌∙◌, ℤ, arith, sym}
 use Rattle.semver_parser_c.specs.Sets.{operation_number}

@@ -1,6 +1,6 @@
 -- The comparators of a set as they are written out, and the texts of their pre-releases, one after
 -- the other.
-use Rattle.std.specs.Prelude.{◌≡◌, ℕ, ℤ, ◌+◌, List, [], ◌∷◌, ◌++◌, length, map}
+use Rattle.std.specs.Prelude.{◌≡◌, ℕ, ℤ, pos, ◌+◌, List, [], ◌∷◌, ◌++◌, length, map}
 use Rattle.std.specs.List.{AllZip, flat_map}
 use Rattle.semver_parser.specs.declared.Op.{Op}
 use Rattle.semver_parser.specs.declared.Op.TheVariants.{Lt, Lte, Gt, Gte, Eq}
@@ -8,7 +8,6 @@ use Rattle.semver_parser.specs.Texts.{Text}
 use Rattle.semver_parser.specs.Outlines.{dotted_text}
 use Rattle.semver_parser.specs.RewritingTable.{PlainComparator, PlainRange, PlainSet}
 use Rattle.semver_parser_c.specs.declared.ListedComparator.{ListedComparator}
-use Rattle.plain_calls.specs.Numbers as number
 use Rattle.plain_calls.specs.Parts.{bytes_at}
 
 -- the number of an operator

@@ -1,4 +1,3 @@
-pub mod Numbers
 pub mod Outcomes
 pub mod Printing
 pub mod Comparators

@@ -1,6 +1,6 @@
 -- Lists in the buffers of a caller: a string, switches, and comparators.
 use Rattle.std.specs.Prelude.{◌≡◌, ◌⊎◌, ◌≤◌, ◌<◌, ◌++◌, ℕ, ℤ, List, length, drop}
-use Rattle.semver_parser_c.specs.Numbers.{ok, no_room}
+use Rattle.plain_calls.specs.Numbers.{ok, no_room}
 
 -- a buffer and its length, before a call and after
 pub record Buffer (A : Type 0) : Type 0 where

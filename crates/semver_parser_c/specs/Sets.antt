@@ -1,5 +1,5 @@
 -- What the functions on sets return. A set is flat data, in arrays of the caller.
-use Rattle.std.specs.Prelude.{◌≡◌, ◌↔◌, ℕ, ℤ, Bool, true, false, not, ◌&&◌, ◌||◌, List, []}
+use Rattle.std.specs.Prelude.{◌≡◌, ◌↔◌, ℕ, ℤ, pos, Bool, true, false, not, ◌&&◌, ◌||◌, List, []}
 use Rattle.std.specs.Prelude.{◌⊎◌, Option, Some, None}
 use Rattle.semver_parser.specs.PrintedText.{version_text}
 use Rattle.semver_parser.specs.Texts.{Text}
