@@ -23,7 +23,7 @@ pub record OptionsValue : Type 0 where
 abbrev pub no_options : OptionsValue
 no_options = record { dialect = None; rule = None; wants_name = false }
 
--- the name of a dialect after `--as`
+-- the name of a dialect after `--dialect`
 abbrev pub name_of : Dialect → Text
 name_of Cargo = codes "cargo"
 name_of Npm = codes "npm"
@@ -31,14 +31,28 @@ name_of CrateCargo = codes "crate-cargo"
 name_of CrateNpm = codes "crate-npm"
 
 -- the option that asks for a dialect by its name
-abbrev pub as_option_of : Dialect → Text
-as_option_of dialect = codes "--as " ++ name_of dialect
+abbrev pub dialect_option_of : Dialect → Text
+dialect_option_of dialect = codes "--dialect " ++ name_of dialect
+
+-- the argument asks for the dialect that the next one names
+abbrev pub WantsName : Text → Type 0
+WantsName argument = (argument ≡ codes "--dialect") ⊎ (argument ≡ codes "--as")
 
 -- the option of a rule
 abbrev pub option_of : PreReleases → Text
-option_of Excluded = codes "--releases"
+option_of Excluded = codes "--releases-only"
 option_of Default = codes "--pre-stated"
-option_of Included = codes "--pre"
+option_of Included = codes "--include-prerelease"
+
+-- and its short form
+abbrev pub short_option_of : PreReleases → Text
+short_option_of Excluded = codes "--releases"
+short_option_of Default = codes "--pre-stated"
+short_option_of Included = codes "--pre"
+
+-- the argument is the option of a rule, in either form
+abbrev pub IsOptionOf : PreReleases → Text → Type 0
+IsOptionOf rule argument = (argument ≡ option_of rule) ⊎ (argument ≡ short_option_of rule)
 
 -- without an option it is Cargo's dialect
 abbrev pub dialect_or_cargo : Option (Dialect × Text) → Dialect
@@ -56,10 +70,12 @@ meant o = if o.wants_name then Err NoDialect else Ok (record {
   pre_releases = rule_or_default o.rule;
 })
 
--- the name that an argument gives: the argument after `--as`, or what follows `--as=` in it
+-- the name that an argument gives: the argument after `--dialect`, or what follows `--dialect=` in
+-- it; and so with `--as`
 abbrev pub Names : OptionsValue → Text → Text → Type 0
 Names o argument name = ((o.wants_name ≡ true) × (argument ≡ name))
-    ⊎ ((o.wants_name ≡ false) × (argument ≡ codes "--as=" ++ name))
+    ⊎ ((o.wants_name ≡ false)
+    × ((argument ≡ codes "--dialect=" ++ name) ⊎ (argument ≡ codes "--as=" ++ name)))
 
 -- some dialect has the name
 abbrev pub IsDialectName : Text → Type 0
@@ -68,15 +84,16 @@ IsDialectName name = (dialect : Dialect) × (name ≡ name_of dialect)
 -- the dialect that an argument asks for, and the option that does so
 abbrev pub AsksFor : OptionsValue → Text → Dialect → Text → Type 0
 AsksFor o argument dialect option =
-    (Names o argument (name_of dialect) × (option ≡ as_option_of dialect))
+    (Names o argument (name_of dialect) × (option ≡ dialect_option_of dialect))
     ⊎ ((o.wants_name ≡ false) × (argument ≡ codes "--npm") × (dialect ≡ Npm)
     × (option ≡ codes "--npm"))
 
 -- the argument is one of these options
 abbrev pub IsOption : Text → Type 0
-IsOption argument = (argument ≡ codes "--as") ⊎ (argument ≡ codes "--npm")
+IsOption argument = WantsName argument ⊎ (argument ≡ codes "--npm")
+    ⊎ ((rule : PreReleases) × IsOptionOf rule argument)
+    ⊎ ((name : Text) × (argument ≡ codes "--dialect=" ++ name))
     ⊎ ((name : Text) × (argument ≡ codes "--as=" ++ name))
-    ⊎ ((rule : PreReleases) × (argument ≡ option_of rule))
 
 -- the error is that the option is given twice
 abbrev pub TellsTwice : Text → ArgumentError → Type 0

@@ -12,10 +12,10 @@ pub enum ArgumentError {
     /// This option is unknown.
     #[error("unknown option: {0:?}")]
     UnknownOption(String),
-    /// Nothing follows `--as`.
-    #[error("--as needs a dialect")]
+    /// Nothing follows `--dialect`, or `--as`.
+    #[error("--dialect needs a name")]
     NoDialect,
-    /// What follows `--as` names no dialect.
+    /// What follows `--dialect` names no dialect.
     #[error("unknown dialect: {0:?}")]
     UnknownDialect(String),
     /// Nothing follows `--prefix`.
@@ -27,6 +27,15 @@ pub enum ArgumentError {
     /// The first option says otherwise than the second, which was given before.
     #[error("{0} contradicts {1}")]
     Contradiction(&'static str, &'static str),
+    /// Nothing, or something unknown, follows `--fail-on`.
+    #[error("--fail-on needs lost, gained or any")]
+    NoChange,
+    /// `--fail-on` is given with one range.
+    #[error("--fail-on needs two ranges")]
+    NoComparison,
+    /// `--reverse` is given without `--sort`.
+    #[error("--reverse needs --sort")]
+    NoOrder,
     /// There is no range text.
     #[error("no range")]
     NoRange,

@@ -12,3 +12,4 @@ mod shown;
 pub use error::ArgumentError;
 pub use options::MeaningOptions;
 pub use program::Program;
+pub use refused::refused_line;

@@ -1,13 +1,16 @@
-//! The options `--as`, `--npm`, `--releases`, `--pre` and `--pre-stated`.
+//! The options of the dialect, `--dialect`, `--as` and `--npm`, and of pre-releases,
+//! `--include-prerelease`, `--releases-only` and their short forms.
 
 ghost use Rattle.std.specs.Prelude.{◌≡◌, ◌≢◌, ◌++◌, codes, Ok, None, Some, true, false};
 ghost use Rattle.std.specs.Prelude.{IfErr, IfOk};
+ghost use Rattle.std.specs.Option.{is_some};
 ghost use Rattle.semver_parser.specs.Texts.{Text};
 ghost use Rattle.version_sets.specs.declared.PreReleases.{PreReleases};
 ghost use Rattle.tool_ranges.specs.declared.dialect.Dialect.{Dialect};
 ghost use Rattle.command_line.specs.Options.{AsksFor, Fails, IsDialectName, IsOption, Names};
 ghost use Rattle.command_line.specs.Options.{TellsContradiction, TellsTwice, TellsUnknown};
-ghost use Rattle.command_line.specs.Options.{as_option_of, meant, name_of, no_options, option_of};
+ghost use Rattle.command_line.specs.Options.{IsOptionOf, WantsName, dialect_option_of, meant};
+ghost use Rattle.command_line.specs.Options.{name_of, no_options, option_of};
 
 use crate::error::ArgumentError;
 use std::alloc::Global;
@@ -55,34 +58,30 @@ impl MeaningOptions {
 
     // Answer: free, UnknownDialect or Unreadable: ../../tests/release-filter-runs.
     /// Takes an argument, and returns whether it is one of these options, or the name that follows
-    /// `--as`. Others are left to the program.
+    /// `--dialect` or `--as`. Others are left to the program.
     ///
     /// # Errors
     ///
     /// `UnknownDialect` of a name that no dialect has, and `Unreadable` in its place only.
-    /// `GivenTwice` and `Contradiction` if an earlier option says the same or otherwise. After an
-    /// error the options are those before it, and no name is wanted.
+    /// `GivenTwice` and `Contradiction` if an earlier option says the same or otherwise; they name
+    /// the long forms. After an error the options are those before it, and no name is wanted.
     pub fn take(&mut self, alloc: Global, argument: &str) -> Result<bool, ArgumentError>
         // A dialect that is named is that one, if none was asked for before.
-        ensures dialect { (dialect : Dialect) → argument.now ≡ codes "--as=" ++ name_of dialect
-            → self.old.wants_name ≡ false → self.old.dialect ≡ None → (result ≡ Ok true)
-            × (self.new ≡ record self.old { dialect = Some (dialect, as_option_of dialect) }) }
-        // So it is with the name after `--as`.
-        ensures name { (dialect : Dialect) → argument.now ≡ name_of dialect
-            → self.old.wants_name ≡ true → self.old.dialect ≡ None
+        ensures dialect { (dialect : Dialect) → Names self.old argument.now (name_of dialect)
+            → self.old.dialect ≡ None
             → (result ≡ Ok true) × (self.new ≡ record self.old {
-              dialect = Some (dialect, as_option_of dialect);
+              dialect = Some (dialect, dialect_option_of dialect);
               wants_name = false;
             }) }
-        // After `--as` a name is wanted.
-        ensures as_name { argument.now ≡ codes "--as" → self.old.wants_name ≡ false
+        // After `--dialect` or `--as` a name is wanted.
+        ensures wants_name { WantsName argument.now → self.old.wants_name ≡ false
             → (result ≡ Ok true) × (self.new ≡ record self.old { wants_name = true }) }
         // `--npm` asks for npm's dialect, if none was asked for before.
         ensures npm { argument.now ≡ codes "--npm" → self.old.wants_name ≡ false
             → self.old.dialect ≡ None → (result ≡ Ok true)
             × (self.new ≡ record self.old { dialect = Some (Dialect.Npm, codes "--npm") }) }
         // A rule for pre-releases that is asked for is that one, if none was before.
-        ensures rule { (rule : PreReleases) → argument.now ≡ option_of rule
+        ensures rule { (rule : PreReleases) → IsOptionOf rule argument.now
             → self.old.wants_name ≡ false → self.old.rule ≡ None
             → (result ≡ Ok true) × (self.new ≡ record self.old { rule = Some rule }) }
         // Other arguments are left to the program.
@@ -102,11 +101,11 @@ impl MeaningOptions {
             → self.old.dialect ≡ Some (other, earlier) → dialect ≢ other
             → Fails (TellsContradiction option earlier) result }
         // A rule that was asked for before is given twice.
-        ensures rule_twice { (rule : PreReleases) → argument.now ≡ option_of rule
+        ensures rule_twice { (rule : PreReleases) → IsOptionOf rule argument.now
             → self.old.wants_name ≡ false → self.old.rule ≡ Some rule
             → Fails (TellsTwice (option_of rule)) result }
         // Another than that one contradicts it.
-        ensures two_rules { (rule earlier : PreReleases) → argument.now ≡ option_of rule
+        ensures two_rules { (rule earlier : PreReleases) → IsOptionOf rule argument.now
             → self.old.wants_name ≡ false → self.old.rule ≡ Some earlier → rule ≢ earlier
             → Fails (TellsContradiction (option_of rule) (option_of earlier)) result }
         // After an error no name is wanted, and what was asked for is as it was.
@@ -117,19 +116,31 @@ impl MeaningOptions {
             self.ask_by_name(alloc, argument)?;
             return Ok(true);
         }
+        if let Some(name) = argument.strip_prefix("--dialect=") {
+            self.ask_by_name(alloc, name)?;
+            return Ok(true);
+        }
         if let Some(name) = argument.strip_prefix("--as=") {
             self.ask_by_name(alloc, name)?;
             return Ok(true);
         }
         match argument {
-            "--as" => self.wants_name = true,
+            "--dialect" | "--as" => self.wants_name = true,
             "--npm" => self.ask(Dialect::Npm, "--npm")?,
-            "--releases" => self.count(PreReleases::Excluded)?,
-            "--pre" => self.count(PreReleases::Included)?,
+            "--releases-only" | "--releases" => self.count(PreReleases::Excluded)?,
+            "--include-prerelease" | "--pre" => self.count(PreReleases::Included)?,
             "--pre-stated" => self.count(PreReleases::Default)?,
             _ => return Ok(false),
         }
         Ok(true)
+    }
+
+    // Answer: equation.
+    /// Whether an option asked for a dialect.
+    pub fn has_dialect(&self) -> bool
+        ensures { result ≡ is_some self.now.dialect }
+    {
+        self.dialect.is_some()
     }
 
     // Answer: equation.
@@ -138,7 +149,7 @@ impl MeaningOptions {
     ///
     /// # Errors
     ///
-    /// `NoDialect` if nothing followed `--as`.
+    /// `NoDialect` if nothing followed `--dialect` or `--as`.
     pub fn finish(self) -> Result<Meaning, ArgumentError>
         ensures { result ≡ meant self }
     {
@@ -157,22 +168,22 @@ impl MeaningOptions {
             → self.old.dialect ≡ None → IfErr result (λ _. ⊥) }
         ensures asked { (dialect : Dialect) → name.now ≡ name_of dialect
             → IfOk result (λ _. self.new
-            ≡ record self.old { dialect = Some (dialect, as_option_of dialect) }) }
+            ≡ record self.old { dialect = Some (dialect, dialect_option_of dialect) }) }
         ensures unknown { ¬ (IsDialectName name.now) → Fails (TellsUnknown name.now) result }
         ensures twice { (dialect : Dialect) (earlier : Text) → name.now ≡ name_of dialect
             → self.old.dialect ≡ Some (dialect, earlier)
-            → Fails (TellsTwice (as_option_of dialect)) result }
+            → Fails (TellsTwice (dialect_option_of dialect)) result }
         ensures contradiction { (dialect other : Dialect) (earlier : Text)
             → name.now ≡ name_of dialect → self.old.dialect ≡ Some (other, earlier)
             → dialect ≢ other
-            → Fails (TellsContradiction (as_option_of dialect) earlier) result }
+            → Fails (TellsContradiction (dialect_option_of dialect) earlier) result }
         ensures error { IfErr result (λ _. self.new ≡ self.old) }
     {
         match name {
-            "cargo" => self.ask(Dialect::Cargo, "--as cargo"),
-            "npm" => self.ask(Dialect::Npm, "--as npm"),
-            "crate-cargo" => self.ask(Dialect::CrateCargo, "--as crate-cargo"),
-            "crate-npm" => self.ask(Dialect::CrateNpm, "--as crate-npm"),
+            "cargo" => self.ask(Dialect::Cargo, "--dialect cargo"),
+            "npm" => self.ask(Dialect::Npm, "--dialect npm"),
+            "crate-cargo" => self.ask(Dialect::CrateCargo, "--dialect crate-cargo"),
+            "crate-npm" => self.ask(Dialect::CrateNpm, "--dialect crate-npm"),
             _ => Err(ArgumentError::UnknownDialect(name.to_string(alloc)?)),
         }
     }
@@ -228,8 +239,8 @@ fn option_of(rule: PreReleases) -> &'static str
     ensures { result.now ≡ option_of rule }
 {
     match rule {
-        PreReleases::Excluded => "--releases",
+        PreReleases::Excluded => "--releases-only",
         PreReleases::Default => "--pre-stated",
-        PreReleases::Included => "--pre",
+        PreReleases::Included => "--include-prerelease",
     }
 }

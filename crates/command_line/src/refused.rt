@@ -33,12 +33,37 @@ pub fn refused_text(
     Ok(written)
 }
 
+/// The text of an error in one line, without the range text:
+/// `not a range (at byte 4: Cargo takes no ||; --as npm does)`. `Err` is out of memory.
+pub fn refused_line(
+    alloc: Global,
+    dialect: Dialect,
+    error: &RangeError,
+    text: &str,
+) -> Result<String, AllocError> {
+    let mut written = String::new(alloc);
+    match refused(alloc, dialect, text)? {
+        Some(refusal) => {
+            write!(written, "{} (", refusal.error)?;
+            write_why(&mut written, &refusal, text)?;
+            written.push(')')?;
+        }
+        None => write!(written, "{error}")?,
+    }
+    Ok(written)
+}
+
 /// Writes the lines of an error with its offset.
 fn write_refusal(out: &mut String, refusal: &Refusal, text: &str) -> Result<(), AllocError> {
-    let offset = refusal.offset;
-    let shown = Shown::round(text, offset);
+    let shown = Shown::round(text, refusal.offset);
     write!(out, "{}: {shown}", refusal.error)?;
     shown.write_pointed(out)?;
+    write_why(out, refusal, text)
+}
+
+/// Writes the offset of an error, and the hint if there is one.
+fn write_why(out: &mut String, refusal: &Refusal, text: &str) -> Result<(), AllocError> {
+    let offset = refusal.offset;
     if offset < text.len() {
         write!(out, "at byte {offset}")?;
     } else if refusal.hint.is_some() {

@@ -1,71 +1,167 @@
-//! The lines that are written of sets of versions.
+//! What is written of sets of versions: lines, or an object of JSON.
 
-use crate::arguments::Extent;
+use crate::arguments::{Extent, Options};
 use semver_parser::version::Version;
 use std::alloc::{AllocError, Global};
 use std::fmt::Write as _;
-use version_sets::VersionSet;
+use version_sets::{SetRanges, VersionSet};
 
-/// The lines of what one range means.
-pub fn of_one(alloc: Global, range: &VersionSet, extent: Extent) -> Result<String, AllocError> {
-    let mut lines = String::new(alloc);
-    match extent {
-        Extent::Whole => append_whole(alloc, &mut lines, "means", range)?,
-        Extent::Least => append_least(&mut lines, "means", &range.least(alloc)?)?,
-    }
-    Ok(lines)
+/// What is written, so far.
+#[derive(Drop)]
+pub struct Output {
+    /// The lines, or the members of the object.
+    text: String,
+    /// What is written of the versions, and as what.
+    options: Options,
 }
 
-/// The lines of what the new range loses and gains, and what both share.
-pub fn of_two(
-    alloc: Global,
-    old: &VersionSet,
-    new: &VersionSet,
-    extent: Extent,
-) -> Result<String, AllocError> {
-    let mut lines = String::new(alloc);
-    match extent {
-        Extent::Whole => {
-            append_whole(alloc, &mut lines, "lost", &old.difference(alloc, new)?)?;
-            append_whole(alloc, &mut lines, "gained", &new.difference(alloc, old)?)?;
-            append_whole(alloc, &mut lines, "shared", &old.intersection(alloc, new)?)?;
-        }
-        Extent::Least => {
-            let comparison = old.compare(alloc, new)?;
-            append_least(&mut lines, "lost", &comparison.lost)?;
-            append_least(&mut lines, "gained", &comparison.gained)?;
-            append_least(&mut lines, "shared", &comparison.shared)?;
+impl Output {
+    /// Nothing yet.
+    pub fn new(alloc: Global, options: Options) -> Output {
+        Output {
+            text: String::new(alloc),
+            options,
         }
     }
-    Ok(lines)
+
+    /// The whole output.
+    pub fn finish(self, alloc: Global) -> Result<String, AllocError> {
+        if !self.options.is_json {
+            return Ok(self.text);
+        }
+        let mut object = String::new(alloc);
+        write!(object, "{{{}}}\n", self.text)?;
+        Ok(object)
+    }
+
+    /// Appends what two ranges lose, gain and share.
+    pub fn push_two(
+        &mut self,
+        alloc: Global,
+        old: &VersionSet,
+        new: &VersionSet,
+    ) -> Result<(), AllocError> {
+        match self.options.extent {
+            Extent::Whole => {
+                self.push_whole(alloc, "lost", &old.difference(alloc, new)?)?;
+                self.push_whole(alloc, "gained", &new.difference(alloc, old)?)?;
+                self.push_whole(alloc, "shared", &old.intersection(alloc, new)?)?;
+            }
+            Extent::Lowest => {
+                let comparison = old.compare(alloc, new)?;
+                self.push_lowest("lost", &comparison.lost)?;
+                self.push_lowest("gained", &comparison.gained)?;
+                self.push_lowest("shared", &comparison.shared)?;
+            }
+        }
+        if self.options.is_json {
+            self.begin_member("equal")?;
+            self.text
+                .push_str(if old == new { "true" } else { "false" })?;
+        }
+        Ok(())
+    }
+
+    /// Appends the versions of one range under a word.
+    pub fn push_one(
+        &mut self,
+        alloc: Global,
+        word: &str,
+        range: &VersionSet,
+    ) -> Result<(), AllocError> {
+        match self.options.extent {
+            Extent::Whole => self.push_whole(alloc, word, range),
+            Extent::Lowest => self.push_lowest(word, &range.least(alloc)?),
+        }
+    }
+
+    /// Appends a text of its own under a word.
+    pub fn push_text(&mut self, word: &str, text: &str) -> Result<(), AllocError> {
+        if !self.options.is_json {
+            return write!(self.text, "{word}: {text}\n");
+        }
+        self.begin_member(word)?;
+        write_string(&mut self.text, text)
+    }
+
+    /// Appends the releases of a set, and its pre-releases.
+    fn push_whole(
+        &mut self,
+        alloc: Global,
+        word: &str,
+        set: &VersionSet,
+    ) -> Result<(), AllocError> {
+        self.push_ranges(word, "", &set.release_ranges(alloc)?)?;
+        let suffix = if self.options.is_json {
+            "_pre_releases"
+        } else {
+            " pre-releases"
+        };
+        self.push_ranges(word, suffix, &set.pre_release_ranges(alloc)?)
+    }
+
+    /// Appends ranges, if there are any: a line has none of the others, and JSON has null.
+    fn push_ranges(
+        &mut self,
+        word: &str,
+        suffix: &str,
+        ranges: &SetRanges,
+    ) -> Result<(), AllocError> {
+        let is_empty = ranges.range_set.ranges.is_empty();
+        if !self.options.is_json {
+            return if is_empty {
+                Ok(())
+            } else {
+                write!(self.text, "{word}{suffix}: {ranges}\n")
+            };
+        }
+        self.begin_members()?;
+        if is_empty {
+            write!(self.text, "\"{word}{suffix}\": null")
+        } else {
+            write!(self.text, "\"{word}{suffix}\": \"{ranges}\"")
+        }
+    }
+
+    /// Appends a version, if there is one.
+    fn push_lowest(&mut self, word: &str, version: &Option<Version>) -> Result<(), AllocError> {
+        if !self.options.is_json {
+            return match version {
+                Some(version) => write!(self.text, "{word}: {version}\n"),
+                None => Ok(()),
+            };
+        }
+        self.begin_member(word)?;
+        match version {
+            Some(version) => write!(self.text, "\"{version}\""),
+            None => self.text.push_str("null"),
+        }
+    }
+
+    /// Begins a member of the object by its name.
+    fn begin_member(&mut self, name: &str) -> Result<(), AllocError> {
+        self.begin_members()?;
+        write!(self.text, "\"{name}\": ")
+    }
+
+    /// Ends the members before, if there are any.
+    fn begin_members(&mut self) -> Result<(), AllocError> {
+        if self.text.is_empty() {
+            return Ok(());
+        }
+        self.text.push_str(", ")
+    }
 }
 
-/// Appends a line with the releases of a set, if there are any, and one with its pre-releases.
-fn append_whole(
-    alloc: Global,
-    lines: &mut String,
-    word: &str,
-    set: &VersionSet,
-) -> Result<(), AllocError> {
-    let releases = set.release_ranges(alloc)?;
-    if !releases.range_set.ranges.is_empty() {
-        write!(lines, "{word}: {releases}\n")?;
+/// Writes a string of JSON.
+fn write_string(out: &mut String, text: &str) -> Result<(), AllocError> {
+    out.push('"')?;
+    for character in text.chars() {
+        match character {
+            '"' => out.push_str("\\\"")?,
+            '\\' => out.push_str("\\\\")?,
+            _ => out.push(character)?,
+        }
     }
-    let pre_releases = set.pre_release_ranges(alloc)?;
-    if !pre_releases.range_set.ranges.is_empty() {
-        write!(lines, "{word} pre-releases: {pre_releases}\n")?;
-    }
-    Ok(())
-}
-
-/// Appends a line with a version, if there is one.
-fn append_least(
-    lines: &mut String,
-    word: &str,
-    version: &Option<Version>,
-) -> Result<(), AllocError> {
-    if let Some(version) = version {
-        write!(lines, "{word}: {version}\n")?;
-    }
-    Ok(())
+    out.push('"')
 }

@@ -5,13 +5,16 @@
 mod arguments;
 mod lines;
 
-use arguments::{Request, Wanted};
-use command_line::Program;
+use arguments::{Change, Request, Wanted};
+use command_line::{Program, refused_line};
+use lines::Output;
 use semver_parser::RangeError;
 use semver_parser::writing::write_whole;
+use std::alloc::AllocError;
 use std::io::{self, ErrorKind};
 use std::process::ExitCode;
-use tool_ranges::meaning;
+use tool_ranges::dialect::Dialect;
+use tool_ranges::meaning::{self, Meaning};
 use version_sets::VersionSet;
 
 /// The program.
@@ -21,44 +24,46 @@ const PROGRAM: Program = Program {
 
 /// How the program is called.
 const USAGE: &str = "\
-usage: compare-ranges [--as DIALECT | --npm]
-                      [--releases | --pre | --pre-stated] [--least] OLD NEW
-       compare-ranges [OPTION].. RANGE";
+usage: compare-ranges [OPTION]... OLD NEW
+       compare-ranges [OPTION]... RANGE";
 
 /// What the program does.
 const HELP: &str = "
 Prints which versions are lost and gained if the range NEW takes the place of
-the range OLD, and which both share; of one RANGE, which versions it means.
-A line is printed for each of these that has a version:
+the range OLD, and which both share; of one RANGE, which versions it means to
+Cargo and to npm, or to the dialect that is named. A line is printed for each
+of these that has a version:
 
     lost: RANGES     releases that OLD means and NEW doesn't
     gained: RANGES   releases that NEW means and OLD doesn't
     shared: RANGES   releases that both mean
-    means: RANGES    releases that RANGE means
+    cargo: RANGES    releases that RANGE means to Cargo, or why it is no range
+    npm: RANGES      releases that RANGE means to npm, or why it is no range
+    means: RANGES    releases that RANGE means to the dialect that is named
 
 The pre-releases are on the next line: 'lost pre-releases: RANGES'. RANGES is a
 range text in npm's syntax, as '=1.2.0 || >=1.9.0 <2.0.0', or '*' for all.
 
-    --least          print the least version of each instead: 'lost: 1.2.0'
-    --as DIALECT     read the ranges as:
-                       cargo        Cargo does; the default
-                       npm          npm does
-                       crate-cargo  the crate semver-parser does in Cargo mode
-                       crate-npm    the crate semver-parser does in npm mode
-    --npm            the same as --as npm
-    --releases       count releases only
-    --pre            count each pre-release within the bounds of a range, too;
-                     as cargo and npm, '*' is every version then
-    --pre-stated     the default: count the pre-releases that cargo or npm
-                     matches; as crate-cargo and crate-npm, those within the
-                     bounds of which a term of the same range states the three
-                     numbers and a pre-release
-    --               end the options
-    -h, --help       print this help
-    --version        print the version of this program
+    --dialect NAME         read the ranges as:
+                             cargo        Cargo; the default of two ranges
+                             npm          npm
+                             crate-cargo  semver-parser in Cargo mode
+                             crate-npm    semver-parser in npm mode
+    --as NAME, --npm       short for --dialect NAME and --dialect npm
+    --include-prerelease   count each pre-release within the bounds of a range,
+      --pre                too, and not only those that the tool matches
+    --releases-only        count releases only
+      --releases
+    --lowest               print the lowest version of each instead of ranges
+    --json                 print one object of JSON
+    --fail-on CHANGE       the status is 1 only if versions are lost, gained, or
+                           either: CHANGE is lost, gained or any, the default
+    --                     end the options
+    -h, --help             print this help
+    --version              print the version of this program
 
 The status is 0 if both ranges mean the same versions, 1 if they differ, 0 for
-one range, and 2 after an error.";
+one range, and 2 after an error. semver-ranges(7) says what ranges mean.";
 
 /// The version of this program, as the file VERSION has it.
 const VERSION: &str = "compare-ranges 1.0.0";
@@ -68,18 +73,14 @@ const VERSION: &str = "compare-ranges 1.0.0";
 enum Error<'a> {
     /// This range text was refused.
     Range(RangeError, &'a str),
+    /// Neither Cargo nor npm reads the range, for these reasons.
+    Neither(String, String),
     /// An allocation failed after the ranges were read.
     OutOfMemory,
 }
 
-/// What there is to write.
-#[derive(Drop)]
-struct Answer {
-    /// The lines.
-    lines: String,
-    /// Whether two ranges mean other versions.
-    differs: bool,
-}
+/// What there is to write, and whether that is a change that is asked for.
+type Answer = (String, bool);
 
 fn main(rt: HostRuntime) -> ExitCode {
     match arguments::requested(&rt) {
@@ -93,43 +94,134 @@ fn main(rt: HostRuntime) -> ExitCode {
 /// Writes what is wanted, or an error. All is known before anything is written. It is no error if
 /// the reader closed the pipe.
 fn run(rt: &HostRuntime, wanted: &Wanted) -> ExitCode {
-    let answer = match answered(rt, wanted) {
-        Ok(answer) => answer,
-        Err(Error::Range(error, range)) => {
-            return PROGRAM.refuse_range(rt, wanted.meaning.dialect, &error, range);
-        }
-        Err(Error::OutOfMemory) => {
-            let _ = eprintln!(rt; "{}: out of memory", PROGRAM.name);
-            return ExitCode::from(2);
-        }
-    };
-    let written = write_whole(&mut io::writer(rt), answer.lines.as_bytes());
-    match written {
+    match answered(rt, wanted) {
+        Ok((text, is_changed)) => written(rt, text.as_str(), is_changed),
+        Err(error) => failed(rt, wanted, &error),
+    }
+}
+
+/// Writes a text, and returns the status.
+fn written(rt: &HostRuntime, text: &str, is_changed: bool) -> ExitCode {
+    match write_whole(&mut io::writer(rt), text.as_bytes()) {
         Err(error) if error.kind() != ErrorKind::BrokenPipe => PROGRAM.cannot_write(rt, &error),
-        _ if answer.differs => ExitCode::from(1),
+        _ if is_changed => ExitCode::from(1),
         _ => ExitCode::SUCCESS,
     }
 }
 
+/// Reports on standard error what the error is, and returns status 2.
+fn failed(rt: &HostRuntime, wanted: &Wanted, error: &Error<'_>) -> ExitCode {
+    let name = PROGRAM.name;
+    match error {
+        Error::Range(error, range) => {
+            return PROGRAM.refuse_range(rt, wanted.meaning.dialect, error, range);
+        }
+        Error::Neither(cargo, npm) => {
+            let _ = eprintln!(rt; "{name}: cargo: {cargo}");
+            let _ = eprintln!(rt; "{name}: npm: {npm}");
+        }
+        Error::OutOfMemory => {
+            let _ = eprintln!(rt; "{name}: out of memory");
+        }
+    }
+    ExitCode::from(2)
+}
+
 /// What there is to write of the ranges.
 fn answered<'a>(rt: &HostRuntime, wanted: &'a Wanted) -> Result<Answer, Error<'a>> {
+    if wanted.new.is_none() && !wanted.has_dialect {
+        return of_both_tools(rt, wanted);
+    }
     let range = read(rt, wanted, wanted.range.as_str())?;
     let Some(new) = &wanted.new else {
-        return match lines::of_one(rt.alloc(), &range, wanted.extent) {
-            Ok(lines) => Ok(Answer {
-                lines,
-                differs: false,
-            }),
+        return match of_one(rt, wanted, &range) {
+            Ok(text) => Ok((text, false)),
             Err(_) => Err(Error::OutOfMemory),
         };
     };
     let new = read(rt, wanted, new.as_str())?;
-    match lines::of_two(rt.alloc(), &range, &new, wanted.extent) {
-        Ok(lines) => Ok(Answer {
-            lines,
-            differs: range != new,
-        }),
+    match of_two(rt, wanted, &range, &new) {
+        Ok(text) => Ok((text, is_changed(wanted, &range, &new))),
         Err(_) => Err(Error::OutOfMemory),
+    }
+}
+
+/// What one range means to the dialect that is named.
+fn of_one(rt: &HostRuntime, wanted: &Wanted, range: &VersionSet) -> Result<String, AllocError> {
+    let mut output = Output::new(rt.alloc(), wanted.options);
+    output.push_one(rt.alloc(), "means", range)?;
+    output.finish(rt.alloc())
+}
+
+/// What two ranges lose, gain and share.
+fn of_two(
+    rt: &HostRuntime,
+    wanted: &Wanted,
+    range: &VersionSet,
+    new: &VersionSet,
+) -> Result<String, AllocError> {
+    let mut output = Output::new(rt.alloc(), wanted.options);
+    output.push_two(rt.alloc(), range, new)?;
+    output.finish(rt.alloc())
+}
+
+/// Whether the change is there that is asked for.
+fn is_changed(wanted: &Wanted, range: &VersionSet, new: &VersionSet) -> bool {
+    match wanted.options.fails_on {
+        Some(Change::Lost) => !range.is_within(new),
+        Some(Change::Gained) => !new.is_within(range),
+        Some(Change::Any) | None => range != new,
+    }
+}
+
+/// What one range means to Cargo, and to npm, or why it is no range.
+fn of_both_tools<'a>(rt: &HostRuntime, wanted: &'a Wanted) -> Result<Answer, Error<'a>> {
+    let mut output = Output::new(rt.alloc(), wanted.options);
+    let cargo = push_tool(rt, wanted, &mut output, "cargo", Dialect::Cargo);
+    let npm = push_tool(rt, wanted, &mut output, "npm", Dialect::Npm);
+    match (cargo, npm) {
+        (Ok(Some(cargo)), Ok(Some(npm))) => Err(Error::Neither(cargo, npm)),
+        (Ok(_), Ok(_)) => match output.finish(rt.alloc()) {
+            Ok(text) => Ok((text, false)),
+            Err(_) => Err(Error::OutOfMemory),
+        },
+        _ => Err(Error::OutOfMemory),
+    }
+}
+
+/// Appends what the range means to a tool, or why it is no range, and returns why.
+fn push_tool(
+    rt: &HostRuntime,
+    wanted: &Wanted,
+    output: &mut Output,
+    name: &str,
+    dialect: Dialect,
+) -> Result<Option<String>, AllocError> {
+    let range = wanted.range.as_str();
+    let meaning = Meaning {
+        dialect,
+        pre_releases: wanted.meaning.pre_releases,
+    };
+    match meaning::read(rt.alloc(), meaning, range) {
+        Ok(set) if set.is_empty() && !wanted.options.is_json => {
+            output.push_text(name, "no version")?;
+            Ok(None)
+        }
+        Ok(set) => {
+            output.push_one(rt.alloc(), name, &set)?;
+            Ok(None)
+        }
+        Err(RangeError::OutOfMemory) => Err(AllocError),
+        Err(error) => {
+            let why = refused_line(rt.alloc(), dialect, &error, range)?;
+            let word = match (wanted.options.is_json, dialect) {
+                (true, Dialect::Npm) => "npm_error",
+                (true, _) => "cargo_error",
+                (false, _) => name,
+            };
+            output.push_text(word, why.as_str())?;
+            Ok(Some(why))
+        }
     }
 }
 
