@@ -2,7 +2,7 @@
 
 use command_line::{ArgumentError, MeaningOptions};
 use release_filter::{Filter, Lines, Wanted};
-use std::alloc::Global;
+use std::alloc::{AllocError, Global};
 use std::env;
 use std::rt::Env;
 use tool_ranges::meaning::Meaning;
@@ -25,6 +25,8 @@ pub struct Filtering {
     pub range: String,
     /// How it is read.
     pub meaning: Meaning,
+    /// The files that are read; without one it is standard input.
+    pub files: Vec<String>,
     /// What is done with the lines.
     pub options: Options,
 }
@@ -33,7 +35,9 @@ pub struct Filtering {
 #[derive(Drop)]
 pub struct Options {
     /// The texts that may be before a version: the first after which there is one decides.
-    prefixes: Vec<String>,
+    pub prefixes: Vec<String>,
+    /// How what is kept is written.
+    pub form: Form,
     /// Which of the kept lines are wanted.
     wanted: Wanted,
     /// The option that asked for them, if one did.
@@ -48,11 +52,30 @@ pub struct Options {
     has_more: bool,
 }
 
+/// How what is kept is written.
+#[derive(Clone, Copy)]
+pub struct Form {
+    /// Records end with a zero byte in place of a line feed, in the input and in the output.
+    pub is_null: bool,
+    /// The order of the lines is reversed.
+    pub is_reversed: bool,
+    /// Lines are written without their prefix.
+    pub is_stripped: bool,
+    /// Only the number of lines is written.
+    pub is_counted: bool,
+}
+
 impl Options {
     /// What is done without an option.
     fn new(alloc: Global) -> Options {
         Options {
             prefixes: Vec::new(alloc),
+            form: Form {
+                is_null: false,
+                is_reversed: false,
+                is_stripped: false,
+                is_counted: false,
+            },
             wanted: Wanted::Each,
             asked: None,
             is_strict: false,
@@ -63,8 +86,13 @@ impl Options {
     }
 
     /// The lines that these options ask for, of which no byte was taken yet.
-    pub fn lines(self, alloc: Global, filter: Filter) -> Lines {
-        Lines::new(alloc, filter, self.prefixes, self.wanted, self.is_strict)
+    pub fn lines(&self, alloc: Global, filter: Filter) -> Result<Lines, AllocError> {
+        let mut prefixes = Vec::new(alloc);
+        for prefix in self.prefixes.iter() {
+            prefixes.push(prefix.as_str().to_string(alloc)?)?;
+        }
+        let lines = Lines::new(alloc, filter, prefixes, self.wanted, self.is_strict);
+        Ok(lines)
     }
 
     /// Takes an option, and returns whether it is known. It is refused where an earlier one has
@@ -79,12 +107,24 @@ impl Options {
         }
         match option {
             "--" => self.has_more = false,
-            "--greatest" => self.select("--greatest", Wanted::Greatest)?,
-            "--least" => self.select("--least", Wanted::Least)?,
+            "--highest" | "--greatest" => self.select("--highest", Wanted::Greatest)?,
+            "--lowest" | "--least" => self.select("--lowest", Wanted::Least)?,
             "--sort" => self.select("--sort", Wanted::Sorted)?,
             "--strict" => given_once("--strict", &mut self.is_strict)?,
             "--line-buffered" => given_once("--line-buffered", &mut self.is_line_buffered)?,
             "--prefix" => self.wants_prefix = true,
+            _ => return self.take_form(option),
+        }
+        Ok(true)
+    }
+
+    /// Takes an option of how what is kept is written, and returns whether it is known.
+    fn take_form(&mut self, option: &str) -> Result<bool, ArgumentError> {
+        match option {
+            "--null" => given_once("--null", &mut self.form.is_null)?,
+            "--reverse" => given_once("--reverse", &mut self.form.is_reversed)?,
+            "--strip-prefix" => given_once("--strip-prefix", &mut self.form.is_stripped)?,
+            "--count" => given_once("--count", &mut self.form.is_counted)?,
             _ => return Ok(false),
         }
         Ok(true)
@@ -107,10 +147,15 @@ impl Options {
     /// Takes a prefix.
     fn take_prefix(&mut self, prefix: String) -> Result<(), ArgumentError> {
         self.wants_prefix = false;
-        match self.prefixes.push(prefix) {
-            Ok(()) => Ok(()),
-            Err(_) => Err(ArgumentError::Unreadable),
-        }
+        push(&mut self.prefixes, prefix)
+    }
+}
+
+/// Appends a text.
+fn push(texts: &mut Vec<String>, text: String) -> Result<(), ArgumentError> {
+    match texts.push(text) {
+        Ok(()) => Ok(()),
+        Err(_) => Err(ArgumentError::Unreadable),
     }
 }
 
@@ -124,13 +169,14 @@ fn given_once(option: &'static str, is_given: &mut bool) -> Result<(), ArgumentE
 }
 
 /// What the arguments ask for. What begins with a hyphen is an option, up to the first `--`, but
-/// for what follows `--prefix` and `--as`.
+/// for `-` alone and for what follows `--prefix`, `--dialect` and `--as`.
 pub fn requested(rt: &(impl Env + AllocGlobal)) -> Result<Request, ArgumentError> {
     let Ok(mut arguments) = env::args(rt) else {
         return Err(ArgumentError::Unreadable);
     };
     let _program = arguments.next();
     let mut range = None;
+    let mut files = Vec::new(rt.alloc());
     let mut meaning = MeaningOptions::new();
     let mut options = Options::new(rt.alloc());
     for argument in arguments {
@@ -144,32 +190,37 @@ pub fn requested(rt: &(impl Env + AllocGlobal)) -> Result<Request, ArgumentError
         match argument.as_str() {
             "-h" | "--help" if options.has_more => return Ok(Request::Help),
             "--version" if options.has_more => return Ok(Request::Version),
-            text if options.has_more && text.starts_with('-') => {
+            text if options.has_more && text.starts_with('-') && text != "-" => {
                 if !options.take(rt, text)? {
                     return Err(ArgumentError::UnknownOption(argument));
                 }
             }
-            _ if range.is_some() => return Err(ArgumentError::MoreThanOneRange),
+            _ if range.is_some() => push(&mut files, argument)?,
             _ => range = Some(argument),
         }
     }
-    request_of(range, meaning, options)
+    request_of(range, files, meaning, options)
 }
 
 /// What arguments ask for that are taken one by one.
 fn request_of(
     range: Option<String>,
+    files: Vec<String>,
     meaning: MeaningOptions,
     options: Options,
 ) -> Result<Request, ArgumentError> {
     if options.wants_prefix {
         return Err(ArgumentError::NoPrefix);
     }
+    if options.form.is_reversed && options.wanted != Wanted::Sorted {
+        return Err(ArgumentError::NoOrder);
+    }
     let meaning = meaning.finish()?;
     match range {
         Some(range) => Ok(Request::Filter(Filtering {
             range,
             meaning,
+            files,
             options,
         })),
         None => Err(ArgumentError::NoRange),

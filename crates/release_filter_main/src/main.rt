@@ -4,16 +4,18 @@
 #![tactic(auto)]
 
 mod arguments;
+mod output;
 
-use arguments::{Filtering, Options, Request};
+use arguments::{Filtering, Request};
 use command_line::Program;
+use output::Output;
 use release_filter::{Counts, Filter, Lines, LinesError};
 use semver_parser::RangeError;
-use semver_parser::writing::write_whole;
-use std::io::{self, ErrorKind, Read, Write};
+use std::fs;
+use std::io::{self, ErrorKind, Read};
 use std::process::ExitCode;
 use tool_ranges::dialect::Dialect;
-use tool_ranges::meaning::{self, Meaning};
+use tool_ranges::meaning;
 
 /// The program.
 const PROGRAM: Program = Program {
@@ -22,48 +24,45 @@ const PROGRAM: Program = Program {
 
 /// How the program is called.
 const USAGE: &str = "\
-usage: release-filter [--as DIALECT | --npm]
-                      [--releases | --pre | --pre-stated]
-                      [--greatest | --least | --sort]
-                      [--prefix TEXT]... [--strict] RANGE";
+usage: release-filter [OPTION]... RANGE [FILE]...";
 
 /// What the program does.
 const HELP: &str = "
-Copies to standard output those lines of standard input, unchanged,
-that are a version which RANGE means.
+Copies to standard output those lines of the files, unchanged, that are a
+version which RANGE means. Without a file, and for -, it reads standard input.
 
-    --as DIALECT     the dialect of RANGE and of the versions:
-                       cargo        Cargo's; the default
-                       npm          npm's
-                       crate-cargo  the crate semver-parser's, in Cargo mode
-                       crate-npm    the crate semver-parser's, in npm mode
-    --npm            the same as --as npm
-    --releases       copy releases only
-    --pre            copy each pre-release within the bounds of RANGE, too; as
-                     cargo and npm, with '*' every version
-    --pre-stated     the default: copy the pre-releases that cargo or npm matches;
-                     as crate-cargo and crate-npm, those within the bounds of
-                     which a term of the same range states the three numbers
-                     and a pre-release
-    --greatest       print only the line with the greatest version, by
-                     precedence (the first, if several are equal)
-    --least          print only the line with the least version (the first,
-                     if several are equal)
-    --sort           print the lines from the least version to the greatest,
-                     equal versions in their order; a last line without a
-                     line feed gets one
-    --prefix TEXT    match lines that begin with TEXT and then have a version;
-                     if given more than once, with any of the texts
-    --strict         fail at the first line that is not empty and has no
-                     version
-    --line-buffered  accepted, and changes nothing: each line is written
-                     before more input is read
-    --               end the options
-    -h, --help       print this, and read no input
-    --version        print the version of this program, and read no input
+    --dialect NAME         the dialect of RANGE and of the versions:
+                             cargo        Cargo's; the default
+                             npm          npm's
+                             crate-cargo  that of semver-parser in Cargo mode
+                             crate-npm    that of semver-parser in npm mode
+    --as NAME, --npm       short for --dialect NAME and --dialect npm
+    --include-prerelease   copy each pre-release within the bounds of RANGE,
+      --pre                too, and not only those that the tool matches
+    --releases-only        copy releases only
+      --releases
+    --highest, --lowest    print only the line with the highest or the lowest
+                           version (the first, if several are equal)
+    --sort                 print the lines from the lowest version to the
+                           highest, equal versions in their order; a last
+                           line without a line feed gets one
+    --reverse              with --sort: print the lines in reverse
+    --prefix TEXT          match lines that begin with TEXT and then have a
+                           version; if given more than once, with any of them
+    --strip-prefix         print the lines without their prefix
+    --count                print only how many lines match
+    --strict               fail at the first line that is not empty and has no
+                           version
+    --null                 lines end with a zero byte instead of a line feed,
+                           in the input and in the output
+    --line-buffered        accepted, and changes nothing: each line is written
+                           before more input is read
+    --                     end the options
+    -h, --help             print this, and read no input
+    --version              print the version of this program, and read no input
 
-The status is 0 if a line was written, 1 if none was, and 2 after an error,
-which standard error describes.";
+The status is 0 if a line was found, 1 if none was, and 2 after an error, which
+standard error describes. semver-ranges(7) says what ranges mean.";
 
 /// The version of this program, as the file VERSION has it.
 const VERSION: &str = "release-filter 1.0.0";
@@ -74,6 +73,9 @@ const AT_ONCE: usize = 65536;
 /// So many bytes of a line without a version are shown.
 const SHOWN: usize = 80;
 
+/// The byte order mark, which some programs write before a text in UTF-8.
+const MARK: &[u8] = b"\xEF\xBB\xBF";
+
 /// Why a run ended by an error.
 #[derive(Drop)]
 enum Error {
@@ -81,15 +83,34 @@ enum Error {
     Range(RangeError),
     /// The lines were not taken to the end.
     Lines(LinesError),
-    /// Dialect failed.
+    /// Reading failed.
     Read(io::Error),
+    /// This file can't be read.
+    File(String, io::Error),
     /// Writing failed.
     Write(io::Error),
 }
 
+/// The lines that are taken, and what is done with those that are kept.
+#[derive(Drop)]
+struct Copying {
+    /// The lines.
+    lines: Lines,
+    /// How they are written.
+    output: Output,
+    /// The bytes that are read at once.
+    buffer: Vec<u8>,
+    /// The lines that are kept, and not yet written.
+    kept: Vec<u8>,
+    /// Whether a byte was taken.
+    has_taken: bool,
+    /// Whether the last byte that was taken ended a line, or none was taken.
+    is_ended: bool,
+}
+
 fn main(rt: HostRuntime) -> ExitCode {
     match arguments::requested(&rt) {
-        Ok(Request::Filter(filtering)) => run(&rt, filtering),
+        Ok(Request::Filter(filtering)) => run(&rt, &filtering),
         Ok(Request::Help) => PROGRAM.write_texts(&rt, &[USAGE, HELP]),
         Ok(Request::Version) => PROGRAM.write_texts(&rt, &[VERSION]),
         Err(error) => PROGRAM.misused(&rt, &error),
@@ -97,61 +118,169 @@ fn main(rt: HostRuntime) -> ExitCode {
 }
 
 /// Filters, and reports an error. A pipe that its reader closed is none.
-fn run(rt: &HostRuntime, filtering: Filtering) -> ExitCode {
-    let Filtering {
-        range,
-        meaning,
-        options,
-    } = filtering;
-    match filtered(rt, meaning, range.as_str(), options) {
+fn run(rt: &HostRuntime, filtering: &Filtering) -> ExitCode {
+    match filtered(rt, filtering) {
         Ok(true) => ExitCode::SUCCESS,
         Ok(false) => ExitCode::from(1),
         Err(Error::Write(error)) if error.kind() == ErrorKind::BrokenPipe => ExitCode::SUCCESS,
-        Err(error) => failed(rt, &error, meaning.dialect, range.as_str()),
+        Err(error) => failed(rt, &error, filtering),
     }
 }
 
-/// Filters, and returns whether a line was written. If none was, lines without a version are
-/// reported.
-fn filtered(
-    rt: &HostRuntime,
-    meaning: Meaning,
-    range: &str,
-    options: Options,
-) -> Result<bool, Error> {
-    let versions = meaning::read(rt.alloc(), meaning, range).map_err(Error::Range)?;
+/// Filters, and returns whether a line was kept. If none was, lines without a version are reported.
+fn filtered(rt: &HostRuntime, filtering: &Filtering) -> Result<bool, Error> {
+    let meaning = filtering.meaning;
+    let versions = meaning::read(rt.alloc(), meaning, filtering.range.as_str()).map_err(
+        Error::Range,
+    )?;
     let filter = Filter::of_versions(versions, meaning.dialect.grammar());
-    let mut lines = options.lines(rt.alloc(), filter);
-    let has_written = copy_lines(rt, &mut lines)?;
-    if !has_written {
-        report_invalid(rt, lines.counts());
-    }
-    Ok(has_written)
-}
-
-/// Takes the lines of standard input, and writes what they append before more is read. Returns
-/// whether anything was written.
-fn copy_lines(rt: &HostRuntime, lines: &mut Lines) -> Result<bool, Error> {
-    let mut input = rt.reader();
-    let mut output = io::writer(rt);
-    let Ok(mut buffer) = vec![in rt.alloc(); 0; AT_ONCE] else {
+    let Ok(mut run) = begun(rt, filtering, filter) else {
         return Err(Error::Lines(LinesError::OutOfMemory));
     };
-    let mut kept = Vec::new(rt.alloc());
-    let mut has_written = false;
-    for _ in 0..u64::MAX {
-        let count = read(&mut input, &mut buffer).map_err(Error::Read)?;
-        if count == 0 {
-            break;
-        }
-        let piece = buffer.get(..count).unwrap_or_default();
-        let pushed = lines.push(rt.alloc(), piece, &mut kept);
-        has_written |= write(&mut output, &mut kept).map_err(Error::Write)?;
-        pushed.map_err(|stopped| Error::Lines(stopped.error))?;
+    run.take_all(rt, filtering)?;
+    let has_lines = run.output.has_lines();
+    if !has_lines {
+        report_invalid(rt, run.lines.counts());
     }
-    lines.finish(rt.alloc(), &mut kept).map_err(Error::Lines)?;
-    has_written |= write(&mut output, &mut kept).map_err(Error::Write)?;
-    Ok(has_written)
+    Ok(has_lines)
+}
+
+/// What there is before the first byte is taken.
+fn begun(
+    rt: &HostRuntime,
+    filtering: &Filtering,
+    filter: Filter,
+) -> Result<Copying, std::alloc::AllocError> {
+    let options = &filtering.options;
+    let mut prefixes = Vec::new(rt.alloc());
+    for prefix in options.prefixes.iter() {
+        prefixes.push(prefix.as_str().to_string(rt.alloc())?)?;
+    }
+    let grammar = filtering.meaning.dialect.grammar();
+    Ok(Copying {
+        lines: options.lines(rt.alloc(), filter)?,
+        output: Output::new(options.form, prefixes, grammar),
+        buffer: vec![in rt.alloc(); 0; AT_ONCE]?,
+        kept: Vec::new(rt.alloc()),
+        has_taken: false,
+        is_ended: true,
+    })
+}
+
+impl Copying {
+    /// Takes the lines of all files, or of standard input, and writes those that are kept before
+    /// more is read.
+    fn take_all(&mut self, rt: &HostRuntime, filtering: &Filtering) -> Result<(), Error> {
+        if filtering.files.is_empty() {
+            self.take(rt, &mut rt.reader()).map_err(in_reading)?;
+        }
+        for file in filtering.files.iter() {
+            self.end_line(rt)?;
+            let name = file.as_str();
+            let taken = if name == "-" {
+                self.take(rt, &mut rt.reader())
+            } else {
+                match fs::open(rt, name) {
+                    Ok(mut opened) => self.take(rt, &mut opened),
+                    Err(error) => Err(Stop::Read(error)),
+                }
+            };
+            match taken {
+                Err(Stop::Read(error)) => return Err(of_file(rt, name, error)),
+                taken => taken.map_err(in_reading)?,
+            }
+        }
+        let finished = self.lines.finish(rt.alloc(), &mut self.kept);
+        finished.map_err(Error::Lines)?;
+        self.write(rt)?;
+        let mut output = io::writer(rt);
+        self.output
+            .finish(rt.alloc(), &mut output)
+            .map_err(Error::Write)
+    }
+
+    /// Takes the lines of a reader.
+    fn take<R: Read>(&mut self, rt: &HostRuntime, input: &mut R) -> Result<(), Stop> {
+        let mut is_first = true;
+        for _ in 0..u64::MAX {
+            let count = read(input, &mut self.buffer).map_err(Stop::Read)?;
+            if count == 0 {
+                break;
+            }
+            self.take_piece(rt, count, is_first).map_err(Stop::Other)?;
+            is_first = false;
+        }
+        Ok(())
+    }
+
+    /// Takes the bytes that were read. The lines drop a byte order mark at the front of the first
+    /// file, and of another one it is dropped here.
+    fn take_piece(&mut self, rt: &HostRuntime, count: usize, is_first: bool) -> Result<(), Error> {
+        let buffer = self.buffer.as_mut_slice();
+        let piece = buffer.get_mut(..count).unwrap_or_default();
+        self.output.take(piece);
+        let mut piece: &[u8] = piece;
+        if is_first && self.has_taken {
+            piece = piece.strip_prefix(MARK).unwrap_or(piece);
+        }
+        if let Some(last) = piece.last() {
+            self.is_ended = *last == b'\n';
+            self.has_taken = true;
+        }
+        let pushed = self.lines.push(rt.alloc(), piece, &mut self.kept);
+        self.write(rt)?;
+        match pushed {
+            Ok(()) => Ok(()),
+            Err(stopped) => Err(Error::Lines(stopped.error)),
+        }
+    }
+
+    /// Ends the last line of a file, where another file follows.
+    fn end_line(&mut self, rt: &HostRuntime) -> Result<(), Error> {
+        if self.is_ended {
+            return Ok(());
+        }
+        self.is_ended = true;
+        let pushed = self.lines.push(rt.alloc(), b"\n", &mut self.kept);
+        self.write(rt)?;
+        match pushed {
+            Ok(()) => Ok(()),
+            Err(stopped) => Err(Error::Lines(stopped.error)),
+        }
+    }
+
+    /// Writes what was kept.
+    fn write(&mut self, rt: &HostRuntime) -> Result<(), Error> {
+        let mut output = io::writer(rt);
+        self.output
+            .write(rt.alloc(), &mut output, &mut self.kept)
+            .map_err(Error::Write)
+    }
+}
+
+/// Why the lines of one reader were not taken to the end.
+#[derive(Drop)]
+enum Stop {
+    /// It can't be read.
+    Read(io::Error),
+    /// Something else.
+    Other(Error),
+}
+
+/// The error of standard input.
+fn in_reading(stop: Stop) -> Error {
+    match stop {
+        Stop::Read(error) => Error::Read(error),
+        Stop::Other(error) => error,
+    }
+}
+
+/// The error of a file.
+fn of_file(rt: &HostRuntime, name: &str, error: io::Error) -> Error {
+    match name.to_string(rt.alloc()) {
+        Ok(name) => Error::File(name, error),
+        Err(_) => Error::Read(error),
+    }
 }
 
 /// Reads the next bytes: how many.
@@ -163,17 +292,6 @@ fn read<R: Read>(input: &mut R, buffer: &mut [u8]) -> io::Result<usize> {
         }
     }
     Ok(0)
-}
-
-/// Writes and drops what was kept, and returns whether that was anything.
-fn write<W: Write>(output: &mut W, kept: &mut Vec<u8>) -> io::Result<bool> {
-    if kept.is_empty() {
-        return Ok(false);
-    }
-    write_whole(output, kept.as_slice())?;
-    output.flush()?;
-    kept.clear();
-    Ok(true)
 }
 
 /// Reports on standard error how many lines have no version, and the first.
@@ -202,12 +320,16 @@ fn shown(front: &[u8]) -> (&[u8], &'static str) {
 }
 
 /// Reports on standard error what the error is, and returns status 2.
-fn failed(rt: &HostRuntime, error: &Error, dialect: Dialect, range: &str) -> ExitCode {
+fn failed(rt: &HostRuntime, error: &Error, filtering: &Filtering) -> ExitCode {
+    let dialect: Dialect = filtering.meaning.dialect;
     let _ = match error {
-        Error::Range(error) => return PROGRAM.refuse_range(rt, dialect, error, range),
+        Error::Range(error) => {
+            return PROGRAM.refuse_range(rt, dialect, error, filtering.range.as_str());
+        }
         Error::Write(error) => return PROGRAM.cannot_write(rt, error),
         Error::Lines(error) => eprintln!(rt; "release-filter: {error}"),
         Error::Read(error) => eprintln!(rt; "release-filter: cannot read input: {error}"),
+        Error::File(name, error) => eprintln!(rt; "release-filter: cannot read {name}: {error}"),
     };
     ExitCode::from(2)
 }
