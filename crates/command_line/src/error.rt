@@ -39,9 +39,6 @@ pub enum ArgumentError {
     /// There is no range text.
     #[error("no range")]
     NoRange,
-    /// There is more than one range text.
-    #[error("more than one range")]
-    MoreThanOneRange,
     /// There are more than two range texts.
     #[error("more than two ranges")]
     MoreThanTwoRanges,
