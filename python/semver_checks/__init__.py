@@ -2,6 +2,6 @@
 file outside their ranges, and `compare-requirements` what changed requirements lose and gain.
 
 A folder for each family of formats has what it reads: `npm`, `yarn`, `pnpm` and `cargo`. They share
-the files (`files`), the judgement of a version (`judging`), the frame of a program (`program`), and
-how it starts (`starting`).
+the files (`files`), the judgement of a version (`judging`), what there is to say (`findings`), the
+frame of a program (`program`), and how it starts (`starting`).
 """

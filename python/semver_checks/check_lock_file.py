@@ -7,7 +7,7 @@ tabs, and a fourth field if there is more to know. man/check-lock-file.1 describ
 import os
 import re
 import sys
-from typing import Callable, Iterator, Optional, Tuple, TypeVar
+from typing import Callable, Iterator, List, Optional, Tuple, TypeVar
 
 from .cargo import lock as cargo_lock
 from .cargo import metadata as cargo_metadata
@@ -23,7 +23,7 @@ from .files import (
     utf8,
     yaml_object,
 )
-from .judging import FROM_LOCK, Finding
+from .findings import Finding, Kind, Tally
 from .manifests import Project, needs_of, project_of
 from .npm import edges as npm
 from .npm.settings import has_legacy_peers
@@ -122,25 +122,27 @@ def refuse_peers(options: Options) -> None:
 # ---- which file it is
 
 
-def findings(options: Options, manifest_at: Optional[str], text: bytes) -> Iterator[Finding]:
+def findings(
+    options: Options, manifest_at: Optional[str], text: bytes, tally: Tally
+) -> Iterator[Finding]:
     """What there is to say of a lock file, by what it is."""
     path = options.files[0]
     folder = None if path == STANDARD_INPUT else os.path.dirname(path)
     refuse_others(text)
     if text.lstrip()[:1] == b"{":
-        yield from of_json(options, manifest_at, lock_at(path, text))
+        yield from of_json(options, manifest_at, lock_at(path, text), tally)
         return
     refuse_peers(options)
     if YARN.search(text) or is_empty_of_yarn(path, text):
         manifest, resolutions = read_manifest(manifest_at, yarn.resolutions_of)
         project: Project = {} if manifest is None else project_beside(manifest_at, manifest)
-        yield from yarn.findings(tree_of(utf8(text)), resolutions, project)
+        yield from yarn.findings(tree_of(utf8(text)), resolutions, project, tally)
     elif PNPM.search(text):
         refuse_manifest(options)
-        yield from pnpm.findings(yaml_object(text), folder)
+        yield from pnpm.findings(yaml_object(text), folder, tally)
     elif CARGO.search(text):
         refuse_manifest(options)
-        yield from cargo_lock.findings(toml_object(text), folder)
+        yield from cargo_lock.findings(toml_object(text), folder, tally)
     else:
         refuse_conflict(text)
         raise WrongShape(" that is known")
@@ -159,37 +161,47 @@ def lock_at(path: str, text: bytes) -> Entry:
     return {"lockfileVersion": 1, **lock} if is_old else lock
 
 
-def of_json(options: Options, manifest_at: Optional[str], lock: Entry) -> Iterator[Finding]:
+def of_json(
+    options: Options, manifest_at: Optional[str], lock: Entry, tally: Tally
+) -> Iterator[Finding]:
     """What there is to say of a file of npm, or of what `cargo metadata` writes."""
     if "workspace_members" in lock or "resolve" in lock:
         refuse_manifest(options)
         refuse_peers(options)
-        yield from cargo_metadata.findings(lock)
+        yield from cargo_metadata.findings(lock, tally)
     else:
         folder = project_folder(options, manifest_at)
         has_peers = NO_PEERS not in options.given and not has_legacy_peers(folder)
         manifest, rules = read_manifest(manifest_at, npm.rules_of_manifest)
-        yield from npm.findings(lock, npm.Project(folder, manifest, rules, has_peers))
+        yield from npm.findings(lock, npm.Project(folder, manifest, rules, has_peers), tally)
 
 
 # ---- the program
 
 
+def fields_of(finding: Finding) -> List[str]:
+    """The fields of the line of a finding."""
+    alias = f" as {finding.alias}" if finding.alias else ""
+    requirement = f"{finding.requirer} requires {finding.dependency}{alias}"
+    found = finding.package if finding.kind == Kind.ANOTHER_PACKAGE else finding.version
+    kind = [] if finding.kind == Kind.UNSATISFIED else [finding.kind.value]
+    return [finding.range, found, requirement if finding.requirer else finding.place, *kind]
+
+
 def check(options: Options) -> Outcome:
     """Lists what is wrong with a lock file, and says how much is skipped."""
-    path, manifest_at = options.files[0], manifest_path(options)
+    path, manifest_at, tally = options.files[0], manifest_path(options), Tally()
     is_strict = "--strict" in options.given
     with taking(path, "lock file"):
-        everything = list(findings(options, manifest_at, bytes_of(path)))
-    found = [it for it in everything if it.kind != FROM_LOCK]
+        found = list(findings(options, manifest_at, bytes_of(path), tally))
     wrong = [finding for finding in found if is_strict or not finding.is_strict]
-    lines = [joined(*(it[:4] if it.kind else it[:3])) for it in wrong]
+    lines = [joined(*fields_of(it)) for it in wrong]
     skipped = sum(it.is_strict for it in found)
     why = "not judged, since it is no range or its version is not in the file"
     notes = [f"{why}: {skipped}; --strict lists them"] if skipped and not is_strict else []
-    if len(everything) > len(found):
+    if tally.from_lock:
         why = "workspaces and links taken from the lock file, since they are not beside it"
-        notes.append(f"{why}: {len(everything) - len(found)}")
+        notes.append(f"{why}: {tally.from_lock}")
     return Outcome(lines, notes, int(bool(wrong)))
 
 

@@ -20,15 +20,8 @@ from typing import Iterator, List, NamedTuple, Optional
 from semver_parser import Dialect
 
 from ..files import Entry
-from ..judging import (
-    ANOTHER_VERSION,
-    NO_VERSION,
-    NOT_THERE,
-    SKIPPED,
-    Finding,
-    is_met,
-    is_version,
-)
+from ..findings import PROJECT, Finding, Kind, Tally
+from ..judging import is_met, is_version
 from .archives import archive_at
 from .disk import check_manifest, read_links
 from .lock import (
@@ -38,17 +31,18 @@ from .lock import (
     asks_at,
     is_pinned,
     is_top,
+    keys_of,
     package_at,
     packages_of,
     version_at,
     without_peers,
 )
 from .overrides import Rule, rules_in_turn, rules_of, where_rules_hold
-from .specs import MET, NOT_MET, NOT_READ, has_name, is_any, verdict_on
+from .specs import has_name, is_any, reason_of, verdict_on
 from .workspaces import is_workspace
 
-# The verdicts on a version, the worst first.
-VERDICTS = (NOT_MET, NO_VERSION, NOT_READ, SKIPPED, MET)
+# The verdicts on a version, the worst first. None is that it satisfies what is required.
+VERDICTS = (Kind.UNSATISFIED, Kind.INVALID_VERSION, Kind.INVALID_RANGE, Kind.NOT_CHECKED, None)
 
 
 class Judgement(NamedTuple):
@@ -58,7 +52,7 @@ class Judgement(NamedTuple):
     spec: str
     is_overridden: bool
     has_name: bool
-    verdict: str
+    verdict: Optional[Kind]
 
 
 class Project(NamedTuple):
@@ -79,15 +73,15 @@ def judged_by(spec: str, is_overridden: bool, ask: Ask) -> Judgement:
     name = None if ask.found is None else ask.found.name
     is_named = name is None or has_name(name, spec)
     verdict = verdict_by_npm(spec, ask.found)
-    if ask.accepted is not None and verdict_by_npm(ask.accepted, ask.found) == MET:
-        verdict = MET
+    if ask.accepted is not None and verdict_by_npm(ask.accepted, ask.found) is None:
+        verdict = None
     return Judgement(spec, is_overridden, is_named, verdict)
 
 
-def verdict_by_npm(spec: str, found: Optional[Package]) -> str:
+def verdict_by_npm(spec: str, found: Optional[Package]) -> Optional[Kind]:
     """The verdict on what is found: npm takes each package for `*`."""
     if found is not None and found.name is not None and is_any(spec):
-        return MET
+        return None
     return verdict_on(None if found is None else found.version, spec)
 
 
@@ -111,42 +105,56 @@ def judged_under(ask: Ask, here: Rule) -> Judgement:
     rules = rules_in_turn(here, ask)
     specs = [rule.spec for rule in rules if rule.spec is not None] or [ask.spec]
     found = [judged_by(spec, spec != ask.spec, ask) for spec in specs]
-    return next((it for it in found if it.has_name and it.verdict == MET), found[0])
+    return next((it for it in found if it.has_name and it.verdict is None), found[0])
 
 
 # ---- the findings
 
 
-def of_ask(ask: Ask, judgement: Judgement, is_old: bool) -> Iterator[Finding]:
-    """What there is to say of what is asked for. What isn't there counts by `--strict` only in an
+def of_ask(ask: Ask, judgement: Judgement, is_old: bool, tally: Tally) -> Iterator[Finding]:
+    """What there is to say of what is required. What isn't there counts by `--strict` only in an
     old file, of lockfileVersion 1, which doesn't say what is optional."""
-    who = f"{ask.place or 'the project'} asks for {ask.name}"
-    spec, verdict = judgement.spec, judgement.verdict
-    if ask.found is None:
+    spec, verdict, found = judgement.spec, judgement.verdict, ask.found
+    who, at = ask.place or PROJECT, keys_of(ask.place, is_old)
+    if found is None:
         if ask.is_required:
-            yield Finding(spec, "", who, NOT_THERE, is_strict=is_old)
+            tally.requirements += 1
+            reason = "may be optional" if is_old else ""
+            yield Finding(
+                Kind.MISSING, spec, "", who, ask.name, at=at, is_strict=is_old, reason=reason
+            )
         return
+    tally.requirements += 1
+    name, version, at = found.name or "", found.version or "", keys_of(found.place, is_old)
+    kind = Kind.OVERRIDDEN if verdict == Kind.UNSATISFIED and judgement.is_overridden else verdict
+    finding = Finding(
+        Kind.ANOTHER_PACKAGE, spec, version, who, ask.name, name, found.place or PROJECT, at=at
+    )
     if not judgement.has_name:
-        yield Finding(spec, ask.found.name or "", who, "another package")
-    if verdict != MET:
-        kind = "overridden" if verdict == NOT_MET and judgement.is_overridden else verdict
-        yield Finding(spec, ask.found.version or "", who, kind, is_strict=verdict == SKIPPED)
+        yield finding
+    if kind == Kind.NOT_CHECKED:
+        yield finding._replace(kind=kind, is_strict=True, reason=reason_of(spec))
+    elif kind is not None:
+        yield finding._replace(kind=kind)
 
 
-def of_version(packages: Packages, place: str) -> Iterator[Finding]:
+def of_version(packages: Packages, place: str, is_old: bool) -> Iterator[Finding]:
     """What there is to say of a package with a version that npm wouldn't take, or another one than
     the archive that npm installs."""
-    entry, who = packages[place], place or "the project"
-    version = None if entry.get("link") else version_at(entry, who)
+    entry, where = packages[place], place or PROJECT
+    version = None if entry.get("link") else version_at(entry, where)
     if version is None:
         return
-    if not is_version(version, Dialect.NPM):
-        yield Finding("", version, who, NO_VERSION)
-        return
     resolved, name = entry.get("resolved"), package_at(packages, place).name or ""
+    finding = Finding(
+        Kind.INVALID_VERSION, "", version, package=name, place=where, at=keys_of(place, is_old)
+    )
+    if not is_version(version, Dialect.NPM):
+        yield finding
+        return
     archive = archive_at(name, resolved) if isinstance(resolved, str) else None
     if archive is not None and not is_met(archive.version, version, Dialect.NPM):
-        yield Finding(str(resolved), version, who, ANOTHER_VERSION)
+        yield finding._replace(kind=Kind.ANOTHER_VERSION, range=str(resolved))
 
 
 def rules_of_manifest(manifest: Entry) -> Rule:
@@ -155,19 +163,21 @@ def rules_of_manifest(manifest: Entry) -> Rule:
     return rules_of(manifest)
 
 
-def findings(lock: Entry, project: Project) -> Iterator[Finding]:
+def findings(lock: Entry, project: Project, tally: Tally) -> Iterator[Finding]:
     """What there is to say of a lock file, in its order."""
     packages = packages_of(lock, project.manifest)
-    yield from read_links(packages, project.folder)
+    is_old = lock["lockfileVersion"] == 1
+    read_links(packages, project.folder, tally)
     if not project.has_peers:
         packages = {place: without_peers(entry) for place, entry in packages.items()}
+    tally.packages += sum(bool(place) and not it.get("link") for place, it in packages.items())
     asks = {place: list(asks_at(packages, place)) for place in packages}
     held = where_rules_hold(packages, asks, project.rules)
     for place in packages:
-        yield from of_version(packages, place)
+        yield from of_version(packages, place, is_old)
         is_beside = is_beside_overrides(packages, place)
         for ask in asks[place]:
             pinned = ask.found is not None and is_pinned(packages, ask.found.place)
             is_plain = is_beside or pinned
             judgement = judged_by(ask.spec, False, ask) if is_plain else judged(ask, held[place])
-            yield from of_ask(ask, judgement, lock["lockfileVersion"] == 1)
+            yield from of_ask(ask, judgement, is_old, tally)

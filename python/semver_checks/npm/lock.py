@@ -4,7 +4,7 @@ Packages are told by their places, as in lockfileVersion 2 and 3: the folders fr
 and nothing for the project itself.
 """
 
-from typing import Dict, Iterator, NamedTuple, Optional, Tuple
+from typing import Dict, Iterator, List, NamedTuple, Optional, Tuple
 
 from ..files import Entry, WrongShape, object_at, objects_at, text_at, texts_at
 from .archives import archive_at
@@ -45,6 +45,17 @@ class Ask(NamedTuple):
 
 
 # ---- places
+
+
+def keys_of(place: str, is_old: bool) -> Tuple[str, ...]:
+    """The keys in the file that lead to the package at a place; none to the project of an old file,
+    of lockfileVersion 1."""
+    if not is_old:
+        return "packages", place
+    keys: List[str] = []
+    for name in place.split("node_modules/")[1:]:
+        keys += ["dependencies", name.rstrip("/")]
+    return tuple(keys)
 
 
 def folders(place: str) -> Iterator[str]:

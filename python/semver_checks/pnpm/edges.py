@@ -19,11 +19,11 @@ from typing import Callable, Dict, Iterator, List, NamedTuple, Optional, Tuple
 from semver_parser import Dialect
 
 from ..files import Entry, WrongShape, object_at, objects_at, text_at, texts_at
-from ..judging import NO_VERSION, NOT_THERE, SKIPPED, Finding, is_met, is_version
+from ..findings import PROJECT, Finding, Kind, Tally
+from ..judging import is_met, is_version
 from ..manifests import TOP, Need, manifest_in, name_in, needs_of, version_in
 from ..npm.specs import (
     CATALOG,
-    MET,
     Override,
     alias_of,
     has_name,
@@ -31,6 +31,7 @@ from ..npm.specs import (
     may_overlap,
     name_and_rest,
     range_of,
+    reason_of,
     verdict_by,
     verdict_on,
 )
@@ -65,16 +66,18 @@ class Found(NamedTuple):
 
 
 class Ask(NamedTuple):
-    """Who asks for which name, for what, what is found, whether that has to be there, and is listed
-    only with `--strict` if it isn't, and the name and the version of the package that asks, if it
-    is one that is called by them. Packages ask for peers."""
+    """Who asks for which name, for what, what is found, whether that has to be there, the keys in
+    the file that lead to it or to who asks, why it is listed only with `--strict` if it isn't
+    there, and the name and the version of the package that asks, if it is one that is called by
+    them. Packages ask for peers."""
 
     asker: str
     name: str
     spec: str
     found: Optional[Found]
     is_required: bool
-    is_strict: bool = False
+    at: Tuple[str, ...]
+    reason: str = ""
     parent: Optional[Tuple[str, str]] = None
     is_peer: bool = False
 
@@ -134,11 +137,16 @@ def found_by_link(text: str, folder: str, read: Reader) -> Found:
 
 
 def asks_of_importer(
-    folder: str, importer: Entry, packages: Packages, needs: Dict[str, Need], read: Reader
+    folder: str,
+    at: Tuple[str, ...],
+    importer: Entry,
+    packages: Packages,
+    needs: Dict[str, Need],
+    read: Reader,
 ) -> Iterator[Ask]:
     """What the project or a workspace asks for, by its package.json where that is there. In
     lockfileVersion 5 that is apart from what is found."""
-    asker = "the project" if folder == TOP else folder
+    asker = PROJECT if folder == TOP else folder
     specs = texts_at(importer.get("specifiers", {}), f"{folder}: specifiers")
     for kind in KINDS:
         for name, value in object_at(importer.get(kind, {}), f"{folder}: {kind}").items():
@@ -151,10 +159,11 @@ def asks_of_importer(
             need, text = needs.pop(name, None), text_at(value, where)
             is_link = text.startswith(LINK)
             found = found_by_link(text, folder, read) if is_link else found_at(text, name, packages)
-            yield Ask(asker, name, spec if need is None else need.spec, found, True)
+            spec = spec if need is None else need.spec
+            yield Ask(asker, name, spec, found, True, (*at, kind, name))
     for need in needs.values():
-        is_required, is_strict = not need.is_optional, is_no_range(need.spec)
-        yield Ask(asker, need.name, need.spec, None, is_required, is_strict)
+        reason = reason_of(need.spec) if is_no_range(need.spec) else ""
+        yield Ask(asker, need.name, need.spec, None, not need.is_optional, at, reason)
 
 
 def asks_of_catalogs(lock: Entry, packages: Packages) -> Iterator[Ask]:
@@ -166,7 +175,8 @@ def asks_of_catalogs(lock: Entry, packages: Packages) -> Iterator[Ask]:
             text = text_at(entry.get("version"), f"{where}: version")
             _, version = found_at(text, name, packages)
             named, _ = alias_of(of_jsr(name, spec)) or (None, "")
-            yield Ask(f"catalog {catalog}", name, spec, Found(named, version), True)
+            at = ("catalogs", catalog, name)
+            yield Ask(f"catalog {catalog}", name, spec, Found(named, version), True, at)
 
 
 def by_catalog(ask: Ask, catalogs: List[Ask]) -> Ask:
@@ -190,7 +200,7 @@ def packages_of(lock: Entry, packages: Packages) -> Iterator[Tuple[str, Entry, E
 
 
 def asks_of_package(
-    key: str, fields: Entry, depends: Entry, packages: Packages, is_strict: bool
+    key: str, fields: Entry, depends: Entry, packages: Packages, reason: str
 ) -> Iterator[Ask]:
     """The peers that a package asks for."""
     called = called_by(key)
@@ -204,7 +214,8 @@ def asks_of_package(
     for name, spec in peers.items():
         found = found_at(given[name], name, packages) if name in given else None
         is_optional = metas.get(name, {}).get("optional") in ("true", True)
-        yield Ask(asker, name, spec, found, not is_optional, is_strict, called, True)
+        at = ("packages", key.partition("(")[0] if depends is not fields else key)
+        yield Ask(asker, name, spec, found, not is_optional, at, reason, called, True)
 
 
 # ---- the findings
@@ -240,29 +251,39 @@ def wanted_of(ask: Ask, spec: str, version: str) -> str:
     return version if ask.is_peer and takes_peer(wanted, version) else wanted
 
 
-def of_ask(ask: Ask, overrides: Dict[str, List[Override]]) -> Iterator[Finding]:
+def of_ask(
+    ask: Ask, overrides: Dict[str, List[Override]], tally: Tally
+) -> Iterator[Finding]:
     """What there is to say of what is asked for."""
     specs = [it.spec for it in overrides.get(ask.name, []) if is_for(it, ask)]
     replaced = [spec for spec in specs if spec != REMOVED]
-    who, found = f"{ask.asker} asks for {ask.name}", ask.found
+    found = ask.found
+    finding = Finding(Kind.MISSING, ask.spec, "", ask.asker, ask.name, at=ask.at)
     if found is None:
         if ask.is_required and REMOVED not in specs:
-            yield Finding(ask.spec, "", who, NOT_THERE, ask.is_strict)
+            tally.requirements += 1
+            yield finding._replace(is_strict=bool(ask.reason), reason=ask.reason)
         return
+    tally.requirements += 1
     if found.version is None:
-        yield Finding(ask.spec, "", who, SKIPPED, is_strict=True)
+        reason = reason_of(ask.spec) if is_no_range(ask.spec) else "no version"
+        yield finding._replace(kind=Kind.NOT_CHECKED, is_strict=True, reason=reason)
         return
     name = found.name or ask.name
+    finding = finding._replace(version=found.version, package=name)
     spec, wanted = ask.spec, wanted_of(ask, ask.spec, found.version)
     others = {wanted_of(ask, it, found.version): it for it in replaced}
     if not any(has_name(name, it) for it in (wanted, *others)):
-        yield Finding(spec, name, who, "another package")
+        yield finding._replace(kind=Kind.ANOTHER_PACKAGE)
     verdict = verdict_on(found.version, wanted)
-    if verdict not in (MET, SKIPPED) and others:
+    if verdict not in (None, Kind.NOT_CHECKED) and others:
         wanted, verdict = verdict_by(found.version, list(others))
         spec = others[wanted]
-    if verdict != MET:
-        yield Finding(spec, found.version, who, verdict, is_strict=verdict == SKIPPED)
+    if verdict == Kind.NOT_CHECKED:
+        reason = reason_of(wanted)
+        yield finding._replace(kind=verdict, range=spec, is_strict=True, reason=reason)
+    elif verdict is not None:
+        yield finding._replace(kind=verdict, range=spec)
 
 
 def check_version(lock: Entry) -> None:
@@ -285,27 +306,33 @@ def reader_of(top: Optional[str]) -> Reader:
     return read
 
 
-def findings(lock: Entry, top: Optional[str]) -> Iterator[Finding]:
+def findings(lock: Entry, top: Optional[str], tally: Tally) -> Iterator[Finding]:
     """What there is to say of a lock file, in its order, beside the package.json files in and below
     a folder, if it is known."""
     check_version(lock)
     packages = objects_at(lock.get("packages") or {}, "packages")
     overrides, catalogs = overrides_of(lock), list(asks_of_catalogs(lock, packages))
+    tally.packages += len(packages)
     for ask in catalogs:
-        yield from of_ask(ask, overrides)
+        yield from of_ask(ask, overrides, tally)
     read = reader_of(top)
     for folder, importer in importers_of(lock).items():
         # With this sum there is a `.pnpmfile.cjs`, which may change what a package.json asks for.
         manifest = None if "pnpmfileChecksum" in lock else read(folder)
         needs = {need.name: need for need in needs_of(manifest or {})}
-        for ask in asks_of_importer(folder, importer, packages, needs, read):
-            yield from of_ask(by_catalog(ask, catalogs), overrides)
+        at = ("importers", folder) if "importers" in lock else ()
+        for ask in asks_of_importer(folder, at, importer, packages, needs, read):
+            yield from of_ask(by_catalog(ask, catalogs), overrides, tally)
     settings = object_at(lock.get("settings") or {}, "settings")
     # Without this setting pnpm only warns of a peer that isn't there.
-    is_strict = settings.get("autoInstallPeers") != "true"
+    reason = "" if settings.get("autoInstallPeers") == "true" else "peer"
     for key, fields, depends in packages_of(lock, packages):
         called = called_by(key)
         if called is not None and not is_version(called[1], Dialect.NPM):
-            yield Finding("", called[1], called[0], NO_VERSION)
-        for ask in asks_of_package(key, fields, depends, packages, is_strict):
-            yield from of_ask(ask, overrides)
+            name, version = called
+            at = ("packages", key) if key in packages else ("snapshots", key)
+            yield Finding(
+                Kind.INVALID_VERSION, "", version, package=name, place=name, at=at
+            )
+        for ask in asks_of_package(key, fields, depends, packages, reason):
+            yield from of_ask(ask, overrides, tally)

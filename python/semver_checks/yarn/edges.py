@@ -19,18 +19,19 @@ from typing import Dict, Iterable, Iterator, List, NamedTuple, Optional, Set
 from semver_parser import Dialect
 
 from ..files import Entry, texts_at
-from ..judging import ANOTHER_VERSION, NO_VERSION, NOT_THERE, SKIPPED, Finding, is_version
+from ..findings import PROJECT, Finding, Kind, Tally
+from ..judging import is_version
 from ..manifests import KINDS_OF_BERRY, TOP, Project, name_in, version_in
 from ..manifests import needs_of as needs_of_manifest
 from ..npm.specs import (
     CATALOG,
-    MET,
     Override,
     alias_of,
     has_name,
     is_elsewhere,
     is_no_range,
     name_and_rest,
+    reason_of,
     verdict_by,
     verdict_on,
 )
@@ -62,9 +63,15 @@ class Ask(NamedTuple):
     def asker(self) -> str:
         """Who asks, as it is printed."""
         if self.package is None:
-            return "the project" if self.folder == TOP else self.folder
+            return PROJECT if self.folder == TOP else self.folder
         name = name_of(self.package.patterns[0])
         return name if self.package.version == WORKSPACE else f"{name} {self.package.version}"
+
+    @property
+    def finding(self) -> Finding:
+        """What there is to say if nothing is found."""
+        at = () if self.package is None else (self.package.key,)
+        return Finding(Kind.MISSING, self.spec, "", self.asker, self.name, at=at)
 
 
 class Edge(NamedTuple):
@@ -138,38 +145,46 @@ def key_for(name: str, spec: str, by_key: Dict[str, Package]) -> Optional[str]:
 def of_missing(edge: Edge) -> Iterator[Finding]:
     """What there is to say of what is asked for and not found. A tag, a path or a URL may have been
     written in another way."""
-    spec, who = edge.ask.spec, f"{edge.ask.asker} asks for {edge.ask.name}"
-    if spec.startswith(CATALOG):
-        yield Finding(spec, "", who, SKIPPED, is_strict=True)
+    finding, is_strict = edge.ask.finding, is_no_range(edge.wanted)
+    if edge.ask.spec.startswith(CATALOG):
+        yield finding._replace(kind=Kind.NOT_CHECKED, is_strict=True, reason="catalog")
     elif edge.ask.is_required:
-        yield Finding(spec, "", who, NOT_THERE, is_no_range(edge.wanted))
+        reason = reason_of(edge.wanted) if is_strict else ""
+        yield finding._replace(is_strict=is_strict, reason=reason)
 
 
 def of_edge(edge: Edge, found: Package) -> Iterator[Finding]:
     """What there is to say of what is asked for and found."""
     ask, spec, wanted, resolved, _ = edge
-    who = f"{ask.asker} asks for {ask.name}"
+    finding = ask.finding._replace(kind=Kind.NOT_CHECKED, at=(found.key,))
     if found.version == WORKSPACE:
-        yield Finding(ask.spec, "", who, SKIPPED, is_strict=True)
+        yield finding._replace(is_strict=True, reason="workspace")
         return
+    name = found.name or name_of(found.patterns[0])
+    finding = finding._replace(range=spec, version=found.version, package=name)
     if found.name and not any(has_name(found.name, it) for it in (wanted, *resolved)):
-        yield Finding(spec, found.name, who, "another package")
+        yield finding._replace(kind=Kind.ANOTHER_PACKAGE)
     verdict = verdict_on(found.version, wanted)
-    if verdict not in (MET, SKIPPED) and resolved:
+    if verdict not in (None, Kind.NOT_CHECKED) and resolved:
         wanted, verdict = verdict_by(found.version, list(resolved))
-        spec = resolved[wanted]
-    if verdict != MET:
-        yield Finding(spec, found.version, who, verdict, is_strict=verdict == SKIPPED)
+        finding = finding._replace(range=resolved[wanted])
+    if verdict == Kind.NOT_CHECKED:
+        yield finding._replace(is_strict=True, reason=reason_of(wanted))
+    elif verdict is not None:
+        yield finding._replace(kind=verdict)
 
 
 def of_version(package: Package) -> Iterator[Finding]:
     """What there is to say of a package whose version yarn refuses, or whose entry has another one
     than yarn installs. Build metadata isn't compared: `version` is written without it."""
-    version, who = package.version, name_of(package.patterns[0])
+    version, name = package.version, name_of(package.patterns[0])
+    finding = Finding(
+        Kind.INVALID_VERSION, "", version, package=name, place=name, at=(package.key,)
+    )
     if version != WORKSPACE and not is_version(version, Dialect.NPM):
-        yield Finding("", version, who, NO_VERSION)
+        yield finding
     if version.partition("+")[0] != package.entry_version.partition("+")[0]:
-        yield Finding(package.entry_version, version, who, ANOTHER_VERSION)
+        yield finding._replace(kind=Kind.ANOTHER_VERSION, range=package.entry_version)
 
 
 def bare(pattern: str) -> str:
@@ -217,7 +232,7 @@ def asks_of_folders(project: Project, packages: List[Package]) -> Iterator[Ask]:
     for folder, manifest in project.items():
         for need in [] if folder in known else needs_of_manifest(manifest):
             version = versions.get(need.name)
-            if version is None or verdict_on(version, need.spec) != MET:
+            if version is None or verdict_on(version, need.spec) is not None:
                 yield Ask(None, need.name, need.spec, not need.is_optional, folder)
 
 
@@ -227,10 +242,13 @@ def folder_of(package: Package) -> str:
     return spec[len(OWN) :] if spec.startswith(OWN) else ""
 
 
-def findings(tree: Tree, resolutions: Resolutions, project: Project) -> Iterator[Finding]:
+def findings(
+    tree: Tree, resolutions: Resolutions, project: Project, tally: Tally
+) -> Iterator[Finding]:
     """What there is to say of a lock file, in its order, beside the project's resolutions and the
     package.json files of it and its workspaces. First comes what is asked for outside the file."""
     packages, is_berry = list(packages_of(tree)), "__metadata" in tree
+    tally.packages += sum(package.version != WORKSPACE for package in packages)
     by_key = {bare(pattern): package for package in packages for pattern in package.patterns}
 
     def edges_for(asks: Iterable[Ask]) -> List[Edge]:
@@ -239,23 +257,26 @@ def findings(tree: Tree, resolutions: Resolutions, project: Project) -> Iterator
     outside = edges_for(asks_of_folders(project, packages))
     edges = [edges_for(asks_of(package, project)) for package in packages]
     used = {edge.key for each in (outside, *edges) for edge in each}
-    yield from of_edges(outside, by_key, project)
+    yield from of_edges(outside, by_key, project, tally)
     # A key of berry has what a resolution put there.
     of_keys: Resolutions = {} if is_berry else resolutions
     for package, its_edges in zip(packages, edges):
         yield from of_version(package)
         own = [edge_of(it, by_key, of_keys, is_berry) for it in asks_of_project(package, used)]
-        yield from of_edges([*own, *its_edges], by_key, project)
+        yield from of_edges([*own, *its_edges], by_key, project, tally)
 
 
 def of_edges(
-    edges: List[Edge], by_key: Dict[str, Package], project: Project
+    edges: List[Edge], by_key: Dict[str, Package], project: Project, tally: Tally
 ) -> Iterator[Finding]:
     """What there is to say of several. Without a package.json the resolutions aren't known, which
     may be why one isn't there."""
     for edge in edges:
         if edge.key is not None:
+            tally.requirements += 1
             yield from of_edge(edge, by_key[edge.key])
-        else:
-            for it in of_missing(edge):
-                yield it._replace(is_strict=it.is_strict or not project)
+            continue
+        for it in of_missing(edge):
+            tally.requirements += 1
+            is_known = it.is_strict or bool(project)
+            yield it if is_known else it._replace(is_strict=True, reason="no package.json")

@@ -28,10 +28,11 @@ MET_BY = ("dependencies", OPTIONAL)
 
 
 class Package(NamedTuple):
-    """A package of the file: the asks that it is for, as `numbers@^1.0.0`, the version that yarn
-    installs, that of its entry, its fields, by what it is resolved, if the file is berry's, and its
-    own name, which yarn 1 has only in a URL."""
+    """A package of the file: its key, the asks that it is for, as `numbers@^1.0.0`, the version
+    that yarn installs, that of its entry, its fields, by what it is resolved, if the file is
+    berry's, and its own name, which yarn 1 has only in a URL."""
 
+    key: str
     patterns: List[str]
     version: str
     entry_version: str
@@ -130,7 +131,7 @@ def packages_of(tree: Tree) -> Iterator[Package]:
         # A name alone is for the tag `latest`, as yarn 1 has it.
         patterns = [it if "@" in it[1:] else f"{it}@latest" for it in key.split(between)]
         installed = version_of(resolution) or version
-        yield Package(patterns, installed, version, fields, resolution, name)
+        yield Package(key, patterns, installed, version, fields, resolution, name)
 
 
 def source_of(text: str) -> str:
