@@ -6,6 +6,8 @@ import sys
 from contextlib import contextmanager
 from typing import Any, Dict, Iterator, List, NoReturn
 
+from .events import Unusual, document_of
+
 Entry = Dict[str, Any]
 
 STANDARD_INPUT = "-"
@@ -72,7 +74,7 @@ def refuse_constant(name: str) -> NoReturn:
 
 def refuse_conflict(text: bytes) -> None:
     """Refuses a file in which git left a conflict."""
-    found = CONFLICT.search(text)
+    found = CONFLICT.search(text) if b"<<<<<<< " in text else None
     if found is not None:
         line = text.count(b"\n", 0, found.end()) + 1
         raise Unreadable(f"merge conflict at line {line}")
@@ -111,11 +113,14 @@ def yaml_object(text: bytes) -> Entry:
     except ImportError:
         raise Unreadable("it is YAML: install PyYAML (Debian: python3-yaml)") from None
     try:
-        value = yaml.load(utf8(text), Loader=yaml.BaseLoader)
-    except yaml.YAMLError as error:
-        raise Unreadable(f"it isn't YAML: {' '.join(str(error).split())}") from None
-    except (ValueError, OverflowError):
-        raise Unreadable("it isn't YAML") from None
+        value = document_of(utf8(text))
+    except Unusual:
+        try:
+            value = yaml.load(utf8(text), Loader=yaml.BaseLoader)
+        except yaml.YAMLError as error:
+            raise Unreadable(f"it isn't YAML: {' '.join(str(error).split())}") from None
+        except (ValueError, OverflowError):
+            raise Unreadable("it isn't YAML") from None
     return object_at(value, "the file")
 
 
@@ -141,13 +146,19 @@ def object_at(value: Any, where: str) -> Entry:
 def objects_at(value: Any, where: str) -> Dict[str, Entry]:
     """An object of a file that holds objects."""
     entries = object_at(value, where)
-    return {key: object_at(entry, f"{where}: {key}") for key, entry in entries.items()}
+    for key, entry in entries.items():
+        if not isinstance(entry, dict):
+            object_at(entry, f"{where}: {key}")
+    return entries
 
 
 def texts_at(value: Any, where: str) -> Dict[str, str]:
     """An object of a file that holds texts."""
     entries = object_at(value, where)
-    return {key: text_at(entry, f"{where}: {key}") for key, entry in entries.items()}
+    for key, entry in entries.items():
+        if not isinstance(entry, str):
+            text_at(entry, f"{where}: {key}")
+    return entries
 
 
 def list_at(value: Any, where: str) -> List[Any]:

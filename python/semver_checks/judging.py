@@ -1,10 +1,13 @@
-"""How a version is judged by a range, or by the rules of versions."""
+"""How a version is judged by a range, or by the rules of versions. Each text is read once: a lock
+file has most of them again and again."""
 
+from functools import lru_cache
 from typing import Optional
 
 from semver_parser import Dialect, Range, RangeError, VersionError, parse_version, satisfies
 
 
+@lru_cache(maxsize=None)
 def is_version(text: str, dialect: Dialect) -> bool:
     """Whether a text is a version to a tool."""
     try:
@@ -14,6 +17,7 @@ def is_version(text: str, dialect: Dialect) -> bool:
     return True
 
 
+@lru_cache(maxsize=None)
 def is_range(text: str, dialect: Dialect) -> bool:
     """Whether a text is a range to a tool."""
     try:
@@ -23,6 +27,7 @@ def is_range(text: str, dialect: Dialect) -> bool:
     return True
 
 
+@lru_cache(maxsize=None)
 def is_met(wanted: str, version: str, dialect: Dialect) -> Optional[bool]:
     """Whether a version satisfies a range; None if the range is invalid. An invalid version
     satisfies none."""

@@ -1,5 +1,6 @@
 """How the programs start: with one line on standard error if they can't, as without the library."""
 
+import gc
 import sys
 
 from .program import open_output
@@ -15,7 +16,9 @@ def refused(program: str, error: ImportError) -> int:
 
 
 def check_lock_file() -> int:
-    """Runs `check-lock-file`. The status."""
+    """Runs `check-lock-file`. The status. What it reads it keeps until it ends, so a collector of
+    cycles would only look through that again and again."""
+    gc.disable()
     try:
         from .check_lock_file import main
     except ImportError as error:

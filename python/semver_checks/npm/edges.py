@@ -29,15 +29,15 @@ from .lock import (
     Package,
     Packages,
     asks_at,
-    is_pinned,
     is_top,
     keys_of,
     package_at,
     packages_of,
+    pinned_in,
     version_at,
     without_peers,
 )
-from .overrides import Rule, rules_in_turn, rules_of, where_rules_hold
+from .overrides import Rule, names_in, rules_in_turn, rules_of, where_rules_hold
 from .specs import has_name, is_any, reason_of, verdict_on
 from .workspaces import is_workspace
 
@@ -85,6 +85,14 @@ def verdict_by_npm(spec: str, found: Optional[Package]) -> Optional[Kind]:
     return verdict_on(None if found is None else found.version, spec)
 
 
+def is_plainly_met(ask: Ask) -> bool:
+    """Whether a range is required, and the version is in it: no more is to be said then."""
+    version = None if ask.found is None else ask.found.version
+    if version is None or ":" in ask.spec:
+        return False
+    return is_met(ask.spec, version, Dialect.NPM) is True
+
+
 def is_beside_overrides(packages: Packages, place: str) -> bool:
     """Whether overrides leave alone what a package asks for: npm refuses one that differs from what
     the project itself asks for, and has none for a linked folder that is no workspace."""
@@ -111,20 +119,25 @@ def judged_under(ask: Ask, here: Rule) -> Judgement:
 # ---- the findings
 
 
-def of_ask(ask: Ask, judgement: Judgement, is_old: bool, tally: Tally) -> Iterator[Finding]:
-    """What there is to say of what is required. What isn't there counts by `--strict` only in an
+def of_missing(ask: Ask, spec: str, is_old: bool) -> Finding:
+    """What there is to say of what is required and isn't there. It counts by `--strict` only in an
     old file, of lockfileVersion 1, which doesn't say what is optional."""
+    who, at, reason = ask.place or PROJECT, keys_of(ask.place, is_old), "may be optional"
+    missing = Finding(Kind.MISSING, spec, "", who, ask.name, at=at)
+    return missing._replace(is_strict=True, reason=reason) if is_old else missing
+
+
+def of_ask(ask: Ask, judgement: Judgement, is_old: bool, tally: Tally) -> Iterator[Finding]:
+    """What there is to say of what is required."""
     spec, verdict, found = judgement.spec, judgement.verdict, ask.found
-    who, at = ask.place or PROJECT, keys_of(ask.place, is_old)
+    tally.requirements += found is not None or ask.is_required
     if found is None:
         if ask.is_required:
-            tally.requirements += 1
-            reason = "may be optional" if is_old else ""
-            yield Finding(
-                Kind.MISSING, spec, "", who, ask.name, at=at, is_strict=is_old, reason=reason
-            )
+            yield of_missing(ask, spec, is_old)
         return
-    tally.requirements += 1
+    if judgement.has_name and verdict is None:
+        return
+    who = ask.place or PROJECT
     name, version, at = found.name or "", found.version or "", keys_of(found.place, is_old)
     kind = Kind.OVERRIDDEN if verdict == Kind.UNSATISFIED and judgement.is_overridden else verdict
     finding = Finding(
@@ -138,23 +151,29 @@ def of_ask(ask: Ask, judgement: Judgement, is_old: bool, tally: Tally) -> Iterat
         yield finding._replace(kind=kind)
 
 
-def of_version(packages: Packages, place: str, is_old: bool) -> Iterator[Finding]:
+def of_version(package: Package, entry: Entry, is_old: bool) -> Iterator[Finding]:
     """What there is to say of a package with a version that npm wouldn't take, or another one than
     the archive that npm installs."""
-    entry, where = packages[place], place or PROJECT
-    version = None if entry.get("link") else version_at(entry, where)
-    if version is None:
+    place, name, version = package
+    resolved, where = entry.get("resolved"), place or PROJECT
+    if entry.get("link") or version is None:
         return
-    resolved, name = entry.get("resolved"), package_at(packages, place).name or ""
-    finding = Finding(
-        Kind.INVALID_VERSION, "", version, package=name, place=where, at=keys_of(place, is_old)
-    )
     if not is_version(version, Dialect.NPM):
-        yield finding
+        kind, wanted = Kind.INVALID_VERSION, ""
+    elif isinstance(resolved, str) and is_another(name or "", version, resolved):
+        kind, wanted = Kind.ANOTHER_VERSION, resolved
+    else:
         return
-    archive = archive_at(name, resolved) if isinstance(resolved, str) else None
-    if archive is not None and not is_met(archive.version, version, Dialect.NPM):
-        yield finding._replace(kind=Kind.ANOTHER_VERSION, range=str(resolved))
+    at = keys_of(place, is_old)
+    yield Finding(kind, wanted, version, package=name or "", place=where, at=at)
+
+
+def is_another(name: str, version: str, resolved: str) -> bool:
+    """Whether the archive of a package has another version. Nearly all are named by their own."""
+    if resolved.endswith(f"/{name}/-/{name.rpartition('/')[2]}-{version}.tgz"):
+        return False
+    archive = archive_at(name, resolved)
+    return archive is not None and not is_met(archive.version, version, Dialect.NPM)
 
 
 def rules_of_manifest(manifest: Entry) -> Rule:
@@ -171,13 +190,18 @@ def findings(lock: Entry, project: Project, tally: Tally) -> Iterator[Finding]:
     if not project.has_peers:
         packages = {place: without_peers(entry) for place, entry in packages.items()}
     tally.packages += sum(bool(place) and not it.get("link") for place, it in packages.items())
-    asks = {place: list(asks_at(packages, place)) for place in packages}
-    held = where_rules_hold(packages, asks, project.rules)
-    for place in packages:
-        yield from of_version(packages, place, is_old)
+    found = {place: package_at(packages, place) for place in packages}
+    asks = {place: list(asks_at(place, entry, found)) for place, entry in packages.items()}
+    held = where_rules_hold(found, asks, project.rules)
+    pinned, ruled = pinned_in(packages), names_in(project.rules)
+    for place, entry in packages.items():
+        yield from of_version(found[place], entry, is_old)
         is_beside = is_beside_overrides(packages, place)
         for ask in asks[place]:
-            pinned = ask.found is not None and is_pinned(packages, ask.found.place)
-            is_plain = is_beside or pinned
+            is_pinned = ask.found is not None and ask.found.place in pinned
+            is_plain = is_beside or is_pinned or ask.name not in ruled
+            if is_plain and is_plainly_met(ask):
+                tally.requirements += 1
+                continue
             judgement = judged_by(ask.spec, False, ask) if is_plain else judged(ask, held[place])
             yield from of_ask(ask, judgement, is_old, tally)

@@ -1,6 +1,7 @@
 """What npm, yarn and pnpm ask for: a range, or a tag, an address or a path."""
 
 import re
+from functools import lru_cache
 from typing import List, NamedTuple, Optional, Tuple
 from urllib.parse import unquote
 
@@ -52,7 +53,7 @@ def name_and_rest(text: str) -> Tuple[str, str]:
 def alias_of(spec: str) -> Optional[Tuple[str, str]]:
     """The name and the range of `npm:NAME@RANGE`, which is empty where there is none; None where
     it is no alias."""
-    if spec[:4].lower() != "npm:" or len(spec) == 4:
+    if ":" not in spec or spec[:4].lower() != "npm:" or len(spec) == 4:
         return None
     return name_and_rest(spec[4:])
 
@@ -63,6 +64,7 @@ def has_name(name: str, spec: str) -> bool:
     return alias is None or alias[0] == name
 
 
+@lru_cache(maxsize=None)
 def is_any(spec: str) -> bool:
     """Whether npm takes each package for what is required, also without a valid version."""
     alias = alias_of(spec)
@@ -78,7 +80,7 @@ def git_range_of(spec: str) -> Optional[Tuple[str, str]]:
 
 def range_of(spec: str) -> str:
     """What comes in place of the range in what is asked for."""
-    named = alias_of(spec) or git_range_of(spec)
+    named = alias_of(spec) or (git_range_of(spec) if "#" in spec else None)
     return spec if named is None else named[1]
 
 
@@ -100,6 +102,7 @@ def reason_of(spec: str) -> str:
     return next((reason for reason, begins in REASONS if begins.match(spec)), "tag")
 
 
+@lru_cache(maxsize=None)
 def may_overlap(spec: str, within: str) -> bool:
     """Whether two ranges have a version in common, or may have one, since one of them isn't
     read."""

@@ -35,7 +35,7 @@ from ..npm.specs import (
     verdict_by,
     verdict_on,
 )
-from .lock import Package, Tree, name_of, needs_of, packages_of, source_of
+from .lock import PATCH, Package, Tree, name_of, needs_of, packages_of, source_of
 
 # The version that a workspace of the project has in a lock file.
 WORKSPACE = "0.0.0-use.local"
@@ -93,12 +93,13 @@ def of_yarn(spec: str) -> str:
 def wanted_of(name: str, spec: str) -> str:
     """What berry asks for as npm has it: a range with the name of its package, also inside
     `patch:`."""
-    name, spec = name_and_rest(source_of(f"{name}@{spec}"))
+    if PATCH in spec:
+        name, spec = name_and_rest(source_of(f"{name}@{spec}"))
     spec = of_yarn(spec)
     return spec if alias_of(spec) is not None or is_elsewhere(spec) else f"npm:{name}@{spec}"
 
 
-def wanted_of_classic(spec: str) -> str:
+def wanted_of_classic(_: str, spec: str) -> str:
     """What yarn 1 asks for as npm has it: `npm:NAME` without a range is for the tag `latest`."""
     name, rest = alias_of(spec) or ("", spec)
     return f"npm:{name}@latest" if name and not rest else spec
@@ -138,8 +139,10 @@ def is_for(resolution: Override, ask: Ask) -> bool:
 
 def key_for(name: str, spec: str, by_key: Dict[str, Package]) -> Optional[str]:
     """The key that is for what is asked for. yarn 2 and later write `npm:` before a range."""
-    keys = (f"{name}@{bare(spec)}", f"{name}@npm:{spec}")
-    return next((key for key in keys if key in by_key), None)
+    key = f"{name}@{bare(spec) if '::' in spec else spec}"
+    if key not in by_key:
+        key = f"{name}@npm:{spec}"
+    return key if key in by_key else None
 
 
 def of_missing(edge: Edge) -> Iterator[Finding]:
@@ -156,20 +159,23 @@ def of_missing(edge: Edge) -> Iterator[Finding]:
 def of_edge(edge: Edge, found: Package) -> Iterator[Finding]:
     """What there is to say of what is asked for and found."""
     ask, spec, wanted, resolved, _ = edge
-    finding = ask.finding._replace(kind=Kind.NOT_CHECKED, at=(found.key,))
     if found.version == WORKSPACE:
+        finding = ask.finding._replace(kind=Kind.NOT_CHECKED, at=(found.key,))
         yield finding._replace(is_strict=True, reason="workspace")
         return
-    name = found.name or name_of(found.patterns[0])
-    finding = finding._replace(range=spec, version=found.version, package=name)
-    if found.name and not any(has_name(found.name, it) for it in (wanted, *resolved)):
-        yield finding._replace(kind=Kind.ANOTHER_PACKAGE)
     verdict = verdict_on(found.version, wanted)
+    is_named = has_name(found.name, wanted) or any(has_name(found.name, it) for it in resolved)
+    if verdict is None and (is_named or not found.name):
+        return
+    name = found.name or name_of(found.patterns[0])
+    finding = ask.finding._replace(range=spec, version=found.version, package=name, at=(found.key,))
+    if found.name and not is_named:
+        yield finding._replace(kind=Kind.ANOTHER_PACKAGE)
     if verdict not in (None, Kind.NOT_CHECKED) and resolved:
         wanted, verdict = verdict_by(found.version, list(resolved))
         finding = finding._replace(range=resolved[wanted])
     if verdict == Kind.NOT_CHECKED:
-        yield finding._replace(is_strict=True, reason=reason_of(wanted))
+        yield finding._replace(kind=verdict, is_strict=True, reason=reason_of(wanted))
     elif verdict is not None:
         yield finding._replace(kind=verdict)
 
@@ -177,14 +183,18 @@ def of_edge(edge: Edge, found: Package) -> Iterator[Finding]:
 def of_version(package: Package) -> Iterator[Finding]:
     """What there is to say of a package whose version yarn refuses, or whose entry has another one
     than yarn installs. Build metadata isn't compared: `version` is written without it."""
-    version, name = package.version, name_of(package.patterns[0])
+    version, entry_version = package.version, package.entry_version
+    is_valid = version == WORKSPACE or is_version(version, Dialect.NPM)
+    if is_valid and version == entry_version:
+        return
+    name = name_of(package.patterns[0])
     finding = Finding(
         Kind.INVALID_VERSION, "", version, package=name, place=name, at=(package.key,)
     )
-    if version != WORKSPACE and not is_version(version, Dialect.NPM):
+    if not is_valid:
         yield finding
-    if version.partition("+")[0] != package.entry_version.partition("+")[0]:
-        yield finding._replace(kind=Kind.ANOTHER_VERSION, range=package.entry_version)
+    if version.partition("+")[0] != entry_version.partition("+")[0]:
+        yield finding._replace(kind=Kind.ANOTHER_VERSION, range=entry_version)
 
 
 def bare(pattern: str) -> str:
@@ -197,14 +207,18 @@ def edge_of(
 ) -> Edge:
     """What is found for what is asked for: in berry that by a resolution first. In yarn 1 a package
     that a resolution puts there is for what is asked for, too."""
-    resolved = [it.spec for it in resolutions.get(ask.name, []) if is_for(it, ask)]
+    wanted_as = wanted_of if is_berry else wanted_of_classic
+    if ask.name not in resolutions:
+        key = key_for(ask.name, ask.spec, by_key)
+        return Edge(ask, ask.spec, wanted_as(ask.name, ask.spec), {}, key)
+    resolved = [it.spec for it in resolutions[ask.name] if is_for(it, ask)]
     specs = [*resolved, ask.spec] if is_berry else [ask.spec, *resolved]
     keys = {spec: key_for(ask.name, spec, by_key) for spec in specs}
     spec = next((it for it in specs if keys[it] is not None), ask.spec)
     if not is_berry:
-        written = {wanted_of_classic(it): it for it in resolved}
-        return Edge(ask, ask.spec, wanted_of_classic(ask.spec), written, keys[spec])
-    wanted = wanted_of(ask.name, spec)
+        written = {wanted_as(ask.name, it): it for it in resolved}
+        return Edge(ask, ask.spec, wanted_as(ask.name, ask.spec), written, keys[spec])
+    wanted = wanted_as(ask.name, spec)
     return Edge(ask, spec, wanted, {wanted: spec} if spec in resolved else {}, keys[spec])
 
 

@@ -5,6 +5,7 @@ has a key, and then a value or, on the lines below, an object.
 
 import json
 import re
+from sys import intern
 from typing import Dict, Iterator, List, NamedTuple, Optional, Tuple, Union
 from urllib.parse import unquote
 
@@ -41,21 +42,34 @@ class Package(NamedTuple):
     name: str
 
 
-def lines_of(text: str) -> Iterator[Tuple[int, int, str]]:
-    """The lines of a file: of each its number, its indent, and what it has. Berry writes a key of
-    more than 1,024 characters after `? `, and its colon on the next line."""
+# A line as nearly all are: its indent, a key, and then a colon alone or a value. A quoted text has
+# nothing that is escaped.
+QUOTED = r'"([^"\\\x00-\x1f]*)"'
+USUAL = re.compile(
+    rf'( *)(?:{QUOTED}|([^\s,":#?][^\s,":]*))(?:(:)|:? +(?:{QUOTED}|([^\s"](?:.*\S)?)))'
+)
+
+
+def lines_of(text: str) -> Iterator[Tuple[int, str, str, bool]]:
+    """The lines of a file: of each its indent, its key, its value, and whether an object follows.
+    Berry writes a key of more than 1,024 characters after `? `, and its colon on the next line."""
     key = ""
     for number, line in enumerate(text.splitlines(), 1):
+        usual = None if key else USUAL.fullmatch(line)
+        if usual is not None:
+            indent, quoted_key, bare_key, colon, quoted_value, bare_value = usual.groups()
+            name, value = intern(bare_key or quoted_key), quoted_value or bare_value or ""
+            yield len(indent), name, value, colon is not None
+            continue
         bare = line.strip()
         if not bare or bare.startswith("#"):
             continue
-        depth = len(line) - len(line.lstrip(" "))
         if bool(key) != bare.startswith(":"):
             raise Unreadable(f"it isn't a yarn.lock: line {number}")
         if bare.startswith("? "):
             key = bare[2:]
             continue
-        yield number, depth, key + bare
+        yield (len(line) - len(line.lstrip(" ")), *cut(key + bare, number))
         key = ""
     if key:
         raise Unreadable(f"it isn't a yarn.lock: line {number}")
@@ -65,14 +79,15 @@ def tree_of(text: str) -> Tree:
     """What the lines of a file have, by their indents."""
     tree: Tree = {}
     open_trees: List[Tuple[int, Tree]] = [(-1, tree)]
-    for number, depth, bare in lines_of(text):
+    for depth, key, value, has_more in lines_of(text):
         while open_trees[-1][0] >= depth:
             open_trees.pop()
-        key, value, has_more = cut(bare, number)
-        inner: Tree = {}
-        open_trees[-1][1][key] = inner if has_more else value
         if has_more:
+            inner: Tree = {}
+            open_trees[-1][1][key] = inner
             open_trees.append((depth, inner))
+        else:
+            open_trees[-1][1][key] = value
     return tree
 
 
