@@ -2,6 +2,8 @@
 
 import sys
 
+from .check_lock_file import main as check_main
+from .compare_requirements import main as compare_main
 from .program import open_output
 
 
@@ -17,16 +19,14 @@ def refused(program: str, error: ImportError) -> int:
 def check_lock_file() -> int:
     """Runs `check-lock-file`. The status."""
     try:
-        from .check_lock_file import main
+        return check_main()
     except ImportError as error:
         return refused("check-lock-file", error)
-    return main()
 
 
 def compare_requirements() -> int:
     """Runs `compare-requirements`. The status."""
     try:
-        from .compare_requirements import main
+        return compare_main()
     except ImportError as error:
         return refused("compare-requirements", error)
-    return main()
