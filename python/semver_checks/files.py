@@ -18,12 +18,20 @@ CONFLICT = re.compile(rb"(?:\A|\n)<<<<<<< ")
 BYTE_ORDER_MARK = b"\xef\xbb\xbf"
 
 
+def name_of(path: str) -> str:
+    """A file as it is named in lines."""
+    return "standard input" if path == STANDARD_INPUT else path
+
+
 class Refusal(Exception):
     """Why a file is refused."""
 
     def __init__(self, path: str, why: str) -> None:
         super().__init__(path, why)
         self.path, self.why = path, why
+
+    def __str__(self) -> str:
+        return f"{name_of(self.path)}: {self.why}"
 
 
 class Unreadable(Exception):

@@ -3,6 +3,8 @@
 import gc
 import sys
 
+from .check_lock_file import main as check_main
+from .compare_requirements import main as compare_main
 from .program import open_output
 
 
@@ -20,16 +22,14 @@ def check_lock_file() -> int:
     cycles would only look through that again and again."""
     gc.disable()
     try:
-        from .check_lock_file import main
+        return check_main()
     except ImportError as error:
         return refused("check-lock-file", error)
-    return main()
 
 
 def compare_requirements() -> int:
     """Runs `compare-requirements`. The status."""
     try:
-        from .compare_requirements import main
+        return compare_main()
     except ImportError as error:
         return refused("compare-requirements", error)
-    return main()

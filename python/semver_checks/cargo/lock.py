@@ -7,12 +7,12 @@ WHAT IS FOUND. The packages of the name that the lock file has for the member. I
 one name by several requirements, each has to be met by one of them.
 """
 
-from typing import Dict, Iterator, List, NamedTuple, Optional, Tuple
+from typing import Dict, Iterator, List, NamedTuple, Optional
 
 from semver_parser import Dialect
 
 from ..files import Entry, WrongShape, list_at, object_at, text_at
-from ..findings import Finding, Kind, Tally
+from ..findings import Finding, Keys, Kind, Scope, Tally
 from ..judging import is_met, is_version
 from .manifests import Manifest, Need, manifests_at
 
@@ -60,9 +60,9 @@ def versions_for(member: Package, name: str, by_name: Dict[str, List[str]]) -> L
 
 def of_need(member: Package, need: Need, by_name: Dict[str, List[str]]) -> Iterator[Finding]:
     """What there is to say of what a member asks for."""
-    who, at = f"{member.name} {member.version}", keys_of(member.name, member.version)
-    missing = Finding(Kind.MISSING, need.requirement, "", who, need.name, at=at)
-    finding = missing._replace(alias=need.other_name or "")
+    at = keys_of(member.name, member.version)
+    finding = Finding(Kind.MISSING, need.requirement, "", member.name, need.name, at=at)
+    finding = finding._replace(alias=need.other_name or "", requirer_version=member.version)
     versions = versions_for(member, need.name, by_name)
     if not versions:
         yield finding
@@ -86,7 +86,7 @@ def member_of(manifest: Manifest, packages: List[Package]) -> Optional[Package]:
     return None
 
 
-def keys_of(name: str, version: str) -> Tuple[str, ...]:
+def keys_of(name: str, version: str) -> Keys:
     """What leads to a package in the file."""
     return "package", name, version
 
@@ -98,7 +98,9 @@ def of_package(package: Package, kind: Kind) -> Finding:
     return Finding(kind, "", version, package=name, place=name, at=at)
 
 
-def findings(lock: Entry, folder: Optional[str], tally: Tally) -> Iterator[Finding]:
+def findings(
+    lock: Entry, folder: Optional[str], tally: Tally, scope: Scope
+) -> Iterator[Finding]:
     """What there is to say of a lock file beside the manifests of a folder: first of its versions,
     and then of what each member asks for."""
     if folder is None:
@@ -118,6 +120,10 @@ def findings(lock: Entry, folder: Optional[str], tally: Tally) -> Iterator[Findi
             version, name = manifest.version or "", manifest.name
             yield Finding(Kind.MISSING, "", version, package=name, place=name)
             continue
+        tally.packages -= 1
         for need in manifest.needs:
+            if need.is_development and not scope.has_development:
+                tally.left_out += 1
+                continue
             tally.requirements += 1
             yield from of_need(member, need, by_name)

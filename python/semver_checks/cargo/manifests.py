@@ -27,6 +27,11 @@ class Need(NamedTuple):
     table: str
     source: str = ""
 
+    @property
+    def is_development(self) -> bool:
+        """Whether it is for development, also for a target."""
+        return self.table.rpartition(".")[2] == "dev-dependencies"
+
 
 class Manifest(NamedTuple):
     """The name and the version of a package, and what it asks for. Without a name it is that of a

@@ -19,7 +19,7 @@ from typing import Any, Dict, Iterator, List, NamedTuple, Optional, Set, Tuple
 from semver_parser import Dialect
 
 from ..files import Entry, WrongShape, list_at, object_at, text_at
-from ..findings import Finding, Kind, Tally
+from ..findings import Finding, Kind, Scope, Tally
 from ..judging import is_met, is_version
 
 DependencyKind = Tuple[Optional[str], Optional[str]]
@@ -209,8 +209,8 @@ def of_need(
     package: Package, need: Need, is_required: bool, is_strict: bool, tally: Tally
 ) -> Iterator[Finding]:
     """What there is to say of what a package asks for."""
-    who, other = f"{package.name} {package.version}", need.other_name or ""
-    finding = Finding(Kind.MISSING, need.requirement, "", who, need.name, alias=other)
+    finding = Finding(Kind.MISSING, need.requirement, "", package.name, need.name)
+    finding = finding._replace(alias=need.other_name or "", requirer_version=package.version)
     edges = [edge for edge in package.edges if is_edge_for(edge, need, package)]
     tally.requirements += bool(edges) or is_required
     if not edges and is_required:
@@ -233,22 +233,23 @@ def of_edges(package: Package) -> Iterator[Finding]:
     """What there is to say of the edges of a package that nothing asks for."""
     for edge in package.edges:
         if not any(is_edge_for(edge, need, package) for need in package.needs):
-            who = f"{package.name} {package.version}"
-            yield Finding(
-                Kind.NOT_REQUIRED, "", edge.version, who, edge.name, package=edge.name
-            )
+            finding = Finding(Kind.NOT_REQUIRED, "", edge.version, package.name, edge.name)
+            yield finding._replace(package=edge.name, requirer_version=package.version)
 
 
-def findings(metadata: Entry, tally: Tally) -> Iterator[Finding]:
+def findings(metadata: Entry, tally: Tally, scope: Scope) -> Iterator[Finding]:
     """What there is to say of a graph, in the order of its packages. With `--strict` a dependency
     for any target has to be there."""
     packages = list(packages_at(metadata))
-    tally.packages += len(packages)
+    tally.packages += sum(not package.is_member for package in packages)
     targets = active_targets(packages)
     every_target = {need.kind[1] for package in packages for need in package.needs}
     for package in packages:
         yield from of_version(package)
         for need in package.needs:
+            if need.kind[0] == "dev" and not scope.has_development:
+                tally.left_out += 1
+                continue
             is_required = has_to_be_there(need, package, targets)
             is_strict = not is_required and has_to_be_there(need, package, every_target)
             yield from of_need(package, need, is_required or is_strict, is_strict, tally)

@@ -20,7 +20,7 @@ from typing import Iterator, List, NamedTuple, Optional
 from semver_parser import Dialect
 
 from ..files import Entry
-from ..findings import PROJECT, Finding, Kind, Tally
+from ..findings import PROJECT, Finding, Kind, Scope, Tally
 from ..judging import is_met, is_version
 from .archives import archive_at
 from .disk import check_manifest, read_links
@@ -35,7 +35,7 @@ from .lock import (
     packages_of,
     pinned_in,
     version_at,
-    without_peers,
+    within,
 )
 from .overrides import Rule, names_in, rules_in_turn, rules_of, where_rules_hold
 from .specs import has_name, is_any, reason_of, verdict_on
@@ -57,12 +57,12 @@ class Judgement(NamedTuple):
 
 class Project(NamedTuple):
     """The project of a lock file: its folder and its package.json, where these are known, the rules
-    of its overrides, and whether peers count."""
+    of its overrides, and which requirements count."""
 
     folder: Optional[str]
     manifest: Optional[Entry]
     rules: Rule
-    has_peers: bool
+    scope: Scope
 
 
 # ---- the judgement
@@ -187,9 +187,10 @@ def findings(lock: Entry, project: Project, tally: Tally) -> Iterator[Finding]:
     packages = packages_of(lock, project.manifest)
     is_old = lock["lockfileVersion"] == 1
     read_links(packages, project.folder, tally)
-    if not project.has_peers:
-        packages = {place: without_peers(entry) for place, entry in packages.items()}
-    tally.packages += sum(bool(place) and not it.get("link") for place, it in packages.items())
+    if project.scope != Scope():
+        packages = within(packages, project.scope, tally)
+    installed = (it for place, it in packages.items() if not is_top(place))
+    tally.packages += sum(not it.get("link") for it in installed)
     found = {place: package_at(packages, place) for place in packages}
     asks = {place: list(asks_at(place, entry, found)) for place, entry in packages.items()}
     held = where_rules_hold(found, asks, project.rules)

@@ -7,6 +7,7 @@ and nothing for the project itself.
 from typing import Dict, Iterator, List, NamedTuple, Optional, Set, Tuple
 
 from ..files import Entry, WrongShape, object_at, objects_at, text_at, texts_at
+from ..findings import Keys, Scope, Tally
 from .archives import archive_at
 from .specs import alias_of, range_of
 
@@ -48,7 +49,7 @@ class Ask(NamedTuple):
 # ---- places
 
 
-def keys_of(place: str, is_old: bool) -> Tuple[str, ...]:
+def keys_of(place: str, is_old: bool) -> Keys:
     """The keys in the file that lead to the package at a place; none to the project of an old file,
     of lockfileVersion 1."""
     if not is_old:
@@ -127,9 +128,18 @@ def with_manifest(entry: Entry, manifest: Entry) -> Entry:
     return {**own, **{key: it for key, it in manifest.items() if key in OF_MANIFEST}}
 
 
-def without_peers(entry: Entry) -> Entry:
-    """A package that has no peers."""
-    return {key: it for key, it in entry.items() if key != PEERS}
+def within(packages: Packages, scope: Scope, tally: Tally) -> Packages:
+    """The packages with what a scope leaves of their requirements: npm marks a package that is for
+    development alone."""
+    left_out = set() if scope.has_peers else {PEERS}
+    if not scope.has_development:
+        left_out.add("devDependencies")
+        packages = {place: it for place, it in packages.items() if it.get("dev") is not True}
+    found = {}
+    for place, entry in packages.items():
+        tally.left_out += sum(len(entry[it]) for it in left_out if isinstance(entry.get(it), dict))
+        found[place] = {key: it for key, it in entry.items() if key not in left_out}
+    return found
 
 
 def packages_inside(holder: Entry, place: str) -> Iterator[Tuple[str, Entry]]:
@@ -144,7 +154,7 @@ def packages_inside(holder: Entry, place: str) -> Iterator[Tuple[str, Entry]]:
 def of_this_day(old: Entry, place: str) -> Entry:
     """A package of lockfileVersion 1 as lockfileVersion 2 and 3 have it. One from an archive has
     the version in the name of that."""
-    entry: Entry = {"inBundle": old.get("bundled", False)}
+    entry: Entry = {"inBundle": old.get("bundled", False), "dev": old.get("dev", False)}
     requires = old.get("requires", {})
     if not isinstance(requires, bool):
         entry["dependencies"] = texts_at(requires, f"{place}: requires")

@@ -19,9 +19,19 @@ from typing import Callable, Dict, Iterator, List, NamedTuple, Optional, Tuple
 from semver_parser import Dialect
 
 from ..files import Entry, WrongShape, object_at, objects_at, text_at, texts_at
-from ..findings import PROJECT, Finding, Kind, Tally
+from ..findings import PROJECT, Finding, Keys, Kind, Scope, Tally
 from ..judging import is_met, is_version
-from ..manifests import TOP, Need, manifest_in, name_in, needs_of, version_in
+from ..manifests import (
+    FOR_DEVELOPMENT,
+    OPTIONAL,
+    TOP,
+    USUAL,
+    Need,
+    manifest_in,
+    name_in,
+    needs_of,
+    version_in,
+)
 from ..npm.specs import (
     CATALOG,
     Override,
@@ -37,7 +47,7 @@ from ..npm.specs import (
 )
 from .specs import of_jsr, of_workspace, takes_peer
 
-KINDS = ("dependencies", "devDependencies", "optionalDependencies")
+KINDS = (USUAL, FOR_DEVELOPMENT, OPTIONAL)
 
 # What an override has in place of what is asked for if that is removed.
 REMOVED = "-"
@@ -69,17 +79,18 @@ class Ask(NamedTuple):
     """Who asks for which name, for what, what is found, whether that has to be there, the keys in
     the file that lead to it or to who asks, why it is listed only with `--strict` if it isn't
     there, and the name and the version of the package that asks, if it is one that is called by
-    them. Packages ask for peers."""
+    them. Packages ask for peers, and the project and its workspaces also for development."""
 
     asker: str
     name: str
     spec: str
     found: Optional[Found]
     is_required: bool
-    at: Tuple[str, ...]
+    at: Keys
     reason: str = ""
     parent: Optional[Tuple[str, str]] = None
     is_peer: bool = False
+    is_development: bool = False
 
 
 def called_by(text: str) -> Optional[Tuple[str, str]]:
@@ -138,7 +149,7 @@ def found_by_link(text: str, folder: str, read: Reader) -> Found:
 
 def asks_of_importer(
     folder: str,
-    at: Tuple[str, ...],
+    at: Keys,
     importer: Entry,
     packages: Packages,
     needs: Dict[str, Need],
@@ -160,10 +171,12 @@ def asks_of_importer(
             is_link = text.startswith(LINK)
             found = found_by_link(text, folder, read) if is_link else found_at(text, name, packages)
             spec = spec if need is None else need.spec
-            yield Ask(asker, name, spec, found, True, (*at, kind, name))
+            ask = Ask(asker, name, spec, found, True, (*at, kind, name))
+            yield ask._replace(is_development=kind == FOR_DEVELOPMENT)
     for need in needs.values():
         reason = reason_of(need.spec) if is_no_range(need.spec) else ""
-        yield Ask(asker, need.name, need.spec, None, not need.is_optional, at, reason)
+        ask = Ask(asker, need.name, need.spec, None, not need.is_optional, at, reason)
+        yield ask._replace(is_development=need.is_development)
 
 
 def asks_of_catalogs(lock: Entry, packages: Packages) -> Iterator[Ask]:
@@ -176,14 +189,14 @@ def asks_of_catalogs(lock: Entry, packages: Packages) -> Iterator[Ask]:
             _, version = found_at(text, name, packages)
             named, _ = alias_of(of_jsr(name, spec)) or (None, "")
             at = ("catalogs", catalog, name)
-            yield Ask(f"catalog {catalog}", name, spec, Found(named, version), True, at)
+            yield Ask(f"{CATALOG}{catalog}", name, spec, Found(named, version), True, at)
 
 
 def by_catalog(ask: Ask, catalogs: List[Ask]) -> Ask:
     """What is asked for, with the range of the catalog that it is taken from."""
     if not ask.spec.startswith(CATALOG):
         return ask
-    asker = f"catalog {ask.spec[len(CATALOG) :] or 'default'}"
+    asker = f"{CATALOG}{ask.spec[len(CATALOG) :] or 'default'}"
     specs = (it.spec for it in catalogs if (it.asker, it.name) == (asker, ask.name))
     return ask._replace(spec=next(specs, ask.spec))
 
@@ -199,12 +212,17 @@ def packages_of(lock: Entry, packages: Packages) -> Iterator[Tuple[str, Entry, E
         yield key, packages.get(key.partition("(")[0], {}), entry
 
 
+def keys_of(key: str, packages: Packages) -> Keys:
+    """The keys in the file that lead to a package, whose snapshots have their peers in the key."""
+    return "packages", key if key in packages else key.partition("(")[0]
+
+
 def asks_of_package(
     key: str, fields: Entry, depends: Entry, packages: Packages, reason: str
 ) -> Iterator[Ask]:
     """The peers that a package asks for."""
     called = called_by(key)
-    asker = key if called is None else " ".join(called)
+    asker = key if called is None else called[0]
     metas = objects_at(fields.get("peerDependenciesMeta", {}), f"{asker}: peerDependenciesMeta")
     given = {
         **texts_at(depends.get("optionalDependencies", {}), f"{asker}: optionalDependencies"),
@@ -214,7 +232,7 @@ def asks_of_package(
     for name, spec in peers.items():
         found = found_at(given[name], name, packages) if name in given else None
         is_optional = metas.get(name, {}).get("optional") in ("true", True)
-        at = ("packages", key.partition("(")[0] if depends is not fields else key)
+        at = keys_of(key, packages)
         yield Ask(asker, name, spec, found, not is_optional, at, reason, called, True)
 
 
@@ -259,6 +277,8 @@ def of_ask(
     replaced = [spec for spec in specs if spec != REMOVED]
     found = ask.found
     finding = Finding(Kind.MISSING, ask.spec, "", ask.asker, ask.name, at=ask.at)
+    if ask.parent is not None:
+        finding = finding._replace(requirer_version=ask.parent[1])
     if found is None:
         if ask.is_required and REMOVED not in specs:
             tally.requirements += 1
@@ -306,7 +326,17 @@ def reader_of(top: Optional[str]) -> Reader:
     return read
 
 
-def findings(lock: Entry, top: Optional[str], tally: Tally) -> Iterator[Finding]:
+def in_scope(asks: Iterator[Ask], scope: Scope, tally: Tally) -> Iterator[Ask]:
+    """What is asked for, but for what a scope leaves out."""
+    for ask in asks:
+        is_left_out = ask.is_peer and not scope.has_peers
+        if is_left_out or (ask.is_development and not scope.has_development):
+            tally.left_out += 1
+        else:
+            yield ask
+
+
+def findings(lock: Entry, top: Optional[str], tally: Tally, scope: Scope) -> Iterator[Finding]:
     """What there is to say of a lock file, in its order, beside the package.json files in and below
     a folder, if it is known."""
     check_version(lock)
@@ -321,7 +351,8 @@ def findings(lock: Entry, top: Optional[str], tally: Tally) -> Iterator[Finding]
         manifest = None if "pnpmfileChecksum" in lock else read(folder)
         needs = {need.name: need for need in needs_of(manifest or {})}
         at = ("importers", folder) if "importers" in lock else ()
-        for ask in asks_of_importer(folder, at, importer, packages, needs, read):
+        asks = asks_of_importer(folder, at, importer, packages, needs, read)
+        for ask in in_scope(asks, scope, tally):
             yield from of_ask(by_catalog(ask, catalogs), overrides, tally)
     settings = object_at(lock.get("settings") or {}, "settings")
     # Without this setting pnpm only warns of a peer that isn't there.
@@ -329,10 +360,8 @@ def findings(lock: Entry, top: Optional[str], tally: Tally) -> Iterator[Finding]
     for key, fields, depends in packages_of(lock, packages):
         called = called_by(key)
         if called is not None and not is_version(called[1], Dialect.NPM):
-            name, version = called
-            at = ("packages", key) if key in packages else ("snapshots", key)
-            yield Finding(
-                Kind.INVALID_VERSION, "", version, package=name, place=name, at=at
-            )
-        for ask in asks_of_package(key, fields, depends, packages, reason):
+            finding = Finding(Kind.INVALID_VERSION, "", called[1], package=called[0])
+            yield finding._replace(place=called[0], at=keys_of(key, packages))
+        asks = asks_of_package(key, fields, depends, packages, reason)
+        for ask in in_scope(asks, scope, tally):
             yield from of_ask(ask, overrides, tally)

@@ -19,7 +19,7 @@ from typing import Dict, Iterable, Iterator, List, NamedTuple, Optional, Set
 from semver_parser import Dialect
 
 from ..files import Entry, texts_at
-from ..findings import PROJECT, Finding, Kind, Tally
+from ..findings import PROJECT, Finding, Kind, Scope, Tally
 from ..judging import is_version
 from ..manifests import KINDS_OF_BERRY, TOP, Project, name_in, version_in
 from ..manifests import needs_of as needs_of_manifest
@@ -50,28 +50,26 @@ Resolutions = Dict[str, List[Override]]
 
 
 class Ask(NamedTuple):
-    """Who asks for which name, and for what, and whether that has to be there. Without a package it
-    is the project, or in yarn 1 a workspace, in its folder."""
+    """Who asks for which name, and for what, whether that has to be there, and whether it is for
+    development. Without a package it is the project, or in yarn 1 a workspace, in its folder."""
 
     package: Optional[Package]
     name: str
     spec: str
     is_required: bool = True
     folder: str = TOP
-
-    @property
-    def asker(self) -> str:
-        """Who asks, as it is printed."""
-        if self.package is None:
-            return PROJECT if self.folder == TOP else self.folder
-        name = name_of(self.package.patterns[0])
-        return name if self.package.version == WORKSPACE else f"{name} {self.package.version}"
+    is_development: bool = False
 
     @property
     def finding(self) -> Finding:
         """What there is to say if nothing is found."""
-        at = () if self.package is None else (self.package.key,)
-        return Finding(Kind.MISSING, self.spec, "", self.asker, self.name, at=at)
+        if self.package is None:
+            asker = PROJECT if self.folder == TOP else self.folder
+            return Finding(Kind.MISSING, self.spec, "", asker, self.name)
+        asker, at = name_of(self.package.patterns[0]), (self.package.key,)
+        version = "" if self.package.version == WORKSPACE else self.package.version
+        finding = Finding(Kind.MISSING, self.spec, "", asker, self.name, at=at)
+        return finding._replace(requirer_version=version)
 
 
 class Edge(NamedTuple):
@@ -236,7 +234,8 @@ def asks_of(package: Package, project: Project) -> Iterator[Ask]:
     manifest = project.get(folder_of(package))
     by_manifest = needs_of_manifest(manifest or {}, KINDS_OF_BERRY)
     for need in needs_of(package) if manifest is None else by_manifest:
-        yield Ask(package, need.name, need.spec, not need.is_optional)
+        ask = Ask(package, need.name, need.spec, not need.is_optional)
+        yield ask._replace(is_development=need.is_development)
 
 
 def asks_of_folders(project: Project, packages: List[Package]) -> Iterator[Ask]:
@@ -247,7 +246,8 @@ def asks_of_folders(project: Project, packages: List[Package]) -> Iterator[Ask]:
         for need in [] if folder in known else needs_of_manifest(manifest):
             version = versions.get(need.name)
             if version is None or verdict_on(version, need.spec) is not None:
-                yield Ask(None, need.name, need.spec, not need.is_optional, folder)
+                ask = Ask(None, need.name, need.spec, not need.is_optional, folder)
+                yield ask._replace(is_development=need.is_development)
 
 
 def folder_of(package: Package) -> str:
@@ -257,7 +257,7 @@ def folder_of(package: Package) -> str:
 
 
 def findings(
-    tree: Tree, resolutions: Resolutions, project: Project, tally: Tally
+    tree: Tree, resolutions: Resolutions, project: Project, tally: Tally, scope: Scope
 ) -> Iterator[Finding]:
     """What there is to say of a lock file, in its order, beside the project's resolutions and the
     package.json files of it and its workspaces. First comes what is asked for outside the file."""
@@ -271,13 +271,20 @@ def findings(
     outside = edges_for(asks_of_folders(project, packages))
     edges = [edges_for(asks_of(package, project)) for package in packages]
     used = {edge.key for each in (outside, *edges) for edge in each}
-    yield from of_edges(outside, by_key, project, tally)
+    yield from of_edges(in_scope(outside, scope, tally), by_key, project, tally)
     # A key of berry has what a resolution put there.
     of_keys: Resolutions = {} if is_berry else resolutions
     for package, its_edges in zip(packages, edges):
         yield from of_version(package)
         own = [edge_of(it, by_key, of_keys, is_berry) for it in asks_of_project(package, used)]
-        yield from of_edges([*own, *its_edges], by_key, project, tally)
+        yield from of_edges([*own, *in_scope(its_edges, scope, tally)], by_key, project, tally)
+
+
+def in_scope(edges: List[Edge], scope: Scope, tally: Tally) -> List[Edge]:
+    """Several edges, but for what a scope leaves out."""
+    found = [it for it in edges if scope.has_development or not it.ask.is_development]
+    tally.left_out += len(edges) - len(found)
+    return found
 
 
 def of_edges(

@@ -50,16 +50,17 @@ USUAL = re.compile(
 )
 
 
-def lines_of(text: str) -> Iterator[Tuple[int, str, str, bool]]:
-    """The lines of a file: of each its indent, its key, its value, and whether an object follows.
-    Berry writes a key of more than 1,024 characters after `? `, and its colon on the next line."""
+def lines_of(text: str) -> Iterator[Tuple[int, int, str, str, bool]]:
+    """The lines of a file: of each its number, its indent, its key, its value, and whether an object
+    follows. Berry writes a key of more than 1,024 characters after `? `, and its colon on the next
+    line."""
     key = ""
     for number, line in enumerate(text.splitlines(), 1):
         usual = None if key else USUAL.fullmatch(line)
         if usual is not None:
             indent, quoted_key, bare_key, colon, quoted_value, bare_value = usual.groups()
             name, value = intern(bare_key or quoted_key), quoted_value or bare_value or ""
-            yield len(indent), name, value, colon is not None
+            yield number, len(indent), name, value, colon is not None
             continue
         bare = line.strip()
         if not bare or bare.startswith("#"):
@@ -69,7 +70,7 @@ def lines_of(text: str) -> Iterator[Tuple[int, str, str, bool]]:
         if bare.startswith("? "):
             key = bare[2:]
             continue
-        yield (len(line) - len(line.lstrip(" ")), *cut(key + bare, number))
+        yield (number, len(line) - len(line.lstrip(" ")), *cut(key + bare, number))
         key = ""
     if key:
         raise Unreadable(f"it isn't a yarn.lock: line {number}")
@@ -79,7 +80,7 @@ def tree_of(text: str) -> Tree:
     """What the lines of a file have, by their indents."""
     tree: Tree = {}
     open_trees: List[Tuple[int, Tree]] = [(-1, tree)]
-    for depth, key, value, has_more in lines_of(text):
+    for _, depth, key, value, has_more in lines_of(text):
         while open_trees[-1][0] >= depth:
             open_trees.pop()
         if has_more:
