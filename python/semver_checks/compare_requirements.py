@@ -9,18 +9,22 @@ from .program import Options, Outcome, Program, run
 
 PAGE = """\
 usage: compare-requirements [--json] OLD NEW
-       compare-requirements [--json] --git REV [REV] FILE
+       compare-requirements [--json] --git REV[..REV] PATH
+       compare-requirements [--json] --git REV REV PATH
 
-Prints what changed between two package.json or two Cargo.toml files: each
-requirement that was added, removed or changed, and of a changed one the
+Prints what changed between two package.json, pnpm-workspace.yaml or Cargo.toml
+files, or between all of them below two directories: each requirement, override
+and patch that was added, removed, moved or changed, and of a changed one the
 versions that it loses, gains and shares, as compare-ranges prints them. Ranges
-are read as npm or Cargo reads them. Cargo.toml needs Python 3.11.
+are read as npm or Cargo reads them. Cargo.toml needs Python 3.11, and
+pnpm-workspace.yaml PyYAML.
 
 - is standard input.
 
-    --git        compare FILE as it is in a revision with FILE as it is in the
-                 other revision, or in the folder
+    --git        compare a file or a directory as it is in a revision with what
+                 it is in the other revision, or in the work tree
     --json       print the changes as a list of objects
+    --version    print the version
     -h, --help   print this
     --           end the options
 

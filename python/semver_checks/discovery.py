@@ -1,10 +1,10 @@
 """The lock files that paths name: files as they are, and of a directory those below it."""
 
 import os
-import subprocess
-from typing import Dict, Iterator, List, NamedTuple
+from typing import Dict, Iterator, List, NamedTuple, Tuple
 
 from .files import STANDARD_INPUT, Refusal
+from .git import output_of, paths_of
 
 # The lock files that are looked for. bun.lockb is binary, and is named when it is refused.
 NAMES = (
@@ -53,9 +53,10 @@ def discover(named: List[str]) -> Discovery:
 
 def read_in(directory: str, notes: List[str]) -> Iterator[str]:
     """The lock files below a directory that their tools read, with a note of each other."""
-    found = sorted(lock_files_in(directory))
-    for path in found:
-        folder, name = os.path.split(path)
+    found = named_below(directory, NAMES)
+    for place in found:
+        folder, name = os.path.split(place)
+        path = os.path.normpath(os.path.join(directory, place))
         other = UNREAD_BESIDE.get(name)
         if other is not None and os.path.join(folder, other) in found:
             notes.append(f"{path}: left out, since {other} is beside it")
@@ -63,25 +64,23 @@ def read_in(directory: str, notes: List[str]) -> Iterator[str]:
             yield path
 
 
-def lock_files_in(directory: str) -> Iterator[str]:
-    """The lock files below a directory, but for those that git ignores or a tool put there."""
-    for place in files_below(directory):
-        *folders, name = place.split("/")
-        path = os.path.normpath(os.path.join(directory, place))
-        if name in NAMES and not set(MADE).intersection(folders) and os.path.isfile(path):
-            yield path
+def is_among(place: str, names: Tuple[str, ...]) -> bool:
+    """Whether a file below a directory has one of these names, and no tool put it there."""
+    *folders, name = place.split("/")
+    return name in names and not set(MADE).intersection(folders)
+
+
+def named_below(directory: str, names: Tuple[str, ...]) -> List[str]:
+    """The files of these names below a directory, from it on, but for those that git ignores or a
+    tool put there."""
+    places = (it for it in files_below(directory) if is_among(it, names))
+    return sorted(it for it in places if os.path.isfile(os.path.join(directory, it)))
 
 
 def files_below(directory: str) -> List[str]:
     """The files below a directory by git, and without it, or outside of its work trees, all."""
-    command = ["git", "-C", directory, "ls-files", "-z", "-co", "--exclude-standard"]
-    try:
-        listed = subprocess.run(command, capture_output=True)
-    except OSError:
-        return list(walked(directory))
-    if listed.returncode:
-        return list(walked(directory))
-    return [os.fsdecode(it) for it in listed.stdout.split(b"\0") if it]
+    listed, _ = output_of(["ls-files", "-z", "-co", "--exclude-standard"], directory)
+    return list(walked(directory)) if listed is None else paths_of(listed)
 
 
 def walked(directory: str) -> Iterator[str]:

@@ -170,14 +170,14 @@ refused 'check-lock-file: --json and --format tsv are both given; see check-lock
 
 # ---- what is left out
 
-for name in Cargo.lock package-lock.json pnpm-lock.yaml yarn.lock berry/yarn.lock; do
-    may_read "$name" || continue
-    case $name in Cargo.lock) wanted=1 by='app 0.1.0' ;; *) wanted='^1.0.0' by='the project' ;; esac
-    [ "$name" != berry/yarn.lock ] || wanted='^1.0.0' by=no-dev
+for file in Cargo.lock package-lock.json pnpm-lock.yaml yarn.lock berry/yarn.lock; do
+    may_read "$file" || continue
+    case $file in Cargo.lock) wanted=1 by='app 0.1.0' ;; *) wanted='^1.0.0' by='the project' ;; esac
+    [ "$file" != berry/yarn.lock ] || wanted='^1.0.0' by=no-dev
     echo "num 2.0.0 does not satisfy $wanted, required by $by" > "$work/lines"
-    same "$name without what is for development" 1 /dev/null "$work/lines" /dev/null $check --quiet --no-dev "cases/no-dev/$name"
+    same "$file without what is for development" 1 /dev/null "$work/lines" /dev/null $check --quiet --no-dev "cases/no-dev/$file"
     status=0
-    $check --quiet "cases/no-dev/$name" > "$work/lines" || status=$?
+    $check --quiet "cases/no-dev/$file" > "$work/lines" || status=$?
     [ "$status" = 1 ] || exit 1
     grep -q '^tool 2.0.0 does not satisfy' "$work/lines"
 done

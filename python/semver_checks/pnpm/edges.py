@@ -45,7 +45,7 @@ from ..npm.specs import (
     verdict_by,
     verdict_on,
 )
-from .specs import of_jsr, of_workspace, takes_peer
+from .specs import of_jsr, of_workspace, parent_and_name, takes_peer
 
 KINDS = (USUAL, FOR_DEVELOPMENT, OPTIONAL)
 
@@ -241,13 +241,12 @@ def asks_of_package(
 
 def overrides_of(lock: Entry) -> Dict[str, List[Override]]:
     """The overrides by the names that they are for: a key is `NAME`, `NAME@RANGE`, or one of these
-    after `PARENT>`, which is one of these too. A range may have `>` at its start, after a blank and
-    after `|`."""
+    after `PARENT>`, which is one of these too."""
     overrides: Dict[str, List[Override]] = {}
     for key, spec in texts_at(lock.get("overrides") or {}, "overrides").items():
-        *outer, last = re.split(r"(?<=[^ |@])>", key, maxsplit=1)
+        parent, last = parent_and_name(key)
         name, within = name_and_rest(last)
-        overrides.setdefault(name, []).append(Override("".join(outer), within, spec))
+        overrides.setdefault(name, []).append(Override(parent, within, spec))
     return overrides
 
 
