@@ -20,6 +20,8 @@ input. The content of a file shows which tool wrote it:
     package-lock.json, npm-shrinkwrap.json    npm, lockfileVersion 1, 2 and 3
     yarn.lock                                 yarn 1 and later
     pnpm-lock.yaml                            pnpm, needs PyYAML
+    bun.lock                                  Bun, lockfileVersion 0 and 1
+    deno.lock                                 Deno, versions 4 and 5
     Cargo.lock                                beside Cargo.toml, needs Python 3.11
     what cargo metadata prints                format version 1
 

@@ -13,7 +13,9 @@ NAMES = (
     "yarn.lock",
     "pnpm-lock.yaml",
     "Cargo.lock",
+    "bun.lock",
     "bun.lockb",
+    "deno.lock",
 )
 
 # What its tool doesn't read if the other is beside it.

@@ -34,8 +34,8 @@ class Open:
             raise Unusual
 
 
-def document_of(text: str) -> Any:
-    """The one document of a text, whose scalars are texts."""
+def documents_of(text: str) -> List[Any]:
+    """The documents of a text, whose scalars are texts."""
     import yaml
 
     if not yaml.__with_libyaml__:
@@ -57,6 +57,4 @@ def document_of(text: str) -> Any:
                 raise Unusual
     except (yaml.YAMLError, ValueError, OverflowError):
         raise Unusual from None
-    if len(top.container) != 1:
-        raise Unusual
-    return top.container[0]
+    return list(top.container)

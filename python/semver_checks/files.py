@@ -6,7 +6,7 @@ import sys
 from contextlib import contextmanager
 from typing import Any, Dict, Iterator, List, NoReturn
 
-from .events import Unusual, document_of
+from .events import Unusual, documents_of
 
 Entry = Dict[str, Any]
 
@@ -114,22 +114,31 @@ def toml_object(text: bytes) -> Entry:
         raise Unreadable("it isn't TOML") from None
 
 
-def yaml_object(text: bytes) -> Entry:
-    """The mapping that a text of YAML is. Its scalars are texts, as `1.10` has to be."""
+def yaml_objects(text: bytes) -> List[Entry]:
+    """The mappings that the documents of a text of YAML are. Their scalars are texts, as `1.10` has
+    to be."""
     try:
         import yaml
     except ImportError:
         raise Unreadable("it is YAML: install PyYAML (Debian: python3-yaml)") from None
     try:
-        value = document_of(utf8(text))
+        documents = documents_of(utf8(text))
     except Unusual:
         try:
-            value = yaml.load(utf8(text), Loader=yaml.BaseLoader)
+            documents = list(yaml.load_all(utf8(text), Loader=yaml.BaseLoader))
         except yaml.YAMLError as error:
             raise Unreadable(f"it isn't YAML: {' '.join(str(error).split())}") from None
         except (ValueError, OverflowError):
             raise Unreadable("it isn't YAML") from None
-    return object_at(value, "the file")
+    return [object_at(document, "the file") for document in documents or [None]]
+
+
+def yaml_object(text: bytes) -> Entry:
+    """The mapping that the one document of a text of YAML is."""
+    documents = yaml_objects(text)
+    if len(documents) > 1:
+        raise WrongShape(": it has several documents")
+    return documents[0]
 
 
 def utf8(text: bytes) -> str:

@@ -6,7 +6,7 @@ from typing import Any, Dict, Iterator, List, Set, Tuple
 
 from .files import utf8
 from .findings import Keys
-from .lock_files import CARGO, NPM, PNPM, YARN
+from .lock_files import BUN, CARGO, DENO, NPM, PNPM, YARN
 from .yarn.lock import lines_of
 
 # What has a place in JSON: a string, a comment, a mark, and the end of a line.
@@ -22,7 +22,7 @@ MOST_KEYS = 4
 
 def lines_at(tool: str, text: bytes, wanted: Set[Keys]) -> Dict[Keys, int]:
     """The lines of the entries to which keys lead, but for those that aren't sure."""
-    readers = {NPM: of_json, YARN: of_yarn, PNPM: of_yaml, CARGO: of_cargo}
+    readers = {NPM: of_json, BUN: of_json, DENO: of_json, YARN: of_yarn, PNPM: of_yaml, CARGO: of_cargo}
     if not any(wanted) or tool not in readers:
         return {}
     found: Dict[Keys, int] = {}

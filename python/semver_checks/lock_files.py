@@ -4,8 +4,11 @@ import os
 import re
 from typing import Callable, Iterator, NamedTuple, Optional, Tuple, TypeVar
 
+from .bun import edges as bun
+from .bun.lock import tree_of as tree_of_bun
 from .cargo import lock as cargo_lock
 from .cargo import metadata as cargo_metadata
+from .deno import edges as deno
 from .files import (
     STANDARD_INPUT,
     Entry,
@@ -16,12 +19,14 @@ from .files import (
     taking,
     toml_object,
     utf8,
-    yaml_object,
+    yaml_objects,
 )
 from .findings import Finding, Scope, Tally
 from .manifests import MANIFEST, Project, needs_of, project_of
 from .npm import edges as npm
 from .npm.settings import has_legacy_peers
+from .others import BUN as OF_BUN
+from .others import DENO as OF_DENO
 from .others import refuse_others
 from .pnpm import edges as pnpm
 from .program import Misuse
@@ -30,12 +35,17 @@ from .yarn.lock import tree_of
 
 Taken = TypeVar("Taken")
 
-NPM, YARN, PNPM, CARGO, METADATA = "npm", "yarn", "pnpm", "Cargo", "cargo metadata"
+NPM, YARN, PNPM, BUN, DENO = "npm", "yarn", "pnpm", "Bun", "Deno"
+CARGO, METADATA = "Cargo", "cargo metadata"
 
 # What only the file of a tool has. Without packages a Cargo.lock has its version alone.
 OF_YARN = re.compile(rb"yarn lockfile v1|\n__metadata:")
 OF_PNPM = re.compile(rb"(?:\A|\n)lockfileVersion:")
 OF_CARGO = re.compile(rb"\[\[package\]\]|(?:\A|\n)\[root\]|\A(?:#.*\n|\s)*version = [0-9]+\s*\Z")
+
+
+# The lock file that npm writes into node_modules.
+HIDDEN = ".package-lock.json"
 
 
 class Input(NamedTuple):
@@ -49,8 +59,12 @@ class Input(NamedTuple):
 
     @property
     def folder(self) -> Optional[str]:
-        """The directory of the file, if it isn't standard input."""
-        return None if self.path == STANDARD_INPUT else os.path.dirname(self.path)
+        """The directory of the project, if the file isn't standard input: npm has a file in its
+        node_modules, too."""
+        if self.path == STANDARD_INPUT:
+            return None
+        folder, name = os.path.split(self.path)
+        return os.path.normpath(os.path.join(folder, "..")) if name == HIDDEN else folder
 
 
 # ---- the package.json of the project
@@ -58,17 +72,18 @@ class Input(NamedTuple):
 
 def manifest_path(file: Input) -> Optional[str]:
     """Where the project's package.json is, if there is one."""
-    if file.named is not None or file.path == STANDARD_INPUT:
+    if file.named is not None or file.folder is None:
         return file.named
-    beside = os.path.join(os.path.dirname(file.path), MANIFEST)
+    beside = os.path.join(file.folder, MANIFEST)
     return beside if os.path.exists(beside) else None
 
 
 def project_folder(file: Input) -> Optional[str]:
     """The directory of the project: that of the lock file, or of the package.json that is named
     beside standard input."""
-    at = file.named if file.path == STANDARD_INPUT else file.path
-    return None if at is None or at == STANDARD_INPUT else os.path.dirname(at)
+    if file.folder is not None:
+        return file.folder
+    return None if file.named in (None, STANDARD_INPUT) else os.path.dirname(file.named or "")
 
 
 def read_manifest(
@@ -103,13 +118,19 @@ def findings(file: Input, tally: Tally) -> Tuple[str, Iterator[Finding]]:
     """Which tool wrote a lock file, and what there is to say of that."""
     path, text, scope = file.path, file.text, file.scope
     refuse_others(text)
+    if OF_BUN.match(text):
+        refuse_manifest(file)
+        return BUN, bun.findings(tree_of_bun(text), file.folder, tally, scope)
+    if OF_DENO.match(text):
+        refuse_manifest(file)
+        return DENO, deno.findings(json_object(text), tally)
     if text.lstrip()[:1] == b"{":
         return of_json(file, lock_at(path, text), tally)
     if OF_YARN.search(text) or is_empty_of_yarn(path, text):
         return YARN, of_yarn(file, tally)
     if OF_PNPM.search(text):
         refuse_manifest(file)
-        return PNPM, pnpm.findings(yaml_object(text), file.folder, tally, scope)
+        return PNPM, pnpm.findings_of_all(yaml_objects(text), file.folder, tally, scope)
     if OF_CARGO.search(text):
         refuse_manifest(file)
         return CARGO, cargo_lock.findings(toml_object(text), file.folder, tally, scope)

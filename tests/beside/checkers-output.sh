@@ -132,7 +132,7 @@ package-lock.json: a 2.0.0 does not satisfy ^1.0.0, required by packages/b
 rust/Cargo.lock: itoa 1.0.4 does not satisfy 1.0.10, required by app 0.1.0
 END
 grep -v '^ignored' "$work/walked" > "$work/listed"
-echo 'check-lock-file: bun.lockb: bun.lockb is of Bun; not supported' > "$work/told"
+echo 'check-lock-file: bun.lockb: bun.lockb is binary; run bun install --save-text-lockfile' > "$work/told"
 if has_toml; then
     in_repository 2 "$work/walked" "$work/told"
     git init -q "$work/repository"

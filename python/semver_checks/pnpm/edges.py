@@ -47,7 +47,7 @@ from ..npm.specs import (
 )
 from .specs import of_jsr, of_workspace, parent_and_name, takes_peer
 
-KINDS = (USUAL, FOR_DEVELOPMENT, OPTIONAL)
+KINDS = (USUAL, FOR_DEVELOPMENT, OPTIONAL, "configDependencies", "packageManagerDependencies")
 
 # What an override has in place of what is asked for if that is removed.
 REMOVED = "-"
@@ -335,8 +335,18 @@ def in_scope(asks: Iterator[Ask], scope: Scope, tally: Tally) -> Iterator[Ask]:
             yield ask
 
 
+def findings_of_all(
+    documents: List[Entry], top: Optional[str], tally: Tally, scope: Scope
+) -> Iterator[Finding]:
+    """What there is to say of the documents of a lock file: before that of the project pnpm 11 has
+    one of what it needs itself, which is in no package.json."""
+    for document in documents[:-1]:
+        yield from findings(document, None, tally, scope)
+    yield from findings(documents[-1], top, tally, scope)
+
+
 def findings(lock: Entry, top: Optional[str], tally: Tally, scope: Scope) -> Iterator[Finding]:
-    """What there is to say of a lock file, in its order, beside the package.json files in and below
+    """What there is to say of a document of a lock file, in its order, beside the package.json files in and below
     a folder, if it is known."""
     check_version(lock)
     packages = objects_at(lock.get("packages") or {}, "packages")
