@@ -4,6 +4,7 @@ Packages are told by their places, as in lockfileVersion 2 and 3: the folders fr
 and nothing for the project itself.
 """
 
+import posixpath
 from typing import Dict, Iterator, List, NamedTuple, Optional, Set, Tuple
 
 from ..files import Entry, WrongShape, object_at, objects_at, text_at, texts_at
@@ -146,9 +147,22 @@ def packages_inside(holder: Entry, place: str) -> Iterator[Tuple[str, Entry]]:
     """The packages inside a package or the project of lockfileVersion 1, each with its place."""
     where = f"{place}: dependencies" if place else "dependencies"
     for name, entry in objects_at(holder.get("dependencies", {}), where).items():
-        its_place = inside(place, name)
-        yield its_place, of_this_day(entry, its_place)
-        yield from packages_inside(entry, its_place)
+        its_place, target = inside(place, name), target_of(entry)
+        if target is not None:
+            yield its_place, {"link": True, "resolved": target}
+        at = its_place if target is None else target
+        yield at, of_this_day(entry, its_place)
+        yield from packages_inside(entry, at)
+
+
+def target_of(old: Entry) -> Optional[str]:
+    """The place that a package of lockfileVersion 1 is linked from: one at `file:PATH` is, as a
+    workspace, if that is no archive."""
+    version = old.get("version")
+    if not isinstance(version, str) or not version.startswith("file:"):
+        return None
+    path = version[len("file:") :]
+    return None if path.endswith((".tgz", ".tar", ".tar.gz")) else posixpath.normpath(path)
 
 
 def of_this_day(old: Entry, place: str) -> Entry:
