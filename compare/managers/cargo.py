@@ -210,12 +210,13 @@ def change_lock(top: Path, maker: Maker, found: Differences) -> None:
         entry = re.compile(f'(name = "{name}"\nversion = ")[^"]*')
         path.write_text(entry.sub(lambda it: it.group(1) + version, lock, count=1))
         taken, listed = graph_at(top) is not None, is_listed(path)
-        who = "nobody" if taken else "both" if listed else "Cargo alone"
-        found.count(f"a version of the lock file changed: {who} refuses it")
+        who = "nobody refuses" if taken else "both refuse" if listed else "Cargo alone refuses"
+        found.count(f"a version of the lock file changed: {who} it")
         if listed and taken:
             found.add("a version changed: listed here, and Cargo takes it", path.read_text())
         elif not listed and not taken:
-            found.choose("a Cargo.lock has no requirements but those of members")
+            world = {"changed": [name, version], "lock": lock}
+            found.choose("a Cargo.lock has no requirements but those of members", world)
     path.write_text(lock)
 
 

@@ -38,37 +38,40 @@ def found_in(path: str, is_strict: bool = False) -> Found:
 
 
 class Differences:
-    """How much was compared, the differences by their kind, of each its smallest world, and those
-    that a choice of the README names."""
+    """How much was compared, and the differences by their kind and those that a choice of the README
+    names, of each the smallest world."""
 
     def __init__(self, tool: str) -> None:
         self.tool = tool
         self.counts: Dict[str, int] = {}
-        self.chosen: Dict[str, int] = {}
         self.smallest: Dict[str, str] = {}
+        self.is_same = True
 
     def count(self, what: str) -> None:
         """Counts something."""
         self.counts[what] = self.counts.get(what, 0) + 1
 
-    def choose(self, choice: str) -> None:
-        """Counts a difference that a choice names."""
-        self.chosen[choice] = self.chosen.get(choice, 0) + 1
+    def choose(self, choice: str, world: Any) -> None:
+        """Keeps a difference that a choice names."""
+        self.keep(f"by choice, {choice}", world)
 
     def add(self, kind: str, world: Any) -> None:
-        """Keeps a difference, with its world if that is smaller than those before."""
-        self.count(f"DIFFERENCE: {kind}")
+        """Keeps a difference."""
+        self.is_same = False
+        self.keep(f"DIFFERENCE: {kind}", world)
+
+    def keep(self, what: str, world: Any) -> None:
+        """Counts something, and keeps its world if that is smaller than those before."""
+        self.count(what)
         text = json.dumps(world)
-        if len(text) < len(self.smallest.get(kind, text + " ")):
-            self.smallest[kind] = text
+        if len(text) < len(self.smallest.get(what, text + " ")):
+            self.smallest[what] = text
 
     def report(self) -> bool:
         """Prints all. Whether there is no difference but by choice."""
         print(f"{self.tool}:")
         for what, count in sorted(self.counts.items()):
             print(f"  {what}: {count}")
-        for choice, count in sorted(self.chosen.items()):
-            print(f"  by choice, {choice}: {count}")
-        for kind, world in self.smallest.items():
-            print(f"  {kind}, in the smallest world:\n    {world}")
-        return not self.smallest
+            if what in self.smallest:
+                print(f"    {self.smallest[what]}")
+        return self.is_same

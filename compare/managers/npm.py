@@ -55,26 +55,27 @@ def changed(lock: Json, world: World, registry: Registry, maker: Maker) -> Tuple
     made, chance = copy.deepcopy(lock), maker.chance
     packages = made["packages"]
     places = [it for it in packages if "node_modules" in it and not packages[it].get("link")]
-    what = chance.choice(("version", "range", "removed", "resolved"))
+    what = chance.choice(("a version", "a range", "a package", "a URL"))
     if not places:
         return "nothing", made
     place = chance.choice(places)
     entry = packages[place]
     name = entry.get("name", place.rpartition("node_modules/")[2])
-    if what == "removed":
+    if what == "a package":
         for inner in [it for it in packages if it == place or it.startswith(f"{place}/")]:
             del packages[inner]
-    elif what == "range":
+    elif what == "a range":
         kinds = [it for it in entry if it.endswith("ependencies") and entry[it]]
-        if kinds:
-            kind = chance.choice(kinds)
-            required = chance.choice(list(entry[kind]))
-            own = required if required in world.releases else chance.choice(list(world.releases))
-            entry[kind][required] = maker.range_of(own)
+        if not kinds:
+            return "nothing", made
+        kind = chance.choice(kinds)
+        required = chance.choice(list(entry[kind]))
+        own = required if required in world.releases else chance.choice(list(world.releases))
+        entry[kind][required] = maker.range_of(own)
     else:
         version = chance.choice(list(world.releases[name]))
         entry["resolved"] = registry.archive_at(name, version)
-        if what == "version":
+        if what == "a version":
             entry["version"] = version
     return what, made
 
@@ -125,18 +126,19 @@ def compare(it: Copy, answer: Any, written: List[Row], found: Differences) -> No
     """Compares what both say of a project, of which npm's library refuses some as written."""
     listed = found_in(str(it.folder / LOCK), it.lock["lockfileVersion"] == 1)
     refused = {(row[0], row[1]): row for row in answer["edges"]}
-    found.count("trees as written" if not it.change else f"trees with a {it.change} changed")
+    found.count(f"trees with {it.change} changed" if it.change else "trees as written")
     for edge, row in refused.items():
         found.count("edges that both refuse" if edge in listed.edges else "edges that npm alone refuses")
         choice = None if edge in listed.edges else choice_of(row, it, written)
         if choice is not None:
-            found.choose(choice)
+            found.choose(choice, shown(it, row))
         elif edge not in listed.edges:
             found.add(f"npm alone refuses: {row[2]}", shown(it, row))
     for edge in listed.edges - set(refused):
         found.add("listed here alone", shown(it, edge))
     for finding in listed.others:
-        found.choose(f"{finding.kind.value}, which npm doesn't look at")
+        edge = [finding.kind.value, finding.place, finding.range, finding.version]
+        found.choose(f"{finding.kind.value}, which npm doesn't look at", shown(it, edge))
 
 
 def shown(it: Copy, edge: Any) -> Json:

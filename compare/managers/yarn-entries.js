@@ -32,11 +32,10 @@ const judge = ({ lock, manifests }) => {
     for (const [name, spec] of Object.entries(entry.dependencies || {})) require(name, spec, false)
   }
   for (const manifest of manifests) {
-    const optional = manifest.optionalDependencies || {}
-    for (const kind of ['dependencies', 'devDependencies']) {
-      for (const [name, spec] of Object.entries(manifest[kind] || {})) {
-        if (optional[name] === undefined) require(name, spec, true)
-      }
+    // Of one name in several kinds yarn takes the last of these.
+    const { devDependencies, dependencies, optionalDependencies = {} } = manifest
+    for (const [name, spec] of Object.entries({ ...devDependencies, ...dependencies })) {
+      if (optionalDependencies[name] === undefined) require(name, spec, true)
     }
   }
   return { unmet, missing }

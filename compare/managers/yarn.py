@@ -50,28 +50,29 @@ def changed(lock: str, world: World, maker: Maker) -> Tuple[str, str]:
     """A changed copy of a lock file, and what was changed: the version or a range of an entry, or
     whether it is there."""
     head, *entries = re.split(r"\n\n(?=\S)", lock)
-    what, index = maker.chance.choice(("version", "range", "removed")), 0
+    what = maker.chance.choice(("a version", "a range", "an entry"))
     if not entries:
         return "nothing", lock
     index = maker.chance.randrange(len(entries))
     entry = entries[index]
     name = re.split("(?<=.)@", entry.lstrip().lstrip('"'))[0]
     own = name if name in world.releases else maker.chance.choice(list(world.releases))
-    if what == "removed":
+    if what == "an entry":
         del entries[index]
-    elif what == "version":
+    elif what == "a version":
         version = maker.chance.choice(list(world.releases[own]))
         entries[index] = re.sub('version "[^"]*"', f'version "{version}"', entry, count=1)
     else:
         lines = entry.split("\n")
         ranges = [it for it, line in enumerate(lines) if line.startswith("    ")]
-        if ranges:
-            at = maker.chance.choice(ranges)
-            required = lines[at].split()[0]
-            bare = required.strip('"')
-            known = bare if bare in world.releases else own
-            lines[at] = f'    {required} "{maker.range_of(known)}"'
-            entries[index] = "\n".join(lines)
+        if not ranges:
+            return "nothing", lock
+        at = maker.chance.choice(ranges)
+        required = lines[at].split()[0]
+        bare = required.strip('"')
+        known = bare if bare in world.releases else own
+        lines[at] = f'    {required} "{maker.range_of(known)}"'
+        entries[index] = "\n".join(lines)
     return what, "\n\n".join([head, *entries])
 
 
@@ -98,7 +99,7 @@ def compare(it: Copy, answer: Any, found: Differences) -> None:
     """Compares what both say of a project."""
     report = report_on(str(it.folder / LOCK), None, Scope(), False)
     listed = [finding for finding in report.findings if not finding.is_strict]
-    found.count("files as written" if not it.change else f"files with a {it.change} changed")
+    found.count(f"files with {it.change} changed" if it.change else "files as written")
     unmet = (Kind.UNSATISFIED, Kind.OVERRIDDEN)
     pairs = (("unmet", unmet), ("missing", (Kind.MISSING,)))
     for what, kinds in pairs:
@@ -112,7 +113,7 @@ def compare(it: Copy, answer: Any, found: Differences) -> None:
             found.add(f"{what} here alone", {"pattern": pattern, **shown})
     for each in listed:
         if each.kind not in (*unmet, Kind.MISSING):
-            found.choose(f"{each.kind.value}, which yarn doesn't look at")
+            found.choose(f"{each.kind.value}, which yarn doesn't look at", shown)
 
 
 def run(top: Path, count: int, seed: int) -> Differences:
