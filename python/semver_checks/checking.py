@@ -40,12 +40,12 @@ def format_of(options: Options) -> str:
 
 
 def refuse_several(options: Options, found: Discovery) -> None:
-    """Refuses a package.json that isn't for exactly one file, and standard input for two."""
-    named = options.given.get("--package-json")
+    """Refuses a package.json that isn't for exactly one file, and standard input for two files."""
+    named, allowed = options.given.get("--package-json"), options.given.get("--allow")
     if named is not None and (found.is_several or len(found.paths) != 1):
         raise Misuse("--package-json is for exactly one file")
-    if named == STANDARD_INPUT and found.paths == [STANDARD_INPUT]:
-        raise Misuse("both files are standard input")
+    if [named, allowed, *found.paths].count(STANDARD_INPUT) > 1:
+        raise Misuse("two files are standard input")
 
 
 def is_colored() -> bool:

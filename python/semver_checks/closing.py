@@ -53,6 +53,7 @@ def closing_line(report: Report) -> str:
 
 def unchecked_line(report: Report) -> str:
     """Why it is an error that nothing was checked."""
+    requirements = counted(report.tally.requirements, "requirement", "requirements")
     packages = counted(report.tally.packages, "package", "packages")
-    first = f"nothing was checked, although it has {packages} ({report.tool})"
+    first = f"nothing was checked of {requirements} and {packages} ({report.tool})"
     return "; ".join([first, *parts_of(report)])
