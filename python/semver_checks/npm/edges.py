@@ -29,6 +29,7 @@ from .lock import (
     Package,
     Packages,
     asks_at,
+    is_left_out,
     is_pinned,
     is_top,
     keys_of,
@@ -170,11 +171,11 @@ def findings(lock: Entry, project: Project, tally: Tally) -> Iterator[Finding]:
     read_links(packages, project.folder, tally)
     if project.scope != Scope():
         packages = within(packages, project.scope, tally)
-    installed = (it for place, it in packages.items() if not is_top(place))
-    tally.packages += sum(not it.get("link") for it in installed)
+    checked = [it for it in packages if not is_left_out(packages[it], project.scope)]
+    tally.packages += sum(not is_top(it) and not packages[it].get("link") for it in checked)
     asks = {place: list(asks_at(packages, place)) for place in packages}
     held = where_rules_hold(packages, asks, project.rules)
-    for place in packages:
+    for place in checked:
         yield from of_version(packages, place, is_old)
         is_beside = is_beside_overrides(packages, place)
         for ask in asks[place]:
