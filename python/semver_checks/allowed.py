@@ -6,7 +6,7 @@ from typing import Dict, Iterator, List, NamedTuple
 from .discovery import NAMES
 from .files import Refusal, bytes_of, taking, utf8
 from .reports import Report, Unused
-from .sentences import quoted, sentence
+from .sentences import sentence
 
 MARK = " # "
 
@@ -47,11 +47,10 @@ def allow(path: str, reports: List[Report]) -> List[Unused]:
     known: Dict[str, Line] = {it: line for line in lines for it in line.sentences()}
     used: List[Line] = []
     for report in reports:
-        before = f"{quoted(report.name)}: "
         for finding in report.findings:
             it = sentence(finding)
-            used += [known[text] for text in (it, before + it) if text in known]
-        kept = [it for it in report.listed if not is_known(sentence(it), before, known)]
+            used += [known[text] for text in (it, report.before + it) if text in known]
+        kept = [it for it in report.listed if not is_known(sentence(it), report.before, known)]
         report.allowed, report.listed = len(report.listed) - len(kept), kept
     checked = [report.name for report in reports if report.refusal is None]
     return [

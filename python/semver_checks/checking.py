@@ -5,9 +5,9 @@ import sys
 from typing import Callable, Dict, Iterator, List
 
 from .allowed import allow
-from .closing import closing_line, unchecked_line
+from .closing import closing_line, error_of
 from .discovery import Discovery, discover
-from .files import STANDARD_INPUT, Refusal
+from .files import STANDARD_INPUT
 from .findings import Scope
 from .output import github, json_object, text, tsv
 from .program import Misuse, Options, Outcome, escaped
@@ -40,12 +40,12 @@ def format_of(options: Options) -> str:
 
 
 def refuse_several(options: Options, found: Discovery) -> None:
-    """Refuses a package.json that isn't for exactly one file, and standard input for two."""
-    named = options.given.get("--package-json")
+    """Refuses a package.json that isn't for exactly one file, and standard input for two files."""
+    named, allowed = options.given.get("--package-json"), options.given.get("--allow")
     if named is not None and (found.is_several or len(found.paths) != 1):
         raise Misuse("--package-json is for exactly one file")
-    if named == STANDARD_INPUT and found.paths == [STANDARD_INPUT]:
-        raise Misuse("both files are standard input")
+    if [named, allowed, *found.paths].count(STANDARD_INPUT) > 1:
+        raise Misuse("two files are standard input")
 
 
 def is_colored() -> bool:
@@ -69,20 +69,13 @@ def reports_on(paths: List[str], options: Options, has_lines: bool) -> Iterator[
         progress.end()
 
 
-def errors_of(report: Report) -> Iterator[str]:
-    """Why a lock file isn't checked."""
-    if report.refusal is not None:
-        yield f"{NAME}: {escaped(str(report.refusal))}"
-    elif report.is_unchecked():
-        yield f"{NAME}: {escaped(str(Refusal(report.path, unchecked_line(report))))}"
-
-
 def notes_of(results: Results, is_quiet: bool) -> Iterator[str]:
     """What standard error gets of each lock file: its closing line, or why it isn't checked."""
     for report in results.reports:
-        errors = list(errors_of(report))
-        yield from errors
-        if not errors and not is_quiet:
+        error = error_of(report)
+        if error is not None:
+            yield f"{NAME}: {escaped(str(error))}"
+        elif not is_quiet:
             yield escaped(closing_line(report))
     for refusal in results.refusals:
         yield f"{NAME}: {escaped(str(refusal))}"
@@ -90,7 +83,7 @@ def notes_of(results: Results, is_quiet: bool) -> Iterator[str]:
 
 def status_of(results: Results) -> int:
     """The status: the worst of all files."""
-    if results.refusals or any(any(errors_of(it)) for it in results.reports):
+    if results.refusals or any(error_of(it) is not None for it in results.reports):
         return 2
     return int(bool(results.unused) or any(it.listed for it in results.reports))
 

@@ -1,7 +1,8 @@
 """The closing line of a lock file: how much was checked, and what wasn't."""
 
-from typing import List
+from typing import List, Optional
 
+from .files import Refusal
 from .reports import Report
 
 # Why something isn't checked, of one and of several.
@@ -51,8 +52,16 @@ def closing_line(report: Report) -> str:
     return "; ".join([first, *parts_of(report)])
 
 
+def error_of(report: Report) -> Optional[Refusal]:
+    """Why a lock file isn't checked: it is refused, or has nothing that can be checked."""
+    if report.refusal is None and report.is_unchecked():
+        return Refusal(report.path, unchecked_line(report))
+    return report.refusal
+
+
 def unchecked_line(report: Report) -> str:
     """Why it is an error that nothing was checked."""
+    requirements = counted(report.tally.requirements, "requirement", "requirements")
     packages = counted(report.tally.packages, "package", "packages")
-    first = f"nothing was checked, although it has {packages} ({report.tool})"
+    first = f"nothing was checked of {requirements} and {packages} ({report.tool})"
     return "; ".join([first, *parts_of(report)])

@@ -3,10 +3,11 @@
 from dataclasses import dataclass, field
 from typing import Dict, List, NamedTuple, Optional
 
-from .files import Refusal, bytes_of, name_of, taking
+from .files import STANDARD_INPUT, Refusal, bytes_of, name_of, taking
 from .findings import Finding, Keys, Kind, Scope, Tally
 from .lines import lines_at
 from .lock_files import Input, findings
+from .sentences import quoted
 
 
 @dataclass
@@ -26,8 +27,13 @@ class Report:
 
     @property
     def name(self) -> str:
-        """The file as it is named in lines."""
+        """The file as it is named in fields."""
         return name_of(self.path)
+
+    @property
+    def before(self) -> str:
+        """What a sentence has before it, if it begins with its file."""
+        return f"{self.name if self.path == STANDARD_INPUT else quoted(self.path)}: "
 
     def not_checked(self) -> Dict[str, int]:
         """How many requirements aren't checked for each reason, as far as that needs a human."""

@@ -95,14 +95,17 @@ echo 'closing lines: passed'
 
 # unchecked TOLD FILE OPTION..: nothing of a file is checked, which is an error.
 unchecked() {
-    echo "check-lock-file: cases/unchecked/$2: nothing was checked, although it has $1" > "$work/told"
+    echo "check-lock-file: cases/unchecked/$2: nothing was checked of $1" > "$work/told"
     file=$2
     shift 2
     same "nothing is checked in $file $*" 2 /dev/null /dev/null "$work/told" $check "$@" "cases/unchecked/$file"
 }
-unchecked '2 packages (npm); 2 not checked: 1 git, 1 tag' package-lock.json
-unchecked '2 packages (npm); 2 not checked: 1 git, 1 tag' package-lock.json --quiet
-unchecked '1 package (npm)' npm-shrinkwrap.json
+unchecked '2 requirements and 2 packages (npm); 2 not checked: 1 git, 1 tag' package-lock.json
+unchecked '2 requirements and 2 packages (npm); 2 not checked: 1 git, 1 tag' package-lock.json --quiet
+unchecked '0 requirements and 1 package (npm)' npm-shrinkwrap.json
+same 'nothing is checked, in JSON' 2 /dev/null cases/object-unchecked.json "$work/told" $check --json cases/unchecked/npm-shrinkwrap.json
+echo "::error file=cases/unchecked/npm-shrinkwrap.json::nothing was checked of 0 requirements and 1 package (npm)" > "$work/lines"
+same 'nothing is checked, an annotation' 2 /dev/null "$work/lines" "$work/told" $check --format github cases/unchecked/npm-shrinkwrap.json
 sed 's/"latest"/"^1.0.0"/' cases/unchecked/package-lock.json > "$work/lock"
 echo 'checked 1 requirement of 2 packages in standard input (npm); 1 not checked: 1 git' > "$work/told"
 same 'one requirement is checked' 0 "$work/lock" /dev/null "$work/told" $check -
@@ -164,9 +167,15 @@ refused "check-lock-file: --package-json is for exactly one file; see check-lock
     $check --package-json cases/stale/package.json cases/stale
 refused "check-lock-file: --package-json is for exactly one file; see check-lock-file --help" /dev/null \
     $check --package-json cases/stale/package.json cases/stale/package-lock.json cases/missing.json
+refused 'check-lock-file: two files are standard input; see check-lock-file --help' /dev/null $check --allow - -
 refused 'check-lock-file: unknown format: "xml"; see check-lock-file --help' /dev/null $check --format xml cases/missing.json
 refused 'check-lock-file: --json and --format tsv are both given; see check-lock-file --help' /dev/null \
     $check --format tsv --json cases/missing.json
+
+sed 's/^/standard input: /' cases/aliases.text > "$work/lines"
+$check --quiet cases/monorepo/web/yarn.lock | sed 's|^|cases/monorepo/web/yarn.lock: |' >> "$work/lines"
+same 'standard input and a file' 1 cases/aliases.json "$work/lines" /dev/null \
+    $check --quiet - cases/monorepo/web/yarn.lock
 
 # ---- what is left out
 
@@ -181,6 +190,14 @@ for file in Cargo.lock package-lock.json pnpm-lock.yaml yarn.lock berry/yarn.loc
     [ "$status" = 1 ] || exit 1
     grep -q '^tool 2.0.0 does not satisfy' "$work/lines"
 done
+cat > "$work/lines" <<'END'
+tool 1 does not satisfy ^1.0.0, required by the project
+tool 1 has an invalid version, in node_modules/tool
+part 2.0.0 does not satisfy ^1.0.0, required by node_modules/tool
+END
+same 'packages that npm marks' 1 /dev/null "$work/lines" /dev/null $check --quiet cases/no-dev/marked.json
+echo 'checked 2 requirements of 1 package in cases/no-dev/marked.json (npm); 2 left out' > "$work/told"
+same 'without the packages that npm marks' 0 /dev/null /dev/null "$work/told" $check --no-dev cases/no-dev/marked.json
 sed -f cases/cargo/workspace-broken.sed cases/cargo/workspace.json > "$work/graph"
 sed '/missing$/d' cases/cargo/workspace-broken.expected > "$work/fields"
 same 'a graph without what is for development' 1 "$work/graph" "$work/fields" /dev/null $fields --no-dev -

@@ -29,6 +29,7 @@ from .lock import (
     Package,
     Packages,
     asks_at,
+    is_left_out,
     is_top,
     keys_of,
     package_at,
@@ -189,14 +190,14 @@ def findings(lock: Entry, project: Project, tally: Tally) -> Iterator[Finding]:
     read_links(packages, project.folder, tally)
     if project.scope != Scope():
         packages = within(packages, project.scope, tally)
-    installed = (it for place, it in packages.items() if not is_top(place))
-    tally.packages += sum(not it.get("link") for it in installed)
+    checked = [it for it in packages if not is_left_out(packages[it], project.scope)]
+    tally.packages += sum(not is_top(it) and not packages[it].get("link") for it in checked)
     found = {place: package_at(packages, place) for place in packages}
     asks = {place: list(asks_at(place, entry, found)) for place, entry in packages.items()}
     held = where_rules_hold(found, asks, project.rules)
     pinned, ruled = pinned_in(packages), names_in(project.rules)
-    for place, entry in packages.items():
-        yield from of_version(found[place], entry, is_old)
+    for place in checked:
+        yield from of_version(found[place], packages[place], is_old)
         is_beside = is_beside_overrides(packages, place)
         for ask in asks[place]:
             is_pinned = ask.found is not None and ask.found.place in pinned

@@ -129,17 +129,20 @@ def with_manifest(entry: Entry, manifest: Entry) -> Entry:
     return {**own, **{key: it for key, it in manifest.items() if key in OF_MANIFEST}}
 
 
+def is_left_out(entry: Entry, scope: Scope) -> bool:
+    """Whether a scope leaves out a package: npm marks one that is for development alone."""
+    return entry.get("dev") is True and not scope.has_development
+
+
 def within(packages: Packages, scope: Scope, tally: Tally) -> Packages:
-    """The packages with what a scope leaves of their requirements: npm marks a package that is for
-    development alone."""
-    left_out = set() if scope.has_peers else {PEERS}
-    if not scope.has_development:
-        left_out.add("devDependencies")
-        packages = {place: it for place, it in packages.items() if it.get("dev") is not True}
+    """The packages with what a scope leaves of their requirements."""
+    kinds = set() if scope.has_peers else {PEERS}
+    kinds |= set() if scope.has_development else {"devDependencies"}
     found = {}
     for place, entry in packages.items():
-        tally.left_out += sum(len(entry[it]) for it in left_out if isinstance(entry.get(it), dict))
-        found[place] = {key: it for key, it in entry.items() if key not in left_out}
+        out = set(ASKS_OF_TOPS) if is_left_out(entry, scope) else kinds
+        tally.left_out += sum(len(entry[it]) for it in out if isinstance(entry.get(it), dict))
+        found[place] = {key: it for key, it in entry.items() if key not in out}
     return found
 
 

@@ -2,6 +2,7 @@
 
 from typing import Iterator, Optional
 
+from ..closing import error_of
 from ..reports import Results
 from ..sentences import sentence
 from .text import grouped
@@ -12,8 +13,9 @@ def lines(results: Results) -> Iterator[str]:
     for report in results.reports:
         for finding in grouped(report.listed):
             yield annotation(report.name, report.lines.get(finding.at), sentence(finding))
-        if report.refusal is not None:
-            yield annotation(report.refusal.path, None, report.refusal.why)
+        error = error_of(report)
+        if error is not None:
+            yield annotation(error.path, None, error.why)
     for refusal in results.refusals:
         yield annotation(refusal.path, None, refusal.why)
     for it in results.unused:

@@ -3,6 +3,7 @@
 import json
 from typing import Any, Dict, Iterator
 
+from ..closing import error_of
 from ..findings import Finding, Kind
 from ..reports import Report, Results
 from ..sentences import sentence
@@ -21,12 +22,12 @@ def lines(results: Results) -> Iterator[str]:
 
 
 def of_report(report: Report) -> Object:
-    """What is known of a lock file. One that is refused has no tool, and an error."""
-    tally = report.tally
+    """What is known of a lock file. One that is refused has no tool."""
+    tally, error = report.tally, error_of(report)
     return {
         "file": report.name,
         "tool": report.tool or None,
-        "error": None if report.refusal is None else str(report.refusal),
+        "error": None if error is None else str(error),
         "packages": tally.packages,
         "checked": report.checked(),
         "not_checked": report.not_checked(),

@@ -18,7 +18,7 @@ def lines(results: Results, is_colored: bool = False) -> Iterator[str]:
     """The lines of all files."""
     paint: Paint = colored if is_colored else plain
     for report in results.reports:
-        before = f"{quoted(report.name)}: " if results.is_several else ""
+        before = report.before if results.is_several else ""
         for finding in grouped(report.listed):
             yield before + sentence(finding, paint)
     for it in results.unused:
