@@ -119,7 +119,20 @@ def choice_of(row: Row, it: Copy, written: List[Row]) -> Optional[str]:
         return "what an optional package requires may be missing"
     if row[3].startswith("http:"):
         return "what is no range isn't checked: a URL"
+    if row[4] in replaced_inside(it.world.manifests[""], row[1]):
+        return "of several ways to a package that by which the most is right counts"
     return None
+
+
+def replaced_inside(manifest: Json, name: str) -> List[str]:
+    """The versions that overrides inside others put in place of a name."""
+    inside = [it for it in manifest.get("overrides", {}).values() if isinstance(it, dict)]
+    return [
+        version
+        for rules in inside
+        for key, version in rules.items()
+        if key.rpartition("@")[0] == name or key == name
+    ]
 
 
 def compare(it: Copy, answer: Any, written: List[Row], found: Differences) -> None:

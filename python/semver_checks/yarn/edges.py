@@ -20,7 +20,7 @@ from semver_parser import Dialect
 
 from ..files import Entry, texts_at
 from ..findings import PROJECT, Finding, Kind, Scope, Tally
-from ..judging import is_version
+from ..judging import is_met, is_version
 from ..manifests import KINDS_OF_BERRY, TOP, Project, name_in, version_in
 from ..manifests import needs_of as needs_of_manifest
 from ..npm.specs import (
@@ -73,14 +73,20 @@ class Ask(NamedTuple):
 
 
 class Edge(NamedTuple):
-    """What is asked for, by which text that is judged, that as npm has it, what resolutions put in
-    place of it, each by what npm has for it, and the key that is for it."""
+    """What is asked for, by which text that is judged, what resolutions put in place of it, each by
+    what npm has for it, the key that is for it, and whether the file is berry's."""
 
     ask: Ask
     spec: str
-    wanted: str
     resolved: Dict[str, str]
     key: Optional[str]
+    is_berry: bool
+
+    @property
+    def wanted(self) -> str:
+        """The text as npm has it."""
+        wanted_as = wanted_of if self.is_berry else wanted_of_classic
+        return wanted_as(self.ask.name, self.spec)
 
 
 def of_yarn(spec: str) -> str:
@@ -156,11 +162,14 @@ def of_missing(edge: Edge) -> Iterator[Finding]:
 
 def of_edge(edge: Edge, found: Package) -> Iterator[Finding]:
     """What there is to say of what is asked for and found."""
-    ask, spec, wanted, resolved, _ = edge
+    ask, spec, resolved = edge.ask, edge.spec, edge.resolved
     if found.version == WORKSPACE:
         finding = ask.finding._replace(kind=Kind.NOT_CHECKED, at=(found.key,))
         yield finding._replace(is_strict=True, reason="workspace")
         return
+    if is_plainly_met(edge, found):
+        return
+    wanted = edge.wanted
     verdict = verdict_on(found.version, wanted)
     is_named = has_name(found.name, wanted) or any(has_name(found.name, it) for it in resolved)
     if verdict is None and (is_named or not found.name):
@@ -176,6 +185,14 @@ def of_edge(edge: Edge, found: Package) -> Iterator[Finding]:
         yield finding._replace(kind=verdict, is_strict=True, reason=reason_of(wanted))
     elif verdict is not None:
         yield finding._replace(kind=verdict)
+
+
+def is_plainly_met(edge: Edge, found: Package) -> bool:
+    """Whether a range is required, as nearly always, and the package has the name and a version in
+    the range."""
+    wanted = of_yarn(edge.ask.spec)
+    is_plain = ":" not in wanted and not edge.resolved and found.name in ("", edge.ask.name)
+    return is_plain and is_met(wanted, found.version, Dialect.NPM) is True
 
 
 def of_version(package: Package) -> Iterator[Finding]:
@@ -205,28 +222,28 @@ def edge_of(
 ) -> Edge:
     """What is found for what is asked for: in berry that by a resolution first. In yarn 1 a package
     that a resolution puts there is for what is asked for, too."""
-    wanted_as = wanted_of if is_berry else wanted_of_classic
     if ask.name not in resolutions:
-        key = key_for(ask.name, ask.spec, by_key)
-        return Edge(ask, ask.spec, wanted_as(ask.name, ask.spec), {}, key)
+        return Edge(ask, ask.spec, {}, key_for(ask.name, ask.spec, by_key), is_berry)
+    wanted_as = wanted_of if is_berry else wanted_of_classic
     resolved = [it.spec for it in resolutions[ask.name] if is_for(it, ask)]
     specs = [*resolved, ask.spec] if is_berry else [ask.spec, *resolved]
     keys = {spec: key_for(ask.name, spec, by_key) for spec in specs}
     spec = next((it for it in specs if keys[it] is not None), ask.spec)
     if not is_berry:
         written = {wanted_as(ask.name, it): it for it in resolved}
-        return Edge(ask, ask.spec, wanted_as(ask.name, ask.spec), written, keys[spec])
-    wanted = wanted_as(ask.name, spec)
-    return Edge(ask, spec, wanted, {wanted: spec} if spec in resolved else {}, keys[spec])
+        return Edge(ask, ask.spec, written, keys[spec], is_berry)
+    written = {wanted_as(ask.name, spec): spec} if spec in resolved else {}
+    return Edge(ask, spec, written, keys[spec], is_berry)
 
 
 def asks_of_project(package: Package, used: Set[Optional[str]]) -> Iterator[Ask]:
     """The keys of a package that no package asks for: the project does, itself in yarn 1, and in
     later ones by a catalog, a resolution or a patch. A workspace's own key is asked for by none."""
     for pattern in package.patterns:
-        name, spec = name_and_rest(pattern)
-        if bare(pattern) not in used and not spec.startswith(OWN):
-            yield Ask(None, name, spec)
+        if bare(pattern) not in used:
+            name, spec = name_and_rest(pattern)
+            if not spec.startswith(OWN):
+                yield Ask(None, name, spec)
 
 
 def asks_of(package: Package, project: Project) -> Iterator[Ask]:
@@ -234,8 +251,8 @@ def asks_of(package: Package, project: Project) -> Iterator[Ask]:
     manifest = project.get(folder_of(package))
     by_manifest = needs_of_manifest(manifest or {}, KINDS_OF_BERRY)
     for need in needs_of(package) if manifest is None else by_manifest:
-        ask = Ask(package, need.name, need.spec, not need.is_optional)
-        yield ask._replace(is_development=need.is_development)
+        is_required, is_development = not need.is_optional, need.is_development
+        yield Ask(package, need.name, need.spec, is_required, is_development=is_development)
 
 
 def asks_of_folders(project: Project, packages: List[Package]) -> Iterator[Ask]:
@@ -252,7 +269,7 @@ def asks_of_folders(project: Project, packages: List[Package]) -> Iterator[Ask]:
 
 def folder_of(package: Package) -> str:
     """The folder of a workspace; empty for another package."""
-    spec = name_and_rest(package.resolution)[1]
+    spec = name_and_rest(package.resolution)[1] if OWN in package.resolution else ""
     return spec[len(OWN) :] if spec.startswith(OWN) else ""
 
 

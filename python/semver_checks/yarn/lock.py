@@ -175,7 +175,7 @@ def needs_of(package: Package) -> Iterator[Need]:
         for name, spec in asked.items():
             if not isinstance(spec, str):
                 raise WrongShape(f": {package.patterns[0]}: {kind}: {name} isn't a text")
-            meta = metas.get(name) if isinstance(metas, dict) else None
+            meta = metas.get(name) if metas and isinstance(metas, dict) else None
             is_optional = isinstance(meta, dict) and meta.get("optional") == "true"
             yield Need(name, spec, is_optional or kind == OPTIONAL)
 
