@@ -31,6 +31,13 @@ for option in --json --format=json; do
 done
 same 'one object of what is refused' 2 /dev/null cases/object-refused.json cases/cut-off.told $check --json cases/cut-off.json
 
+status=0
+$check --quiet --json cases/yarn/resolution/yarn.lock > "$work/object" || status=$?
+[ "$status" = 1 ] || exit 1
+grep -A 6 '"another-version"' "$work/object" | grep '"range"' > "$work/lines"
+printf '          "range": "%s",\n' 1.2.0 1.2.0 1.3.0 | diff -u - "$work/lines"
+echo 'what else an entry has, in JSON: passed'
+
 # annotated FILE: the annotations of a file of cases/, each at the line where its entry begins.
 annotated() {
     status=0
@@ -42,6 +49,11 @@ annotated() {
 for name in version-1.json aliases.json yarn/keys/yarn.lock pnpm/wrong-6.yaml cargo-lock/wrong/Cargo.lock; do
     ! may_read "$name" || annotated "$name"
 done
+# A key whose colon is on another line, and one that is there twice, so its line isn't sure.
+printf '%s\n' '{"lockfileVersion": 3, "packages": {"": {"dependencies": {"a": "2", "b": "2"}},' '"node_modules/a"' ':' \
+    '{"version": "1.0.0"},' '"node_modules/b": {},' '"node_modules/b": {"version": "1.0.0"}}}' > "$work/lock"
+printf '::error file=standard input%s::%s 1.0.0 does not satisfy 2, required by the project\n' ',line=2' a '' b > "$work/lines"
+same 'annotations of other lines' 1 "$work/lock" "$work/lines" /dev/null $check --quiet --format github -
 cp cases/monorepo/web/package.json cases/monorepo/web/yarn.lock "$work"
 mkdir "$work/a,b:c%d" && mv "$work/package.json" "$work/yarn.lock" "$work/a,b:c%d"
 echo '::error file=a%2Cb%3Ac%25d/yarn.lock::react ^18.2.0 is missing, required by the project' > "$work/lines"
@@ -109,6 +121,10 @@ same 'nothing is checked, an annotation' 2 /dev/null "$work/lines" "$work/told" 
 sed 's/"latest"/"^1.0.0"/' cases/unchecked/package-lock.json > "$work/lock"
 echo 'checked 1 requirement of 2 packages in standard input (npm); 1 not checked: 1 git' > "$work/told"
 same 'one requirement is checked' 0 "$work/lock" /dev/null "$work/told" $check -
+
+sed 's/"dependencies"/"devDependencies"/' cases/unchecked/package-lock.json > "$work/lock"
+echo 'checked 0 requirements of 2 packages in standard input (npm); 2 left out' > "$work/told"
+same 'all is left out' 0 "$work/lock" /dev/null "$work/told" $check --no-dev -
 
 # ---- files and directories
 
@@ -225,6 +241,9 @@ allowed 1 "$lodash # later\nleft-pad 1 is missing # gone\n$a # never\n" \
     "web/yarn.lock: react ^18.2.0 is missing, required by the project\n$gone" package-lock.json web
 allowed 1 "$lodash # later\nweb/yarn.lock: $a # of a file that is not checked\n" "$a\n" package-lock.json
 allowed 1 "$lodash # later\n" "^1.0.0\t2.0.0\tpackages/b requires a\n" --format tsv package-lock.json
+echo '{"lockfileVersion": 3, "packages": {"": {"dependencies": {"x": "1 # 2"}}, "node_modules/x": {"version": "1.0.0"}}}' > "$work/lock"
+echo 'x 1.0.0 cannot be checked: "1 # 2" is an invalid range, required by the project # known # so far' > "$work/known.txt"
+same 'a known finding with a mark in it' 0 "$work/lock" /dev/null /dev/null $check --quiet --allow "$work/known.txt" -
 printf '%s # later\n' "$lodash" > "$work/known.txt"
 echo 'checked 2 requirements of 1 package in cases/monorepo/package-lock.json (npm); 1 allowed' > "$work/told"
 echo "$a" > "$work/lines"
