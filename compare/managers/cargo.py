@@ -1,5 +1,5 @@
-"""The checker beside Cargo: workspaces over crates of a directory, whose Cargo.lock Cargo writes, and
-changes of that and of requirements, which `cargo metadata --locked` takes or refuses."""
+"""The checker beside Cargo: workspaces over crates of a directory, whose Cargo.lock Cargo writes,
+and changes of that and of requirements, which `cargo metadata --locked` takes or refuses."""
 
 import json
 import os
@@ -12,7 +12,9 @@ from typing import Dict, Iterator, List, NamedTuple, Optional, Tuple
 from differences import Differences, found_in
 
 NAMES = ("ada", "bob-core", "cid", "dot", "eve_macros", "fay", "gus")
-VERSIONS = "0.1.0 0.1.4 0.2.0 1.0.0 1.0.1 1.1.0 1.2.0-rc.1 1.2.0 1.2.3 2.0.0-alpha.1 2.0.0 2.1.0".split()
+VERSIONS = (
+    "0.1.0 0.1.4 0.2.0 1.0.0 1.0.1 1.1.0 1.2.0-rc.1 1.2.0 1.2.3 2.0.0-alpha.1 2.0.0 2.1.0"
+).split()
 TABLES = ("dependencies", "dependencies", "dev-dependencies", "build-dependencies")
 TARGETS = ("cfg(windows)", "cfg(unix)", "x86_64-unknown-linux-gnu")
 CHANGES = 4
@@ -20,8 +22,8 @@ WAITING = 60
 
 
 class Need(NamedTuple):
-    """A requirement of a manifest: its table, its key, the crate, the requirement, and whether it is
-    optional."""
+    """A requirement of a manifest: its table, its key, the crate, the requirement, and whether it
+    is optional."""
 
     table: str
     key: str
@@ -56,7 +58,8 @@ class Maker:
         version = self.chance.choice([it for known, it in self.crates if known == name])
         major, minor, _ = version.partition("-")[0].split(".")
         forms = [f"^{version}", version, f"{major}.{minor}", f"~{version}", f"={version}"]
-        forms += [f">={version}, <{int(major) + 2}", "*", f"{major}.*", f">{major}.0.0", f"<={version}"]
+        forms += [f">={version}, <{int(major) + 2}", f">{major}.0.0", f"<={version}"]
+        forms += ["*", f"{major}.*"]
         return self.chance.choice(forms)
 
     def needs_of(self, names: List[str], most: int, is_member: bool) -> List[Need]:
@@ -201,8 +204,8 @@ def change_graph(top: Path, graph: str, maker: Maker, found: Differences) -> Non
 
 
 def change_lock(top: Path, maker: Maker, found: Differences) -> None:
-    """Changes versions of a Cargo.lock, one at a time. Cargo refuses one also for what crates of the
-    registry require, which the file doesn't have."""
+    """Changes versions of a Cargo.lock, one at a time. Cargo refuses one also for what crates of
+    the registry require, which the file doesn't have."""
     path = top / "Cargo.lock"
     lock = path.read_text()
     for _ in range(CHANGES):

@@ -38,8 +38,8 @@ def found_in(path: str, is_strict: bool = False) -> Found:
 
 
 class Differences:
-    """How much was compared, and the differences by their kind and those that a choice of the README
-    names, of each the smallest world."""
+    """How much was compared, and the differences by their kind and those that a choice of the
+    README names, of each the smallest world."""
 
     def __init__(self, tool: str) -> None:
         self.tool = tool

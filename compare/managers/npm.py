@@ -112,8 +112,8 @@ def edges_by_npm(copies: List[Copy]) -> List[Json]:
 def choice_of(row: Row, it: Copy, written: List[Row]) -> Optional[str]:
     """The choice of the README by which an edge isn't listed that npm's library refuses, where it
     refuses some of the file that npm wrote."""
-    if row in written:
-        return "npm's library refuses what npm wrote"
+    if row in written and "overrides" in it.world.manifests[""]:
+        return "npm's library refuses what npm wrote by overrides"
     requirer = it.lock.get("packages", {}).get(row[0], {})
     if row[2] == "MISSING" and requirer.get("optional"):
         return "what an optional package requires may be missing"
@@ -141,7 +141,8 @@ def compare(it: Copy, answer: Any, written: List[Row], found: Differences) -> No
     refused = {(row[0], row[1]): row for row in answer["edges"]}
     found.count(f"trees with {it.change} changed" if it.change else "trees as written")
     for edge, row in refused.items():
-        found.count("edges that both refuse" if edge in listed.edges else "edges that npm alone refuses")
+        who = "both refuse" if edge in listed.edges else "npm alone refuses"
+        found.count(f"edges that {who}")
         choice = None if edge in listed.edges else choice_of(row, it, written)
         if choice is not None:
             found.choose(choice, shown(it, row))
@@ -150,8 +151,8 @@ def compare(it: Copy, answer: Any, written: List[Row], found: Differences) -> No
     for edge in listed.edges - set(refused):
         found.add("listed here alone", shown(it, edge))
     for finding in listed.others:
-        edge = [finding.kind.value, finding.place, finding.range, finding.version]
-        found.choose(f"{finding.kind.value}, which npm doesn't look at", shown(it, edge))
+        other = [finding.kind.value, finding.place, finding.range, finding.version]
+        found.choose(f"{finding.kind.value}, which npm doesn't look at", shown(it, other))
 
 
 def shown(it: Copy, edge: Any) -> Json:

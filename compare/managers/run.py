@@ -1,5 +1,5 @@
-"""Compares check-lock-file with package managers: run.py COUNT SEED [TOOL].., on COUNT worlds of npm
-and on three fifths as many of the others. The status is 1 if something differs but by choice."""
+"""Compares check-lock-file with package managers: run.py COUNT SEED [TOOL].., on COUNT worlds of
+npm and on three fifths as many of the others. The status is 1 if something differs but by choice."""
 
 import importlib
 import sys

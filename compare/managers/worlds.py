@@ -7,7 +7,8 @@ from registry import Json, Releases
 
 NAMES = ("ada", "@of/bob", "cid", "dot", "eve", "fay", "gus", "hal")
 VERSIONS = (
-    "0.1.0 0.1.4 0.2.0 1.0.0 1.0.1 1.1.0 1.2.0-rc.1 1.2.0 1.2.3 2.0.0-alpha.1 2.0.0 2.1.0 3.0.0-beta.2"
+    "0.1.0 0.1.4 0.2.0 1.0.0 1.0.1 1.1.0 1.2.0-rc.1 1.2.0 1.2.3 2.0.0-alpha.1 2.0.0 2.1.0 "
+    "3.0.0-beta.2"
 ).split()
 KINDS = ("dependencies", "dependencies", "dependencies", "peerDependencies", "optionalDependencies")
 
@@ -36,7 +37,8 @@ class Maker:
         version = self.chance.choice(list(self.releases[name]))
         major, minor, _ = version.partition("-")[0].split(".")
         forms = [f"^{version}"] * 4 + [f"~{version}"] * 2 + [version, f">={version}", f"{major}.x"]
-        forms += ["*", f"^{major}.{minor} || ^{int(major) + 1}", f">={version} <{int(major) + 2}", ""]
+        forms += [f"^{major}.{minor} || ^{int(major) + 1}", f">={version} <{int(major) + 2}"]
+        forms += ["*", ""]
         return self.chance.choice(forms)
 
     def require(self, manifest: Json, name: str) -> None:

@@ -22,7 +22,8 @@ MOST_KEYS = 4
 
 def lines_at(tool: str, text: bytes, wanted: Set[Keys]) -> Dict[Keys, int]:
     """The lines of the entries to which keys lead, but for those that aren't sure."""
-    readers = {NPM: of_json, BUN: of_json, DENO: of_json, YARN: of_yarn, PNPM: of_yaml, CARGO: of_cargo}
+    readers = {YARN: of_yarn, PNPM: of_yaml, CARGO: of_cargo}
+    readers.update({tool: of_json for tool in (NPM, BUN, DENO)})
     if not any(wanted) or tool not in readers:
         return {}
     found: Dict[Keys, int] = {}

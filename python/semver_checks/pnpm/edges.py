@@ -346,8 +346,8 @@ def findings_of_all(
 
 
 def findings(lock: Entry, top: Optional[str], tally: Tally, scope: Scope) -> Iterator[Finding]:
-    """What there is to say of a document of a lock file, in its order, beside the package.json files in and below
-    a folder, if it is known."""
+    """What there is to say of a document of a lock file, in its order, beside the package.json
+    files in and below a folder, if it is known."""
     check_version(lock)
     packages = objects_at(lock.get("packages") or {}, "packages")
     overrides, catalogs = overrides_of(lock), list(asks_of_catalogs(lock, packages))

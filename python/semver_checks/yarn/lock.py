@@ -51,8 +51,8 @@ USUAL = re.compile(
 
 
 def lines_of(text: str) -> Iterator[Tuple[int, int, str, str, bool]]:
-    """The lines of a file: of each its number, its indent, its key, its value, and whether an object
-    follows. Berry writes a key of more than 1,024 characters after `? `, and its colon on the next
+    """The lines of a file: of each its number, indent, key and value, and whether an object follows.
+    Berry writes a key of more than 1,024 characters after `? `, and its colon on the next
     line."""
     key = ""
     for number, line in enumerate(text.splitlines(), 1):
