@@ -8,7 +8,7 @@ import subprocess
 from pathlib import Path
 from typing import Any, Dict, Iterator, List, NamedTuple, Optional, Tuple
 
-from differences import Differences, found_in
+from differences import Differences, Finding, Kind, found_in
 from projects import environment, write_project
 from registry import Json, Registry
 from worlds import Maker, World
@@ -152,7 +152,15 @@ def compare(it: Copy, answer: Any, written: List[Row], found: Differences) -> No
         found.add("listed here alone", shown(it, edge))
     for finding in listed.others:
         other = [finding.kind.value, finding.place, finding.range, finding.version]
-        found.choose(f"{finding.kind.value}, which npm doesn't look at", shown(it, other))
+        if finding.kind == Kind.ANOTHER_PACKAGE or (it.change and is_of_archive(finding)):
+            found.choose(f"{finding.kind.value}, which npm doesn't look at", shown(it, other))
+        else:
+            found.add(f"listed here alone: {finding.kind.value}", shown(it, other))
+
+
+def is_of_archive(finding: Finding) -> bool:
+    """Whether a version isn't that of the archive: npm writes no such file."""
+    return finding.kind == Kind.ANOTHER_VERSION
 
 
 def shown(it: Copy, edge: Any) -> Json:
