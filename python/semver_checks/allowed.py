@@ -56,7 +56,7 @@ def allow(path: str, reports: List[Report]) -> List[Unused]:
     return [
         Unused(path, *line)
         for line in lines
-        if line not in used and not is_of_another_file(line, checked)
+        if line not in used and not may_apply_elsewhere(line, checked, len(reports))
     ]
 
 
@@ -65,7 +65,10 @@ def is_known(text: str, before: str, known: Dict[str, Line]) -> bool:
     return text in known or before + text in known
 
 
-def is_of_another_file(line: Line, checked: List[str]) -> bool:
-    """Whether a line begins with a lock file that wasn't checked."""
+def may_apply_elsewhere(line: Line, checked: List[str], files: int) -> bool:
+    """Whether a line begins with a lock file that wasn't checked, or with none, and one of the
+    files was refused."""
     path, colon, _ = line.text.partition(": ")
-    return bool(colon) and os.path.basename(path.strip('"')) in NAMES and path not in checked
+    if colon and os.path.basename(path.strip('"')) in NAMES:
+        return path not in checked
+    return len(checked) < files

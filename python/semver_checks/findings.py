@@ -51,7 +51,8 @@ class Finding(NamedTuple):
     @property
     def who(self) -> str:
         """Who requires something, with its version if the file has it."""
-        return f"{self.requirer} {self.requirer_version}".rstrip(" ")
+        version = f" {self.requirer_version}" if self.requirer_version else ""
+        return self.requirer + version
 
 
 class Scope(NamedTuple):

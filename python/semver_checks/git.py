@@ -56,10 +56,26 @@ def refuse_unknown(revision: str, path: str, directory: str) -> None:
         raise Refusal(path, f"git doesn't show it: {why or 'there is no such revision'}")
 
 
+def changed_below(old: str, new: Optional[str], directory: str) -> List[str]:
+    """The files below a directory, from it on, that differ between two revisions, or between one
+    and what git knows of the work tree."""
+    top, name = nearest(os.path.join(directory, ""))
+    revisions = [old] if new is None else [old, new]
+    options = ["-z", "--name-only", "--no-renames", "--no-ext-diff", "--relative"]
+    listed, why = output_of(["diff", *options, *revisions, "--", f"./{name}"], top)
+    if listed is None:
+        raise Refusal(directory, f"git doesn't compare it: {why}")
+    return from_on(name, paths_of(listed))
+
+
+def from_on(name: str, paths: List[str]) -> List[str]:
+    """Paths below a directory of this name, from it on."""
+    return [os.path.relpath(it, name) if name else it for it in paths]
+
+
 def below_in_revision(revision: str, directory: str) -> List[str]:
     """The files below a directory in a revision, from it on."""
     top, name = nearest(os.path.join(directory, ""))
     refuse_unknown(revision, directory, top)
     listed, _ = output_of(["ls-tree", "-r", "-z", "--name-only", revision, f"./{name}"], top)
-    paths = [] if listed is None else paths_of(listed)
-    return [os.path.relpath(it, name) if name else it for it in paths]
+    return from_on(name, [] if listed is None else paths_of(listed))

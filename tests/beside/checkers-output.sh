@@ -241,6 +241,10 @@ allowed 1 "$lodash # later\nleft-pad 1 is missing # gone\n$a # never\n" \
     "web/yarn.lock: react ^18.2.0 is missing, required by the project\n$gone" package-lock.json web
 allowed 1 "$lodash # later\nweb/yarn.lock: $a # of a file that is not checked\n" "$a\n" package-lock.json
 allowed 1 "$lodash # later\n" "^1.0.0\t2.0.0\tpackages/b requires a\n" --format tsv package-lock.json
+printf '%s # later\nleft-pad 1 is missing # perhaps in the file that is refused\n' "$lodash" > "$work/known.txt"
+echo "cases/monorepo/package-lock.json: $a" > "$work/lines"
+same 'known findings beside a file that is refused' 2 /dev/null "$work/lines" cases/cut-off.told \
+    $check --quiet --allow "$work/known.txt" cases/monorepo/package-lock.json cases/cut-off.json
 echo '{"lockfileVersion": 3, "packages": {"": {"dependencies": {"x": "1 # 2"}}, "node_modules/x": {"version": "1.0.0"}}}' > "$work/lock"
 echo 'x 1.0.0 cannot be checked: "1 # 2" is an invalid range, required by the project # known # so far' > "$work/known.txt"
 same 'a known finding with a mark in it' 0 "$work/lock" /dev/null /dev/null $check --quiet --allow "$work/known.txt" -

@@ -7,7 +7,7 @@ from semver_parser import Dialect
 
 from ..discovery import is_among, named_below
 from ..files import BYTE_ORDER_MARK, Refusal, bytes_of, taking
-from ..git import below_in_revision, in_revision
+from ..git import below_in_revision, changed_below, in_revision
 from ..program import Misuse, Options
 from .manifest import NAMES, NOWHERE, Manifest, manifest_of
 
@@ -22,23 +22,25 @@ class Side(NamedTuple):
     revision: Optional[str]
     may_lack: bool
 
-    def manifest(self, place: str = "") -> Manifest:
-        """The manifest at a place below the path, or at the path itself."""
+    def text(self, place: str = "") -> Optional[bytes]:
+        """What the file at a place below the path holds, or at the path itself; None if it isn't
+        there and may be missing."""
         path = path_of(self, place)
         if self.revision is not None:
-            return self.manifest_in_revision(self.revision, path)
+            text = in_revision(self.revision, path)
+            return None if text is None else text.removeprefix(BYTE_ORDER_MARK)
         if (self.may_lack or place) and not os.path.lexists(path):
-            return NOWHERE
+            return None
         with taking(path, WHAT):
-            return manifest_of(bytes_of(path))
+            return bytes_of(path)
 
-    def manifest_in_revision(self, revision: str, path: str) -> Manifest:
-        """The manifest of a file in a revision."""
-        text = in_revision(revision, path)
+    def manifest(self, place: str, text: Optional[bytes]) -> Manifest:
+        """The manifest that the text of the file at a place is."""
         if text is None:
             return NOWHERE
-        with taking(f"{revision}:{path}", WHAT):
-            return manifest_of(text.removeprefix(BYTE_ORDER_MARK))
+        path = path_of(self, place)
+        with taking(path if self.revision is None else f"{self.revision}:{path}", WHAT):
+            return manifest_of(text)
 
     def places(self) -> List[str]:
         """The places of the manifests below the path."""
@@ -91,9 +93,12 @@ def is_of_directories(old: Side, new: Side) -> bool:
     return bool(old.places() or new.places())
 
 
-def pair_of(old: Side, new: Side, place: str, file: Optional[str]) -> Pair:
-    """Two manifests at a place of both sides."""
-    one, other = old.manifest(place), new.manifest(place)
+def pair_of(old: Side, new: Side, place: str, file: Optional[str]) -> Optional[Pair]:
+    """Two manifests at a place of both sides. Below directories None if nothing changed."""
+    text, other_text = old.text(place), new.text(place)
+    if file is not None and text == other_text:
+        return None
+    one, other = old.manifest(place, text), new.manifest(place, other_text)
     dialect = one.dialect or other.dialect
     if dialect is None:
         raise Refusal(path_of(new, place), "both sides lack it")
@@ -102,17 +107,28 @@ def pair_of(old: Side, new: Side, place: str, file: Optional[str]) -> Pair:
     return Pair(file, one, other, dialect)
 
 
+def places_of(old: Side, new: Side) -> List[str]:
+    """The places below two directories that are compared: those where something may differ."""
+    before, after = set(old.places()), set(new.places())
+    if not before | after:
+        raise Refusal(new.path, "it is a directory without a manifest")
+    both = before & after
+    if old.revision is not None:
+        both.intersection_update(changed_below(old.revision, new.revision, new.path))
+    return sorted((before ^ after) | both)
+
+
 def pairs_of(options: Options, refuse: Callable[[Refusal], None]) -> Iterator[Pair]:
     """The manifests that are compared. Of those below directories each is refused by itself."""
     old, new = sides_of(options)
-    if not is_of_directories(old, new):
-        yield pair_of(old, new, "", None)
-        return
-    places = sorted({*old.places(), *new.places()})
-    if not places:
-        raise Refusal(new.path, "it is a directory without a manifest")
-    for place in places:
+    is_several = is_of_directories(old, new)
+    for place in places_of(old, new) if is_several else [""]:
         try:
-            yield pair_of(old, new, place, path_of(new, place))
+            pair = pair_of(old, new, place, path_of(new, place) if is_several else None)
         except Refusal as error:
+            if not is_several:
+                raise
             refuse(error)
+            continue
+        if pair is not None:
+            yield pair
