@@ -50,12 +50,19 @@ def lock_by_npm(folder: Path, version: int, registry: Registry, top: Path) -> Op
 # ---- changed copies
 
 
+def kinds_of(entry: Json) -> List[str]:
+    """The kinds of requirements that a package has."""
+    return [it for it in entry if it.endswith("ependencies") and entry[it]]
+
+
 def changed(lock: Json, world: World, registry: Registry, maker: Maker) -> Tuple[str, Json]:
     """A changed copy of a lock file, and what was changed."""
     made, chance = copy.deepcopy(lock), maker.chance
     packages = made["packages"]
     places = [it for it in packages if "node_modules" in it and not packages[it].get("link")]
     what = chance.choice(("a version", "a range", "a package", "a URL"))
+    if what == "a range":
+        places = [it for it in places if kinds_of(packages[it])]
     if not places:
         return "nothing", made
     place = chance.choice(places)
@@ -65,10 +72,7 @@ def changed(lock: Json, world: World, registry: Registry, maker: Maker) -> Tuple
         for inner in [it for it in packages if it == place or it.startswith(f"{place}/")]:
             del packages[inner]
     elif what == "a range":
-        kinds = [it for it in entry if it.endswith("ependencies") and entry[it]]
-        if not kinds:
-            return "nothing", made
-        kind = chance.choice(kinds)
+        kind = chance.choice(kinds_of(entry))
         required = chance.choice(list(entry[kind]))
         own = required if required in world.releases else chance.choice(list(world.releases))
         entry[kind][required] = maker.range_of(own)

@@ -51,9 +51,13 @@ def changed(lock: str, world: World, maker: Maker) -> Tuple[str, str]:
     whether it is there."""
     head, *entries = re.split(r"\n\n(?=\S)", lock)
     what = maker.chance.choice(("a version", "a range", "an entry"))
-    if not entries:
+    if what == "a range":
+        with_ranges = [it for it, entry in enumerate(entries) if "ependencies:" in entry]
+    else:
+        with_ranges = list(range(len(entries)))
+    if not with_ranges:
         return "nothing", lock
-    index = maker.chance.randrange(len(entries))
+    index = maker.chance.choice(with_ranges)
     entry = entries[index]
     name = re.split("(?<=.)@", entry.lstrip().lstrip('"'))[0]
     own = name if name in world.releases else maker.chance.choice(list(world.releases))
@@ -65,8 +69,6 @@ def changed(lock: str, world: World, maker: Maker) -> Tuple[str, str]:
     else:
         lines = entry.split("\n")
         ranges = [it for it, line in enumerate(lines) if line.startswith("    ")]
-        if not ranges:
-            return "nothing", lock
         at = maker.chance.choice(ranges)
         required = lines[at].split()[0]
         bare = required.strip('"')

@@ -49,11 +49,13 @@ def documents_of(text: str) -> List[Any]:
             if kind is yaml.ScalarEvent:
                 left[-1].add(event.value)
             elif kind in begins:
+                if len(left) > DEEPEST:
+                    raise Unusual
                 left.append(Open(begins[kind]()))
             elif kind in (yaml.MappingEndEvent, yaml.SequenceEndEvent):
                 container = left.pop().container
                 left[-1].add(container)
-            elif kind is yaml.AliasEvent or len(left) > DEEPEST:
+            elif kind is yaml.AliasEvent:
                 raise Unusual
     except (yaml.YAMLError, ValueError, OverflowError):
         raise Unusual from None
