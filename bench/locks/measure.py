@@ -1,5 +1,5 @@
 """Times check-lock-file on large lock files that it makes, and prints a table: for each checkout
-that is named the seconds of the best of three runs, and the most memory of these.
+that is named the seconds of the processor in the best of three runs, and the most memory of these.
 
 usage: measure.py CHECKOUT..
 """
@@ -8,7 +8,6 @@ import os
 import subprocess
 import sys
 import tempfile
-import time
 from multiprocessing import Pool
 from pathlib import Path
 from typing import Callable, Iterable, List, NamedTuple, Tuple
@@ -97,13 +96,14 @@ MAKERS = (of_npm, of_overrides, of_yarn_1, of_yarn_4, of_pnpm, of_cargo, of_meta
 
 
 def run(program: str, path: Path) -> Tuple[float, float]:
-    """The seconds and the megabytes that one run of a program takes, which has to list nothing."""
-    start = time.monotonic()
-    child = subprocess.Popen([program, str(path)], stdout=subprocess.PIPE)
+    """The seconds of the processor and the megabytes that one run of a program takes, which has to
+    list nothing."""
+    command = [program, str(path)]
+    child = subprocess.Popen(command, stdout=subprocess.PIPE, stderr=subprocess.DEVNULL)
     assert child.stdout is not None
     listed = child.stdout.read()
     _, status, usage = os.wait4(child.pid, 0)
-    seconds = time.monotonic() - start
+    seconds = usage.ru_utime + usage.ru_stime
     if status or listed:
         sys.exit(f"{program} {path.name}: status {status}: {listed[:300].decode()}")
     return seconds, usage.ru_maxrss / 1000

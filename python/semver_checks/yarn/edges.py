@@ -167,8 +167,6 @@ def of_edge(edge: Edge, found: Package) -> Iterator[Finding]:
         finding = ask.finding._replace(kind=Kind.NOT_CHECKED, at=(found.key,))
         yield finding._replace(is_strict=True, reason="workspace")
         return
-    if is_plainly_met(edge, found):
-        return
     wanted = edge.wanted
     verdict = verdict_on(found.version, wanted)
     is_named = has_name(found.name, wanted) or any(has_name(found.name, it) for it in resolved)
@@ -192,7 +190,8 @@ def is_plainly_met(edge: Edge, found: Package) -> bool:
     the range."""
     wanted = of_yarn(edge.ask.spec)
     is_plain = ":" not in wanted and not edge.resolved and found.name in ("", edge.ask.name)
-    return is_plain and is_met(wanted, found.version, Dialect.NPM) is True
+    is_known = is_plain and found.version != WORKSPACE
+    return is_known and is_met(wanted, found.version, Dialect.NPM) is True
 
 
 def of_version(package: Package) -> Iterator[Finding]:
@@ -312,7 +311,9 @@ def of_edges(
     for edge in edges:
         if edge.key is not None:
             tally.requirements += 1
-            yield from of_edge(edge, by_key[edge.key])
+            found = by_key[edge.key]
+            if not is_plainly_met(edge, found):
+                yield from of_edge(edge, found)
             continue
         for it in of_missing(edge):
             tally.requirements += 1

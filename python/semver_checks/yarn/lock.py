@@ -142,27 +142,28 @@ def packages_of(tree: Tree) -> Iterator[Package]:
         if not isinstance(version, str):
             raise WrongShape(f": {key}: version isn't a text")
         resolution = str(fields.get("resolution", ""))
-        name_at = NAME_AT.search(str(fields.get("resolved", "")))
-        name = unquote(name_at.group(1)) if name_at is not None else name_of(source_of(resolution))
+        name, reference = name_and_rest(source_of(resolution))
+        name_at = NAME_AT.search(str(fields["resolved"])) if "resolved" in fields else None
+        name = name if name_at is None else unquote(name_at.group(1))
         # A name alone is for the tag `latest`, as yarn 1 has it.
         patterns = [it if "@" in it[1:] else f"{it}@latest" for it in key.split(between)]
-        installed = version_of(resolution) or version
+        installed = version_of(reference) or version
         yield Package(key, patterns, installed, version, fields, resolution, name)
 
 
 def source_of(text: str) -> str:
     """The `NAME@REST` that is patched, in `NAME@patch:SOURCE#PATCH`; any other is its own."""
-    rest = spec_of(text)
+    rest = spec_of(text) if PATCH in text else ""
     while rest.startswith(PATCH):
         text = unquote(rest[len(PATCH) :].partition("#")[0])
         rest = spec_of(text)
     return text
 
 
-def version_of(resolution: str) -> Optional[str]:
-    """The version in what a package is resolved by, if it comes from a registry."""
-    reference = spec_of(source_of(resolution)).partition("::")[0]
-    return reference[4:] if reference.startswith("npm:") else None
+def version_of(reference: str) -> Optional[str]:
+    """The version in the reference of what a package is resolved by, if that is of a registry."""
+    bare = reference.partition("::")[0]
+    return bare[4:] if bare.startswith("npm:") else None
 
 
 def needs_of(package: Package) -> Iterator[Need]:
