@@ -298,7 +298,9 @@ def findings(
 
 def in_scope(edges: List[Edge], scope: Scope, tally: Tally) -> List[Edge]:
     """Several edges, but for what a scope leaves out."""
-    found = [it for it in edges if scope.has_development or not it.ask.is_development]
+    if scope.has_development:
+        return edges
+    found = [it for it in edges if not it.ask.is_development]
     tally.left_out += len(edges) - len(found)
     return found
 
