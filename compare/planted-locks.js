@@ -150,7 +150,7 @@ function planted (text, parsed, at, version) {
   const changed = { ...old, version }
   const wanted = asks.filter((ask) => ask.at === at && rangeOf(ask.spec) !== null &&
     !semver.satisfies(version, rangeOf(ask.spec)))
-    .map((ask) => `${ask.spec}\t${version}\t${whoIs({ ...ask, by: ask.by === old ? changed : ask.by })} asks for ${ask.name}`)
+    .map((ask) => `${ask.spec}\t${version}\t${whoIs({ ...ask, by: ask.by === old ? changed : ask.by })} requires ${ask.name}`)
   return { copy, wanted }
 }
 
@@ -176,7 +176,7 @@ function main () {
       if (plant === null) continue
       done += 1
       fs.writeFileSync(path.join(folder, name), plant.copy)
-      const ran = spawnSync(program, [path.join(folder, name)], { encoding: 'utf8' })
+      const ran = spawnSync(program, ['--quiet', '--format', 'tsv', path.join(folder, name)], { encoding: 'utf8' })
       const listed = ran.stdout.split('\n').filter((it) => it !== '').sort()
       if (listed.join('\n') !== [...plant.wanted].sort().join('\n')) {
         console.log(`${file}: ${parsed.packages[at].keys[0]} with ${version}`)

@@ -6,6 +6,8 @@ import sys
 from contextlib import contextmanager
 from typing import Any, Dict, Iterator, List, NoReturn
 
+from .events import Unusual, documents_of
+
 Entry = Dict[str, Any]
 
 STANDARD_INPUT = "-"
@@ -16,12 +18,20 @@ CONFLICT = re.compile(rb"(?:\A|\n)<<<<<<< ")
 BYTE_ORDER_MARK = b"\xef\xbb\xbf"
 
 
+def name_of(path: str) -> str:
+    """A file as it is named in lines."""
+    return "standard input" if path == STANDARD_INPUT else path
+
+
 class Refusal(Exception):
     """Why a file is refused."""
 
     def __init__(self, path: str, why: str) -> None:
         super().__init__(path, why)
         self.path, self.why = path, why
+
+    def __str__(self) -> str:
+        return f"{name_of(self.path)}: {self.why}"
 
 
 class Unreadable(Exception):
@@ -72,7 +82,7 @@ def refuse_constant(name: str) -> NoReturn:
 
 def refuse_conflict(text: bytes) -> None:
     """Refuses a file in which git left a conflict."""
-    found = CONFLICT.search(text)
+    found = CONFLICT.search(text) if b"<<<<<<< " in text else None
     if found is not None:
         line = text.count(b"\n", 0, found.end()) + 1
         raise Unreadable(f"merge conflict at line {line}")
@@ -104,19 +114,31 @@ def toml_object(text: bytes) -> Entry:
         raise Unreadable("it isn't TOML") from None
 
 
-def yaml_object(text: bytes) -> Entry:
-    """The mapping that a text of YAML is. Its scalars are texts, as `1.10` has to be."""
+def yaml_objects(text: bytes) -> List[Entry]:
+    """The mappings that the documents of a text of YAML are. Their scalars are texts, as `1.10` has
+    to be."""
     try:
         import yaml
     except ImportError:
         raise Unreadable("it is YAML: install PyYAML (Debian: python3-yaml)") from None
     try:
-        value = yaml.load(utf8(text), Loader=yaml.BaseLoader)
-    except yaml.YAMLError as error:
-        raise Unreadable(f"it isn't YAML: {' '.join(str(error).split())}") from None
-    except (ValueError, OverflowError):
-        raise Unreadable("it isn't YAML") from None
-    return object_at(value, "the file")
+        documents = documents_of(utf8(text))
+    except Unusual:
+        try:
+            documents = list(yaml.load_all(utf8(text), Loader=yaml.BaseLoader))
+        except yaml.YAMLError as error:
+            raise Unreadable(f"it isn't YAML: {' '.join(str(error).split())}") from None
+        except (ValueError, OverflowError):
+            raise Unreadable("it isn't YAML") from None
+    return [object_at(document, "the file") for document in documents or [None]]
+
+
+def yaml_object(text: bytes) -> Entry:
+    """The mapping that the one document of a text of YAML is."""
+    documents = yaml_objects(text)
+    if len(documents) > 1:
+        raise WrongShape(": it has several documents")
+    return documents[0]
 
 
 def utf8(text: bytes) -> str:
@@ -141,13 +163,19 @@ def object_at(value: Any, where: str) -> Entry:
 def objects_at(value: Any, where: str) -> Dict[str, Entry]:
     """An object of a file that holds objects."""
     entries = object_at(value, where)
-    return {key: object_at(entry, f"{where}: {key}") for key, entry in entries.items()}
+    for key, entry in entries.items():
+        if not isinstance(entry, dict):
+            object_at(entry, f"{where}: {key}")
+    return entries
 
 
 def texts_at(value: Any, where: str) -> Dict[str, str]:
     """An object of a file that holds texts."""
     entries = object_at(value, where)
-    return {key: text_at(entry, f"{where}: {key}") for key, entry in entries.items()}
+    for key, entry in entries.items():
+        if not isinstance(entry, str):
+            text_at(entry, f"{where}: {key}")
+    return entries
 
 
 def list_at(value: Any, where: str) -> List[Any]:

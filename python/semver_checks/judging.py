@@ -1,29 +1,13 @@
-"""What is asked for and what is found, how that is judged, and the line that it has."""
+"""How a version is judged by a range, or by the rules of versions. Each text is read once: a lock
+file has most of them again and again."""
 
-from typing import NamedTuple, Optional
+from functools import lru_cache
+from typing import Optional
 
 from semver_parser import Dialect, Range, RangeError, VersionError, parse_version, satisfies
 
-ANOTHER_VERSION = "another version"
-NO_VERSION = "no version"
-NOT_THERE = "not there"
-SKIPPED = "skipped"
 
-FROM_LOCK = "from the lock file"
-"""Of a package whose package.json isn't there. It is counted, and has no line."""
-
-
-class Finding(NamedTuple):
-    """What there is to say of a version: what was asked for, what was found, who asks for which
-    name, and a word for what else there is to know. What counts by `--strict` only says so."""
-
-    asked: str
-    found: str
-    who: str
-    kind: str = ""
-    is_strict: bool = False
-
-
+@lru_cache(maxsize=None)
 def is_version(text: str, dialect: Dialect) -> bool:
     """Whether a text is a version to a tool."""
     try:
@@ -33,6 +17,7 @@ def is_version(text: str, dialect: Dialect) -> bool:
     return True
 
 
+@lru_cache(maxsize=None)
 def is_range(text: str, dialect: Dialect) -> bool:
     """Whether a text is a range to a tool."""
     try:
@@ -42,6 +27,7 @@ def is_range(text: str, dialect: Dialect) -> bool:
     return True
 
 
+@lru_cache(maxsize=None)
 def is_met(wanted: str, version: str, dialect: Dialect) -> Optional[bool]:
     """Whether a version satisfies a range; None if the range is invalid. An invalid version
     satisfies none."""

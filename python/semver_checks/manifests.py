@@ -22,11 +22,13 @@ Project = Dict[str, Entry]
 
 
 class Need(NamedTuple):
-    """What a package.json requires: which name, by what, and whether it may be missing."""
+    """What a package.json requires: which name, by what, whether it may be missing, and whether it
+    is for development."""
 
     name: str
     spec: str
     is_optional: bool
+    is_development: bool = False
 
 
 def needs_of(manifest: Entry, kinds: Tuple[str, ...] = KINDS) -> Iterator[Need]:
@@ -36,7 +38,7 @@ def needs_of(manifest: Entry, kinds: Tuple[str, ...] = KINDS) -> Iterator[Need]:
         for name, spec in texts_at(manifest.get(kind, {}), kind).items():
             if name not in seen:
                 seen.add(name)
-                yield Need(name, spec, kind == OPTIONAL)
+                yield Need(name, spec, kind == OPTIONAL, kind == FOR_DEVELOPMENT)
 
 
 def manifest_in(folder: str) -> Optional[Entry]:

@@ -1,7 +1,9 @@
 """The frame of a program: its arguments, what it writes, and its status."""
 
+import importlib.util
 import json
 import os
+import re
 import signal
 import sys
 from typing import Callable, Dict, List, NamedTuple, Tuple
@@ -67,8 +69,8 @@ class Program(NamedTuple):
 def read_arguments(
     arguments: List[str], options: Dict[str, bool]
 ) -> Tuple[List[str], Dict[str, str]]:
-    """The files that are named, and the options, each with its value. Of those for help there is
-    no more to know than that one is there."""
+    """The files that are named, and the options, each with its value. Of those for help and the
+    version there is no more to know than that one is there."""
     files: List[str] = []
     given: Dict[str, str] = {}
     left = iter(arguments)
@@ -78,6 +80,8 @@ def read_arguments(
             return [*files, *left], given
         if argument in ("-h", "--help"):
             return [], {"--help": ""}
+        if argument == "--version":
+            return [], {"--version": ""}
         if argument == STANDARD_INPUT or not argument.startswith("-"):
             files.append(argument)
             continue
@@ -107,8 +111,7 @@ def run(program: Program, arguments: List[str]) -> int:
     except Misuse as error:
         why = f"{error}; see {program.name} --help"
     except Refusal as error:
-        where = "standard input" if error.path == STANDARD_INPUT else error.path
-        why = f"{where}: {error.why}"
+        why = str(error)
     except MemoryError:
         why = "out of memory"
     except OSError as error:
@@ -118,11 +121,24 @@ def run(program: Program, arguments: List[str]) -> int:
     return 2
 
 
+def version() -> str:
+    """The version of the package, which is read from the text of `semver_parser`: that can't be
+    imported without the library."""
+    found = importlib.util.find_spec("semver_parser")
+    if found is None or found.origin is None:
+        raise ImportError("No module named 'semver_parser'")
+    with open(found.origin, encoding="utf-8") as file:
+        stated = re.search(r'^__version__ = "(.*)"$', file.read(), re.M)
+    return "" if stated is None else stated.group(1)
+
+
 def outcome_of(program: Program, arguments: List[str]) -> Outcome:
     """What a program does by its arguments."""
     files, given = read_arguments(arguments, program.options)
     if "--help" in given:
         return Outcome([program.page], [], 0)
+    if "--version" in given:
+        return Outcome([f"{program.name} {version()}"], [], 0)
     if not program.takes(Options(files, given)):
         return Outcome([], [program.page.partition("\n")[0]], 2)
     return program.run(Options(files, given))

@@ -1,7 +1,10 @@
 """How the programs start: with one line on standard error if they can't, as without the library."""
 
+import gc
 import sys
 
+from .check_lock_file import main as check_main
+from .compare_requirements import main as compare_main
 from .program import open_output
 
 
@@ -15,18 +18,18 @@ def refused(program: str, error: ImportError) -> int:
 
 
 def check_lock_file() -> int:
-    """Runs `check-lock-file`. The status."""
+    """Runs `check-lock-file`. The status. What it reads it keeps until it ends, so a collector of
+    cycles would only look through that again and again."""
+    gc.disable()
     try:
-        from .check_lock_file import main
+        return check_main()
     except ImportError as error:
         return refused("check-lock-file", error)
-    return main()
 
 
 def compare_requirements() -> int:
     """Runs `compare-requirements`. The status."""
     try:
-        from .compare_requirements import main
+        return compare_main()
     except ImportError as error:
         return refused("compare-requirements", error)
-    return main()

@@ -12,9 +12,9 @@ from typing import Dict, Iterator, List, NamedTuple, Optional
 from semver_parser import Dialect
 
 from ..files import Entry, WrongShape, list_at, object_at, text_at
-from ..judging import NO_VERSION, NOT_THERE, Finding, is_met, is_version
+from ..findings import Finding, Keys, Kind, Scope, Tally
+from ..judging import is_met, is_version
 from .manifests import Manifest, Need, manifests_at
-from .metadata import NOT_READ
 
 
 class Package(NamedTuple):
@@ -60,18 +60,21 @@ def versions_for(member: Package, name: str, by_name: Dict[str, List[str]]) -> L
 
 def of_need(member: Package, need: Need, by_name: Dict[str, List[str]]) -> Iterator[Finding]:
     """What there is to say of what a member asks for."""
-    other = f" as {need.other_name}" if need.other_name is not None else ""
-    who = f"{member.name} {member.version} asks for {need.name}{other}"
+    at = keys_of(member.name, member.version)
+    finding = Finding(Kind.MISSING, need.requirement, "", member.name, need.name, at=at)
+    finding = finding._replace(alias=need.other_name or "", requirer_version=member.version)
     versions = versions_for(member, need.name, by_name)
     if not versions:
-        yield Finding(need.requirement, "", who, NOT_THERE)
+        yield finding
         return
     if need.requirement == "*" and not need.has_registry:
         return
     verdicts = [is_met(need.requirement, version, Dialect.CARGO) for version in versions]
     if True not in verdicts:
         for version, met in zip(versions, verdicts):
-            yield Finding(need.requirement, version, who, NOT_READ if met is None else "")
+            kind = Kind.INVALID_RANGE if met is None else Kind.UNSATISFIED
+            at = keys_of(need.name, version)
+            yield finding._replace(kind=kind, version=version, package=need.name, at=at)
 
 
 def member_of(manifest: Manifest, packages: List[Package]) -> Optional[Package]:
@@ -83,23 +86,44 @@ def member_of(manifest: Manifest, packages: List[Package]) -> Optional[Package]:
     return None
 
 
-def findings(lock: Entry, folder: Optional[str]) -> Iterator[Finding]:
+def keys_of(name: str, version: str) -> Keys:
+    """What leads to a package in the file."""
+    return "package", name, version
+
+
+def of_package(package: Package, kind: Kind) -> Finding:
+    """What there is to say of a package."""
+    name, version = package.name, package.version
+    at = keys_of(name, version)
+    return Finding(kind, "", version, package=name, place=name, at=at)
+
+
+def findings(
+    lock: Entry, folder: Optional[str], tally: Tally, scope: Scope
+) -> Iterator[Finding]:
     """What there is to say of a lock file beside the manifests of a folder: first of its versions,
     and then of what each member asks for."""
     if folder is None:
         raise WrongShape(" beside a Cargo.toml: name the file")
     packages = packages_of(lock)
+    tally.packages += len(packages)
     by_name: Dict[str, List[str]] = {}
     for package in packages:
         by_name.setdefault(package.name, []).append(package.version)
         if not is_version(package.version, Dialect.CARGO):
-            yield Finding("", package.version, package.name, NO_VERSION)
+            yield of_package(package, Kind.INVALID_VERSION)
     for manifest in manifests_at(folder):
         if manifest.name is None:
             continue
         member = member_of(manifest, packages)
         if member is None:
-            yield Finding("", manifest.version or "", manifest.name, NOT_THERE)
+            version, name = manifest.version or "", manifest.name
+            yield Finding(Kind.MISSING, "", version, package=name, place=name)
             continue
+        tally.packages -= 1
         for need in manifest.needs:
+            if need.is_development and not scope.has_development:
+                tally.left_out += 1
+                continue
+            tally.requirements += 1
             yield from of_need(member, need, by_name)

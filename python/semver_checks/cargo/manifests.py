@@ -27,6 +27,11 @@ class Need(NamedTuple):
     table: str
     source: str = ""
 
+    @property
+    def is_development(self) -> bool:
+        """Whether it is for development, also for a target."""
+        return self.table.rpartition(".")[2] == "dev-dependencies"
+
 
 class Manifest(NamedTuple):
     """The name and the version of a package, and what it asks for. Without a name it is that of a
@@ -46,6 +51,14 @@ def tables_of(manifest: Entry) -> Iterator[Tuple[str, Entry]]:
     for target, inner in object_at(manifest.get("target", {}), "target").items():
         for kind, table in tables_of({**object_at(inner, f"target: {target}"), "target": {}}):
             yield f"target.{target}.{kind}", table
+
+
+def patches_of(manifest: Entry) -> Iterator[Tuple[str, Entry]]:
+    """The tables of what replaces packages, by their sources, or by package and version."""
+    for source, table in object_at(manifest.get("patch", {}), "patch").items():
+        yield f"patch.{source}", object_at(table, f"patch: {source}")
+    if "replace" in manifest:
+        yield "replace", object_at(manifest["replace"], "replace")
 
 
 def need_of(key: str, value: Any, table: str, inherited: Entry) -> Need:
@@ -207,15 +220,16 @@ def is_inside(path: str, folder: str) -> bool:
 
 
 def by_table(entry: Entry) -> Dict[Tuple[str, str], Need]:
-    """What a manifest asks for, by table and key; of a workspace what it has for its members, too.
-    What it takes from another file has no requirement here. A file without any table of a manifest
-    is none."""
+    """What a manifest asks for, by table and key; of a workspace what it has for its members, too,
+    and what replaces packages. What it takes from another file has no requirement here. A file
+    without any table of a manifest is none."""
     package_of(entry)
-    if not {"package", "workspace", "target", *KINDS}.intersection(entry):
+    if not {"package", "workspace", "target", "patch", "replace", *KINDS}.intersection(entry):
         raise WrongShape("")
     inherited = workspace_table(entry)
     found: Dict[Tuple[str, str], Need] = {}
-    for table, values in (*tables_of(entry), ("workspace.dependencies", inherited)):
+    of_workspace = ("workspace.dependencies", inherited)
+    for table, values in (*tables_of(entry), of_workspace, *patches_of(entry)):
         for key, value in values.items():
             is_elsewhere = isinstance(value, dict) and value.get("workspace") is True
             if is_elsewhere and key not in inherited:

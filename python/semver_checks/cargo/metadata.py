@@ -19,11 +19,10 @@ from typing import Any, Dict, Iterator, List, NamedTuple, Optional, Set, Tuple
 from semver_parser import Dialect
 
 from ..files import Entry, WrongShape, list_at, object_at, text_at
-from ..judging import NO_VERSION, NOT_THERE, Finding, is_met, is_version
+from ..findings import Finding, Kind, Scope, Tally
+from ..judging import is_met, is_version
 
-NOT_READ = "not read"
-
-Kind = Tuple[Optional[str], Optional[str]]
+DependencyKind = Tuple[Optional[str], Optional[str]]
 """A kind of dependency, as `dev`, and a target. A usual one has neither."""
 
 
@@ -33,7 +32,7 @@ class Need(NamedTuple):
     name: str
     other_name: Optional[str]
     requirement: str
-    kind: Kind
+    kind: DependencyKind
     is_optional: bool
     has_registry: bool
 
@@ -44,7 +43,7 @@ class Edge(NamedTuple):
     known_as: str
     name: str
     version: str
-    kinds: List[Kind]
+    kinds: List[DependencyKind]
 
 
 class Package(NamedTuple):
@@ -66,7 +65,7 @@ def optional_text_at(value: Any, where: str) -> Optional[str]:
     return None if value is None else text_at(value, where)
 
 
-def kind_at(value: Entry, where: str) -> Kind:
+def kind_at(value: Entry, where: str) -> DependencyKind:
     """The kind and the target of what is asked for or given."""
     kind = optional_text_at(value.get("kind"), f"{where}: kind")
     return kind, optional_text_at(value.get("target"), f"{where}: target")
@@ -206,43 +205,52 @@ def is_asked_for(version: str, need: Need) -> Optional[bool]:
 # ---- the findings
 
 
-def of_need(package: Package, need: Need, is_required: bool, is_strict: bool) -> Iterator[Finding]:
+def of_need(
+    package: Package, need: Need, is_required: bool, is_strict: bool, tally: Tally
+) -> Iterator[Finding]:
     """What there is to say of what a package asks for."""
-    other = f" as {need.other_name}" if need.other_name is not None else ""
-    who = f"{package.name} {package.version} asks for {need.name}{other}"
+    finding = Finding(Kind.MISSING, need.requirement, "", package.name, need.name)
+    finding = finding._replace(alias=need.other_name or "", requirer_version=package.version)
     edges = [edge for edge in package.edges if is_edge_for(edge, need, package)]
+    tally.requirements += bool(edges) or is_required
     if not edges and is_required:
-        yield Finding(need.requirement, "", who, NOT_THERE, is_strict)
+        yield finding._replace(is_strict=is_strict, reason="platform" if is_strict else "")
     for edge in edges:
         met = is_asked_for(edge.version, need)
         if not met:
-            yield Finding(need.requirement, edge.version, who, NOT_READ if met is None else "")
+            kind = Kind.INVALID_RANGE if met is None else Kind.UNSATISFIED
+            yield finding._replace(kind=kind, version=edge.version, package=edge.name)
 
 
 def of_version(package: Package) -> Iterator[Finding]:
     """What there is to say of a package with a version that Cargo wouldn't take."""
     if not is_version(package.version, Dialect.CARGO):
-        yield Finding("", package.version, package.name, NO_VERSION)
+        name, version = package.name, package.version
+        yield Finding(Kind.INVALID_VERSION, "", version, package=name, place=name)
 
 
 def of_edges(package: Package) -> Iterator[Finding]:
     """What there is to say of the edges of a package that nothing asks for."""
     for edge in package.edges:
         if not any(is_edge_for(edge, need, package) for need in package.needs):
-            who = f"{package.name} {package.version} asks for {edge.name}"
-            yield Finding("", edge.version, who, "not asked for")
+            finding = Finding(Kind.NOT_REQUIRED, "", edge.version, package.name, edge.name)
+            yield finding._replace(package=edge.name, requirer_version=package.version)
 
 
-def findings(metadata: Entry) -> Iterator[Finding]:
+def findings(metadata: Entry, tally: Tally, scope: Scope) -> Iterator[Finding]:
     """What there is to say of a graph, in the order of its packages. With `--strict` a dependency
     for any target has to be there."""
     packages = list(packages_at(metadata))
+    tally.packages += sum(not package.is_member for package in packages)
     targets = active_targets(packages)
     every_target = {need.kind[1] for package in packages for need in package.needs}
     for package in packages:
         yield from of_version(package)
         for need in package.needs:
+            if need.kind[0] == "dev" and not scope.has_development:
+                tally.left_out += 1
+                continue
             is_required = has_to_be_there(need, package, targets)
             is_strict = not is_required and has_to_be_there(need, package, every_target)
-            yield from of_need(package, need, is_required or is_strict, is_strict)
+            yield from of_need(package, need, is_required or is_strict, is_strict, tally)
         yield from of_edges(package)

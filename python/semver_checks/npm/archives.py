@@ -2,6 +2,7 @@
 
 import re
 from dataclasses import replace
+from functools import lru_cache
 from typing import NamedTuple, Optional
 
 from semver_parser import Dialect, VersionError, parse_version
@@ -35,9 +36,18 @@ def archive_of(path: str, file: str) -> Optional[Archive]:
     *_, scope, name = ["", *SLASH.split(path)]
     if not file.startswith(f"{name}-"):
         return None
-    try:
-        version = parse_version(file[len(name) + 1 : -len(".tgz")], dialect=Dialect.NPM)
-    except VersionError:
+    version = without_build(file[len(name) + 1 : -len(".tgz")])
+    if version is None:
         return None
     whole = f"{scope}/{name}" if scope.startswith("@") else name
-    return Archive(whole, str(replace(version, build=())))
+    return Archive(whole, version)
+
+
+@lru_cache(maxsize=None)
+def without_build(text: str) -> Optional[str]:
+    """A version without its build metadata; None if it is none to npm."""
+    try:
+        version = parse_version(text, dialect=Dialect.NPM)
+    except VersionError:
+        return None
+    return str(replace(version, build=()))

@@ -2,10 +2,10 @@
 file has of them."""
 
 import os
-from typing import Iterator, Optional
+from typing import Optional
 
 from ..files import Entry, bytes_of, json_object, objects_at, taking, text_at, texts_at
-from ..judging import FROM_LOCK, Finding
+from ..findings import Tally
 from .lock import ACCEPTED, ASKS_OF_TOPS, Packages, is_top, with_manifest
 
 
@@ -29,7 +29,7 @@ def manifest_in(folder: str) -> Optional[Entry]:
         return manifest
 
 
-def read_links(packages: Packages, project: Optional[str]) -> Iterator[Finding]:
+def read_links(packages: Packages, project: Optional[str], tally: Tally) -> None:
     """Takes what links lead to from the folders below the project's, and counts what isn't there.
     What lies in a `node_modules` is as the lock file has it, as for npm."""
     targets = {
@@ -41,6 +41,6 @@ def read_links(packages: Packages, project: Optional[str]) -> Iterator[Finding]:
         if place and place in targets and is_top(place):
             manifest = None if project is None else manifest_in(os.path.join(project, place))
             if manifest is None:
-                yield Finding("", "", place, FROM_LOCK)
+                tally.from_lock += 1
             else:
                 packages[place] = with_manifest(packages[place], manifest)

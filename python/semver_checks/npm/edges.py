@@ -20,15 +20,8 @@ from typing import Iterator, List, NamedTuple, Optional
 from semver_parser import Dialect
 
 from ..files import Entry
-from ..judging import (
-    ANOTHER_VERSION,
-    NO_VERSION,
-    NOT_THERE,
-    SKIPPED,
-    Finding,
-    is_met,
-    is_version,
-)
+from ..findings import PROJECT, Finding, Kind, Scope, Tally
+from ..judging import is_met, is_version
 from .archives import archive_at
 from .disk import check_manifest, read_links
 from .lock import (
@@ -36,19 +29,21 @@ from .lock import (
     Package,
     Packages,
     asks_at,
-    is_pinned,
+    is_left_out,
     is_top,
+    keys_of,
     package_at,
     packages_of,
+    pinned_in,
     version_at,
-    without_peers,
+    within,
 )
-from .overrides import Rule, rules_in_turn, rules_of, where_rules_hold
-from .specs import MET, NOT_MET, NOT_READ, has_name, is_any, verdict_on
+from .overrides import Rule, names_in, rules_in_turn, rules_of, where_rules_hold
+from .specs import has_name, is_any, reason_of, verdict_on
 from .workspaces import is_workspace
 
-# The verdicts on a version, the worst first.
-VERDICTS = (NOT_MET, NO_VERSION, NOT_READ, SKIPPED, MET)
+# The verdicts on a version, the worst first. None is that it satisfies what is required.
+VERDICTS = (Kind.UNSATISFIED, Kind.INVALID_VERSION, Kind.INVALID_RANGE, Kind.NOT_CHECKED, None)
 
 
 class Judgement(NamedTuple):
@@ -58,17 +53,17 @@ class Judgement(NamedTuple):
     spec: str
     is_overridden: bool
     has_name: bool
-    verdict: str
+    verdict: Optional[Kind]
 
 
 class Project(NamedTuple):
     """The project of a lock file: its folder and its package.json, where these are known, the rules
-    of its overrides, and whether peers count."""
+    of its overrides, and which requirements count."""
 
     folder: Optional[str]
     manifest: Optional[Entry]
     rules: Rule
-    has_peers: bool
+    scope: Scope
 
 
 # ---- the judgement
@@ -79,16 +74,24 @@ def judged_by(spec: str, is_overridden: bool, ask: Ask) -> Judgement:
     name = None if ask.found is None else ask.found.name
     is_named = name is None or has_name(name, spec)
     verdict = verdict_by_npm(spec, ask.found)
-    if ask.accepted is not None and verdict_by_npm(ask.accepted, ask.found) == MET:
-        verdict = MET
+    if ask.accepted is not None and verdict_by_npm(ask.accepted, ask.found) is None:
+        verdict = None
     return Judgement(spec, is_overridden, is_named, verdict)
 
 
-def verdict_by_npm(spec: str, found: Optional[Package]) -> str:
+def verdict_by_npm(spec: str, found: Optional[Package]) -> Optional[Kind]:
     """The verdict on what is found: npm takes each package for `*`."""
     if found is not None and found.name is not None and is_any(spec):
-        return MET
+        return None
     return verdict_on(None if found is None else found.version, spec)
+
+
+def is_plainly_met(ask: Ask) -> bool:
+    """Whether a range is required, and the version is in it: no more is to be said then."""
+    version = None if ask.found is None else ask.found.version
+    if version is None or ":" in ask.spec:
+        return False
+    return is_met(ask.spec, version, Dialect.NPM) is True
 
 
 def is_beside_overrides(packages: Packages, place: str) -> bool:
@@ -111,42 +114,67 @@ def judged_under(ask: Ask, here: Rule) -> Judgement:
     rules = rules_in_turn(here, ask)
     specs = [rule.spec for rule in rules if rule.spec is not None] or [ask.spec]
     found = [judged_by(spec, spec != ask.spec, ask) for spec in specs]
-    return next((it for it in found if it.has_name and it.verdict == MET), found[0])
+    return next((it for it in found if it.has_name and it.verdict is None), found[0])
 
 
 # ---- the findings
 
 
-def of_ask(ask: Ask, judgement: Judgement, is_old: bool) -> Iterator[Finding]:
-    """What there is to say of what is asked for. What isn't there counts by `--strict` only in an
+def of_missing(ask: Ask, spec: str, is_old: bool) -> Finding:
+    """What there is to say of what is required and isn't there. It counts by `--strict` only in an
     old file, of lockfileVersion 1, which doesn't say what is optional."""
-    who = f"{ask.place or 'the project'} asks for {ask.name}"
-    spec, verdict = judgement.spec, judgement.verdict
-    if ask.found is None:
+    who, at, reason = ask.place or PROJECT, keys_of(ask.place, is_old), "may be optional"
+    missing = Finding(Kind.MISSING, spec, "", who, ask.name, at=at)
+    return missing._replace(is_strict=True, reason=reason) if is_old else missing
+
+
+def of_ask(ask: Ask, judgement: Judgement, is_old: bool, tally: Tally) -> Iterator[Finding]:
+    """What there is to say of what is required."""
+    spec, verdict, found = judgement.spec, judgement.verdict, ask.found
+    tally.requirements += found is not None or ask.is_required
+    if found is None:
         if ask.is_required:
-            yield Finding(spec, "", who, NOT_THERE, is_strict=is_old)
+            yield of_missing(ask, spec, is_old)
         return
+    if judgement.has_name and verdict is None:
+        return
+    who = ask.place or PROJECT
+    name, version, at = found.name or "", found.version or "", keys_of(found.place, is_old)
+    kind = Kind.OVERRIDDEN if verdict == Kind.UNSATISFIED and judgement.is_overridden else verdict
+    finding = Finding(
+        Kind.ANOTHER_PACKAGE, spec, version, who, ask.name, name, found.place or PROJECT, at=at
+    )
     if not judgement.has_name:
-        yield Finding(spec, ask.found.name or "", who, "another package")
-    if verdict != MET:
-        kind = "overridden" if verdict == NOT_MET and judgement.is_overridden else verdict
-        yield Finding(spec, ask.found.version or "", who, kind, is_strict=verdict == SKIPPED)
+        yield finding
+    if kind == Kind.NOT_CHECKED:
+        yield finding._replace(kind=kind, is_strict=True, reason=reason_of(spec))
+    elif kind is not None:
+        yield finding._replace(kind=kind)
 
 
-def of_version(packages: Packages, place: str) -> Iterator[Finding]:
+def of_version(package: Package, entry: Entry, is_old: bool) -> Iterator[Finding]:
     """What there is to say of a package with a version that npm wouldn't take, or another one than
     the archive that npm installs."""
-    entry, who = packages[place], place or "the project"
-    version = None if entry.get("link") else version_at(entry, who)
-    if version is None:
+    place, name, version = package
+    resolved, where = entry.get("resolved"), place or PROJECT
+    if entry.get("link") or version is None:
         return
     if not is_version(version, Dialect.NPM):
-        yield Finding("", version, who, NO_VERSION)
+        kind, wanted = Kind.INVALID_VERSION, ""
+    elif isinstance(resolved, str) and is_another(name or "", version, resolved):
+        kind, wanted = Kind.ANOTHER_VERSION, resolved
+    else:
         return
-    resolved, name = entry.get("resolved"), package_at(packages, place).name or ""
-    archive = archive_at(name, resolved) if isinstance(resolved, str) else None
-    if archive is not None and not is_met(archive.version, version, Dialect.NPM):
-        yield Finding(str(resolved), version, who, ANOTHER_VERSION)
+    at = keys_of(place, is_old)
+    yield Finding(kind, wanted, version, package=name or "", place=where, at=at)
+
+
+def is_another(name: str, version: str, resolved: str) -> bool:
+    """Whether the archive of a package has another version. Nearly all are named by their own."""
+    if resolved.endswith(f"/{name}/-/{name.rpartition('/')[2]}-{version}.tgz"):
+        return False
+    archive = archive_at(name, resolved)
+    return archive is not None and not is_met(archive.version, version, Dialect.NPM)
 
 
 def rules_of_manifest(manifest: Entry) -> Rule:
@@ -155,19 +183,27 @@ def rules_of_manifest(manifest: Entry) -> Rule:
     return rules_of(manifest)
 
 
-def findings(lock: Entry, project: Project) -> Iterator[Finding]:
+def findings(lock: Entry, project: Project, tally: Tally) -> Iterator[Finding]:
     """What there is to say of a lock file, in its order."""
     packages = packages_of(lock, project.manifest)
-    yield from read_links(packages, project.folder)
-    if not project.has_peers:
-        packages = {place: without_peers(entry) for place, entry in packages.items()}
-    asks = {place: list(asks_at(packages, place)) for place in packages}
-    held = where_rules_hold(packages, asks, project.rules)
-    for place in packages:
-        yield from of_version(packages, place)
+    is_old = lock["lockfileVersion"] == 1
+    read_links(packages, project.folder, tally)
+    if project.scope != Scope():
+        packages = within(packages, project.scope, tally)
+    checked = [it for it in packages if not is_left_out(packages[it], project.scope)]
+    tally.packages += sum(not is_top(it) and not packages[it].get("link") for it in checked)
+    found = {place: package_at(packages, place) for place in packages}
+    asks = {place: list(asks_at(place, entry, found)) for place, entry in packages.items()}
+    held = where_rules_hold(found, asks, project.rules)
+    pinned, ruled = pinned_in(packages), names_in(project.rules)
+    for place in checked:
+        yield from of_version(found[place], packages[place], is_old)
         is_beside = is_beside_overrides(packages, place)
         for ask in asks[place]:
-            pinned = ask.found is not None and is_pinned(packages, ask.found.place)
-            is_plain = is_beside or pinned
+            is_pinned = ask.found is not None and ask.found.place in pinned
+            is_plain = is_beside or is_pinned or ask.name not in ruled
+            if is_plain and is_plainly_met(ask):
+                tally.requirements += 1
+                continue
             judgement = judged_by(ask.spec, False, ask) if is_plain else judged(ask, held[place])
-            yield from of_ask(ask, judgement, lock["lockfileVersion"] == 1)
+            yield from of_ask(ask, judgement, is_old, tally)

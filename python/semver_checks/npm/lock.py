@@ -4,16 +4,19 @@ Packages are told by their places, as in lockfileVersion 2 and 3: the folders fr
 and nothing for the project itself.
 """
 
-from typing import Dict, Iterator, NamedTuple, Optional, Tuple
+import posixpath
+from typing import Dict, Iterator, List, NamedTuple, Optional, Set, Tuple
 
 from ..files import Entry, WrongShape, object_at, objects_at, text_at, texts_at
+from ..findings import Keys, Scope, Tally
 from .archives import archive_at
 from .specs import alias_of, range_of
 
 Packages = Dict[str, Entry]
 
 # The kinds in npm's order: of one name in several of them the last replaces the others.
-ASKS_OF_EACH = ("peerDependencies", "dependencies", "optionalDependencies")
+PEERS = "peerDependencies"
+ASKS_OF_EACH = (PEERS, "dependencies", "optionalDependencies")
 ASKS_OF_TOPS = (*ASKS_OF_EACH, "devDependencies")
 ACCEPTED = "acceptDependencies"
 OF_MANIFEST = ("name", "version", "workspaces", *ASKS_OF_TOPS, "peerDependenciesMeta", ACCEPTED)
@@ -45,6 +48,17 @@ class Ask(NamedTuple):
 
 
 # ---- places
+
+
+def keys_of(place: str, is_old: bool) -> Keys:
+    """The keys in the file that lead to the package at a place; none to the project of an old file,
+    of lockfileVersion 1."""
+    if not is_old:
+        return "packages", place
+    keys: List[str] = []
+    for name in place.split("node_modules/")[1:]:
+        keys += ["dependencies", name.rstrip("/")]
+    return tuple(keys)
 
 
 def folders(place: str) -> Iterator[str]:
@@ -103,7 +117,7 @@ def packages_of(lock: Entry, manifest: Optional[Entry]) -> Packages:
         project = {"version": lock["version"]} if "version" in lock else {}
         packages = {"": project, **dict(packages_inside(lock, ""))}
     else:
-        packages = objects_at(lock.get("packages"), "packages")
+        packages = dict(objects_at(lock.get("packages"), "packages"))
     if manifest is not None:
         packages[""] = with_manifest(packages.get("", {}), manifest)
     return packages
@@ -115,24 +129,49 @@ def with_manifest(entry: Entry, manifest: Entry) -> Entry:
     return {**own, **{key: it for key, it in manifest.items() if key in OF_MANIFEST}}
 
 
-def without_peers(entry: Entry) -> Entry:
-    """A package that has no peers."""
-    return {key: it for key, it in entry.items() if key != "peerDependencies"}
+def is_left_out(entry: Entry, scope: Scope) -> bool:
+    """Whether a scope leaves out a package: npm marks one that is for development alone."""
+    return entry.get("dev") is True and not scope.has_development
+
+
+def within(packages: Packages, scope: Scope, tally: Tally) -> Packages:
+    """The packages with what a scope leaves of their requirements."""
+    kinds = set() if scope.has_peers else {PEERS}
+    kinds |= set() if scope.has_development else {"devDependencies"}
+    found = {}
+    for place, entry in packages.items():
+        out = set(ASKS_OF_TOPS) if is_left_out(entry, scope) else kinds
+        tally.left_out += sum(len(entry[it]) for it in out if isinstance(entry.get(it), dict))
+        found[place] = {key: it for key, it in entry.items() if key not in out}
+    return found
 
 
 def packages_inside(holder: Entry, place: str) -> Iterator[Tuple[str, Entry]]:
     """The packages inside a package or the project of lockfileVersion 1, each with its place."""
     where = f"{place}: dependencies" if place else "dependencies"
     for name, entry in objects_at(holder.get("dependencies", {}), where).items():
-        its_place = inside(place, name)
-        yield its_place, of_this_day(entry, its_place)
-        yield from packages_inside(entry, its_place)
+        its_place, target = inside(place, name), target_of(entry)
+        if target is not None:
+            yield its_place, {"link": True, "resolved": target}
+        at = its_place if target is None else target
+        yield at, of_this_day(entry, its_place)
+        yield from packages_inside(entry, at)
+
+
+def target_of(old: Entry) -> Optional[str]:
+    """The place that a package of lockfileVersion 1 is linked from: one at `file:PATH` is, as a
+    workspace, if that is no archive."""
+    version = old.get("version")
+    if not isinstance(version, str) or not version.startswith("file:"):
+        return None
+    path = version[len("file:") :]
+    return None if path.endswith((".tgz", ".tar", ".tar.gz")) else posixpath.normpath(path)
 
 
 def of_this_day(old: Entry, place: str) -> Entry:
     """A package of lockfileVersion 1 as lockfileVersion 2 and 3 have it. One from an archive has
     the version in the name of that."""
-    entry: Entry = {"inBundle": old.get("bundled", False)}
+    entry: Entry = {"inBundle": old.get("bundled", False), "dev": old.get("dev", False)}
     requires = old.get("requires", {})
     if not isinstance(requires, bool):
         entry["dependencies"] = texts_at(requires, f"{place}: requires")
@@ -166,53 +205,69 @@ def package_at(packages: Packages, place: str) -> Package:
     if end is None:
         return Package(place, None, None)
     entry = packages[end]
-    name = text_at(entry.get("name", name_by_place(end)), f"{end}: name")
+    name = text_at(entry["name"], f"{end}: name") if "name" in entry else name_by_place(end)
     return Package(end, name, version_at(entry, place))
 
 
 def version_at(entry: Entry, where: str) -> Optional[str]:
     """The version of a package, where it has one."""
-    return text_at(entry["version"], f"{where}: version") if "version" in entry else None
+    version = entry.get("version", "")
+    if not isinstance(version, str):
+        text_at(version, f"{where}: version")
+    return version if "version" in entry else None
 
 
-def is_pinned(packages: Packages, place: str) -> bool:
-    """Whether a package was put there by one that brings it along, or has its own lock file."""
-    return bool(packages[place].get("inBundle")) or any(
-        bool(packages[folder].get("hasShrinkwrap"))
-        for folder in folders(place)
-        if folder and folder in packages
-    )
+def pinned_in(packages: Packages) -> Set[str]:
+    """The places of the packages that were put there by one that brings them along, or that has its
+    own lock file."""
+    locked = {place for place, entry in packages.items() if place and entry.get("hasShrinkwrap")}
+    return {
+        place
+        for place, entry in packages.items()
+        if entry.get("inBundle") or (locked and not locked.isdisjoint(folders(place)))
+    }
 
 
 # ---- what is asked for
 
 
-def asks_at(packages: Packages, place: str) -> Iterator[Ask]:
-    """What the package at a place asks for, in the order of the file."""
-    entry = packages[place]
+def asks_at(place: str, entry: Entry, found: Dict[str, Package]) -> Iterator[Ask]:
+    """What the package at a place asks for, in the order of the file, beside what is found at each
+    place."""
     if entry.get("link"):
         return
     accepted = texts_at(entry.get(ACCEPTED, {}), f"{place or 'the project'}: {ACCEPTED}")
+    is_apart = PEERS in entry and not is_top(place)
+    around = [inside(folder, "") for folder in folders(place)]
+    of_peers = [inside(it, "") for it in folders(folder_round(place))] if is_apart else around
     for kind, name, spec in asked_at(place, entry):
-        is_peer = kind == "peerDependencies" and not is_top(place)
-        start = folder_round(place) if is_peer else place
-        places = (inside(folder, name) for folder in folders(start))
-        at = next((it for it in places if it in packages), None)
-        found = None if at is None else package_at(packages, at)
+        package = nearest(name, of_peers if kind == PEERS else around, found)
         is_required = has_to_be_there(place, entry, kind, name)
-        yield Ask(place, name, spec, is_required, found, accepted.get(name))
+        yield Ask(place, name, spec, is_required, package, accepted.get(name))
+
+
+def nearest(name: str, around: List[str], found: Dict[str, Package]) -> Optional[Package]:
+    """The first package of a name in some folders."""
+    for folder in around:
+        package = found.get(folder + name)
+        if package is not None:
+            return package
+    return None
 
 
 def asked_at(place: str, entry: Entry) -> Iterator[Tuple[str, str, str]]:
     """What the package at a place asks for: in which way, for which name, and for what."""
     where = place or "the project"
-    kinds = ASKS_OF_TOPS if is_top(place) else ASKS_OF_EACH
-    specs = {kind: object_at(entry.get(kind, {}), f"{where}: {kind}") for kind in kinds}
+    named = ASKS_OF_TOPS if is_top(place) else ASKS_OF_EACH
+    kinds = [kind for kind in named if kind in entry]
+    specs = {kind: object_at(entry[kind], f"{where}: {kind}") for kind in kinds}
     last = {name: kind for kind in kinds for name in specs[kind]}
-    for kind in entry:
+    for kind in entry if len(kinds) > 1 else kinds:
         for name, spec in specs.get(kind, {}).items():
             if last[name] == kind:
-                yield kind, name, text_at(spec, f"{where}: {kind}: {name}")
+                if not isinstance(spec, str):
+                    text_at(spec, f"{where}: {kind}: {name}")
+                yield kind, name, spec
 
 
 def has_to_be_there(place: str, entry: Entry, kind: str, name: str) -> bool:
@@ -220,7 +275,7 @@ def has_to_be_there(place: str, entry: Entry, kind: str, name: str) -> bool:
     hasn't: it may be for another platform."""
     if is_outside(place) or entry.get("optional") or kind == "optionalDependencies":
         return False
-    if kind != "peerDependencies":
+    if kind != PEERS:
         return True
     where = f"{place or 'the project'}: peerDependenciesMeta"
     meta = objects_at(entry.get("peerDependenciesMeta", {}), where)

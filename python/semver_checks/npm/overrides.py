@@ -7,13 +7,13 @@ others. Where several rules are of one name the innermost goes first.
 
 from collections import deque
 from dataclasses import dataclass, field
-from typing import Dict, Iterator, List, Optional, Tuple
+from typing import Dict, Iterator, List, Optional, Set, Tuple
 
 from semver_parser import Dialect
 
 from ..files import Entry, WrongShape, object_at, text_at
 from ..judging import is_met, is_range
-from .lock import Ask, Packages, is_top, package_at
+from .lock import Ask, Package, is_top
 from .specs import may_overlap, name_and_rest, range_of
 
 ANY = "*"
@@ -22,13 +22,14 @@ ANY = "*"
 @dataclass(eq=False)
 class Rule:
     """An override: the name and the range of its key, what it puts in place of what is asked for,
-    where it puts something there, and the rules inside it. The outermost has no name."""
+    where it puts something there, and the rules inside it, by their names. The outermost has no
+    name."""
 
     name: str = ""
     within: str = ANY
     spec: Optional[str] = None
     outer: Optional["Rule"] = None
-    inner: List["Rule"] = field(default_factory=list)
+    inner: Dict[str, List["Rule"]] = field(default_factory=dict)
 
 
 # ---- what package.json has
@@ -51,7 +52,7 @@ def add_rules(outer: Rule, overrides: Entry, where: str, manifest: Entry) -> Non
             own = value if isinstance(value, str) else object_at(value, its_place).get(".", "")
             spec = replacement(text_at(own, f"{its_place}: ."), manifest)
             rule = Rule(name, within, spec, outer)
-            outer.inner.append(rule)
+            outer.inner.setdefault(name, []).append(rule)
             add_rules(rule, {} if isinstance(value, str) else value, its_place, manifest)
 
 
@@ -82,17 +83,23 @@ def replacement(spec: str, manifest: Entry) -> Optional[str]:
 # ---- which rule is for what
 
 
-def rules_from(here: Rule) -> Iterator[Rule]:
-    """The rules that hold where a rule does, the innermost first."""
+def names_in(rule: Rule) -> Set[str]:
+    """The names that the rules inside a rule are for."""
+    inner = (names_in(it) for rules in rule.inner.values() for it in rules)
+    return set(rule.inner).union(*inner)
+
+
+def rules_named(name: str, here: Rule) -> Iterator[Rule]:
+    """The rules of a name that hold where a rule does, the innermost first."""
     at: Optional[Rule] = here
     while at is not None:
-        yield from at.inner
+        yield from at.inner.get(name, ())
         at = at.outer
 
 
 def rule_for(here: Rule, name: str, spec: str, version: Optional[str]) -> Optional[Rule]:
     """The rule for what is asked for where a rule holds, and for the version that is found."""
-    rules = (rule for rule in rules_from(here) if rule.name == name)
+    rules = rules_named(name, here)
     return next((rule for rule in rules if is_concerned(rule, spec, version)), None)
 
 
@@ -125,26 +132,37 @@ def is_concerned(rule: Rule, spec: str, version: Optional[str]) -> bool:
 Held = Dict[str, List[Rule]]
 
 
-def where_rules_hold(packages: Packages, asks: Dict[str, List[Ask]], outermost: Rule) -> Held:
+def where_rules_hold(
+    found: Dict[str, Package], asks: Dict[str, List[Ask]], outermost: Rule
+) -> Held:
     """The rules that hold at each place, one for each way in which it is reached from the project
     and its workspaces. Where nothing leads to, they are those of the project."""
-    held: Held = {place: [] for place in packages}
-    left = deque(rules_of_tops(packages, outermost))
+    if not outermost.inner:
+        return {place: [outermost] for place in found}
+    held: Dict[str, Dict[Rule, None]] = {place: {} for place in found}
+    left = deque(rules_of_tops(found, outermost))
     while left:
         place, here = left.popleft()
         if here not in held[place]:
-            held[place].append(here)
+            held[place][here] = None
             for ask in asks[place]:
                 if ask.found is not None:
                     rule = rule_for(here, ask.name, ask.range, ask.found.version)
-                    left.append((ask.found.place, rule or here))
-    return {place: rules or [outermost] for place, rules in held.items()}
+                    left.append((ask.found.place, here if rule is None else holder_of(rule)))
+    return {place: list(rules) or [outermost] for place, rules in held.items()}
 
 
-def rules_of_tops(packages: Packages, outermost: Rule) -> Iterator[Tuple[str, Rule]]:
+def holder_of(rule: Rule) -> Rule:
+    """The rule that is as good as another one where that holds: the nearest that has rules inside,
+    itself or round it."""
+    while not rule.inner and rule.outer is not None:
+        rule = rule.outer
+    return rule
+
+
+def rules_of_tops(found: Dict[str, Package], outermost: Rule) -> Iterator[Tuple[str, Rule]]:
     """The project and its workspaces, each with the rule that holds there."""
-    for place in packages:
+    for place, (_, name, version) in found.items():
         if is_top(place):
-            _, name, version = package_at(packages, place)
             rule = rule_for(outermost, name or "", version or ANY, version) if place else None
-            yield place, rule or outermost
+            yield place, outermost if rule is None else holder_of(rule)

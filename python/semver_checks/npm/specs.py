@@ -1,12 +1,14 @@
 """What npm, yarn and pnpm ask for: a range, or a tag, an address or a path."""
 
 import re
+from functools import lru_cache
 from typing import List, NamedTuple, Optional, Tuple
 from urllib.parse import unquote
 
 from semver_parser import Dialect, Range, RangeError
 
-from ..judging import NO_VERSION, SKIPPED, is_met
+from ..findings import Kind
+from ..judging import is_met
 
 # What npm takes for an address or a path, and for a tag. A tag begins with a letter here, and not
 # as a version does: so a range that isn't read is never taken for one.
@@ -19,9 +21,18 @@ GIT_RANGE = re.compile(r"(?!file:|[./~])([^#]*[/:][^#]*)#(?:.*::)?semver:([^:]*)
 # What is asked for by the range of a catalog begins so, of which npm has none.
 CATALOG = "catalog:"
 
-MET = "met"
-NOT_MET = ""
-NOT_READ = "not read; npm's loose mode may"
+# Why what is no range isn't checked, by how it begins or ends; the first that fits.
+REASONS = (
+    ("workspace", re.compile(r"workspace:", re.I)),
+    ("catalog", re.compile(r"catalog:", re.I)),
+    ("patch", re.compile(r"patch:", re.I)),
+    ("link", re.compile(r"link:|portal:", re.I)),
+    ("path", re.compile(r"file:|\.|/|~/|(?![^/]*:).*\.(?:tgz|tar|tar\.gz)\Z", re.I | re.S)),
+    ("git", re.compile(r"git[+:@]|ssh:|(?:github|gitlab|bitbucket|gist):", re.I)),
+    ("git", re.compile(r"https?:[^#]*\.git(?:#|\Z)|(?![^/]*:).*/", re.I | re.S)),
+    ("URL", re.compile(r"https?:", re.I)),
+    ("protocol", re.compile(r"(?!npm:)[a-z]+:", re.I)),
+)
 
 
 class Override(NamedTuple):
@@ -42,7 +53,7 @@ def name_and_rest(text: str) -> Tuple[str, str]:
 def alias_of(spec: str) -> Optional[Tuple[str, str]]:
     """The name and the range of `npm:NAME@RANGE`, which is empty where there is none; None where
     it is no alias."""
-    if spec[:4].lower() != "npm:" or len(spec) == 4:
+    if ":" not in spec or spec[:4].lower() != "npm:" or len(spec) == 4:
         return None
     return name_and_rest(spec[4:])
 
@@ -53,6 +64,7 @@ def has_name(name: str, spec: str) -> bool:
     return alias is None or alias[0] == name
 
 
+@lru_cache(maxsize=None)
 def is_any(spec: str) -> bool:
     """Whether npm takes each package for what is required, also without a valid version."""
     alias = alias_of(spec)
@@ -68,7 +80,7 @@ def git_range_of(spec: str) -> Optional[Tuple[str, str]]:
 
 def range_of(spec: str) -> str:
     """What comes in place of the range in what is asked for."""
-    named = alias_of(spec) or git_range_of(spec)
+    named = alias_of(spec) or (git_range_of(spec) if "#" in spec else None)
     return spec if named is None else named[1]
 
 
@@ -85,6 +97,12 @@ def is_no_range(spec: str) -> bool:
     return is_elsewhere(spec) or TAG.fullmatch(range_of(spec).strip()) is not None
 
 
+def reason_of(spec: str) -> str:
+    """Why what is required isn't checked, in a word: it is a tag, if it is none of the others."""
+    return next((reason for reason, begins in REASONS if begins.match(spec)), "tag")
+
+
+@lru_cache(maxsize=None)
 def may_overlap(spec: str, within: str) -> bool:
     """Whether two ranges have a version in common, or may have one, since one of them isn't
     read."""
@@ -94,21 +112,23 @@ def may_overlap(spec: str, within: str) -> bool:
         return True
 
 
-def verdict_on(version: Optional[str], spec: str) -> str:
-    """The verdict on the version of a package, if it has one, by what is asked for: `MET`, or the
-    word of its line. What is at an address may have none."""
+def verdict_on(version: Optional[str], spec: str) -> Optional[Kind]:
+    """What there is to say of the version of a package, if it has one, by what is required; None if
+    it satisfies that. What is at a URL may have none."""
     met = is_met(range_of(spec), version or "", Dialect.NPM)
     if met is None:
-        return SKIPPED if is_no_range(spec) else NOT_READ
+        return Kind.NOT_CHECKED if is_no_range(spec) else Kind.INVALID_RANGE
     if version is None:
-        return SKIPPED if is_elsewhere(spec) else NO_VERSION
-    return MET if met else NOT_MET
+        return Kind.NOT_CHECKED if is_elsewhere(spec) else Kind.INVALID_VERSION
+    return None if met else Kind.UNSATISFIED
 
 
-def verdict_by(version: str, specs: List[str]) -> Tuple[str, str]:
-    """Of what is put in place of an ask that by which the most is right, and the verdict by it."""
+def verdict_by(version: str, specs: List[str]) -> Tuple[str, Optional[Kind]]:
+    """Of what is put in place of a requirement that by which the most is right, and the verdict by
+    it."""
     verdicts = {verdict_on(version, spec): spec for spec in reversed(specs)}
-    for verdict in (MET, SKIPPED):
+    for verdict in (None, Kind.NOT_CHECKED):
         if verdict in verdicts:
             return verdicts[verdict], verdict
-    return specs[0], verdict_on(version, specs[0]) or "overridden"
+    verdict = verdict_on(version, specs[0])
+    return specs[0], Kind.OVERRIDDEN if verdict == Kind.UNSATISFIED else verdict

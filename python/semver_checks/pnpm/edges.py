@@ -19,11 +19,21 @@ from typing import Callable, Dict, Iterator, List, NamedTuple, Optional, Tuple
 from semver_parser import Dialect
 
 from ..files import Entry, WrongShape, object_at, objects_at, text_at, texts_at
-from ..judging import NO_VERSION, NOT_THERE, SKIPPED, Finding, is_met, is_version
-from ..manifests import TOP, Need, manifest_in, name_in, needs_of, version_in
+from ..findings import PROJECT, Finding, Keys, Kind, Scope, Tally
+from ..judging import is_met, is_version
+from ..manifests import (
+    FOR_DEVELOPMENT,
+    OPTIONAL,
+    TOP,
+    USUAL,
+    Need,
+    manifest_in,
+    name_in,
+    needs_of,
+    version_in,
+)
 from ..npm.specs import (
     CATALOG,
-    MET,
     Override,
     alias_of,
     has_name,
@@ -31,12 +41,13 @@ from ..npm.specs import (
     may_overlap,
     name_and_rest,
     range_of,
+    reason_of,
     verdict_by,
     verdict_on,
 )
-from .specs import of_jsr, of_workspace, takes_peer
+from .specs import of_jsr, of_workspace, parent_and_name, takes_peer
 
-KINDS = ("dependencies", "devDependencies", "optionalDependencies")
+KINDS = (USUAL, FOR_DEVELOPMENT, OPTIONAL, "configDependencies", "packageManagerDependencies")
 
 # What an override has in place of what is asked for if that is removed.
 REMOVED = "-"
@@ -65,18 +76,21 @@ class Found(NamedTuple):
 
 
 class Ask(NamedTuple):
-    """Who asks for which name, for what, what is found, whether that has to be there, and is listed
-    only with `--strict` if it isn't, and the name and the version of the package that asks, if it
-    is one that is called by them. Packages ask for peers."""
+    """Who asks for which name, for what, what is found, whether that has to be there, the keys in
+    the file that lead to it or to who asks, why it is listed only with `--strict` if it isn't
+    there, and the name and the version of the package that asks, if it is one that is called by
+    them. Packages ask for peers, and the project and its workspaces also for development."""
 
     asker: str
     name: str
     spec: str
     found: Optional[Found]
     is_required: bool
-    is_strict: bool = False
+    at: Keys
+    reason: str = ""
     parent: Optional[Tuple[str, str]] = None
     is_peer: bool = False
+    is_development: bool = False
 
 
 def called_by(text: str) -> Optional[Tuple[str, str]]:
@@ -134,11 +148,16 @@ def found_by_link(text: str, folder: str, read: Reader) -> Found:
 
 
 def asks_of_importer(
-    folder: str, importer: Entry, packages: Packages, needs: Dict[str, Need], read: Reader
+    folder: str,
+    at: Keys,
+    importer: Entry,
+    packages: Packages,
+    needs: Dict[str, Need],
+    read: Reader,
 ) -> Iterator[Ask]:
     """What the project or a workspace asks for, by its package.json where that is there. In
     lockfileVersion 5 that is apart from what is found."""
-    asker = "the project" if folder == TOP else folder
+    asker = PROJECT if folder == TOP else folder
     specs = texts_at(importer.get("specifiers", {}), f"{folder}: specifiers")
     for kind in KINDS:
         for name, value in object_at(importer.get(kind, {}), f"{folder}: {kind}").items():
@@ -151,10 +170,13 @@ def asks_of_importer(
             need, text = needs.pop(name, None), text_at(value, where)
             is_link = text.startswith(LINK)
             found = found_by_link(text, folder, read) if is_link else found_at(text, name, packages)
-            yield Ask(asker, name, spec if need is None else need.spec, found, True)
+            spec = spec if need is None else need.spec
+            ask = Ask(asker, name, spec, found, True, (*at, kind, name))
+            yield ask._replace(is_development=kind == FOR_DEVELOPMENT)
     for need in needs.values():
-        is_required, is_strict = not need.is_optional, is_no_range(need.spec)
-        yield Ask(asker, need.name, need.spec, None, is_required, is_strict)
+        reason = reason_of(need.spec) if is_no_range(need.spec) else ""
+        ask = Ask(asker, need.name, need.spec, None, not need.is_optional, at, reason)
+        yield ask._replace(is_development=need.is_development)
 
 
 def asks_of_catalogs(lock: Entry, packages: Packages) -> Iterator[Ask]:
@@ -166,14 +188,15 @@ def asks_of_catalogs(lock: Entry, packages: Packages) -> Iterator[Ask]:
             text = text_at(entry.get("version"), f"{where}: version")
             _, version = found_at(text, name, packages)
             named, _ = alias_of(of_jsr(name, spec)) or (None, "")
-            yield Ask(f"catalog {catalog}", name, spec, Found(named, version), True)
+            at = ("catalogs", catalog, name)
+            yield Ask(f"{CATALOG}{catalog}", name, spec, Found(named, version), True, at)
 
 
 def by_catalog(ask: Ask, catalogs: List[Ask]) -> Ask:
     """What is asked for, with the range of the catalog that it is taken from."""
     if not ask.spec.startswith(CATALOG):
         return ask
-    asker = f"catalog {ask.spec[len(CATALOG) :] or 'default'}"
+    asker = f"{CATALOG}{ask.spec[len(CATALOG) :] or 'default'}"
     specs = (it.spec for it in catalogs if (it.asker, it.name) == (asker, ask.name))
     return ask._replace(spec=next(specs, ask.spec))
 
@@ -189,12 +212,17 @@ def packages_of(lock: Entry, packages: Packages) -> Iterator[Tuple[str, Entry, E
         yield key, packages.get(key.partition("(")[0], {}), entry
 
 
+def keys_of(key: str, packages: Packages) -> Keys:
+    """The keys in the file that lead to a package, whose snapshots have their peers in the key."""
+    return "packages", key if key in packages else key.partition("(")[0]
+
+
 def asks_of_package(
-    key: str, fields: Entry, depends: Entry, packages: Packages, is_strict: bool
+    key: str, fields: Entry, depends: Entry, packages: Packages, reason: str
 ) -> Iterator[Ask]:
     """The peers that a package asks for."""
     called = called_by(key)
-    asker = key if called is None else " ".join(called)
+    asker = key if called is None else called[0]
     metas = objects_at(fields.get("peerDependenciesMeta", {}), f"{asker}: peerDependenciesMeta")
     given = {
         **texts_at(depends.get("optionalDependencies", {}), f"{asker}: optionalDependencies"),
@@ -204,7 +232,8 @@ def asks_of_package(
     for name, spec in peers.items():
         found = found_at(given[name], name, packages) if name in given else None
         is_optional = metas.get(name, {}).get("optional") in ("true", True)
-        yield Ask(asker, name, spec, found, not is_optional, is_strict, called, True)
+        at = keys_of(key, packages)
+        yield Ask(asker, name, spec, found, not is_optional, at, reason, called, True)
 
 
 # ---- the findings
@@ -212,13 +241,12 @@ def asks_of_package(
 
 def overrides_of(lock: Entry) -> Dict[str, List[Override]]:
     """The overrides by the names that they are for: a key is `NAME`, `NAME@RANGE`, or one of these
-    after `PARENT>`, which is one of these too. A range may have `>` at its start, after a blank and
-    after `|`."""
+    after `PARENT>`, which is one of these too."""
     overrides: Dict[str, List[Override]] = {}
     for key, spec in texts_at(lock.get("overrides") or {}, "overrides").items():
-        *outer, last = re.split(r"(?<=[^ |@])>", key, maxsplit=1)
+        parent, last = parent_and_name(key)
         name, within = name_and_rest(last)
-        overrides.setdefault(name, []).append(Override("".join(outer), within, spec))
+        overrides.setdefault(name, []).append(Override(parent, within, spec))
     return overrides
 
 
@@ -240,29 +268,41 @@ def wanted_of(ask: Ask, spec: str, version: str) -> str:
     return version if ask.is_peer and takes_peer(wanted, version) else wanted
 
 
-def of_ask(ask: Ask, overrides: Dict[str, List[Override]]) -> Iterator[Finding]:
+def of_ask(
+    ask: Ask, overrides: Dict[str, List[Override]], tally: Tally
+) -> Iterator[Finding]:
     """What there is to say of what is asked for."""
     specs = [it.spec for it in overrides.get(ask.name, []) if is_for(it, ask)]
     replaced = [spec for spec in specs if spec != REMOVED]
-    who, found = f"{ask.asker} asks for {ask.name}", ask.found
+    found = ask.found
+    finding = Finding(Kind.MISSING, ask.spec, "", ask.asker, ask.name, at=ask.at)
+    if ask.parent is not None:
+        finding = finding._replace(requirer_version=ask.parent[1])
     if found is None:
         if ask.is_required and REMOVED not in specs:
-            yield Finding(ask.spec, "", who, NOT_THERE, ask.is_strict)
+            tally.requirements += 1
+            yield finding._replace(is_strict=bool(ask.reason), reason=ask.reason)
         return
+    tally.requirements += 1
     if found.version is None:
-        yield Finding(ask.spec, "", who, SKIPPED, is_strict=True)
+        reason = reason_of(ask.spec) if is_no_range(ask.spec) else "no version"
+        yield finding._replace(kind=Kind.NOT_CHECKED, is_strict=True, reason=reason)
         return
     name = found.name or ask.name
+    finding = finding._replace(version=found.version, package=name)
     spec, wanted = ask.spec, wanted_of(ask, ask.spec, found.version)
     others = {wanted_of(ask, it, found.version): it for it in replaced}
     if not any(has_name(name, it) for it in (wanted, *others)):
-        yield Finding(spec, name, who, "another package")
+        yield finding._replace(kind=Kind.ANOTHER_PACKAGE)
     verdict = verdict_on(found.version, wanted)
-    if verdict not in (MET, SKIPPED) and others:
+    if verdict not in (None, Kind.NOT_CHECKED) and others:
         wanted, verdict = verdict_by(found.version, list(others))
         spec = others[wanted]
-    if verdict != MET:
-        yield Finding(spec, found.version, who, verdict, is_strict=verdict == SKIPPED)
+    if verdict == Kind.NOT_CHECKED:
+        reason = reason_of(wanted)
+        yield finding._replace(kind=verdict, range=spec, is_strict=True, reason=reason)
+    elif verdict is not None:
+        yield finding._replace(kind=verdict, range=spec)
 
 
 def check_version(lock: Entry) -> None:
@@ -285,27 +325,52 @@ def reader_of(top: Optional[str]) -> Reader:
     return read
 
 
-def findings(lock: Entry, top: Optional[str]) -> Iterator[Finding]:
-    """What there is to say of a lock file, in its order, beside the package.json files in and below
-    a folder, if it is known."""
+def in_scope(asks: Iterator[Ask], scope: Scope, tally: Tally) -> Iterator[Ask]:
+    """What is asked for, but for what a scope leaves out."""
+    for ask in asks:
+        is_left_out = ask.is_peer and not scope.has_peers
+        if is_left_out or (ask.is_development and not scope.has_development):
+            tally.left_out += 1
+        else:
+            yield ask
+
+
+def findings_of_all(
+    documents: List[Entry], top: Optional[str], tally: Tally, scope: Scope
+) -> Iterator[Finding]:
+    """What there is to say of the documents of a lock file: before that of the project pnpm 11 has
+    one of what it needs itself, which is in no package.json."""
+    for document in documents[:-1]:
+        yield from findings(document, None, tally, scope)
+    yield from findings(documents[-1], top, tally, scope)
+
+
+def findings(lock: Entry, top: Optional[str], tally: Tally, scope: Scope) -> Iterator[Finding]:
+    """What there is to say of a document of a lock file, in its order, beside the package.json
+    files in and below a folder, if it is known."""
     check_version(lock)
     packages = objects_at(lock.get("packages") or {}, "packages")
     overrides, catalogs = overrides_of(lock), list(asks_of_catalogs(lock, packages))
+    tally.packages += len(packages)
     for ask in catalogs:
-        yield from of_ask(ask, overrides)
+        yield from of_ask(ask, overrides, tally)
     read = reader_of(top)
     for folder, importer in importers_of(lock).items():
         # With this sum there is a `.pnpmfile.cjs`, which may change what a package.json asks for.
         manifest = None if "pnpmfileChecksum" in lock else read(folder)
         needs = {need.name: need for need in needs_of(manifest or {})}
-        for ask in asks_of_importer(folder, importer, packages, needs, read):
-            yield from of_ask(by_catalog(ask, catalogs), overrides)
+        at = ("importers", folder) if "importers" in lock else ()
+        asks = asks_of_importer(folder, at, importer, packages, needs, read)
+        for ask in in_scope(asks, scope, tally):
+            yield from of_ask(by_catalog(ask, catalogs), overrides, tally)
     settings = object_at(lock.get("settings") or {}, "settings")
     # Without this setting pnpm only warns of a peer that isn't there.
-    is_strict = settings.get("autoInstallPeers") != "true"
+    reason = "" if settings.get("autoInstallPeers") == "true" else "peer"
     for key, fields, depends in packages_of(lock, packages):
         called = called_by(key)
         if called is not None and not is_version(called[1], Dialect.NPM):
-            yield Finding("", called[1], called[0], NO_VERSION)
-        for ask in asks_of_package(key, fields, depends, packages, is_strict):
-            yield from of_ask(ask, overrides)
+            finding = Finding(Kind.INVALID_VERSION, "", called[1], package=called[0])
+            yield finding._replace(place=called[0], at=keys_of(key, packages))
+        asks = asks_of_package(key, fields, depends, packages, reason)
+        for ask in in_scope(asks, scope, tally):
+            yield from of_ask(ask, overrides, tally)

@@ -1,6 +1,7 @@
 """What pnpm asks for, as npm has it: `jsr:`, `workspace:` and the ranges of peers."""
 
 import re
+from typing import Tuple
 
 from semver_parser import Dialect, satisfies
 
@@ -12,6 +13,13 @@ WORKSPACE = "workspace:"
 
 # A version with a pre-release, and its release.
 PRE_RELEASE = re.compile(r"([0-9]+\.[0-9]+\.[0-9]+)-[0-9A-Za-z.-]+", re.A)
+
+
+def parent_and_name(key: str) -> Tuple[str, str]:
+    """The parent and the package that the key of an override is for, each a name and perhaps a
+    range after `@`. A range may have `>` at its start, after a blank and after `|`."""
+    *outer, last = re.split(r"(?<=[^ |@])>", key, maxsplit=1)
+    return "".join(outer), last
 
 
 def of_jsr(name: str, spec: str) -> str:

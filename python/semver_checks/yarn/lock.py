@@ -5,6 +5,7 @@ has a key, and then a value or, on the lines below, an object.
 
 import json
 import re
+from sys import intern
 from typing import Dict, Iterator, List, NamedTuple, Optional, Tuple, Union
 from urllib.parse import unquote
 
@@ -28,10 +29,11 @@ MET_BY = ("dependencies", OPTIONAL)
 
 
 class Package(NamedTuple):
-    """A package of the file: the asks that it is for, as `numbers@^1.0.0`, the version that yarn
-    installs, that of its entry, its fields, by what it is resolved, if the file is berry's, and its
-    own name, which yarn 1 has only in a URL."""
+    """A package of the file: its key, the asks that it is for, as `numbers@^1.0.0`, the version
+    that yarn installs, that of its entry, its fields, by what it is resolved, if the file is
+    berry's, and its own name, which yarn 1 has only in a URL."""
 
+    key: str
     patterns: List[str]
     version: str
     entry_version: str
@@ -40,21 +42,35 @@ class Package(NamedTuple):
     name: str
 
 
-def lines_of(text: str) -> Iterator[Tuple[int, int, str]]:
-    """The lines of a file: of each its number, its indent, and what it has. Berry writes a key of
-    more than 1,024 characters after `? `, and its colon on the next line."""
+# A line as nearly all are: its indent, a key, and then a colon alone or a value. A quoted text has
+# nothing that is escaped.
+QUOTED = r'"([^"\\\x00-\x1f]*)"'
+USUAL = re.compile(
+    rf'( *)(?:{QUOTED}|([^\s,":#?][^\s,":]*))(?:(:)|:? +(?:{QUOTED}|([^\s"](?:.*\S)?)))'
+)
+
+
+def lines_of(text: str) -> Iterator[Tuple[int, int, str, str, bool]]:
+    """The lines of a file: of each its number, indent, key and value, and whether an object follows.
+    Berry writes a key of more than 1,024 characters after `? `, and its colon on the next
+    line."""
     key = ""
     for number, line in enumerate(text.splitlines(), 1):
+        usual = None if key else USUAL.fullmatch(line)
+        if usual is not None:
+            indent, quoted_key, bare_key, colon, quoted_value, bare_value = usual.groups()
+            name, value = intern(bare_key or quoted_key), quoted_value or bare_value or ""
+            yield number, len(indent), name, value, colon is not None
+            continue
         bare = line.strip()
         if not bare or bare.startswith("#"):
             continue
-        depth = len(line) - len(line.lstrip(" "))
         if bool(key) != bare.startswith(":"):
             raise Unreadable(f"it isn't a yarn.lock: line {number}")
         if bare.startswith("? "):
             key = bare[2:]
             continue
-        yield number, depth, key + bare
+        yield (number, len(line) - len(line.lstrip(" ")), *cut(key + bare, number))
         key = ""
     if key:
         raise Unreadable(f"it isn't a yarn.lock: line {number}")
@@ -64,14 +80,15 @@ def tree_of(text: str) -> Tree:
     """What the lines of a file have, by their indents."""
     tree: Tree = {}
     open_trees: List[Tuple[int, Tree]] = [(-1, tree)]
-    for number, depth, bare in lines_of(text):
+    for _, depth, key, value, has_more in lines_of(text):
         while open_trees[-1][0] >= depth:
             open_trees.pop()
-        key, value, has_more = cut(bare, number)
-        inner: Tree = {}
-        open_trees[-1][1][key] = inner if has_more else value
         if has_more:
+            inner: Tree = {}
+            open_trees[-1][1][key] = inner
             open_trees.append((depth, inner))
+        else:
+            open_trees[-1][1][key] = value
     return tree
 
 
@@ -125,27 +142,28 @@ def packages_of(tree: Tree) -> Iterator[Package]:
         if not isinstance(version, str):
             raise WrongShape(f": {key}: version isn't a text")
         resolution = str(fields.get("resolution", ""))
-        name_at = NAME_AT.search(str(fields.get("resolved", "")))
-        name = unquote(name_at.group(1)) if name_at is not None else name_of(source_of(resolution))
+        name, reference = name_and_rest(source_of(resolution))
+        name_at = NAME_AT.search(str(fields["resolved"])) if "resolved" in fields else None
+        name = name if name_at is None else unquote(name_at.group(1))
         # A name alone is for the tag `latest`, as yarn 1 has it.
         patterns = [it if "@" in it[1:] else f"{it}@latest" for it in key.split(between)]
-        installed = version_of(resolution) or version
-        yield Package(patterns, installed, version, fields, resolution, name)
+        installed = version_of(reference) or version
+        yield Package(key, patterns, installed, version, fields, resolution, name)
 
 
 def source_of(text: str) -> str:
     """The `NAME@REST` that is patched, in `NAME@patch:SOURCE#PATCH`; any other is its own."""
-    rest = spec_of(text)
+    rest = spec_of(text) if PATCH in text else ""
     while rest.startswith(PATCH):
         text = unquote(rest[len(PATCH) :].partition("#")[0])
         rest = spec_of(text)
     return text
 
 
-def version_of(resolution: str) -> Optional[str]:
-    """The version in what a package is resolved by, if it comes from a registry."""
-    reference = spec_of(source_of(resolution)).partition("::")[0]
-    return reference[4:] if reference.startswith("npm:") else None
+def version_of(reference: str) -> Optional[str]:
+    """The version in the reference of what a package is resolved by, if that is of a registry."""
+    bare = reference.partition("::")[0]
+    return bare[4:] if bare.startswith("npm:") else None
 
 
 def needs_of(package: Package) -> Iterator[Need]:
@@ -158,7 +176,7 @@ def needs_of(package: Package) -> Iterator[Need]:
         for name, spec in asked.items():
             if not isinstance(spec, str):
                 raise WrongShape(f": {package.patterns[0]}: {kind}: {name} isn't a text")
-            meta = metas.get(name) if isinstance(metas, dict) else None
+            meta = metas.get(name) if metas and isinstance(metas, dict) else None
             is_optional = isinstance(meta, dict) and meta.get("optional") == "true"
             yield Need(name, spec, is_optional or kind == OPTIONAL)
 

@@ -1,0 +1,81 @@
+"""A world of packages that a seed makes: releases, and what each requires, all of which is met."""
+
+import random
+from typing import Dict, Iterator, List, NamedTuple, Tuple
+
+Need = Tuple[str, "Release"]
+"""A range, and the release that is chosen for it."""
+
+Releases = Dict[str, List["Release"]]
+"""The releases of each name, the last one first."""
+
+
+class Shape(NamedTuple):
+    """How many names releases require, how often that is an older release, and which names: of the
+    first ones by a power above 1 more, and below 1 fewer."""
+
+    counts: Tuple[int, ...] = (0, 1, 2, 2, 3, 5)
+    older: float = 0.2
+    powers: Tuple[float, ...] = (1.0, 5.0)
+
+
+class Release(NamedTuple):
+    """A release of a package: its name, its version, and what it requires, by names."""
+
+    name: str
+    version: str
+    needs: Dict[str, Need]
+    peers: List[str]
+
+
+class World(NamedTuple):
+    """The releases, and what the project requires."""
+
+    releases: Releases
+    needs: Dict[str, Need]
+
+    def all_releases(self) -> Iterator[Release]:
+        """Each release."""
+        for releases in self.releases.values():
+            yield from releases
+
+
+def range_for(release: Release, chance: random.Random) -> str:
+    """A range that a release satisfies: one of a few, as most packages have them."""
+    major, minor, _ = release.version.split(".")
+    ranges = (f"^{release.version}", f"^{major}.{minor}.0", f"^{major}.0.0", f"~{major}.{minor}.0")
+    return chance.choices((*ranges, f"{major}.x"), (4, 3, 3, 1, 1))[0]
+
+
+def needs_of(
+    count: int, names: List[str], releases: Releases, shape: Shape, chance: random.Random
+) -> Dict[str, Need]:
+    """What is required of some names."""
+    needs: Dict[str, Need] = {}
+    for _ in range(count if names else 0):
+        name = names[int(len(names) * chance.random() ** chance.choice(shape.powers))]
+        own = releases[name]
+        release = chance.choice(own) if chance.random() < shape.older else own[0]
+        needs[name] = (range_for(release, chance), release)
+    return needs
+
+
+def world_of(count: int, seed: int, shape: Shape = Shape()) -> World:
+    """A world of so many names, each of which requires some of those before it."""
+    chance = random.Random(seed)
+    names: List[str] = []
+    releases: Releases = {}
+    for index in range(count):
+        scope = f"@scope-{index % 50}/" if index % 5 == 0 else ""
+        name = f"{scope}package-{index}"
+        releases[name] = [
+            Release(
+                name,
+                f"{major}.{chance.randrange(30)}.{chance.randrange(20)}",
+                needs_of(chance.choice(shape.counts), names, releases, shape, chance),
+                [chance.choice(names[:40])] if names and chance.random() < 0.1 else [],
+            )
+            for major in range(chance.choice((1, 1, 1, 2, 2, 3)), 0, -1)
+        ]
+        names.append(name)
+    return World(releases, needs_of(60, names, releases, shape._replace(older=0.0), chance))

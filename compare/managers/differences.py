@@ -1,0 +1,77 @@
+"""What differs between the checker and a tool, and what the choices of the README name."""
+
+import json
+import os
+import sys
+from typing import Any, Dict, List, NamedTuple, Set, Tuple
+
+TOP = os.path.dirname(os.path.dirname(os.path.dirname(os.path.abspath(__file__))))
+sys.path.insert(0, os.path.join(TOP, "python"))
+from semver_checks.findings import PROJECT, Finding, Kind, Scope  # noqa: E402
+from semver_checks.reports import report_on  # noqa: E402
+
+Edge = Tuple[str, str]
+"""Who requires which name. The project is empty."""
+
+
+class Found(NamedTuple):
+    """What the checker lists: requirements that aren't met, and what tools don't look at."""
+
+    edges: Set[Edge]
+    others: List[Finding]
+
+
+def found_in(path: str, is_strict: bool = False) -> Found:
+    """What the checker lists of a lock file."""
+    report = report_on(path, None, Scope(), False)
+    if report.refusal is not None:
+        sys.exit(f"{path}: {report.refusal}")
+    listed = [it for it in report.findings if is_strict or not it.is_strict]
+    unmet = (Kind.UNSATISFIED, Kind.OVERRIDDEN, Kind.MISSING, Kind.INVALID_VERSION)
+    edges, others = set(), []
+    for it in listed:
+        if it.kind in unmet and it.requirer:
+            edges.add(("" if it.requirer == PROJECT else it.who, it.dependency))
+        elif it.kind != Kind.NOT_CHECKED:
+            others.append(it)
+    return Found(edges, others)
+
+
+class Differences:
+    """How much was compared, and the differences by their kind and those that a choice of the
+    README names, of each the smallest world."""
+
+    def __init__(self, tool: str) -> None:
+        self.tool = tool
+        self.counts: Dict[str, int] = {}
+        self.smallest: Dict[str, str] = {}
+        self.is_same = True
+
+    def count(self, what: str) -> None:
+        """Counts something."""
+        self.counts[what] = self.counts.get(what, 0) + 1
+
+    def choose(self, choice: str, world: Any) -> None:
+        """Keeps a difference that a choice names."""
+        self.keep(f"by choice, {choice}", world)
+
+    def add(self, kind: str, world: Any) -> None:
+        """Keeps a difference."""
+        self.is_same = False
+        self.keep(f"DIFFERENCE: {kind}", world)
+
+    def keep(self, what: str, world: Any) -> None:
+        """Counts something, and keeps its world if that is smaller than those before."""
+        self.count(what)
+        text = json.dumps(world)
+        if len(text) < len(self.smallest.get(what, text + " ")):
+            self.smallest[what] = text
+
+    def report(self) -> bool:
+        """Prints all. Whether there is no difference but by choice."""
+        print(f"{self.tool}:")
+        for what, count in sorted(self.counts.items()):
+            print(f"  {what}: {count}")
+            if what in self.smallest:
+                print(f"    {self.smallest[what]}")
+        return self.is_same

@@ -1,0 +1,74 @@
+"""Known findings, in a file of theirs: one a line, with a reason."""
+
+import os
+from typing import Dict, Iterator, List, NamedTuple
+
+from .discovery import NAMES
+from .files import Refusal, bytes_of, taking, utf8
+from .reports import Report, Unused
+from .sentences import sentence
+
+MARK = " # "
+
+
+class Line(NamedTuple):
+    """A line of the file: its number and text."""
+
+    number: int
+    text: str
+
+    def sentences(self) -> Iterator[str]:
+        """What the line may allow: the text before a mark that has a reason after it."""
+        at = self.text.find(MARK)
+        while at >= 0:
+            if self.text[at + len(MARK) :].strip():
+                yield self.text[:at].strip()
+            at = self.text.find(MARK, at + 1)
+
+
+def lines_of(path: str) -> List[Line]:
+    """The lines of a file of known findings, each of which has to have a reason."""
+    with taking(path, "list of known findings"):
+        text = utf8(bytes_of(path))
+    found = []
+    for number, line in enumerate(text.splitlines(), 1):
+        bare = line.strip()
+        if bare and not bare.startswith("#"):
+            found.append(Line(number, bare))
+            if not any(found[-1].sentences()):
+                raise Refusal(path, f"line {number}: no reason")
+    return found
+
+
+def allow(path: str, reports: List[Report]) -> List[Unused]:
+    """Takes the findings out of reports that a file allows. The lines of it that no longer apply,
+    but for those of files that weren't checked."""
+    lines = lines_of(path)
+    known: Dict[str, Line] = {it: line for line in lines for it in line.sentences()}
+    used: List[Line] = []
+    for report in reports:
+        for finding in report.findings:
+            it = sentence(finding)
+            used += [known[text] for text in (it, report.before + it) if text in known]
+        kept = [it for it in report.listed if not is_known(sentence(it), report.before, known)]
+        report.allowed, report.listed = len(report.listed) - len(kept), kept
+    checked = [report.name for report in reports if report.refusal is None]
+    return [
+        Unused(path, *line)
+        for line in lines
+        if line not in used and not may_apply_elsewhere(line, checked, len(reports))
+    ]
+
+
+def is_known(text: str, before: str, known: Dict[str, Line]) -> bool:
+    """Whether a sentence is allowed, with or without its file before it."""
+    return text in known or before + text in known
+
+
+def may_apply_elsewhere(line: Line, checked: List[str], files: int) -> bool:
+    """Whether a line begins with a lock file that wasn't checked, or with none, and one of the
+    files was refused."""
+    path, colon, _ = line.text.partition(": ")
+    if colon and os.path.basename(path.strip('"')) in NAMES:
+        return path not in checked
+    return len(checked) < files

@@ -1,0 +1,1 @@
+"""Lock files of Bun: `bun.lock`, the text."""

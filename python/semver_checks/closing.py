@@ -1,0 +1,67 @@
+"""The closing line of a lock file: how much was checked, and what wasn't."""
+
+from typing import List, Optional
+
+from .files import Refusal
+from .reports import Report
+
+# Why something isn't checked, of one and of several.
+REASONS = {
+    "git": ("git", "git"),
+    "tag": ("tag", "tags"),
+    "URL": ("URL", "URLs"),
+    "path": ("path", "paths"),
+    "link": ("link", "links"),
+    "workspace": ("workspace", "workspaces"),
+    "catalog": ("catalog", "catalogs"),
+    "patch": ("patch", "patches"),
+    "protocol": ("other protocol", "other protocols"),
+    "no version": ("without a version", "without a version"),
+    "missing": ("missing", "missing"),
+}
+
+
+def counted(count: int, one: str, several: str) -> str:
+    """A count with what is counted."""
+    return f"{count:,} {one if count == 1 else several}"
+
+
+def parts_of(report: Report) -> List[str]:
+    """What a closing line has after what was checked."""
+    reasons, tally = report.not_checked(), report.tally
+    parts = []
+    if reasons:
+        each = sorted(reasons.items(), key=lambda it: (-it[1], it[0]))
+        listed = ", ".join(counted(count, *REASONS[reason]) for reason, count in each)
+        parts.append(f"{sum(reasons.values()):,} not checked: {listed}")
+    if tally.left_out:
+        parts.append(f"{tally.left_out:,} left out")
+    if report.allowed:
+        parts.append(f"{report.allowed:,} allowed")
+    if tally.from_lock:
+        taken = counted(tally.from_lock, "workspace or link", "workspaces and links")
+        parts.append(f"{taken} taken from the lock file")
+    return parts
+
+
+def closing_line(report: Report) -> str:
+    """The closing line of a lock file."""
+    requirements = counted(report.checked(), "requirement", "requirements")
+    packages = counted(report.tally.packages, "package", "packages")
+    first = f"checked {requirements} of {packages} in {report.name} ({report.tool})"
+    return "; ".join([first, *parts_of(report)])
+
+
+def error_of(report: Report) -> Optional[Refusal]:
+    """Why a lock file isn't checked: it is refused, or has nothing that can be checked."""
+    if report.refusal is None and report.is_unchecked():
+        return Refusal(report.path, unchecked_line(report))
+    return report.refusal
+
+
+def unchecked_line(report: Report) -> str:
+    """Why it is an error that nothing was checked."""
+    requirements = counted(report.tally.requirements, "requirement", "requirements")
+    packages = counted(report.tally.packages, "package", "packages")
+    first = f"nothing was checked of {requirements} and {packages} ({report.tool})"
+    return "; ".join([first, *parts_of(report)])

@@ -1,0 +1,51 @@
+"""What `compare-requirements` does: it prints what changed requirements lose and gain."""
+
+import json
+from typing import Iterator, List, Optional, Tuple
+
+from .files import Refusal
+from .program import Options, Outcome, escaped
+from .requirements.changes import SAME, WHOLE, Change, changes
+from .requirements.sources import pairs_of
+
+NAME = "compare-requirements"
+
+
+def shown(text: Optional[str]) -> str:
+    """A requirement as it is printed: the empty one in quotes."""
+    return text or '""'
+
+
+def lines_of(it: Change) -> Iterator[str]:
+    """The lines of a change."""
+    table = it.table if it.new_table is None else f"{it.table} -> {it.new_table}"
+    if it.old is None or it.new is None:
+        yield f"{it.name} ({table}): {it.note} {shown(it.new if it.old is None else it.old)}"
+        return
+    note = f": {it.note}" if it.note else ""
+    yield f"{it.name} ({table}): {shown(it.old)} -> {shown(it.new)}{note}"
+    for field in WHOLE:
+        versions = getattr(it, field)
+        if versions is not None and it.note != SAME:
+            yield f"  {field.replace('_pre_', ' pre-')}: {versions}"
+
+
+def compare(options: Options) -> Outcome:
+    """Says what changed."""
+    refusals: List[Refusal] = []
+    found: List[Tuple[Optional[str], Change]] = [
+        (pair.file, it)
+        for pair in pairs_of(options, refusals.append)
+        for it in changes(pair.old, pair.new, pair.dialect)
+    ]
+    if "--json" in options.given:
+        objects = [{"file": file, **it._asdict()} for file, it in found]
+        lines = [json.dumps(objects, indent=2, ensure_ascii=False)]
+    else:
+        lines = [
+            escaped(line if file is None else f"{file}: {line}")
+            for file, it in found
+            for line in lines_of(it)
+        ]
+    notes = [f"{NAME}: {escaped(str(it))}" for it in refusals]
+    return Outcome(lines, notes, 2 if refusals else int(any(it.differs for _, it in found)))

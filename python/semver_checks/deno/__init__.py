@@ -1,0 +1,1 @@
+"""Lock files of Deno: `deno.lock`, of versions 4 and 5."""

@@ -1,0 +1,93 @@
+"""The lock files that paths name: files as they are, and of a directory those below it."""
+
+import os
+from typing import Dict, Iterator, List, NamedTuple, Tuple
+
+from .files import STANDARD_INPUT, Refusal
+from .git import output_of, paths_of
+
+# The lock files that are looked for. bun.lockb is binary, and is named when it is refused.
+NAMES = (
+    "package-lock.json",
+    "npm-shrinkwrap.json",
+    "yarn.lock",
+    "pnpm-lock.yaml",
+    "Cargo.lock",
+    "bun.lock",
+    "bun.lockb",
+    "deno.lock",
+)
+
+# What its tool doesn't read if the other is beside it.
+UNREAD_BESIDE = {"package-lock.json": "npm-shrinkwrap.json"}
+
+# Directories that hold what a tool puts there.
+MADE = ("node_modules", ".git", "target")
+
+
+class Discovery(NamedTuple):
+    """The lock files that are checked, by path, what is left out of directories, directories
+    without any, and whether lines begin with their file."""
+
+    paths: List[str]
+    notes: List[str]
+    refusals: List[Refusal]
+    is_several: bool
+
+
+def discover(named: List[str]) -> Discovery:
+    """The lock files that paths name."""
+    paths: Dict[str, str] = {}
+    notes: List[str] = []
+    refusals: List[Refusal] = []
+    directories = [it for it in named if it != STANDARD_INPUT and os.path.isdir(it)]
+    for path in named:
+        found = [path]
+        if path in directories:
+            found = list(read_in(path, notes))
+            if not found:
+                refusals.append(Refusal(path, "it is a directory without a lock file"))
+        for each in found:
+            paths.setdefault(os.path.normpath(each), each)
+    is_several = len(named) != 1 or bool(directories)
+    return Discovery(sorted(paths.values()), notes, refusals, is_several)
+
+
+def read_in(directory: str, notes: List[str]) -> Iterator[str]:
+    """The lock files below a directory that their tools read, with a note of each other."""
+    found = named_below(directory, NAMES)
+    for place in found:
+        folder, name = os.path.split(place)
+        path = os.path.normpath(os.path.join(directory, place))
+        other = UNREAD_BESIDE.get(name)
+        if other is not None and os.path.join(folder, other) in found:
+            notes.append(f"{path}: left out, since {other} is beside it")
+        else:
+            yield path
+
+
+def is_among(place: str, names: Tuple[str, ...]) -> bool:
+    """Whether a file below a directory has one of these names, and no tool put it there."""
+    *folders, name = place.split("/")
+    return name in names and not set(MADE).intersection(folders)
+
+
+def named_below(directory: str, names: Tuple[str, ...]) -> List[str]:
+    """The files of these names below a directory, from it on, but for those that git ignores or a
+    tool put there."""
+    places = (it for it in files_below(directory) if is_among(it, names))
+    return sorted(it for it in places if os.path.isfile(os.path.join(directory, it)))
+
+
+def files_below(directory: str) -> List[str]:
+    """The files below a directory by git, and without it, or outside of its work trees, all."""
+    listed, _ = output_of(["ls-files", "-z", "-co", "--exclude-standard"], directory)
+    return list(walked(directory)) if listed is None else paths_of(listed)
+
+
+def walked(directory: str) -> Iterator[str]:
+    """The files below a directory, but for what tools put there."""
+    for folder, inner, names in os.walk(directory):
+        inner[:] = [it for it in inner if it not in MADE]
+        for name in names:
+            yield os.path.relpath(os.path.join(folder, name), directory).replace(os.sep, "/")

@@ -1,0 +1,81 @@
+"""What git says of the files of a repository."""
+
+import os
+import subprocess
+from typing import List, Optional, Tuple
+
+from .files import Refusal
+
+
+def output_of(arguments: List[str], directory: str) -> Tuple[Optional[bytes], str]:
+    """What git prints in a directory; if it fails None, and why."""
+    try:
+        done = subprocess.run(["git", "-C", directory or ".", *arguments], capture_output=True)
+    except OSError as error:
+        return None, f"git can't be run: {error.strerror}"
+    why = " ".join(done.stderr.decode("utf-8", "replace").split())
+    return (None, why) if done.returncode else (done.stdout, "")
+
+
+def paths_of(listed: bytes) -> List[str]:
+    """Paths that git ends by a zero byte."""
+    return [os.fsdecode(it) for it in listed.split(b"\0") if it]
+
+
+def nearest(path: str) -> Tuple[str, str]:
+    """The nearest directory of a path that is there, and the path from it on."""
+    directory, name = os.path.split(path)
+    while directory and not os.path.isdir(directory):
+        directory, inner = os.path.split(directory)
+        name = os.path.join(inner, name)
+    return directory, name
+
+
+def in_revision(revision: str, path: str) -> Optional[bytes]:
+    """What a file holds in a revision; None if that lacks it. The directory of the file may be gone
+    now."""
+    directory, name = nearest(path)
+    refuse_unknown(revision, path, directory)
+    listed, why = output_of(
+        ["ls-tree", "-z", "--name-only", revision, "--", f"./{name}"], directory
+    )
+    if listed is not None and not listed:
+        return None
+    shown, why = output_of(["show", "--end-of-options", f"{revision}:./{name}"], directory)
+    if shown is None:
+        raise Refusal(path, f"git doesn't show it: {why}")
+    return shown
+
+
+def refuse_unknown(revision: str, path: str, directory: str) -> None:
+    """Refuses a revision that git doesn't know."""
+    known, why = output_of(
+        ["rev-parse", "--quiet", "--verify", "--end-of-options", f"{revision}^{{tree}}"], directory
+    )
+    if known is None:
+        raise Refusal(path, f"git doesn't show it: {why or 'there is no such revision'}")
+
+
+def changed_below(old: str, new: Optional[str], directory: str) -> List[str]:
+    """The files below a directory, from it on, that differ between two revisions, or between one
+    and what git knows of the work tree."""
+    top, name = nearest(os.path.join(directory, ""))
+    revisions = [old] if new is None else [old, new]
+    options = ["-z", "--name-only", "--no-renames", "--no-ext-diff", "--relative"]
+    listed, why = output_of(["diff", *options, *revisions, "--", f"./{name}"], top)
+    if listed is None:
+        raise Refusal(directory, f"git doesn't compare it: {why}")
+    return from_on(name, paths_of(listed))
+
+
+def from_on(name: str, paths: List[str]) -> List[str]:
+    """Paths below a directory of this name, from it on."""
+    return [os.path.relpath(it, name) if name else it for it in paths]
+
+
+def below_in_revision(revision: str, directory: str) -> List[str]:
+    """The files below a directory in a revision, from it on."""
+    top, name = nearest(os.path.join(directory, ""))
+    refuse_unknown(revision, directory, top)
+    listed, _ = output_of(["ls-tree", "-r", "-z", "--name-only", revision, f"./{name}"], top)
+    return from_on(name, [] if listed is None else paths_of(listed))

@@ -1,0 +1,1 @@
+"""What the program prints of its reports: a module for each format."""

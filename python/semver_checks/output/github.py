@@ -1,0 +1,38 @@
+"""Annotations of GitHub Actions."""
+
+from typing import Iterator, Optional
+
+from ..closing import error_of
+from ..reports import Results
+from ..sentences import sentence
+from .text import grouped
+
+
+def lines(results: Results) -> Iterator[str]:
+    """An annotation for each finding and each error."""
+    for report in results.reports:
+        for finding in grouped(report.listed):
+            yield annotation(report.name, report.lines.get(finding.at), sentence(finding))
+        error = error_of(report)
+        if error is not None:
+            yield annotation(error.path, None, error.why)
+    for refusal in results.refusals:
+        yield annotation(refusal.path, None, refusal.why)
+    for it in results.unused:
+        yield annotation(it.path, it.line, f"no longer applies: {it.text}")
+
+
+def annotation(file: str, line: Optional[int], message: str) -> str:
+    """The line of an annotation."""
+    where = f",line={line}" if line is not None else ""
+    return f"::error file={in_property(file)}{where}::{in_message(message)}"
+
+
+def in_message(text: str) -> str:
+    """A text with GitHub's escapes."""
+    return text.replace("%", "%25").replace("\r", "%0D").replace("\n", "%0A")
+
+
+def in_property(text: str) -> str:
+    """A text with GitHub's escapes for a property."""
+    return in_message(text).replace(":", "%3A").replace(",", "%2C")

@@ -1,0 +1,34 @@
+"""Lines for people: a sentence for each finding, grouped by package."""
+
+from typing import Dict, Iterator, List
+
+from ..findings import Finding
+from ..reports import Results
+from ..sentences import PACKAGE, RANGE, VERSION, Paint, plain, quoted, sentence
+
+LOOKS = {PACKAGE: "1", VERSION: "31", RANGE: "32"}
+
+
+def colored(text: str, part: str) -> str:
+    """A part of a sentence as terminals show it: bold, red or green."""
+    return f"\x1b[{LOOKS[part]}m{text}\x1b[0m"
+
+
+def lines(results: Results, is_colored: bool = False) -> Iterator[str]:
+    """The lines of all files."""
+    paint: Paint = colored if is_colored else plain
+    for report in results.reports:
+        before = report.before if results.is_several else ""
+        for finding in grouped(report.listed):
+            yield before + sentence(finding, paint)
+    for it in results.unused:
+        yield f"{quoted(it.path)}: line {it.line} no longer applies: {it.text}"
+
+
+def grouped(findings: List[Finding]) -> Iterator[Finding]:
+    """The findings, those of one package together, in the order of the first of each."""
+    groups: Dict[str, List[Finding]] = {}
+    for finding in findings:
+        groups.setdefault(finding.package or finding.dependency, []).append(finding)
+    for group in groups.values():
+        yield from group

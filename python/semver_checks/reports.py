@@ -1,0 +1,88 @@
+"""What a check of one lock file reports."""
+
+from dataclasses import dataclass, field
+from typing import Dict, List, NamedTuple, Optional
+
+from .files import STANDARD_INPUT, Refusal, bytes_of, name_of, taking
+from .findings import Finding, Keys, Kind, Scope, Tally
+from .lines import lines_at
+from .lock_files import Input, findings
+from .sentences import quoted
+
+
+@dataclass
+class Report:
+    """A lock file, the tool that wrote it, what there is to say of it, what of that is listed, and
+    how much is allowed, how much was looked at, the lines of its entries if they were looked for,
+    and why it is refused, if it is."""
+
+    path: str
+    tool: str = ""
+    findings: List[Finding] = field(default_factory=list)
+    listed: List[Finding] = field(default_factory=list)
+    allowed: int = 0
+    tally: Tally = field(default_factory=Tally)
+    lines: Dict[Keys, int] = field(default_factory=dict)
+    refusal: Optional[Refusal] = None
+
+    @property
+    def name(self) -> str:
+        """The file as it is named in fields."""
+        return name_of(self.path)
+
+    @property
+    def before(self) -> str:
+        """What a sentence has before it, if it begins with its file."""
+        return f"{self.name if self.path == STANDARD_INPUT else quoted(self.path)}: "
+
+    def not_checked(self) -> Dict[str, int]:
+        """How many requirements aren't checked for each reason, as far as that needs a human."""
+        found: Dict[str, int] = {}
+        for it in self.findings:
+            if it.is_strict:
+                reason = "missing" if it.kind == Kind.MISSING else it.reason
+                found[reason] = found.get(reason, 0) + 1
+        return found
+
+    def checked(self) -> int:
+        """How many requirements are checked."""
+        return self.tally.requirements - sum(self.not_checked().values())
+
+    def is_unchecked(self) -> bool:
+        """Whether nothing is checked or listed by default, although something is required."""
+        tally, is_wrong = self.tally, any(not it.is_strict for it in self.findings)
+        is_required = bool(tally.requirements + tally.packages)
+        return is_required and not (self.checked() or tally.left_out or is_wrong)
+
+
+class Unused(NamedTuple):
+    """A line of a file of known findings that no longer applies: its file, number and text."""
+
+    path: str
+    line: int
+    text: str
+
+
+class Results(NamedTuple):
+    """All reports, directories without a lock file, known findings that no longer apply, and
+    whether lines begin with their file."""
+
+    reports: List[Report]
+    refusals: List[Refusal]
+    unused: List[Unused]
+    is_several: bool
+
+
+def report_on(path: str, named: Optional[str], scope: Scope, has_lines: bool) -> Report:
+    """What a check of a lock file reports, with the lines of its findings on demand."""
+    report = Report(path)
+    try:
+        with taking(path, "lock file"):
+            text = bytes_of(path)
+            report.tool, found = findings(Input(path, text, named, scope), report.tally)
+            report.findings = list(found)
+            if has_lines:
+                report.lines = lines_at(report.tool, text, {it.at for it in report.findings})
+    except Refusal as error:
+        report.refusal = error
+    return report

@@ -1,0 +1,1 @@
+"""What `compare-requirements` compares: the requirements of manifests, and their changes."""

@@ -1,0 +1,179 @@
+"""The requirements of a manifest: a package.json, a pnpm-workspace.yaml or a Cargo.toml."""
+
+import json
+import re
+from typing import Any, Dict, Iterator, NamedTuple, Optional, Tuple
+
+from semver_parser import Dialect
+
+from ..cargo.manifests import Need, by_table
+from ..files import (
+    Entry,
+    WrongShape,
+    json_object,
+    object_at,
+    objects_at,
+    text_at,
+    texts_at,
+    toml_object,
+    yaml_object,
+)
+from ..judging import is_met, is_range
+from ..npm.specs import alias_of, git_range_of, is_elsewhere, is_no_range, name_and_rest, range_of
+from ..pnpm.specs import parent_and_name
+from ..yarn.edges import STEP
+
+NAMES = ("package.json", "Cargo.toml", "pnpm-workspace.yaml")
+"""The files that are manifests."""
+
+KINDS_OF_NPM = ("dependencies", "devDependencies", "optionalDependencies", "peerDependencies")
+ALSO_OF_NPM = ("acceptDependencies", "resolutions")
+METAS = ("peerDependenciesMeta", "dependenciesMeta")
+
+KINDS_OF_CARGO = re.compile(r"(?:target\..*\.)?(?:dev-|build-)?dependencies", re.S)
+
+# How a pnpm-workspace.yaml is told from a Cargo.toml, in which no key has a colon after it.
+OF_PNPM = re.compile(rb"(?:\A|\n)[A-Za-z]+:(?=\s)")
+
+WORKSPACE = "workspace:"
+
+Key = Tuple[str, str]
+"""The table of a requirement, and its key there."""
+
+
+class Requirement(NamedTuple):
+    """What is required: how it is printed, the name of the package, where that is known, where it
+    is to be taken from, if that is stated, and the range, where it is one or may be meant for
+    one."""
+
+    text: str
+    name: Optional[str] = None
+    source: str = ""
+    range: Optional[str] = None
+
+
+class Manifest(NamedTuple):
+    """The requirements of a manifest by table and key, and the dialect that they are in. A file
+    that isn't there has none."""
+
+    requirements: Dict[Key, Requirement]
+    dialect: Optional[Dialect]
+
+
+NOWHERE = Manifest({}, None)
+
+
+def manifest_of(text: bytes) -> Manifest:
+    """The manifest that a text is: JSON is npm's, YAML pnpm's, TOML Cargo's."""
+    if text.lstrip()[:1] == b"{":
+        return Manifest(dict(of_package_json(json_object(text))), Dialect.NPM)
+    if OF_PNPM.search(text):
+        return Manifest(dict(of_pnpm_workspace(yaml_object(text))), Dialect.NPM)
+    needs = by_table(toml_object(text))
+    return Manifest({key: of_cargo(need) for key, need in needs.items()}, Dialect.CARGO)
+
+
+def is_kind(table: str) -> bool:
+    """Whether a table has what a package depends on, so a requirement may move to another one."""
+    return table in KINDS_OF_NPM or KINDS_OF_CARGO.fullmatch(table) is not None
+
+
+# ---- one requirement
+
+
+def of_cargo(need: Need) -> Requirement:
+    """A requirement of a Cargo.toml."""
+    wanted = need.requirement if need.has_registry else None
+    package = f'package = "{need.name}"' if need.other_name is not None else ""
+    text = ", ".join(filter(None, (wanted, package, need.source)))
+    return Requirement(text, need.name, need.source, wanted)
+
+
+def of_npm(name: str, spec: str) -> Requirement:
+    """A requirement of npm, yarn or pnpm. What is at a URL has its name there."""
+    wanted_spec = of_workspace(spec)
+    alias, at_git, wanted = alias_of(wanted_spec), git_range_of(spec), range_of(wanted_spec)
+    is_none = is_met(wanted, "0.0.0", Dialect.NPM) is None and is_no_range(wanted_spec)
+    own_name = None if is_elsewhere(wanted_spec) else name if alias is None else alias[0]
+    source = "" if at_git is None else at_git[0]
+    return Requirement(spec, own_name, source, None if is_none else wanted)
+
+
+def of_workspace(spec: str) -> str:
+    """What `workspace:RANGE` and `workspace:NAME@RANGE` require of a workspace; any other spec is
+    its own, as one with a path, or by a version that isn't in the manifest."""
+    if not spec.startswith(WORKSPACE):
+        return spec
+    rest = spec[len(WORKSPACE) :]
+    name, within = name_and_rest(rest)
+    if name and within and is_range(within, Dialect.NPM):
+        return f"npm:{name}@{within}"
+    return rest if rest and is_range(rest, Dialect.NPM) else spec
+
+
+def of_override(key: str, spec: str) -> Requirement:
+    """What an override puts in place of a requirement. `-` removes it, and `$NAME` is for what the
+    project requires."""
+    is_other = spec == "-" or spec.startswith("$")
+    return Requirement(spec) if is_other else of_npm(name_and_rest(key)[0], spec)
+
+
+def of_object(value: Any) -> Requirement:
+    """What is no requirement, and is compared as a text."""
+    return Requirement(json.dumps(value, ensure_ascii=False, sort_keys=True))
+
+
+# ---- the tables of npm, yarn, pnpm and Bun
+
+
+def of_package_json(entry: Entry) -> Iterator[Tuple[Key, Requirement]]:
+    """The requirements of a package.json. What says that it is another file is none."""
+    for key in ("lockfileVersion", "workspace_members"):
+        if key in entry:
+            raise WrongShape(f": it has {key}")
+    for table in (*KINDS_OF_NPM, *ALSO_OF_NPM):
+        yield from of_table(entry, table, table)
+    for table in METAS:
+        for name, meta in objects_at(entry.get(table, {}), table).items():
+            yield (table, name), of_object(meta)
+    yield from of_overrides(object_at(entry.get("overrides", {}), "overrides"), "", "overrides")
+    pnpm = object_at(entry.get("pnpm", {}), "pnpm")
+    for name, spec in texts_at(pnpm.get("overrides", {}), "pnpm.overrides").items():
+        yield ("pnpm.overrides", name), of_override(parent_and_name(name)[1], spec)
+    yield from of_catalogs(entry, "")
+    if isinstance(entry.get("workspaces"), dict):
+        yield from of_catalogs(entry["workspaces"], "workspaces.")
+
+
+def of_pnpm_workspace(entry: Entry) -> Iterator[Tuple[Key, Requirement]]:
+    """The requirements of a pnpm-workspace.yaml."""
+    yield from of_catalogs(entry, "")
+    for name, spec in texts_at(entry.get("overrides") or {}, "overrides").items():
+        yield ("overrides", name), of_override(parent_and_name(name)[1], spec)
+
+
+def of_table(entry: Entry, key: str, table: str) -> Iterator[Tuple[Key, Requirement]]:
+    """The requirements of a table of names, in resolutions after paths of names."""
+    for path, spec in texts_at(entry.get(key) or {}, table).items():
+        is_path = table == "resolutions"
+        name = name_and_rest(STEP.findall(path)[-1])[0] if is_path and path.strip("/") else path
+        yield (table, path), of_npm(name, spec)
+
+
+def of_catalogs(entry: Entry, outer: str) -> Iterator[Tuple[Key, Requirement]]:
+    """The requirements of catalogs."""
+    yield from of_table(entry, "catalog", f"{outer}catalog")
+    catalogs = object_at(entry.get("catalogs") or {}, f"{outer}catalogs")
+    for name in catalogs:
+        yield from of_table(catalogs, name, f"{outer}catalogs.{name}")
+
+
+def of_overrides(entry: Entry, path: str, where: str) -> Iterator[Tuple[Key, Requirement]]:
+    """The overrides of npm, each by the keys that lead to it."""
+    for key, value in entry.items():
+        inner = f"{path} > {key}" if path else key
+        if isinstance(value, dict):
+            yield from of_overrides(value, inner, f"{where}: {key}")
+        else:
+            name = path.rpartition(" > ")[2] if key == "." else key
+            yield ("overrides", inner), of_override(name, text_at(value, f"{where}: {key}"))

@@ -1,0 +1,80 @@
+"""The sentence of a finding, which reads right without a manual."""
+
+import json
+import re
+from typing import Callable
+
+from .findings import PROJECT, Finding, Kind
+from .program import escaped
+
+Paint = Callable[[str, str], str]
+"""Gives a text the look of a part of a sentence."""
+
+PACKAGE, VERSION, RANGE = "package", "version", "range"
+"""The parts of a sentence that have a look of their own."""
+
+MISLEADING = re.compile(r'\A\Z|[\s",]')
+
+
+def quoted(text: str) -> str:
+    """A text in which nobody misreads where it ends: in quotes, if it is empty or has blanks,
+    commas or quotes."""
+    return json.dumps(text, ensure_ascii=False) if MISLEADING.search(text) else escaped(text)
+
+
+def plain(text: str, part: str) -> str:
+    """A part of a sentence without a look."""
+    return text
+
+
+def sentence(it: Finding, paint: Paint = plain) -> str:
+    """What there is to say of a requirement or of a package, the requirer last."""
+    name = it.package or it.dependency
+    package = paint(quoted(name) if name else place_of(it.place), PACKAGE)
+    version = paint(quoted(it.version), VERSION) if it.version or not it.requirer else ""
+    found = f"{package} {version}" if version else package
+    wanted = paint(quoted(it.range), RANGE)
+    if not it.requirer:
+        return of_package(it, found, wanted)
+    return of_requirement(it, package, found, wanted)
+
+
+def of_package(it: Finding, found: str, wanted: str) -> str:
+    """What there is to say of a package by itself."""
+    if it.kind == Kind.MISSING:
+        return f"{found} is missing, a member of the workspace"
+    where = "" if it.package in ("", it.place) else f", in {place_of(it.place)}"
+    if it.kind == Kind.ANOTHER_VERSION:
+        return f"{found} does not match {wanted} of the same entry{where}"
+    return f"{found} has an invalid version{where}"
+
+
+def of_requirement(it: Finding, package: str, found: str, wanted: str) -> str:
+    """What there is to say of a requirement."""
+    requirer = place_of(it.requirer)
+    if it.requirer_version:
+        requirer += f" {quoted(it.requirer_version)}"
+    name = it.alias or it.dependency
+    is_renamed = bool(it.package and it.package != it.dependency) or bool(it.alias)
+    known_as = f" as {quoted(name)}" if is_renamed else ""
+    required = f"required{known_as} by {requirer}"
+    if it.kind == Kind.OVERRIDDEN:
+        return f"{found} does not satisfy the override {wanted}, {required}"
+    if it.kind == Kind.ANOTHER_PACKAGE:
+        return f"{found} is not the package of {wanted}, {required}"
+    if it.kind == Kind.INVALID_VERSION:
+        return f"{package} has no version for {wanted}, {required}"
+    if it.kind == Kind.INVALID_RANGE:
+        return f"{found} cannot be checked: {wanted} is an invalid range, {required}"
+    if it.kind == Kind.MISSING:
+        return f"{found} {wanted} is missing, {required}"
+    if it.kind == Kind.NOT_REQUIRED:
+        return f"{found} is in the graph, but not required by {requirer}"
+    if it.kind == Kind.NOT_CHECKED:
+        return f"{found} is not checked against {wanted} ({it.reason}), {required}"
+    return f"{found} does not satisfy {wanted}, {required}"
+
+
+def place_of(place: str) -> str:
+    """The place of a package or a requirer: the project has no place in quotes."""
+    return PROJECT if place == PROJECT else quoted(place)

@@ -1,0 +1,288 @@
+# What `checkers` tests of check-lock-file beside what it finds: what it prints, which files it takes,
+# and what it leaves out. `check` is the program, and `here` the directory python/.
+
+has_toml() { python3 -c 'import tomllib' 2> /dev/null; }
+has_yaml() { python3 -c 'import yaml' 2> /dev/null; }
+
+# may_read FILE: whether Python has what the file needs; else the skipped file is named.
+may_read() {
+    case $1 in
+    *Cargo.lock) has_toml || { echo "$1: skipped, since python3 is older than 3.11" && return 1; } ;;
+    *.yaml) has_yaml || { echo "$1: skipped, since PyYAML is not there" && return 1; } ;;
+    esac
+}
+
+# ---- the formats
+
+# for_people FILE [--strict]: the sentences of a file of cases/, which are beside it.
+for_people() {
+    ! may_read "$1" || same "$1, for people" 1 /dev/null "cases/${1%.*}.text" /dev/null $check --quiet ${2:+"$2"} "cases/$1"
+}
+for name in aliases archives names versions overrides/package-lock; do for_people "$name.json"; done
+for name in unread cargo/made; do for_people "$name.json" --strict; done
+for name in keys resolution; do for_people "yarn/$name/yarn.lock"; done
+for_people pnpm/wrong-9.yaml --strict
+for_people cargo-lock/no-source/Cargo.lock
+
+for option in --json --format=json; do
+    same "one object, by $option" 1 /dev/null cases/object.json /dev/null \
+        $check --quiet $option cases/cargo/made.json cases/monorepo/web/yarn.lock
+    python3 -m json.tool cases/object.json > /dev/null
+done
+same 'one object of what is refused' 2 /dev/null cases/object-refused.json cases/cut-off.told $check --json cases/cut-off.json
+
+status=0
+$check --quiet --json cases/yarn/resolution/yarn.lock > "$work/object" || status=$?
+[ "$status" = 1 ] || exit 1
+grep -A 6 '"another-version"' "$work/object" | grep '"range"' > "$work/lines"
+printf '          "range": "%s",\n' 1.2.0 1.2.0 1.3.0 | diff -u - "$work/lines"
+echo 'what else an entry has, in JSON: passed'
+
+# annotated FILE: the annotations of a file of cases/, each at the line where its entry begins.
+annotated() {
+    status=0
+    $check --quiet --format github "cases/$1" > "$work/annotations" || status=$?
+    [ "$status" = 1 ] || exit 1
+    diff -u "cases/annotations/${1##*/}" "$work/annotations"
+    echo "annotations of $1: passed"
+}
+for name in version-1.json aliases.json yarn/keys/yarn.lock pnpm/wrong-6.yaml cargo-lock/wrong/Cargo.lock; do
+    ! may_read "$name" || annotated "$name"
+done
+# A key whose colon is on another line, and one that is there twice, so its line isn't sure.
+printf '%s\n' '{"lockfileVersion": 3, "packages": {"": {"dependencies": {"a": "2", "b": "2"}},' '"node_modules/a"' ':' \
+    '{"version": "1.0.0"},' '"node_modules/b": {},' '"node_modules/b": {"version": "1.0.0"}}}' > "$work/lock"
+printf '::error file=standard input%s::%s 1.0.0 does not satisfy 2, required by the project\n' ',line=2' a '' b > "$work/lines"
+same 'annotations of other lines' 1 "$work/lock" "$work/lines" /dev/null $check --quiet --format github -
+cp cases/monorepo/web/package.json cases/monorepo/web/yarn.lock "$work"
+mkdir "$work/a,b:c%d" && mv "$work/package.json" "$work/yarn.lock" "$work/a,b:c%d"
+echo '::error file=a%2Cb%3Ac%25d/yarn.lock::react ^18.2.0 is missing, required by the project' > "$work/lines"
+same "GitHub's escapes" 1 /dev/null "$work/lines" /dev/null sh -c 'cd "$1" && exec "$2" --quiet --format github a,*' - "$work" "$here/$check"
+echo "::error file=cases/cut-off.json::it isn't JSON: line 1 column 37" > "$work/lines"
+same 'the annotation of an error' 2 /dev/null "$work/lines" cases/cut-off.told $check --format github cases/cut-off.json
+
+# ---- a terminal
+
+cat > "$work/terminal.py" <<'END'
+import os, pty, sys
+sys.exit(os.waitstatus_to_exitcode(pty.spawn(sys.argv[1:])))
+END
+# at_terminal NAME LINES ARGUMENT..: the program's lines at a terminal, each of which ends there in
+# a carriage return, too.
+at_terminal() {
+    name=$1 lines=$2
+    shift 2
+    env -u NO_COLOR TERM=xterm "$@" > "$work/output" < /dev/null || :
+    tr -d '\r' < "$work/output" | diff -u "$lines" -
+    echo "$name: passed"
+}
+terminal="python3 $work/terminal.py $check --quiet"
+printf '\033[1m%s\033[0m \033[31m%s\033[0m does not satisfy \033[32m%s\033[0m, required by %s\n' \
+    lodash 4.17.20 '^4.17.21' 'the project' a 2.0.0 '^1.0.0' packages/b > "$work/colored"
+$check --quiet cases/monorepo/package-lock.json > "$work/plain" || :
+at_terminal 'colors' "$work/colored" $terminal cases/monorepo/package-lock.json
+at_terminal 'NO_COLOR' "$work/plain" env NO_COLOR=1 $terminal cases/monorepo/package-lock.json
+at_terminal 'an empty NO_COLOR' "$work/colored" env NO_COLOR= $terminal cases/monorepo/package-lock.json
+at_terminal 'a dumb terminal' "$work/plain" env TERM=dumb $terminal cases/monorepo/package-lock.json
+! grep "$(printf '\033')" "$work/plain" || exit 1
+
+# A pipe that gets its content after more than a second.
+mkfifo "$work/slow"
+{ sleep 2 && cat cases/nothing-wrong.json; } > "$work/slow" &
+printf '\033[Kchecking 1 of 2: %s\033[Kchecking 2 of 2: %s\033[K' "$work/slow" cases/nothing-wrong.json > "$work/progress"
+at_terminal 'progress' "$work/progress" $terminal cases/nothing-wrong.json "$work/slow"
+wait $!
+{ sleep 2 && cat cases/nothing-wrong.json; } > "$work/slow" &
+same 'no progress without a terminal' 0 /dev/null /dev/null /dev/null $check --quiet cases/nothing-wrong.json "$work/slow"
+wait $!
+
+# ---- how much is checked
+
+for name in canaries.json aliases.json unread.json stale/package-lock.json workspaces/package-lock.json \
+    yarn/classic-right/yarn.lock yarn/stale-berry/yarn.lock; do
+    $check "cases/$name" 2>&1 > /dev/null || :
+done > "$work/closing"
+diff -u cases/closing "$work/closing"
+echo 'closing lines: passed'
+
+# unchecked TOLD FILE OPTION..: nothing of a file is checked, which is an error.
+unchecked() {
+    echo "check-lock-file: cases/unchecked/$2: nothing was checked of $1" > "$work/told"
+    file=$2
+    shift 2
+    same "nothing is checked in $file $*" 2 /dev/null /dev/null "$work/told" $check "$@" "cases/unchecked/$file"
+}
+unchecked '2 requirements and 2 packages (npm); 2 not checked: 1 git, 1 tag' package-lock.json
+unchecked '2 requirements and 2 packages (npm); 2 not checked: 1 git, 1 tag' package-lock.json --quiet
+unchecked '0 requirements and 1 package (npm)' npm-shrinkwrap.json
+same 'nothing is checked, in JSON' 2 /dev/null cases/object-unchecked.json "$work/told" $check --json cases/unchecked/npm-shrinkwrap.json
+echo "::error file=cases/unchecked/npm-shrinkwrap.json::nothing was checked of 0 requirements and 1 package (npm)" > "$work/lines"
+same 'nothing is checked, an annotation' 2 /dev/null "$work/lines" "$work/told" $check --format github cases/unchecked/npm-shrinkwrap.json
+sed 's/"latest"/"^1.0.0"/' cases/unchecked/package-lock.json > "$work/lock"
+echo 'checked 1 requirement of 2 packages in standard input (npm); 1 not checked: 1 git' > "$work/told"
+same 'one requirement is checked' 0 "$work/lock" /dev/null "$work/told" $check -
+
+sed 's/"dependencies"/"devDependencies"/' cases/unchecked/package-lock.json > "$work/lock"
+echo 'checked 0 requirements of 2 packages in standard input (npm); 2 left out' > "$work/told"
+same 'all is left out' 0 "$work/lock" /dev/null "$work/told" $check --no-dev -
+
+# ---- files and directories
+
+# in_repository STATUS LINES ERRORS ARGUMENT..: runs the program in a repository that is made here.
+in_repository() {
+    status=$1 lines=$2 errors=$3
+    shift 3
+    same "in a repository: $*" "$status" /dev/null "$lines" "$errors" \
+        sh -c 'cd "$1" && shift && exec "$@"' - "$work/repository" "$here/$check" --quiet "$@"
+}
+mkdir "$work/repository"
+cp -R cases/monorepo/. "$work/repository"
+(
+    cd "$work/repository"
+    mkdir -p node_modules/part rust/target new ignored empty
+    for folder in node_modules/part rust/target ignored; do cp web/yarn.lock web/package.json $folder; done
+    cp package.json package-lock.json new && rm web/yarn.lock && cp "$here/cases/others/bun.lockb" .
+)
+cat > "$work/walked" <<'END'
+ignored/yarn.lock: react ^18.2.0 is missing, required by the project
+new/package-lock.json: lodash 4.17.20 does not satisfy ^4.17.21, required by the project
+package-lock.json: lodash 4.17.20 does not satisfy ^4.17.21, required by the project
+package-lock.json: a 2.0.0 does not satisfy ^1.0.0, required by packages/b
+rust/Cargo.lock: itoa 1.0.4 does not satisfy 1.0.10, required by app 0.1.0
+END
+grep -v '^ignored' "$work/walked" > "$work/listed"
+echo 'check-lock-file: bun.lockb: bun.lockb is binary; run bun install --save-text-lockfile' > "$work/told"
+if has_toml; then
+    in_repository 2 "$work/walked" "$work/told"
+    git init -q "$work/repository"
+    echo ignored > "$work/repository/.gitignore"
+    git -C "$work/repository" add . && git -C "$work/repository" rm -q --cached rust/Cargo.lock
+    in_repository 2 "$work/listed" "$work/told"
+    grep '^rust' "$work/listed" > "$work/lines"
+    in_repository 1 "$work/lines" /dev/null rust
+    cat > "$work/told" <<'END'
+check-lock-file: nowhere: it can't be read: No such file or directory
+check-lock-file: empty: it is a directory without a lock file
+END
+    grep '^package\|^rust' "$work/listed" > "$work/lines"
+    in_repository 2 "$work/lines" "$work/told" rust/Cargo.lock empty nowhere package-lock.json ./package-lock.json rust
+    printf '%s\t%s\t%s\t%s\n' package-lock.json '^4.17.21' 4.17.20 'the project requires lodash' \
+        package-lock.json '^1.0.0' 2.0.0 'packages/b requires a' \
+        rust/Cargo.lock 1.0.10 1.0.4 'app 0.1.0 requires itoa' > "$work/fields"
+    in_repository 1 "$work/fields" /dev/null --format tsv rust package-lock.json
+fi
+mkdir "$work/shrinkwrap"
+cp cases/nothing-wrong.json "$work/shrinkwrap/package-lock.json" && cp cases/nothing-wrong.json "$work/shrinkwrap/npm-shrinkwrap.json"
+{
+    echo 'package-lock.json: left out, since npm-shrinkwrap.json is beside it'
+    $check cases/nothing-wrong.json 2>&1 | sed 's:cases/nothing-wrong:npm-shrinkwrap:'
+} > "$work/told"
+same 'npm-shrinkwrap.json beside package-lock.json' 0 /dev/null /dev/null "$work/told" \
+    sh -c 'cd "$1" && exec "$2"' - "$work/shrinkwrap" "$here/$check"
+refused "check-lock-file: --package-json is for exactly one file; see check-lock-file --help" /dev/null \
+    $check --package-json cases/stale/package.json cases/stale
+refused "check-lock-file: --package-json is for exactly one file; see check-lock-file --help" /dev/null \
+    $check --package-json cases/stale/package.json cases/stale/package-lock.json cases/missing.json
+refused 'check-lock-file: two files are standard input; see check-lock-file --help' /dev/null $check --allow - -
+refused 'check-lock-file: unknown format: "xml"; see check-lock-file --help' /dev/null $check --format xml cases/missing.json
+refused 'check-lock-file: --json and --format tsv are both given; see check-lock-file --help' /dev/null \
+    $check --format tsv --json cases/missing.json
+
+sed 's/^/standard input: /' cases/aliases.text > "$work/lines"
+$check --quiet cases/monorepo/web/yarn.lock | sed 's|^|cases/monorepo/web/yarn.lock: |' >> "$work/lines"
+same 'standard input and a file' 1 cases/aliases.json "$work/lines" /dev/null \
+    $check --quiet - cases/monorepo/web/yarn.lock
+
+# ---- what is left out
+
+for file in Cargo.lock package-lock.json pnpm-lock.yaml yarn.lock berry/yarn.lock; do
+    may_read "$file" || continue
+    case $file in Cargo.lock) wanted=1 by='app 0.1.0' ;; *) wanted='^1.0.0' by='the project' ;; esac
+    [ "$file" != berry/yarn.lock ] || wanted='^1.0.0' by=no-dev
+    echo "num 2.0.0 does not satisfy $wanted, required by $by" > "$work/lines"
+    same "$file without what is for development" 1 /dev/null "$work/lines" /dev/null $check --quiet --no-dev "cases/no-dev/$file"
+    status=0
+    $check --quiet "cases/no-dev/$file" > "$work/lines" || status=$?
+    [ "$status" = 1 ] || exit 1
+    grep -q '^tool 2.0.0 does not satisfy' "$work/lines"
+done
+cat > "$work/lines" <<'END'
+tool 1 does not satisfy ^1.0.0, required by the project
+tool 1 has an invalid version, in node_modules/tool
+part 2.0.0 does not satisfy ^1.0.0, required by node_modules/tool
+END
+same 'packages that npm marks' 1 /dev/null "$work/lines" /dev/null $check --quiet cases/no-dev/marked.json
+echo 'checked 2 requirements of 1 package in cases/no-dev/marked.json (npm); 2 left out' > "$work/told"
+same 'without the packages that npm marks' 0 /dev/null /dev/null "$work/told" $check --no-dev cases/no-dev/marked.json
+sed -f cases/cargo/workspace-broken.sed cases/cargo/workspace.json > "$work/graph"
+sed '/missing$/d' cases/cargo/workspace-broken.expected > "$work/fields"
+same 'a graph without what is for development' 1 "$work/graph" "$work/fields" /dev/null $fields --no-dev -
+if has_yaml; then
+    sed '/@of\/texts 1.2.0 requires/d' cases/pnpm/wrong-9.expected > "$work/fields"
+    same 'a file of pnpm without peers' 1 /dev/null "$work/fields" /dev/null $fields --no-peers cases/pnpm/wrong-9.yaml
+fi
+
+# allowed STATUS KNOWN LINES ARGUMENT..: the lock files of cases/monorepo beside known findings.
+allowed() {
+    status=$1
+    printf "$2" > "$work/known.txt"
+    printf "$3" > "$work/lines"
+    shift 3
+    same "known findings, $*" "$status" /dev/null "$work/lines" /dev/null \
+        sh -c 'cd cases/monorepo && exec "$@"' - "$here/$check" --quiet --allow "$work/known.txt" "$@"
+}
+lodash='lodash 4.17.20 does not satisfy ^4.17.21, required by the project'
+a='a 2.0.0 does not satisfy ^1.0.0, required by packages/b'
+allowed 1 "# known\n\n$lodash # later # or never\n" "$a\n" package-lock.json
+allowed 0 "package-lock.json: $lodash # later\n  $a # never\n" '' package-lock.json
+gone="$work/known.txt: line 2 no longer applies: left-pad 1 is missing # gone\n"
+allowed 1 "$lodash # later\nleft-pad 1 is missing # gone\n$a # never\n" "$gone" package-lock.json
+allowed 1 "$lodash # later\nleft-pad 1 is missing # gone\n$a # never\n" \
+    "web/yarn.lock: react ^18.2.0 is missing, required by the project\n$gone" package-lock.json web
+allowed 1 "$lodash # later\nweb/yarn.lock: $a # of a file that is not checked\n" "$a\n" package-lock.json
+allowed 1 "$lodash # later\n" "^1.0.0\t2.0.0\tpackages/b requires a\n" --format tsv package-lock.json
+printf '%s # later\nleft-pad 1 is missing # perhaps in the file that is refused\n' "$lodash" > "$work/known.txt"
+echo "cases/monorepo/package-lock.json: $a" > "$work/lines"
+same 'known findings beside a file that is refused' 2 /dev/null "$work/lines" cases/cut-off.told \
+    $check --quiet --allow "$work/known.txt" cases/monorepo/package-lock.json cases/cut-off.json
+echo '{"lockfileVersion": 3, "packages": {"": {"dependencies": {"x": "1 # 2"}}, "node_modules/x": {"version": "1.0.0"}}}' > "$work/lock"
+echo 'x 1.0.0 cannot be checked: "1 # 2" is an invalid range, required by the project # known # so far' > "$work/known.txt"
+same 'a known finding with a mark in it' 0 "$work/lock" /dev/null /dev/null $check --quiet --allow "$work/known.txt" -
+printf '%s # later\n' "$lodash" > "$work/known.txt"
+echo 'checked 2 requirements of 1 package in cases/monorepo/package-lock.json (npm); 1 allowed' > "$work/told"
+echo "$a" > "$work/lines"
+same 'known findings are counted' 1 /dev/null "$work/lines" "$work/told" \
+    $check --allow "$work/known.txt" cases/monorepo/package-lock.json
+for line in "$lodash" "$lodash # " "$lodash #later" "# 1
+$lodash"; do
+    echo "$line" > "$work/known.txt"
+    number=$(wc -l < "$work/known.txt")
+    refused "check-lock-file: $work/known.txt: line $number: no reason" /dev/null \
+        $check --allow "$work/known.txt" cases/monorepo/package-lock.json
+done
+refused "check-lock-file: nowhere: it can't be read: No such file or directory" /dev/null $check --allow nowhere $good
+
+# ---- pre-commit
+
+if command -v pre-commit > /dev/null; then
+    mkdir "$work/hooks" && cp ../.pre-commit-hooks.yaml "$work/hooks"
+    git init -q "$work/hooks" && git -C "$work/hooks" add .
+    git -C "$work/hooks" -c user.name=a -c user.email=a@b commit -qm hooks
+    mkdir "$work/hooked" && cp -R cases/monorepo/. "$work/hooked"
+    printf 'repos:\n- repo: %s\n  rev: %s\n  hooks:\n  - id: check-lock-file\n    args: [--quiet]\n' "$work/hooks" \
+        "$(git -C "$work/hooks" rev-parse HEAD)" > "$work/hooked/.pre-commit-config.yaml"
+    git init -q "$work/hooked" && git -C "$work/hooked" add -f .
+    status=0
+    (cd "$work/hooked" && PATH="$here/bin:$PATH" PRE_COMMIT_HOME="$work/pre-commit" pre-commit run --all-files) \
+        > "$work/output" 2> "$work/errors" || status=$?
+    sed -n 's/^\(package-lock.json\|rust\/Cargo.lock\|web\/yarn.lock\): //p' "$work/output" > "$work/lines"
+    $check --quiet cases/monorepo | sed 's/[^:]*: //' | diff -u - "$work/lines"
+    [ "$status" = 1 ] || exit 1
+    echo 'pre-commit: passed'
+    git -C "$work/hooked" rm -qr --cached . && git -C "$work/hooked" add .pre-commit-config.yaml packages
+    (cd "$work/hooked" && PATH=/usr/bin:/bin PRE_COMMIT_HOME="$work/pre-commit" pre-commit run --all-files) > "$work/output" 2>&1
+    grep -q 'no files to check' "$work/output"
+    echo 'pre-commit without lock files: passed'
+else
+    echo 'pre-commit: skipped, since it is not there'
+fi
