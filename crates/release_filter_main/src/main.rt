@@ -46,7 +46,7 @@ version which RANGE means. Without a file, and for -, it reads standard input.
     --sort                 print the lines from the lowest version to the
                            highest, equal versions in their order; a last
                            line without a line feed gets one
-    --reverse              with --sort: print the lines in reverse
+    --reverse              print the lines of --sort in reverse
     --prefix TEXT          match lines that begin with TEXT and then have a
                            version; if given more than once, with any of them
     --strip-prefix         print the lines without their prefix

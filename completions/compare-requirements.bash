@@ -1,0 +1,14 @@
+# bash completion for compare-requirements, made of its help text by tools/make-completions.
+_compare_requirements() {
+    local word=${COMP_WORDS[COMP_CWORD]} before=${COMP_WORDS[COMP_CWORD - 1]}
+    [ "$word" != = ] || word=
+    [ "$before" != = ] || before=${COMP_WORDS[COMP_CWORD - 2]}
+    COMPREPLY=()
+    case $before in
+    esac
+    case $word in
+    -*) COMPREPLY=($(compgen -W '--git --json --version -h --help' -- "$word")) ;;
+    *) COMPREPLY=($(compgen -f -- "$word")) ;;
+    esac
+}
+complete -o filenames -F _compare_requirements compare-requirements
