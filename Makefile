@@ -109,7 +109,8 @@ stage stage-python: all
 	install -D -m 644 -t "$$to/include" $(c)/include/semver_parser.h
 	install -D -m 644 -t "$$to/$(LIBDIR)" out/lib/$(shared) out/lib/libsemver_parser.a
 	for name in $(soname) libsemver_parser.so; do ln -sf $(shared) "$$to/$(LIBDIR)/$$name"; done
-	mkdir -p "$$to/$(LIBDIR)/pkgconfig" "$$to/share/man/man1" "$$to/share/man/man3"
+	mkdir -p "$$to/$(LIBDIR)/pkgconfig" "$$to/share/man/man1" \
+		"$$to/share/man/man3" "$$to/share/man/man7"
 	prefix=$$(printf '%s\n' "$$PREFIX" | sed 's/[ \\$$"'\'']/\\&/g')
 	printf '%s\n' "prefix=$$prefix" 'libdir=$${prefix}/$(LIBDIR)' 'includedir=$${prefix}/include' \
 		'Name: semver_parser' 'Version: $(version)' 'Libs: -L$${libdir} -lsemver_parser' \
@@ -127,7 +128,8 @@ stage stage-python: all
 			chmod 755 "$$to/bin/$$name"
 		done
 	fi
-	for page in $(programs:%=%.1) semver_parser.3 $(if $(filter %-python,$@),$(checkers:%=%.1)); do
+	for page in $(programs:%=%.1) semver_parser.3 semver-ranges.7 \
+			$(if $(filter %-python,$@),$(checkers:%=%.1)); do
 		sed 's/@VERSION@/$(version)/' man/$$page > "$$to/share/man/man$${page##*.}/$$page"
 	done
 
