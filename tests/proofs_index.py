@@ -6,11 +6,10 @@ import re
 
 PROMISES = '''## The promises
 
-Every function returns on every input, without a panic, an overflow or an access out of bounds. Each result is fixed by
-an equation or a law; twelve calls leave something open ([which](#one-answer-for-each-call)).
+Every function returns on every input, without a panic, an overflow or an access out of bounds. Contracts determine every
+result, but for twelve calls ([which](#one-answer-for-each-call)).
 
-One case is different, and proved too: `2.0.0-alpha` satisfies the comparator `<2.0.0`, although `^1.2.3` excludes it. Use
-exact bounds, `<2.0.0-0`, to avoid it.
+Caution: `RangeSet::parse` turns `^1.2.3` into `>=1.2.3 <2.0.0`, which admits 2.0.0-alpha; `parse_exact` uses `<2.0.0-0`.
 
 | crate | promise | call and clause | definition |
 |---|---|---|---|
