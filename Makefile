@@ -8,7 +8,7 @@
 #   make js                   makes the JavaScript package in OUT, for npm
 #   make page                 makes OUT/semver-ranges.html, the page of web/ in one file
 #   make clean                removes what was compiled of C; what is proved stays
-#   dpkg-buildpackage -b -uc  makes the Debian packages, in the folder above this one
+#   dpkg-buildpackage -b -uc  makes the Debian packages, in the directory above this one
 PREFIX ?= /usr/local
 LIBDIR ?= lib
 OUT ?= out
@@ -31,7 +31,7 @@ shared := libsemver_parser.so.$(version)
 proved := out/built/libsemver_parser_c.a
 c := crates/semver_parser_c
 
-# How recipes begin; `to` is the folder that is installed into.
+# How recipes begin; `to` is the directory that is installed into.
 begin = self=make top=$$PWD && . tools/built.sh && begin && umask 022; \
 	case $$PREFIX in '') refuse 'PREFIX is empty' ;; /*) ;; *) PREFIX=$$PWD/$$PREFIX ;; esac; \
 	PREFIX=$${PREFIX%/} to=$${DESTDIR-}$${PREFIX%/}
@@ -133,12 +133,12 @@ stage stage-python: all
 		sed 's/@VERSION@/$(version)/' man/$$page > "$$to/share/man/man$${page##*.}/$$page"
 	done
 
-# All is made in a folder of its own, and only then put where it belongs.
+# All is made in a directory of its own, and only then put where it belongs.
 install install-python:
 	$(begin)
 	may_write "$$to"
 	if [ $@ = install-python ]; then
-		[ -e python/semver_parser ] || refuse "there is no folder $$top/python/semver_parser"
+		[ -e python/semver_parser ] || refuse "there is no directory $$top/python/semver_parser"
 		PACKAGES=$$(python3 -c 'import site, sys, sysconfig
 	prefix = sys.argv[1]
 	known = [*site.getsitepackages(), site.getusersitepackages()]
