@@ -8,7 +8,7 @@
 #   make js                   makes the JavaScript package in OUT, for npm
 #   make page                 makes OUT/semver-ranges.html, the page of web/ in one file
 #   make clean                removes what was compiled of C; what is proved stays
-#   dpkg-buildpackage -b -uc  makes the Debian packages, in the folder above this one
+#   dpkg-buildpackage -b -uc  makes the Debian packages, in the directory above this one
 PREFIX ?= /usr/local
 LIBDIR ?= lib
 OUT ?= out
@@ -31,7 +31,7 @@ shared := libsemver_parser.so.$(version)
 proved := out/built/libsemver_parser_c.a
 c := crates/semver_parser_c
 
-# How recipes begin; `to` is the folder that is installed into.
+# How recipes begin; `to` is the directory that is installed into.
 begin = self=make top=$$PWD && . tools/built.sh && begin && umask 022; \
 	case $$PREFIX in '') refuse 'PREFIX is empty' ;; /*) ;; *) PREFIX=$$PWD/$$PREFIX ;; esac; \
 	PREFIX=$${PREFIX%/} to=$${DESTDIR-}$${PREFIX%/}
@@ -109,7 +109,8 @@ stage stage-python: all
 	install -D -m 644 -t "$$to/include" $(c)/include/semver_parser.h
 	install -D -m 644 -t "$$to/$(LIBDIR)" out/lib/$(shared) out/lib/libsemver_parser.a
 	for name in $(soname) libsemver_parser.so; do ln -sf $(shared) "$$to/$(LIBDIR)/$$name"; done
-	mkdir -p "$$to/$(LIBDIR)/pkgconfig" "$$to/share/man/man1" "$$to/share/man/man3"
+	mkdir -p "$$to/$(LIBDIR)/pkgconfig" "$$to/share/man/man1" \
+		"$$to/share/man/man3" "$$to/share/man/man7"
 	prefix=$$(printf '%s\n' "$$PREFIX" | sed 's/[ \\$$"'\'']/\\&/g')
 	printf '%s\n' "prefix=$$prefix" 'libdir=$${prefix}/$(LIBDIR)' 'includedir=$${prefix}/include' \
 		'Name: semver_parser' 'Version: $(version)' 'Libs: -L$${libdir} -lsemver_parser' \
@@ -127,16 +128,17 @@ stage stage-python: all
 			chmod 755 "$$to/bin/$$name"
 		done
 	fi
-	for page in $(programs:%=%.1) semver_parser.3 $(if $(filter %-python,$@),$(checkers:%=%.1)); do
+	for page in $(programs:%=%.1) semver_parser.3 semver-ranges.7 \
+			$(if $(filter %-python,$@),$(checkers:%=%.1)); do
 		sed 's/@VERSION@/$(version)/' man/$$page > "$$to/share/man/man$${page##*.}/$$page"
 	done
 
-# All is made in a folder of its own, and only then put where it belongs.
+# All is made in a directory of its own, and only then put where it belongs.
 install install-python:
 	$(begin)
 	may_write "$$to"
 	if [ $@ = install-python ]; then
-		[ -e python/semver_parser ] || refuse "there is no folder $$top/python/semver_parser"
+		[ -e python/semver_parser ] || refuse "there is no directory $$top/python/semver_parser"
 		PACKAGES=$$(python3 -c 'import site, sys, sysconfig
 	prefix = sys.argv[1]
 	known = [*site.getsitepackages(), site.getusersitepackages()]

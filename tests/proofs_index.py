@@ -4,16 +4,63 @@ import itertools
 import os
 import re
 
+PROMISES = '''## The promises
+
+Every function returns on every input, without a panic, an overflow or an access out of bounds. Contracts determine every
+result, but for twelve calls ([which](#one-answer-for-each-call)).
+
+Caution: `RangeSet::parse` turns `^1.2.3` into `>=1.2.3 <2.0.0`, which admits 2.0.0-alpha; `parse_exact` uses `<2.0.0-0`.
+
+| crate | promise | call and clause | definition |
+|---|---|---|---|
+| `semver_tokens` | the lexer gives exactly the tokens of a text, then one error at most | [`Lexer::new`](../crates/semver_tokens/src/lexer.rt): `state` | [`Tokens`](../crates/semver_tokens/specs/Tokens.antt) |
+| `semver_tokens` | each step of a parser is a function of its state, unless memory runs out | [`Parser`](../crates/semver_tokens/src/parser.rt): `step`, `answer` | [`ParserSteps`](../crates/semver_tokens/specs/ParserSteps.antt) |
+| `semver_versions` | a version is read exactly if the text spells it | [`version::read`](../crates/semver_versions/src/version.rt): `exact`, `none` | [`VersionGrammar`](../crates/semver_texts/specs/VersionGrammar.antt) |
+| `semver_versions` | the same for Cargo's and npm's versions, without allocating | [`version::outline_in`](../crates/semver_versions/src/version.rt): `outlined`, `none`, `version` | [`ToolVersions`](../crates/semver_texts/specs/ToolVersions.antt) |
+| `text_prefixes` | where and why a text is an invalid version | [`refused`](../crates/text_prefixes/src/reasons.rt): `version`, `offset`, `reason` | [`VersionPrefixes`](../crates/text_prefixes/specs/VersionPrefixes.antt), [`Reasons`](../crates/text_prefixes/specs/Reasons.antt) |
+| `semver_ranges` | errors of a range are exact | [`RangeSet::parse`](../crates/semver_ranges/src/range_set.rt): `refusals` | [`RangeTexts`](../crates/semver_ranges/specs/RangeTexts.antt), [`RangeTree`](../crates/semver_ranges/specs/RangeTree.antt) |
+| `semver_ranges` | the comparators mean the text, but for pre-releases of raised bounds | [`RangeSet::parse`](../crates/semver_ranges/src/range_set.rt): `meaning` | [`OwnMeaning`](../crates/semver_ranges/specs/OwnMeaning.antt), [`Meeting`](../crates/semver_ranges/specs/Meeting.antt) |
+| `semver_ranges` | exact bounds mean the text, and print to a text that reads back | [`RangeSet::parse_exact`](../crates/semver_ranges/src/range_set.rt): `meaning`, `reads_back` | [`ExactBounds`](../crates/semver_ranges/specs/ExactBounds.antt) |
+| `semver_parser` | the report writes its three lines, or a beginning | [`report::run`](../crates/semver_parser/src/report.rt): `lines` | [`ReportLines`](../crates/semver_parser/specs/ReportLines.antt) |
+| `version_sets` | a set has exactly the versions that the text means | [`VersionSet::of_text`](../crates/version_sets/src/reading.rt): `meaning` | [`PreReleaseRules`](../crates/version_sets/specs/PreReleaseRules.antt) |
+| `version_sets` | two sets are equal exactly if they have the same versions | [`==`](../crates/version_sets/src/comparing.rt): `same_versions`, `one_form` | [`VersionSets`](../crates/version_sets/specs/VersionSets.antt) |
+| `version_sets` | a set is written as a range text that, in the crate's npm mode, has exactly its releases | [`VersionSet::release_ranges`](../crates/version_sets/src/set_ranges.rt): `meaning`, `reads_back` | [`SetRanges`](../crates/version_sets/specs/SetRanges.antt) |
+| `tool_ranges` | a requirement means what Cargo's grammar and meaning say | [`cargo::read`](../crates/tool_ranges/src/cargo/reading.rt): `refusals`, `meaning` | [`CargoGrammar`](../crates/tool_ranges/specs/CargoGrammar.antt), [`CargoMeaning`](../crates/tool_ranges/specs/CargoMeaning.antt) |
+| `tool_ranges` | a range means what npm's grammar and meaning say | [`npm::read`](../crates/tool_ranges/src/npm/reading.rt): `refusals`, `meaning` | [`NpmGrammar`](../crates/tool_ranges/specs/NpmGrammar.antt), [`NpmMeaning`](../crates/tool_ranges/specs/NpmMeaning.antt) |
+| `tool_ranges` | one version is checked without allocating | [`meaning::meets`](../crates/tool_ranges/src/meaning.rt): `meaning`, `no_memory` | [`Meanings`](../crates/tool_ranges/specs/Meanings.antt) |
+| `tool_ranges` | where a text stops being a range | [`refusals::refused`](../crates/tool_ranges/src/refusals.rt): `refused` | [`Refusals`](../crates/tool_ranges/specs/Refusals.antt), [`TooLarge`](../crates/tool_ranges/specs/TooLarge.antt) |
+| `release_filter` | exactly the wanted lines of a text in pieces are appended | [`Lines::push`, `Lines::finish`](../crates/release_filter/src/lines.rt): `takes`, `stops`, `finishes` | [`Pieces`](../crates/release_filter/specs/Pieces.antt), [`Verdicts`](../crates/release_filter/specs/Verdicts.antt) |
+| `command_line` | dialect options mean what they say | [`MeaningOptions`](../crates/command_line/src/options.rt): `dialect`, `npm`, `rule` | [`Options`](../crates/command_line/specs/Options.antt) |
+| `answer_laws` | two results of a call are equal, or one is out of memory | [`one_of_text`](../crates/answer_laws/src/sets.rt): `one` | [`OneAnswer`](../crates/answer_laws/specs/OneAnswer.antt) |
+| `plain_calls` | the functions of C and JavaScript return what the dialect and rule mean, or the error | [`versions::parse_version`](../crates/plain_calls/src/versions.rt): `parses`, `parts` | [`Outcomes`](../crates/plain_calls/specs/Outcomes.antt), [`Versions`](../crates/plain_calls/specs/Versions.antt) |
+| `semver_parser_c` | so do those that only C has | [`semver_parser_proved_comparators`](../crates/semver_parser_c/src/ranges.rt): `lists`, `pre_releases` | [`Outcomes`](../crates/semver_parser_c/specs/Outcomes.antt), [`Ranges`](../crates/semver_parser_c/specs/Ranges.antt) |
+| `semver_parser_wasm` | the WebAssembly module has the contracts of `plain_calls` | [`parse_version`](../crates/semver_parser_wasm/src/lib.rt): `parses`, `parts` | [`Versions`](../crates/plain_calls/specs/Versions.antt) |
+
+Below these is `semver_texts`. Programs: `semver_parser_main`, `release_filter_main`, `compare_ranges_main`. Tests:
+`library_tests`, `replayed_cases`, `speed`.
+
+## What isn't proved
+
+- **Not guaranteed**: stack depth, speed, how much memory a call takes at once, debug texts, texts
+  under width and fill flags.
+- **Only tested** ([TESTED](TESTED.md)): that calls succeed if memory is there; that writing fails only
+  if the writer does; the programs' `main`, other options and hints; reading and writing by
+  `release-filter`; the lines of C, Python and shell; derived orders and clones; that the definitions
+  say what was meant.
+- **Trusted**: the toolchain, the C library, the kit's `thiserror`, `crates/semver_parser_c/c`, `js/src`,
+  callers from C and JavaScript, and binaryen, which lowers the WebAssembly module to 32-bit memory.
+'''
+
 HEAD = '''# What is proved, and where
 
 Made of the sources by `tests/documents --proofs`. A promise is a clause of a public call, in `src/`. A clause cites
-definitions, by the names of their files in `specs/`, and a proof imports lemmas from files of `proofs/`. That each
-function returns, and that nothing in it panics, overflows or goes past a bound, is proved with or without a clause.
+definitions, by the names of their files in `specs/`, and a proof imports lemmas from files of `proofs/`.
 
 `semver_parser` passes on the calls of the layers below it under the Rust crate's paths. The rest of `specs/Steps` is a
 means of proof: it says what the code does step by step, and no clause of a call for users cites it, but for the views of
 `Lexer`, `VersionSet`, `FlatSet` and `Lines`.
 
+''' + PROMISES + '''
 ## One answer for each call
 
 Can a wrong body be proved? A public call rules that out in one of four ways, which the comment `// Answer: ..` above it

@@ -16,7 +16,7 @@ begin() {
     for signal in HUP INT PIPE TERM; do
         trap "let_go; trap - EXIT $signal; kill -s $signal $$" "$signal"
     done
-    work=$(mktemp -d) || refuse 'cannot make a folder for temporary files'
+    work=$(mktemp -d) || refuse 'cannot make a directory for temporary files'
 }
 
 let_go() {
@@ -94,7 +94,7 @@ prove() {
 may_write() {
     nearest=$1
     while [ ! -e "$nearest" ]; do nearest=$(dirname -- "$nearest"); done
-    [ -d "$nearest" ] || refuse "not a folder: $nearest"
+    [ -d "$nearest" ] || refuse "not a directory: $nearest"
     [ -w "$nearest" ] || refuse "cannot write to $nearest"
 }
 
@@ -117,7 +117,7 @@ put_all() {
         may_write "$to/$it" && [ -e "$to/$it" ] || echo "$it/"
     done < "$work/folders" > "$work/record"
     while read -r it; do
-        [ ! -d "$to/$it" ] || [ -L "$to/$it" ] || refuse "cannot write $to/$it: it is a folder"
+        [ ! -d "$to/$it" ] || [ -L "$to/$it" ] || refuse "cannot write $to/$it: it is a directory"
     done < "$work/files"
     [ ! -f "$to/$record" ] || cat "$to/$record" >> "$work/record"
     LC_ALL=C sort -u "$work/record" "$work/files" > "$1/$record"

@@ -1,4 +1,4 @@
-"""What range texts mean, by the definitions of docs/MEANING.md: a model of its own, beside the proved code.
+"""What range texts mean, by the definitions of docs/CRATE.md: a model of its own, beside the proved code.
 
 A version is a tuple `(numbers, identifiers)`: three numbers, and the identifiers of its pre-release, each a number or a text. A term is
 `(operator, stated numbers, identifiers)`. Whether a version meets a term is decided by the table "The meaning of a text" alone, one version at a

@@ -4,7 +4,7 @@
 //! range grammar are refusals, or answers that don't tell a build from a pre-release; so they are undone in the text. After three
 //! components the build is taken away, and each part of a pre-release that begins with a digit and isn't a canonical decimal is marked
 //! by letters in front, which the crate then keeps as a text. What the answer to that text keeps so marked is then kept by the rule
-//! written in docs/MEANING.md.
+//! written in docs/CRATE.md.
 
 use crate::cases::{Case, Kind};
 use crate::exact;

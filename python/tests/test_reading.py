@@ -234,7 +234,7 @@ class Ranges(unittest.TestCase):
         self.assertEqual(str(wanted), ">=1.2.0 <2.0.0-0 || =1.2.3-b.7")
 
     def test_dialects(self) -> None:
-        """What docs/MEANING.md has in the table of "Which dialect?", with exact bounds."""
+        """What man/semver-ranges.7 has of each range, with exact bounds."""
         for text, wanted in DIALECTS:
             for dialect, set_text in zip(Dialect, wanted):
                 with self.subTest(text=text, dialect=dialect):

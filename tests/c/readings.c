@@ -1,6 +1,6 @@
 /* How the four dialects read versions and ranges: the parts of versions, precedence, what ranges
- * are rewritten to, and comparators. What is expected is in the tables of docs/GRAMMAR.md and of
- * docs/MEANING.md, above all in that of "Which dialect?". */
+ * are rewritten to, and comparators. What is expected is in the tables of man/semver-ranges.7,
+ * docs/GRAMMAR.md, docs/MEANING.md and docs/CRATE.md. */
 #include "calls.h"
 
 #include <stdio.h>

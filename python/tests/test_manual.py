@@ -1,0 +1,84 @@
+"""What the tables of man/semver-ranges.7 have is what the library returns."""
+
+import re
+import unittest
+from pathlib import Path
+from typing import List
+
+from semver_parser import Dialect, PreReleases, Range, RangeError, VersionError, parse_version
+
+MANUAL = Path(__file__).resolve().parents[2] / "man" / "semver-ranges.7"
+DIALECTS = (Dialect.CARGO, Dialect.NPM, Dialect.CRATE_CARGO, Dialect.CRATE_NPM)
+RULES = (PreReleases.DEFAULT, PreReleases.INCLUDED)
+
+
+def table(head: str) -> List[List[str]]:
+    """The rows of the table of the manual whose first cell is `head`."""
+    text = MANUAL.read_text()
+    for escaped, plain in ((r"\(ha", "^"), (r"\(ti", "~"), (r"\-", "-")):
+        text = text.replace(escaped, plain)
+    found = re.search(rf"^{re.escape(head)}\t[^\n]*\n(.*?)^\.TE", text, re.M | re.S)
+    assert found, head
+    return [line.split("\t") for line in found[1].splitlines()]
+
+
+def releases(string: str, dialect: Dialect) -> str:
+    """The releases of a range, in the words of the manual."""
+    try:
+        printed = Range(string, dialect=dialect).printed_releases
+    except RangeError:
+        return "refused"
+    return "every release" if printed == "*" else printed
+
+
+def expected(cells: List[str], string: str) -> List[str]:
+    """What a row has of a range, for each dialect."""
+    cargo, npm, crate = cells
+    spelled = {
+        "one or the other": ">=1.0.0 <2.0.0 || >=3.0.0 <4.0.0",
+        "as without the v": releases(string.replace("v", ""), Dialect.NPM),
+    }
+    npm = spelled.get(npm, npm)
+    if crate == "by its mode":
+        return [cargo, npm, cargo, npm]
+    crate = npm if crate == "same" else crate
+    return [cargo, npm, crate, crate]
+
+
+def is_read(string: str, dialect: Dialect) -> str:
+    """Whether a string is a version of a dialect, in the words of the manual."""
+    try:
+        parse_version(string, dialect=dialect)
+    except VersionError:
+        return "refused"
+    return "read"
+
+
+class Manual(unittest.TestCase):
+    def test_ranges(self) -> None:
+        rows = table("range")
+        self.assertGreater(len(rows), 20)
+        for first, *cells in rows:
+            strings = [first] if first.startswith(">=1.2.3") else first.split(", ")
+            for string in ("" if it == "(empty)" else it for it in strings):
+                found = [releases(string, dialect) for dialect in DIALECTS]
+                self.assertEqual(found, expected(cells, string), string)
+
+    def test_pre_releases(self) -> None:
+        rows = table("range\tversion")
+        self.assertGreater(len(rows), 4)
+        for string, version, *wanted in rows:
+            for dialect in DIALECTS:
+                found = [
+                    "yes" if version in Range(string, dialect=dialect, pre_releases=rule) else "no"
+                    for rule in RULES
+                ]
+                self.assertEqual(found, wanted, (string, version, dialect))
+
+    def test_versions(self) -> None:
+        rows = [row for row in table("version") if set(row[1:]) <= {"read", "refused"}]
+        self.assertEqual(len(rows), 4)
+        for first, *wanted in rows:
+            for string in first.split(", "):
+                found = [is_read(string, dialect) for dialect in DIALECTS[:3]]
+                self.assertEqual(found, wanted, string)
