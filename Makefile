@@ -11,9 +11,10 @@
 #   dpkg-buildpackage -b -uc  makes the Debian packages, in the directory above this one
 PREFIX ?= /usr/local
 LIBDIR ?= lib
+ZSHDIR ?= share/zsh/site-functions
 OUT ?= out
 CFLAGS ?= -O2
-export PREFIX OUT
+export PREFIX OUT ZSHDIR
 MAKEFLAGS += -r -j$(shell nproc) --no-print-directory
 .ONESHELL .SILENT .DELETE_ON_ERROR:
 .SHELLFLAGS := -euc
@@ -131,6 +132,10 @@ stage stage-python: all
 	for page in $(programs:%=%.1) semver_parser.3 semver-ranges.7 \
 			$(if $(filter %-python,$@),$(checkers:%=%.1)); do
 		sed 's/@VERSION@/$(version)/' man/$$page > "$$to/share/man/man$${page##*.}/$$page"
+	done
+	for name in $(filter-out semver-parser,$(programs)) $(if $(filter %-python,$@),$(checkers)); do
+		install -D -m 644 completions/$$name.bash "$$to/share/bash-completion/completions/$$name"
+		install -D -m 644 completions/_$$name "$$to/$(ZSHDIR)/_$$name"
 	done
 
 # All is made in a directory of its own, and only then put where it belongs.

@@ -8,7 +8,7 @@ _release_filter() {
     --dialect | --as) COMPREPLY=($(compgen -W 'cargo npm crate-cargo crate-npm' -- "$word")); return ;;
     esac
     case $word in
-    -*) COMPREPLY=($(compgen -W '--dialect --as --npm --include-prerelease --pre --releases-only --releases --highest --lowest --sort --reverse --prefix --strip-prefix --count --strict --null --line-buffered -h --help --version' -- "$word")) ;;
+    -*) COMPREPLY=($(compgen -W '--dialect --as --npm --include-prerelease --pre --releases-only --releases --highest --lowest --greatest --least --sort --reverse --prefix --strip-prefix --count --strict --null --line-buffered -h --help --version' -- "$word")) ;;
     *) COMPREPLY=($(compgen -f -- "$word")) ;;
     esac
 }

@@ -12,7 +12,7 @@ checkout="$work/a checkout"
 # What is built is copied last, so it is newest.
 copy_checkout() {
     mkdir -p "$checkout/crates/semver_parser_c/src" "$checkout/crates/semver_parser_c/specs" "$checkout/crates/semver_parser_c/proofs" "$work/bin"
-    cp -R crates.txt VERSION LICENSE-APACHE LICENSE-MIT Makefile debian compare-ranges release-filter semver-parser man tests tools "$checkout"
+    cp -R crates.txt VERSION LICENSE-APACHE LICENSE-MIT Makefile completions debian compare-ranges release-filter semver-parser man tests tools "$checkout"
     cp -R crates/semver_parser_c/c crates/semver_parser_c/include "$checkout/crates/semver_parser_c"
     cp -R python "$checkout"
     copy_built

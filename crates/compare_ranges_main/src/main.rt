@@ -54,7 +54,7 @@ range text in npm's syntax, as '=1.2.0 || >=1.9.0 <2.0.0', or '*' for all.
       --pre                too, and not only those that the tool matches
     --releases-only        count releases only
       --releases
-    --lowest               print the lowest version of each instead of ranges
+    --lowest, --least      print the lowest version of each instead of ranges
     --json                 print one object of JSON
     --fail-on CHANGE       the status is 1 only if versions are lost, gained, or
                            either: CHANGE is lost, gained or any, the default

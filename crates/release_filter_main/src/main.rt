@@ -42,7 +42,7 @@ version which RANGE means. Without a file, and for -, it reads standard input.
     --releases-only        copy releases only
       --releases
     --highest, --lowest    print only the line with the highest or the lowest
-                           version (the first, if several are equal)
+      --greatest, --least  version (the first, if several are equal)
     --sort                 print the lines from the lowest version to the
                            highest, equal versions in their order; a last
                            line without a line feed gets one
