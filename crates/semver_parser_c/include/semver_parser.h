@@ -9,8 +9,8 @@
  *                 error.offset, semver_parser_reason_text(error.reason));
  *     }
  *
- * Compile with `pkg-config --cflags --libs semver_parser`. docs/GRAMMAR.md says which strings are
- * versions and ranges, docs/MEANING.md what a range means. What the functions answer is proved but
+ * Compile with `pkg-config --cflags --libs semver_parser`. semver-ranges(7) says what a range means,
+ * docs/GRAMMAR.md which strings are versions and ranges. What the functions return is proved but
  * for hints; c/ holds the memory, and is trusted.
  *
  * STRINGS are UTF-8 with a length in bytes, and need no terminating zero; `data` may be null if
@@ -72,7 +72,7 @@ static inline semver_parser_string semver_parser_str(const char *zero_terminated
     return string;
 }
 
-/* Whose rules apply (docs/MEANING.md, "Which dialect?"). */
+/* Whose rules apply (semver-ranges(7)). */
 typedef enum {
     /* `1.2` is `>=1.2.0 <2.0.0`. Versions are those of SemVer 2.0.0. */
     SEMVER_PARSER_CARGO = 0,
