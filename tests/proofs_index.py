@@ -7,7 +7,7 @@ import re
 PROMISES = '''## The promises
 
 Every function returns on every input, without a panic, an overflow or an access out of bounds. Contracts determine every
-result, but for twelve calls ([which](#one-answer-for-each-call)).
+result, but for thirteen calls ([which](#one-answer-for-each-call)).
 
 Caution: `RangeSet::parse` turns `^1.2.3` into `>=1.2.3 <2.0.0`, which admits 2.0.0-alpha; `parse_exact` uses `<2.0.0-0`.
 
@@ -76,7 +76,7 @@ names:
 - **as** another function: its contract is that function's, to the letter, which `tests/documents` compares.
 - **free**: what the clauses leave open, and the mutant that they still reject, or the file of tests that shows it.
 
-Ten calls are free, and two more leave something open if memory ran out: how many tokens `Parser::version` took, and how
+Eleven calls are free, and two more leave something open if memory ran out: how many tokens `Parser::version` took, and how
 much of a piece `Lines::push` did. What is left then is an end part of the tokens (`out_of_memory`; of
 `Parser::identifier` the law fixes it), and what `Lines::push` appended is what that much ends. The clauses of `Lines`
 don't speak of a reader or a writer: they are functions of the bytes. The sort is `Vec::sort_by` of the kit. In C
