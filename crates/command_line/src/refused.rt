@@ -17,7 +17,7 @@ use tool_ranges::refusals::{Refusal, refused};
 /// ```text
 /// not a range: "1.2 || 3"
 ///     1.2 || 3
-///         ^ at byte 4: Cargo takes no ||; --as npm does
+///         ^ at byte 4: Cargo takes no ||; --dialect npm does
 /// ```
 pub fn refused_text(
     alloc: Global,
@@ -34,7 +34,7 @@ pub fn refused_text(
 }
 
 /// The text of an error in one line, without the range text:
-/// `not a range (at byte 4: Cargo takes no ||; --as npm does)`. `Err` is out of memory.
+/// `not a range (at byte 4: Cargo takes no ||; --dialect npm does)`. `Err` is out of memory.
 pub fn refused_line(
     alloc: Global,
     dialect: Dialect,

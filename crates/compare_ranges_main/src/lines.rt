@@ -77,11 +77,17 @@ impl Output {
 
     /// Appends a text of its own under a word.
     pub fn push_text(&mut self, word: &str, text: &str) -> Result<(), AllocError> {
+        write!(self.text, "{word}: {text}\n")
+    }
+
+    /// Appends why there is no range under a word. JSON has null in its place, and a member more.
+    pub fn push_error(&mut self, word: &str, why: &str) -> Result<(), AllocError> {
         if !self.options.is_json {
-            return write!(self.text, "{word}: {text}\n");
+            return self.push_text(word, why);
         }
-        self.begin_member(word)?;
-        write_string(&mut self.text, text)
+        self.begin_members()?;
+        write!(self.text, "\"{word}\": null, \"{word}_error\": ")?;
+        write_string(&mut self.text, why)
     }
 
     /// Appends the releases of a set, and its pre-releases.

@@ -214,12 +214,7 @@ fn push_tool(
         Err(RangeError::OutOfMemory) => Err(AllocError),
         Err(error) => {
             let why = refused_line(rt.alloc(), dialect, &error, range)?;
-            let word = match (wanted.options.is_json, dialect) {
-                (true, Dialect::Npm) => "npm_error",
-                (true, _) => "cargo_error",
-                (false, _) => name,
-            };
-            output.push_text(word, why.as_str())?;
+            output.push_error(name, why.as_str())?;
             Ok(Some(why))
         }
     }

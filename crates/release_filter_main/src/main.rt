@@ -11,6 +11,7 @@ use command_line::Program;
 use output::Output;
 use release_filter::{Counts, Filter, Lines, LinesError};
 use semver_parser::RangeError;
+use semver_parser::version::outline_in;
 use std::fs;
 use std::io::{self, ErrorKind, Read};
 use std::process::ExitCode;
@@ -140,7 +141,7 @@ fn filtered(rt: &HostRuntime, filtering: &Filtering) -> Result<bool, Error> {
     run.take_all(rt, filtering)?;
     let has_lines = run.output.has_lines();
     if !has_lines {
-        report_invalid(rt, run.lines.counts());
+        report_invalid(rt, run.lines.counts(), filtering);
     }
     Ok(has_lines)
 }
@@ -294,21 +295,37 @@ fn read<R: Read>(input: &mut R, buffer: &mut [u8]) -> io::Result<usize> {
     Ok(0)
 }
 
-/// Reports on standard error how many lines have no version, and the first.
-fn report_invalid(rt: &impl Eprint, counts: &Counts) {
+/// Reports on standard error how many lines have no version, and the first, with a hint if a prefix
+/// is missing.
+fn report_invalid(rt: &impl Eprint, counts: &Counts, filtering: &Filtering) {
     let Some(first) = &counts.first_invalid else {
         return;
     };
     let all = counts.lines.saturating_sub(counts.empty);
     let lines = if all == 1 { "line" } else { "lines" };
     let are = if counts.invalid == 1 { "is" } else { "are" };
-    let (shown, more) = shown(first.front.as_slice());
+    let front = first.front.as_slice();
+    let (shown, more) = shown(front);
+    let lacks_prefix = filtering.options.prefixes.is_empty() && has_v(front, filtering);
+    let hint = if lacks_prefix {
+        "; --prefix v takes it"
+    } else {
+        ""
+    };
     let _ = eprintln!(rt;
-        "release-filter: {} of {all} {lines} {are} no version; the first, line {}: {}{more}",
+        "release-filter: {} of {all} {lines} {are} no version; the first, line {}: {}{more}{hint}",
         counts.invalid,
         first.number,
         shown.escape_ascii()
     );
+}
+
+/// Whether a line is a version after a `v`.
+fn has_v(front: &[u8], filtering: &Filtering) -> bool {
+    match front.strip_prefix(b"v") {
+        Some(version) => outline_in(version, filtering.meaning.dialect.grammar()).is_some(),
+        None => false,
+    }
 }
 
 /// The first 80 bytes of the front of a line, and dots if there are more.
