@@ -74,19 +74,22 @@ async function main() {
     ]);
     expect('the marked rows', await marked(), ['1.2.4', 'v1.2.3']);
     expect('the errors', await errors(), [
-        'Invalid version: unexpected character\nv1.2.3\n^',
-        'Invalid version: a number or an identifier of digits has no leading zero\n1.2.03\n     ^',
+        'Invalid version to Cargo: unexpected character\nv1.2.3\n^',
+        'Invalid version to Cargo: a number or an identifier of digits has no leading zero\n1.2.03\n     ^',
     ]);
     await type('range', '1 || 2');
     expect('the heads', await value("[...document.querySelectorAll('#heads th')].map((it) => it.textContent)"),
         ['version', 'Cargo: no range', 'npm', 'crate, Cargo mode', 'crate, npm mode']);
-    expect('the first error', (await errors())[0], 'Invalid range: Cargo takes no ||; npm does\n1 || 2\n  ^');
+    expect('the first error', (await errors())[0], 'Invalid range to Cargo: Cargo takes no ||; npm does\n1 || 2\n  ^');
+    expect('a row', (await rows())[1], '1.2.4 – yes yes yes');
     expect('the address', new URLSearchParams(new URL(await value('location.href')).hash.slice(1)).get('range'), '1 || 2');
 
     await open('#range=%5E1.2&versions=1.3.0-rc.1&preReleases=included&dialect=npm');
     expect('a link', await rows(), ['1.3.0-rc.1 yes yes yes yes']);
     await open('#range=%5E1.2&versions=1.3.0-rc.1&preReleases=default&dialect=npm');
     expect('the same by default', await rows(), ['1.3.0-rc.1 no no no no']);
+    await open('#range=1&versions=1.3.0&preReleases=all&dialect=yarn');
+    expect('a link with unknown options', await rows(), ['1.3.0 yes yes yes yes']);
     expect('requests', await value("performance.getEntriesByType('resource').length"), 0);
 
     if (picture) {

@@ -15,9 +15,10 @@ function made(tag, className, text) {
   return it
 }
 
-// What a version is to a range by a dialect: `yes`, `no`, or `invalid`.
+// What a version is to a range by a dialect: `yes`, `no`, `invalid`, or `–` if the range is none.
 function answer(version, { range, preReleases }, dialect) {
-  if (!isRangeOf(range, dialect) || valid(version, { dialect }) === null) return 'invalid'
+  if (!isRangeOf(range, dialect)) return '–'
+  if (valid(version, { dialect }) === null) return 'invalid'
   return satisfies(version, range, { dialect, preReleases }) ? 'yes' : 'no'
 }
 
@@ -29,15 +30,17 @@ function rowOf(version, now) {
   row.append(made('td', 'version', version))
   COLUMNS.forEach(([dialect], at) => {
     const chosen = dialect === now.dialect ? ' chosen' : ''
-    row.append(made('td', answers[at] + chosen, answers[at]))
+    row.append(made('td', (answers[at] === '–' ? 'invalid' : answers[at]) + chosen, answers[at]))
   })
   return row
 }
 
 // A string that is refused, with a caret under the character, and why.
-function errorOf(what, string, { offset, hint }) {
+function errorOf(what, dialect, string, { offset, hint }) {
   const section = made('div', 'error', '')
-  section.append(made('div', '', `${what}: ${hint ?? 'unexpected here'}`))
+  const [, title] = COLUMNS.find(([name]) => name === dialect)
+  const why = hint ?? (offset === string.length ? 'something is missing at the end' : 'unexpected here')
+  section.append(made('div', '', `Invalid ${what} to ${title}: ${why}`))
   section.append(made('pre', '', `${string}\n${' '.repeat([...string.slice(0, offset)].length)}^`))
   return section
 }
@@ -51,10 +54,10 @@ function show() {
   element('rows').replaceChildren(...versions.map((version) => rowOf(version, now)))
   const inRange = explainRange(range, { dialect })
   element('errors').replaceChildren(
-    ...(inRange ? [errorOf('Invalid range', range, inRange)] : []),
+    ...(inRange ? [errorOf('range', dialect, range, inRange)] : []),
     ...versions.flatMap((version) => {
       const why = explainVersion(version, { dialect })
-      return why ? [errorOf('Invalid version', version, why)] : []
+      return why ? [errorOf('version', dialect, version, why)] : []
     }))
   element('link').href = `#${new URLSearchParams(now)}`
 }
@@ -62,7 +65,9 @@ function show() {
 // The state that the address has, if any.
 function restore() {
   for (const [id, value] of new URLSearchParams(location.hash.slice(1))) {
-    if (FIELDS.includes(id)) element(id).value = value
+    if (!FIELDS.includes(id)) continue
+    const { options } = element(id)
+    if (!options || [...options].some((it) => it.value === value)) element(id).value = value
   }
   show()
 }

@@ -13,10 +13,14 @@ function numberOf(numbers, name, what) {
 /** The numbers of a dialect and of a rule for pre-releases: npm's if nothing is said. */
 export function numbersOf(options) {
   if (!options) return OF_NPM
-  if (typeof options !== 'object' || options.loose) {
-    throw new TypeError('loose parsing is not supported')
+  if (typeof options !== 'object') {
+    throw new TypeError("options must be an object, as { dialect: 'cargo' }")
   }
+  if (options.loose) throw new TypeError('loose parsing is not supported')
   const byDefault = options.includePrerelease ? 'included' : 'default'
+  if (options.includePrerelease && (options.preReleases ?? byDefault) !== byDefault) {
+    throw new TypeError('includePrerelease contradicts preReleases')
+  }
   return {
     dialect: numberOf(DIALECTS, options.dialect ?? 'npm', 'dialect'),
     preReleases: numberOf(PRE_RELEASES, options.preReleases ?? byDefault, 'rule for pre-releases'),

@@ -30,6 +30,11 @@ for (const library of [semver, require('semver-parser-proved')]) {
   })
 }
 
+test('the default export has all names', async () => {
+  const { default: all, ...named } = await import('semver-parser-proved')
+  assert.deepEqual({ ...all }, named)
+})
+
 test('both files have the same names', () => {
   const names = (library) => Object.keys(library).filter((it) => it !== 'default').sort()
   assert.deepEqual(names(semver), names(require('semver-parser-proved')))
@@ -84,7 +89,8 @@ test('filter keeps the versions that satisfy a range, in order', () => {
 })
 
 test('what is no option is refused', () => {
-  for (const options of [true, 1, 'x', { loose: true }, { dialect: 'yarn' }, { dialect: 'toString' }, { preReleases: 'all' }]) {
+  for (const options of [true, 1, 'x', { loose: true }, { dialect: 'yarn' }, { dialect: 'toString' }, { preReleases: 'all' },
+    { includePrerelease: true, preReleases: 'excluded' }]) {
     assert.throws(() => semver.satisfies('1.2.3', '*', options), TypeError)
     assert.throws(() => semver.valid('1.2.3', options), TypeError)
     assert.throws(() => semver.sort(['1.2.3'], options), TypeError)
@@ -149,7 +155,8 @@ test('the example of the README', () => {
   const lines = [...example.matchAll(/^(\w+\(.*\))\s+\/\/ (.*?)(?: \(.*\))?$/gm)]
   assert.equal(lines.length, 5)
   for (const [, call, right] of lines) {
-    const found = Function(...Object.keys(semver), `return ${call}`)(...Object.values(semver))
+    const { default: all } = semver
+    const found = Function(...Object.keys(all), `return ${call}`)(...Object.values(all))
     assert.deepEqual(found, Function(`return (${right})`)(), call)
   }
 })

@@ -4,7 +4,7 @@ import os
 from typing import Dict, Iterator, List, NamedTuple
 
 from .discovery import NAMES
-from .files import Refusal, bytes_of, taking, utf8
+from .files import STANDARD_INPUT, Refusal, bytes_of, taking, utf8
 from .reports import Report, Unused
 from .sentences import sentence
 
@@ -24,6 +24,11 @@ class Line(NamedTuple):
             if self.text[at + len(MARK) :].strip():
                 yield self.text[:at].strip()
             at = self.text.find(MARK, at + 1)
+
+
+def short(path: str) -> str:
+    """A path as it is from the current directory, however it was given."""
+    return os.path.relpath(path) if path != STANDARD_INPUT else path
 
 
 def lines_of(path: str) -> List[Line]:
@@ -47,12 +52,12 @@ def allow(path: str, reports: List[Report]) -> List[Unused]:
     known: Dict[str, Line] = {it: line for line in lines for it in line.sentences()}
     used: List[Line] = []
     for report in reports:
+        before = texts_before(report)
         for finding in report.findings:
-            it = sentence(finding)
-            used += [known[text] for text in (it, report.before + it) if text in known]
-        kept = [it for it in report.listed if not is_known(sentence(it), report.before, known)]
+            used += [known[it] for it in (text + sentence(finding) for text in before) if it in known]
+        kept = [it for it in report.listed if not is_known(sentence(it), before, known)]
         report.allowed, report.listed = len(report.listed) - len(kept), kept
-    checked = [report.name for report in reports if report.refusal is None]
+    checked = [short(report.name) for report in reports if report.refusal is None]
     return [
         Unused(path, *line)
         for line in lines
@@ -60,9 +65,15 @@ def allow(path: str, reports: List[Report]) -> List[Unused]:
     ]
 
 
-def is_known(text: str, before: str, known: Dict[str, Line]) -> bool:
+def texts_before(report: Report) -> List[str]:
+    """What may be before a sentence of a report: nothing, its file as it is printed, or as it is
+    from the current directory."""
+    return list(dict.fromkeys(("", report.before, f"{short(report.name)}: ")))
+
+
+def is_known(text: str, before: List[str], known: Dict[str, Line]) -> bool:
     """Whether a sentence is allowed, with or without its file before it."""
-    return text in known or before + text in known
+    return any(it + text in known for it in before)
 
 
 def may_apply_elsewhere(line: Line, checked: List[str], files: int) -> bool:
@@ -70,5 +81,5 @@ def may_apply_elsewhere(line: Line, checked: List[str], files: int) -> bool:
     files was refused."""
     path, colon, _ = line.text.partition(": ")
     if colon and os.path.basename(path.strip('"')) in NAMES:
-        return path not in checked
+        return short(path.strip('"')) not in checked
     return len(checked) < files

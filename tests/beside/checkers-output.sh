@@ -235,6 +235,9 @@ lodash='lodash 4.17.20 does not satisfy ^4.17.21, required by the project'
 a='a 2.0.0 does not satisfy ^1.0.0, required by packages/b'
 allowed 1 "# known\n\n$lodash # later # or never\n" "$a\n" package-lock.json
 allowed 0 "package-lock.json: $lodash # later\n  $a # never\n" '' package-lock.json
+for path in ./package-lock.json "$here/cases/monorepo/package-lock.json" packages/../package-lock.json; do
+    allowed 0 "package-lock.json: $lodash # later\npackage-lock.json: $a # never\n" '' "$path"
+done
 gone="$work/known.txt: line 2 no longer applies: left-pad 1 is missing # gone\n"
 allowed 1 "$lodash # later\nleft-pad 1 is missing # gone\n$a # never\n" "$gone" package-lock.json
 allowed 1 "$lodash # later\nleft-pad 1 is missing # gone\n$a # never\n" \
