@@ -96,7 +96,8 @@ npm: =1.2.3' stdout
 gained: >=2.0.0
 shared: >=1.4.0 <2.0.0' stdout
     ends 0 env -i "$1/compare-ranges" '^1.2'
-    has 'means: >=1.2.0 <2.0.0' stdout
+    has 'cargo: >=1.2.0 <2.0.0
+npm: >=1.2.0 <2.0.0' stdout
     ends 0 env -i "$1/compare-ranges" '^1.2' '>=1.2.0, <2.0.0'
     ends 0 env -i "$1/compare-ranges" --npm '^1.2' '>=1.2.0 <2.0.0'
 }
