@@ -72,13 +72,6 @@ function compareVersions (one, other) {
   }
 }
 
-// Whether what is said of a range is of a known kind.
-function knownOfRange (range) {
-  const isRead = semver.validRange(range) !== null
-  const kind = (isRead ? ACCIDENTS : REFUSALS).find(isOf(range))
-  return ours.validRange(range) === null === isRead && kind !== undefined && count(kind[0])
-}
-
 function compareRange (random, range) {
   const list = asked(random, range)
   const versions = [...list.slice(0, 6), version(random)]

@@ -100,7 +100,7 @@ class _StringError(ValueError):
 
 
 class VersionError(_StringError):
-    """A string is no version of a dialect.
+    """A string is an invalid version in a dialect.
 
     >>> from semver_parser import parse_version
     >>> try:

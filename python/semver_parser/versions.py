@@ -165,7 +165,7 @@ def parse_version(version: String, *, dialect: AnyDialect) -> Version:
     >>> str(parse_version("v1.2.3", dialect="npm"))
     '1.2.3'
 
-    Raises `VersionError` if it is no version of the dialect.
+    Raises `VersionError` if it is invalid in the dialect.
     """
     chosen, given, parsed = dialect_of(dialect), c_string(version), CVersion()
     status = LIBRARY.semver_parser_parse_version(given, dialect_number(chosen), parsed, None)

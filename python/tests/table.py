@@ -109,7 +109,7 @@ def rows_of_tools() -> Iterator[Tuple[str, str, Row]]:
     """The rows of the tools: the function, the dialect, and the row.
 
     The function is `rewritten`, `meant` or `meant-with-all`, which includes all pre-releases,
-    `version`, `refused`: where and why a string is no version, or `refused-range`: no range.
+    `version`, `refused`: where and why a version is invalid, or `refused-range`: a range.
     """
     for row in rows():
         function, _, tool = row.call.partition("-as-")

@@ -110,7 +110,7 @@ class Tools(unittest.TestCase):
             self.assertGreaterEqual(counts[tool, _NO_RANGE], 69)
 
     def check_refusal(self, text: str, dialect: Dialect, wanted: str) -> None:
-        """Where and why a string is no version; the table has the offset in bytes."""
+        """Where and why a version is invalid; the table has the offset in bytes."""
         try:
             parse_version(text, dialect=dialect)
             answered = "a version"

@@ -106,7 +106,7 @@ typedef enum {
     SEMVER_PARSER_INVALID_RANGE = 1,
     /* It is, but a number or a raised bound is above 2^64 - 1, to npm above 2^53 - 1. */
     SEMVER_PARSER_NUMBER_TOO_LARGE = 2,
-    /* The string is no version of the dialect. */
+    /* The string is an invalid version in the dialect. */
     SEMVER_PARSER_INVALID_VERSION = 3,
     SEMVER_PARSER_OUT_OF_MEMORY = 4,
     /* An option that isn't one of those above, two sets of different options, an index that is too
