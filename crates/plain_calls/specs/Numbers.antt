@@ -14,7 +14,7 @@ invalid_range = pos 1
 abbrev pub number_too_large : ℤ
 number_too_large = pos 2
 
--- the string is no version of the dialect
+-- the string is an invalid version in the dialect
 abbrev pub invalid_version : ℤ
 invalid_version = pos 3
 
@@ -26,7 +26,7 @@ out_of_memory = pos 4
 abbrev pub invalid_argument : ℤ
 invalid_argument = pos 5
 
--- a buffer is too small, which c/ asks for and no C function returns
+-- a buffer is too small; in C c/ makes it large enough, so no function there returns this
 abbrev pub no_room : ℤ
 no_room = pos 6
 

@@ -6,13 +6,13 @@ pub const OK: i32 = 0;
 pub const INVALID_RANGE: i32 = 1;
 /// It is, but a number or a raised bound is above the limit of the dialect.
 pub const NUMBER_TOO_LARGE: i32 = 2;
-/// The string is no version of the dialect.
+/// The string is an invalid version in the dialect.
 pub const INVALID_VERSION: i32 = 3;
 /// An allocation failed, which no function here returns: those of C do.
 pub const OUT_OF_MEMORY: i32 = 4;
 /// A number names no option or no operation, or data is no set.
 pub const INVALID_ARGUMENT: i32 = 5;
-/// A buffer is too small, which c/ asks for and no C function returns.
+/// A buffer is too small. In C `c/` makes it large enough, so no function there returns this.
 pub const NO_ROOM: i32 = 6;
 
 /// No reason is known.
