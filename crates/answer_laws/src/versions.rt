@@ -12,6 +12,7 @@ use semver_parser::version::{self, Grammar, Outline};
 use semver_texts::version::{Identifier, Version};
 use semver_tokens::lexer::Lexer;
 use semver_tokens::parser::{self, Parser};
+use semver_versions::version::outline_of_numbers;
 use std::alloc::{AllocError, Global};
 
 /// A text has one lexer.
@@ -140,8 +141,8 @@ pub fn one_outline_of_numbers(
         → length text ≡ numbers_end + length rest.now → result.0 ≡ result.1 }
 {
     (
-        version::outline_of_numbers(major, minor, patch, numbers_end, rest, grammar),
-        version::outline_of_numbers(major, minor, patch, numbers_end, rest, grammar),
+        outline_of_numbers(major, minor, patch, numbers_end, rest, grammar),
+        outline_of_numbers(major, minor, patch, numbers_end, rest, grammar),
     )
 }
 

@@ -5,7 +5,6 @@ use crate::sentences::sentence;
 use crate::shown::Shown;
 use semver_parser::RangeError;
 use std::alloc::{AllocError, Global};
-use std::fmt::Write as _;
 use tool_ranges::dialect::Dialect;
 use tool_ranges::refusals::{Refusal, refused};
 

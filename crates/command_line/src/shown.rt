@@ -1,7 +1,7 @@
 //! A text, or the part of a long one round an offset.
 
 use std::alloc::AllocError;
-use std::fmt::{self, Display, Formatter, Write};
+use std::fmt::{self, Display, Formatter};
 
 /// How many bytes before and after the offset are shown of a long text.
 const REACH: usize = 32;
@@ -56,7 +56,7 @@ impl<'a> Shown<'a> {
 }
 
 impl Display for Shown<'_> {
-    fn fmt<W: Write>(&self, f: &mut Formatter<W>) -> fmt::Result {
+    fn fmt<W: fmt::Write>(&self, f: &mut Formatter<W>) -> fmt::Result {
         write!(f, "{}{:?}{}", self.left_out.0, self.text, self.left_out.1)
     }
 }

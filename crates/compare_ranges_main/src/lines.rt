@@ -3,7 +3,6 @@
 use crate::arguments::{Extent, Options};
 use semver_parser::version::Version;
 use std::alloc::{AllocError, Global};
-use std::fmt::Write as _;
 use version_sets::{SetRanges, VersionSet};
 
 /// What is written, so far.

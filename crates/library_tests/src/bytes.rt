@@ -1,5 +1,6 @@
 //! Versions read from bytes, which needn't be UTF-8.
 use semver_parser::version::{self, Grammar, Identifier};
+use semver_versions::version::outline_of_numbers;
 use std::alloc::{AllocError, Global};
 use std::io;
 
@@ -102,7 +103,7 @@ fn has_parts(text: &str, pre: (&str, usize), build: (&str, usize)) -> bool {
 
 /// Whether the parts of `1.2.3-rc.4+b5` are read after its numbers, and none of `1.2.3.4`.
 fn are_read_after_numbers() -> bool {
-    let Some(outline) = version::outline_of_numbers(1, 2, 3, 5, b"-rc.4+b5", Grammar::Crate) else {
+    let Some(outline) = outline_of_numbers(1, 2, 3, 5, b"-rc.4+b5", Grammar::Crate) else {
         return false;
     };
     outline.patch() == 3
@@ -110,7 +111,7 @@ fn are_read_after_numbers() -> bool {
         && outline.pre_offset() == 6
         && outline.build() == "b5"
         && outline.build_offset() == 11
-        && version::outline_of_numbers(1, 2, 3, 5, b".4", Grammar::Crate).is_none()
+        && outline_of_numbers(1, 2, 3, 5, b".4", Grammar::Crate).is_none()
 }
 
 /// Whether the bytes have an outline in the crate's dialect, in Cargo's and in npm's.
@@ -125,7 +126,7 @@ fn are_versions(bytes: &[u8], wanted: [bool; 3]) -> bool {
 /// in the crate's dialect.
 fn are_read_of_numbers() -> bool {
     let rest = b"-a--b+b5";
-    let Some(outline) = version::outline_of_numbers(1, 2, 3, 5, rest, Grammar::Npm) else {
+    let Some(outline) = outline_of_numbers(1, 2, 3, 5, rest, Grammar::Npm) else {
         return false;
     };
     outline.minor() == 2
@@ -133,7 +134,7 @@ fn are_read_of_numbers() -> bool {
         && outline.pre_offset() == 6
         && outline.build() == "b5"
         && outline.build_offset() == 11
-        && version::outline_of_numbers(1, 2, 3, 5, rest, Grammar::Crate).is_none()
+        && outline_of_numbers(1, 2, 3, 5, rest, Grammar::Crate).is_none()
 }
 
 /// Whether the identifiers that a text's parts are cut to print as these.

@@ -86,9 +86,7 @@ pub fn write_structs(rt: &impl Print, alloc: Global) -> io::Result<()> {
             sets.push(set)?;
         }
     }
-    if let Some(set) = sets.first()
-        && let Some(range) = set.ranges.first()
-    {
+    if let Some(range) = sets.first().and_then(|set| set.ranges.first()) {
         write_order(rt, "Comparator", &range.comparator_set)?;
         if let Some(last) = range.comparator_set.last() {
             write_order(rt, "Identifier", &last.pre)?;

@@ -9,9 +9,10 @@ use std::{fmt, io};
 /// Writes which identifiers and versions print.
 pub fn write_versions(rt: &impl Print, alloc: Global) -> io::Result<()> {
     for text in ["0", "7", "beta", "01", "a-b-1"] {
-        if let Ok(mut parser) = Parser::new(text)
-            && let Ok(identifier) = parser.identifier(alloc)
-        {
+        let Ok(mut parser) = Parser::new(text) else {
+            continue;
+        };
+        if let Ok(identifier) = parser.identifier(alloc) {
             write_printed(rt, alloc, &identifier, text)?;
         }
     }

@@ -54,7 +54,7 @@ const FIRST_REFUSED: u32 = 999;
 /// Makes so many requests, and then all calls, and writes how they ended.
 pub fn write_calls(rt: &HostRuntime, requests: u32) -> io::Result<()> {
     for _ in 0..requests {
-        let _request = Box::new(rt.alloc(), 0u8);
+        let _request = Vec::from_slice(rt.alloc(), b"1");
     }
     if requests == FIRST_REFUSED {
         tell(rt, &of_long_texts(rt.alloc()))?;

@@ -11,8 +11,9 @@ use crate::filter::Filter;
 use crate::judging::Judged;
 use crate::line_texts::{text_after, text_of, whole_line};
 use semver_parser::laws;
-use semver_parser::version::{Grammar, Outline, outline_in, outline_of_numbers};
+use semver_parser::version::{Grammar, Outline, outline_in};
 use semver_texts::decimals::numbers;
+use semver_versions::version::outline_of_numbers;
 
 /// Which lines are kept.
 #[derive(Drop)]

@@ -12,7 +12,7 @@ ghost use Rattle.semver_tokens.specs.ParserViews.{answer_of, UnlessOutOfMemory, 
 use crate::parser::{self, Parser};
 pub use semver_versions::version::{
     Grammar, Identifier, Outline, Version, cmp_precedence, outline, outline_bytes, outline_in,
-    outline_of_numbers, read, read_bytes,
+    read, read_bytes,
 };
 use std::alloc::Global;
 

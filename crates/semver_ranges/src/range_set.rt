@@ -56,6 +56,7 @@ pub enum RangeError {
 }
 
 impl RangeSet {
+    // In Rust: try_parse.
     // Answer: law answer_laws::ranges::one_parse.
     /// Reads a range text, as `>=1.2 <2 || 3.x`, into plain comparators.
     ///
@@ -160,6 +161,7 @@ impl RangeSet {
         parse_with(alloc, input, compat, RaisedBounds::Exact)
     }
 
+    // In Rust: try_from_str.
     // Answer: law answer_laws::ranges::one_from_str.
     /// Reads a range text in Cargo mode: what `RangeSet::parse` answers with `Compat::Cargo`, with
     /// its errors.

@@ -46,6 +46,7 @@ pub enum Identifier {
 }
 
 impl Identifier {
+    // In Rust: try_concat.
     // Answer: equation.
     /// The text of the identifier followed by `add_str`, as `AlphaNumeric` whatever the texts are:
     /// `Numeric(7)` and `"a"` give `AlphaNumeric("7a")`, and `Numeric(7)` and `""` give
