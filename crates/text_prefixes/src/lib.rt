@@ -1,7 +1,7 @@
 //! Prefixes of the texts of a language: what some text of it begins with, and the end of the
 //! longest one that a text begins with. The language says which texts are its own, and which few
 //! texts complete a prefix; there is no second grammar. Versions of each dialect are such a
-//! language. Nothing here allocates.
+//! language. Only `reasons::explain` allocates.
 #![tactic(auto)]
 
 mod buffers;

@@ -1,6 +1,6 @@
 //! Where and why a text is no version.
 ghost use Rattle.std.specs.Prelude.{◌≡◌, ◌<◌, ◌≤◌, ◌↔◌, ◌+◌, ◌++◌, ◌∷◌, []};
-ghost use Rattle.std.specs.Prelude.{IsTrue, MatchOption, false, length, take};
+ghost use Rattle.std.specs.Prelude.{IfErr, IfOk, IsTrue, MatchOption, false, length, take};
 ghost use Rattle.semver_texts.specs.Texts.{Text};
 ghost use Rattle.semver_texts.specs.ToolVersions.{IsVersionTextIn};
 ghost use Rattle.semver_versions.specs.AnyLength.{IsVersionAtAnyLength};
@@ -14,6 +14,7 @@ use crate::bytes::{Length, begins, is_version};
 use crate::versions::offset;
 use semver_texts::bytes::is_part_byte;
 use semver_texts::grammar::Grammar;
+use std::alloc::{AllocError, Global};
 
 /// A version of npm has at most so many characters; the other dialects have no limit.
 const CHARACTERS: usize = 256;
@@ -206,18 +207,40 @@ fn with_next(input: &[u8], offset: usize) -> &[u8]
     }
 }
 
-// Answer: law text_prefixes::laws::one_refused.
+// Answer: law answer_laws::texts::one_explanation.
 /// Returns where and why a text is not a version, or `None` if it is one.
 ///
-/// The buffer must have at least 8 bytes more than the text; what it holds then is not specified.
-/// It does not allocate.
-///
 /// ```text
-/// refused(b"1.2.03", Grammar::Cargo, buffer)    // at 5: LeadingZero
-/// refused(b"1.2", Grammar::Npm, buffer)         // at 3: NotThreeNumbers
-/// refused(b"1.2.3 x", Grammar::Npm, buffer)     // at 6: TextAfter
-/// refused(b" v1.2.3", Grammar::Npm, buffer)     // None
+/// explain(alloc, b"1.2.03", Grammar::Cargo)?    // at 5: LeadingZero
+/// explain(alloc, b"1.2", Grammar::Npm)?         // at 3: NotThreeNumbers
+/// explain(alloc, b"1.2.3 x", Grammar::Npm)?     // at 6: TextAfter
+/// explain(alloc, b" v1.2.3", Grammar::Npm)?     // None
 /// ```
+///
+/// # Errors
+///
+/// `AllocError` if an allocation fails. It allocates only if the text is not a version, and then
+/// one buffer of about its length.
+pub fn explain(alloc: Global, text: &[u8], grammar: Grammar) -> Result<Option<Refusal>, AllocError>
+    ensures version { IfOk result (λ o. MatchOption o (IsVersionTextIn grammar text.now)
+        (λ r. ¬ (IsVersionTextIn grammar text.now))) }
+    ensures offset { IfOk result (λ o. MatchOption o (Unit {0})
+        (λ r. IsLongestVersionPrefix grammar text.now r.offset)) }
+    ensures reason { IfOk result (λ o. MatchOption o (Unit {0})
+        (λ r. IsReason grammar (take r.offset text.now) (byte_at text.now r.offset) r.reason)) }
+    // Memory runs out only in place of a refusal.
+    ensures out_of_memory { IfErr result (λ _. ¬ (IsVersionTextIn grammar text.now)) }
+{
+    if is_version(text, Length::Allowed, grammar) {
+        return Ok(None);
+    }
+    let mut buffer = Vec::from_elem(alloc, 0, text.len().saturating_add(8))?;
+    Ok(refused(text, grammar, buffer.as_mut_slice()))
+}
+
+// Answer: law text_prefixes::laws::one_refused.
+/// Returns what [`explain`] does, without allocating. The buffer must have at least 8 bytes more
+/// than the text; what it holds then is not specified.
 pub fn refused(input: &[u8], grammar: Grammar, buffer: &mut [u8]) -> Option<Refusal>
     requires { length input.now + 8 ≤ length buffer.old }
     ensures version { MatchOption result (IsVersionTextIn grammar input.now)
