@@ -5,6 +5,7 @@ ghost use Rattle.semver_parser.specs.VersionViews.{version_value};
 ghost use Rattle.answer_laws.specs.OneAnswer.{AreOne, itself};
 ghost use Rattle.answer_laws.specs.SameSets.{AreAlike};
 
+use release_filter::laws::filters_are_normal;
 use release_filter::{Filter, Judged, filter_text};
 use semver_parser::version::Version;
 use semver_parser::{Compat, RangeError, laws};
@@ -24,8 +25,8 @@ fn answers_are_alike(first: &Result<Filter, RangeError>, second: &Result<Filter,
     let Ok(second) = second else {
         return;
     };
-    first.is_normal();
-    second.is_normal();
+    filters_are_normal(first);
+    filters_are_normal(second);
 }
 
 /// `Filter::new` has one answer.

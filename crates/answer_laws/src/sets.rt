@@ -13,7 +13,7 @@ use semver_texts::grammar::Digits;
 use std::alloc::{AllocError, Global};
 use tool_ranges::meaning::{self, Meaning};
 use tool_ranges::{cargo, npm};
-use version_sets::laws::{one_flat, one_set};
+use version_sets::laws::{one_flat, one_set, sets_are_normal};
 use version_sets::{Comparison, FlatSet, FlatSwitch, PreReleases, Release, VersionSet};
 
 /// Two answers of a call that reads a text, on the same inputs.
@@ -33,8 +33,8 @@ fn are_alike(first: &VersionSet, second: &VersionSet)
     ensures alike { AreAlike first.now second.now }
 {
     one_set();
-    first.is_normal();
-    second.is_normal();
+    sets_are_normal(first);
+    sets_are_normal(second);
 }
 
 /// So it is of two sets that are answered. It does nothing.

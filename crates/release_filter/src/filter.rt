@@ -6,7 +6,6 @@ ghost use Rattle.semver_parser.specs.RangeTexts.{RefusesExactly};
 ghost use Rattle.semver_parser.specs.RangeTree.{SetTree, Spells};
 ghost use Rattle.semver_parser.specs.Versions.{VersionValue};
 ghost use Rattle.version_sets.specs.PreReleaseRules.{meant_with};
-ghost use Rattle.version_sets.specs.VersionSets.{IsNormal};
 ghost use Rattle.release_filter.specs.KeptReleases.{kept_releases};
 ghost use Rattle.release_filter.specs.Filters.{digits_of, passes, read_by};
 ghost use Rattle.release_filter.specs.Extremes.{HasNone, IsGreatest, IsOneThat};
@@ -102,13 +101,6 @@ impl Filter {
         ensures { result ≡ self.now.grammar }
     {
         self.grammar
-    }
-
-    /// A law: the set of a filter is in the normal form. It does nothing.
-    pub fn is_normal(&self)
-        ensures normal { IsNormal self.now.set }
-    {
-        self.versions.is_normal();
     }
 
     // Answer: equation.

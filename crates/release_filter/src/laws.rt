@@ -1,17 +1,26 @@
-//! Laws of the lines of a text that comes in pieces: each is the contract of a function that does
-//! nothing, or that makes a call twice.
+//! Laws of filters, and of the lines of a text that comes in pieces: each is the contract of a
+//! function that does nothing, or that makes a call twice.
 
 ghost use Rattle.std.specs.Prelude.{◌≡◌, ◌++◌, ℕ, List, IfErr, IfOk};
 ghost use Rattle.semver_parser.specs.Texts.{Text};
+ghost use Rattle.version_sets.specs.VersionSets.{IsNormal};
 ghost use Rattle.release_filter.specs.LineTexts.{without_mark};
 ghost use Rattle.release_filter.specs.Pieces.{AreAlike, Completes, Finishes, LinesValue, Takes};
 ghost use Rattle.release_filter.specs.Pieces.{TakesAll, begun};
 ghost use Rattle.release_filter.specs.Verdicts.{JudgedLine};
 ghost use Rattle.release_filter.specs.declared.lines.LinesError.TheVariants.{NoVersion};
 
+use crate::filter::Filter;
 use crate::lines::{Lines, LinesError, Stopped};
 use semver_parser::laws;
 use std::alloc::Global;
+
+/// The set of a filter is in the normal form. It does nothing.
+pub fn filters_are_normal(filter: &Filter)
+    ensures normal { IsNormal filter.now.set }
+{
+    version_sets::laws::sets_are_normal(&filter.versions);
+}
 
 /// However a text is cut into pieces, what is appended is the same. It does nothing.
 pub fn pieces_do_not_matter()

@@ -16,7 +16,7 @@ use semver_parser::RangeError;
 use semver_parser::version::Version;
 use std::alloc::{AllocError, Global};
 use tool_ranges::meaning;
-use version_sets::{FlatSet, FlatSwitch, VersionSet};
+use version_sets::{FlatSet, FlatSwitch, VersionSet, laws};
 
 /// What is in one set or the other.
 pub const UNION: i32 = 0;
@@ -63,7 +63,7 @@ pub extern "C" fn semver_parser_proved_set_of_range(
     };
     match meaning::read(alloc, meaning, text) {
         Ok(set) => {
-            set.is_normal();
+            laws::sets_are_normal(&set);
             put_set(alloc, &set, made, count, out, length)
         }
         Err(RangeError::NotARange) => numbers::INVALID_RANGE,
@@ -198,7 +198,7 @@ fn combined(
         Operation::Intersection => first.intersection(alloc, &second)?,
         Operation::Difference => first.difference(alloc, &second)?,
     };
-    set.is_normal();
+    laws::sets_are_normal(&set);
     Ok(set)
 }
 

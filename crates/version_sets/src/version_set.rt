@@ -67,13 +67,6 @@ impl VersionSet {
         }
     }
 
-    /// A law: each set is in the normal form. It does nothing.
-    pub fn is_normal(&self)
-        ensures normal { IsNormal self.now }
-    {
-        let _ = &self.releases;
-    }
-
     // Answer: law answer_laws::sets::one_only_releases.
     /// The releases of the set: of `>=1.2.0-rc` by `PreReleases::Included` 1.2.0 is left, and
     /// 1.2.0-rc.2 isn't. It does not allocate.

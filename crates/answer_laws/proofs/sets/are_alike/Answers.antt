@@ -5,6 +5,6 @@ pub returns : goal.returns
 returns c =
     record {
       alike = λ same.
-          c.one_set.ensures.same_set _ _ c.is_normal.ensures.normal c.is_normal-2.ensures.normal
+          c.one_set.ensures.same_set _ _ c.sets_are_normal.ensures.normal c.sets_are_normal-2.ensures.normal
           (λ v. (λ h. (h.0, sym (same v h.0) ∙ h.1), λ h. (h.0, same v h.0 ∙ h.1)));
     }

@@ -18,7 +18,7 @@ returns-in-Ok-read c =
         (c.in-Ok.ensures.cases.1, has_set _ _ _ _ same c.in-Ok-read.ensures.refusals),
         rw as_it_is (⊎_elim (λ memory. inl memory) (λ puts. inr (
           c.in-Ok-read.set,
-          c.is_normal.ensures.normal,
+          c.sets_are_normal.ensures.normal,
           c.in-Ok-read.ensures.printable,
           means,
           puts,
