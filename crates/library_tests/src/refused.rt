@@ -88,7 +88,7 @@ fn tell(rt: &impl Print, endings: &[(&'static str, Ending)]) -> io::Result<()> {
 }
 
 /// How each call on tokens, versions and their identifiers ends.
-fn of_versions(alloc: Global) -> [(&'static str, Ending); 15] {
+fn of_versions(alloc: Global) -> [(&'static str, Ending); 16] {
     [
         ("identifier", parsers::identifier(alloc)),
         ("parser_version", parsers::version(alloc)),
@@ -108,6 +108,7 @@ fn of_versions(alloc: Global) -> [(&'static str, Ending); 15] {
         ("version_read", versions::read_with_identifiers(alloc)),
         ("more_input", versions::more_input(alloc)),
         ("version_clone", versions::clone(alloc)),
+        ("version_error", versions::version_error(alloc)),
         ("concat_of_a_number", identifiers::concat_of_a_number(alloc)),
         ("concat_of_a_text", identifiers::concat_of_a_text(alloc)),
         ("error_text", identifiers::error_text(alloc)),

@@ -4,7 +4,7 @@ use semver_parser::version::Grammar;
 use std::alloc::Global;
 use std::io;
 use std::io::Write;
-use text_prefixes::reasons::{Reason, refused};
+use text_prefixes::reasons::{Reason, explain};
 
 /// Writes where and why the text is no version, or that it is one.
 pub fn write_refused<W: Write>(
@@ -13,8 +13,7 @@ pub fn write_refused<W: Write>(
     grammar: Grammar,
     out: &mut W,
 ) -> io::Result<()> {
-    let mut buffer = vec![in alloc; 0; text.len().saturating_add(8)]?;
-    match refused(text.as_bytes(), grammar, &mut buffer) {
+    match explain(alloc, text.as_bytes(), grammar)? {
         None => out.write_all(b"a version"),
         Some(refusal) => {
             write!(out, "{}: ", refusal.offset)?;

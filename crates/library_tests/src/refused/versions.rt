@@ -3,10 +3,11 @@
 use super::Ending;
 use super::fixed::Fixed;
 use semver_parser::parser::Error;
-use semver_parser::version::Version;
+use semver_parser::version::{Grammar, Version};
 use semver_parser::{lexer, version};
 use std::alloc::Global;
 use std::fmt::Write as _;
+use text_prefixes::reasons::{Reason, explain};
 
 /// Texts whose longest front holds no identifier are answered without a request.
 pub fn without_identifiers(alloc: Global) -> Ending {
@@ -95,6 +96,20 @@ pub fn clone(alloc: Global) -> Ending {
     }
     match cloned {
         Ok(clone) => Ending::full_if(clone == version),
+        Err(_) => Ending::Refused,
+    }
+}
+
+/// Where and why a text is not a version. What is one is explained without a request.
+pub fn version_error(alloc: Global) -> Ending {
+    if !matches!(explain(alloc, b"1.2.3", Grammar::Cargo), Ok(None)) {
+        return Ending::Wrong;
+    }
+    match explain(alloc, b"1.2.03", Grammar::Cargo) {
+        Ok(Some(refusal)) => {
+            Ending::full_if(refusal.offset == 5 && refusal.reason == Reason::LeadingZero)
+        }
+        Ok(None) => Ending::Wrong,
         Err(_) => Ending::Refused,
     }
 }
