@@ -1,7 +1,7 @@
 -- serves: release_filter::kept::Filter::kept
 -- What holding a kept line does, and what is appended at the end of a text.
 use Rattle.std.proofs.Common.{◌≡◌, ◌∙◌, ◌⊎◌, ◌↔◌, ◌++◌, ◌∷◌, [], List, ℕ, Bool, true, false, refl, sym, ap, inl, inr}
-use Rattle.std.proofs.Common.{Option, Some, None, MatchOption, Vec, Global, Bor, append-nil, drop, length, map}
+use Rattle.std.proofs.Common.{Option, Some, None, MatchOption, Vec, Global, append-nil, drop, length, map}
 use Rattle.std.proofs.Common.{Less, ◌==◌, arith}
 use Rattle.std.specs.Cmp.{IsTotalOrder}
 use Rattle.std.specs.Option.{is_some, option_map}
@@ -13,6 +13,7 @@ use Rattle.release_filter.specs.declared.precedence.ReadVersion.{ReadVersion}
 use Rattle.release_filter.specs.Steps.Taking.{Concludes, kept_value, read_plain}
 use Rattle.release_filter.specs.Wanted.{AnswersBy, HeldValue, HoldsBy, IsBest, IsStableSort, KeptValue, ended_text, order_of}
 use Rattle.release_filter.specs.Wanted.{text_of}
+use Rattle.release_filter.specs.declared.wanted.IndexedLine.{IndexedLine}
 use Rattle.release_filter.specs.declared.wanted.KeptLine.{KeptLine}
 use Rattle.release_filter.specs.declared.wanted.Wanted.{Wanted}
 use Rattle.release_filter.specs.declared.wanted.Wanted.TheVariants.{Each, Greatest, Least, Sorted}
@@ -60,11 +61,11 @@ holds_best Sorted (inr e) h g lines best is so = cc
 
 -- ---- lines with a line feed at their end
 
-abbrev pub seen_lines : List (Bor KeptLine) → List KeptValue
-seen_lines lines = map (λ (line : Bor KeptLine). kept_value line.now) lines
+abbrev pub seen_lines : List IndexedLine → List KeptValue
+seen_lines lines = map (λ (l : IndexedLine). kept_value l.line.now) lines
 
 -- so many of the lines were appended
-abbrev pub AppendsSome : List (Bor KeptLine) → ℕ → Text → Text → Type 0
+abbrev pub AppendsSome : List IndexedLine → ℕ → Text → Text → Type 0
 AppendsSome lines count old new =
     (done : Text) × (new ≡ old ++ done) × (done ++ ended_text (seen_lines (drop count lines)) ≡ ended_text (seen_lines lines))
 

@@ -7,6 +7,7 @@ mod Prefixes
 mod JudgedLines
 mod Holding
 mod HeldLines
+mod OneOrder
 mod SortedLines
 mod NotedLines
 mod Sorting

@@ -3,7 +3,9 @@
 ghost use Rattle.std.specs.Prelude.{◌≡◌, ◌<◌, ◌↔◌, ◌++◌, [], ◌∷◌, true, IfErr, IfOk, MatchOption};
 ghost use Rattle.std.specs.Prelude.{List, Option, length, map, option_to_list};
 ghost use Rattle.std.specs.Option.{option_map};
+ghost use Rattle.std.specs.Ordering.{nat_cmp, ordering_then};
 ghost use Rattle.std.specs.declared.cmp.Ordering.TheVariants.{Less};
+ghost use Rattle.semver_parser.specs.Precedence.{precedence};
 ghost use Rattle.semver_parser.specs.Texts.{Text};
 ghost use Rattle.semver_parser.specs.Versions.{PlainVersion};
 ghost use Rattle.release_filter.specs.Steps.Taking.{Concludes, Outlines, PassesAs, held_value};
@@ -18,6 +20,7 @@ use crate::precedence::ReadVersion;
 use semver_parser::laws;
 use semver_parser::version::{Outline, Version};
 use std::alloc::{AllocError, Global};
+use std::cmp::Ordering;
 use std::mem;
 
 /// Which of the kept lines are wanted.
@@ -40,6 +43,25 @@ pub enum Wanted {
 pub(crate) struct KeptLine {
     pub(crate) version: ReadVersion,
     pub(crate) bytes: Vec<u8>,
+}
+
+/// A kept line, and its index among the kept ones: by that a sort without a buffer keeps lines of
+/// equal versions in their order.
+#[derive(Clone, Copy)]
+struct IndexedLine<'k> {
+    index: usize,
+    line: &'k KeptLine,
+}
+
+impl IndexedLine<'_> {
+    /// How it compares with another: by precedence, then by the index.
+    fn compare(&self, other: &IndexedLine<'_>) -> Ordering
+        ensures { result ≡ ordering_then (precedence (read_plain self.now.line.now.version)
+            (read_plain other.now.line.now.version)) (nat_cmp self.now.index other.now.index) }
+    {
+        let versions = self.line.version.compare(&other.line.version);
+        versions.then(self.index.cmp(&other.index))
+    }
 }
 
 /// What is wanted, and the kept lines that are held for it.
@@ -224,12 +246,14 @@ impl Held {
         laws::precedence_is_total();
         let mut lines = Vec::new(alloc);
         for line in &self.sorted {
-            lines.push(line)?;
+            let index = lines.len();
+            lines.push(IndexedLine { index, line })?;
         }
-        if let Some(last) = last {
-            lines.push(last)?;
+        if let Some(line) = last {
+            let index = lines.len();
+            lines.push(IndexedLine { index, line })?;
         }
-        lines.sort_by(|line, other| line.version.compare(&other.version))?;
+        lines.sort_unstable_by(|line, other| line.compare(other));
         append_ended(lines.as_slice(), kept)?;
         Ok(())
     }
@@ -327,15 +351,15 @@ pub(crate) fn without_build(alloc: Global, outline: &Outline<'_>) -> Result<Read
 }
 
 /// Appends lines, each with a line feed at its end.
-fn append_ended(lines: &[&KeptLine], kept: &mut Vec<u8>) -> Result<(), AllocError>
+fn append_ended(lines: &[IndexedLine<'_>], kept: &mut Vec<u8>) -> Result<(), AllocError>
     ensures appends { IfOk result (λ _. kept.new.items ≡ kept.old.items
-        ++ ended_text (map (λ line. kept_value line.now) lines.now)) }
+        ++ ended_text (map (λ indexed. kept_value indexed.line.now) lines.now)) }
     ensures unchanged { IfErr result (λ _. kept.new.items ≡ kept.old.items) }
     ensures out_of_memory { IfErr result (λ _. 0 < length lines.now) }
 {
     let begun = kept.len();
-    for line in lines {
-        if let Err(error) = append_ended_line(line.bytes.as_slice(), kept) {
+    for indexed in lines {
+        if let Err(error) = append_ended_line(indexed.line.bytes.as_slice(), kept) {
             kept.truncate(begun);
             return Err(error);
         }

@@ -122,7 +122,7 @@ pub fn sorted_lines(alloc: Global) -> Ending {
     ends(alloc, Wanted::Sorted, "1.9.0+build\n1.2.0-rc.b", sorted)
 }
 
-/// More than 20 lines, which are sorted with a buffer. The least of them is the last.
+/// More than 20 lines, which are sorted without a buffer too. The least of them is the last.
 pub fn many_sorted_lines(alloc: Global) -> Ending {
     ends(
         alloc,

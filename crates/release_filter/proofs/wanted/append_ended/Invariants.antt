@@ -2,5 +2,5 @@
 use Rattle.release_filter.proofs.HeldLines.{AppendsSome}
 use Rattle.release_filter.proofs.wanted.append_ended.Given as goal
 
-abbrev pub invariant-loop-line : goal.invariant-loop-line
-invariant-loop-line l = AppendsSome l.lines l.line-index l.initial.kept.items l.kept.items
+abbrev pub invariant-loop-indexed : goal.invariant-loop-indexed
+invariant-loop-indexed l = AppendsSome l.lines l.indexed-index l.initial.kept.items l.kept.items
