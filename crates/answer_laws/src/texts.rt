@@ -1,10 +1,15 @@
-//! Laws on texts, numbers and parts.
+//! Laws on texts, numbers and parts, and on texts that are not versions.
 
-ghost use Rattle.std.specs.Prelude.{◌≡◌, true, option_map, slice_index};
+ghost use Rattle.std.specs.Prelude.{◌≡◌, true, alloc_error, option_map, slice_index};
 ghost use Rattle.std.specs.Char.{is_ascii_digit};
+ghost use Rattle.answer_laws.specs.OneAnswer.{AreOne, itself};
 ghost use Rattle.answer_laws.specs.SeenTexts.{seen_numbers, seen_text};
 
+use semver_texts::grammar::Grammar;
 use semver_texts::{decimals, dotted};
+use std::alloc::{AllocError, Global};
+use text_prefixes::laws::{one_longest_prefix, one_reason};
+use text_prefixes::reasons::{Refusal, explain};
 
 /// A text is one number, or none.
 pub fn one_whole_number(text: &str) -> (Option<u64>, Option<u64>)
@@ -47,4 +52,20 @@ pub fn one_split_at_dot(bytes: &[u8]) -> ((&[u8], Option<&[u8]>), (&[u8], Option
     ensures rest { option_map seen_text result.0.1 ≡ option_map seen_text result.1.1 }
 {
     (dotted::split_at_dot(bytes), dotted::split_at_dot(bytes))
+}
+
+/// A text is refused at one offset for one reason, or is a version, or memory ran out.
+pub fn one_explanation(
+    alloc: Global,
+    text: &[u8],
+    grammar: Grammar,
+) -> (
+    Result<Option<Refusal>, AllocError>,
+    Result<Option<Refusal>, AllocError>,
+)
+    ensures one { AreOne alloc_error itself result.0 result.1 }
+{
+    one_longest_prefix();
+    one_reason();
+    (explain(alloc, text, grammar), explain(alloc, text, grammar))
 }
