@@ -19,7 +19,7 @@ ghost use Rattle.semver_ranges.specs.Steps.PartialViews.{PartsPass, begun_as};
 
 use crate::range::{Comparator, Identifier, Op};
 use semver_texts::decimals::number_of_digits;
-use semver_texts::dotted::of_parts;
+use semver_texts::dotted::{of_parts, text_of_parts};
 use std::alloc::{AllocError, Global};
 
 /// A component: a wildcard, or a number, whose value is none above 2^64 - 1.
@@ -405,7 +405,7 @@ fn kept_parts(alloc: Global, pre: &[u8]) -> Result<Vec<Identifier>, AllocError>
     ensures { IfOk result (λ parts. map identifier_of parts.items
         ≡ map kept (cut_at_dots pre.now)) }
 {
-    of_parts(alloc, pre, |part| read_identifier(alloc, part))
+    of_parts(alloc, text_of_parts(pre), |part| read_identifier(alloc, part))
 }
 
 /// A part as it is kept.

@@ -1,15 +1,19 @@
 -- serves: semver_texts::dotted::text_of_parts
 -- Parts joined by dots, as they are read byte by byte.
 use Rattle.std.proofs.Common.{◌≡◌, ℕ, ◌+◌, ◌<◌, Bool, true, false, length, get_or, drop, refl, sym, ap, ◌∙◌, arith, ◌∷◌, ◌++◌}
-use Rattle.std.proofs.Common.{subst, append-nil, append_assoc}
+use Rattle.std.proofs.Common.{subst, append-nil, append_assoc, suc, take, take-append-drop}
 use Rattle.std.specs.Prelude.{◌==◌, ◌||◌, MatchOption, Option, Some, None, List, []}
 use Rattle.std.specs.Bool.{then_some}
 use Rattle.std.specs.Char.{is_ascii_alphanumeric}
 use Rattle.std.specs.Borrow.{Bor}
-use Rattle.std.specs.List.{prefix_len, slice_split}
-use Rattle.std.specs.Str.{IsUtf8}
+use Rattle.std.specs.List.{All, prefix_len, slice_split}
+use Rattle.std.specs.Str.{IsAscii, IsUtf8}
+use Rattle.std.proofs.Math.Seq.{take-length, take-suc}
+use Rattle.std.proofs.lemmas.Bool.{eqb-true, false_from_ne_true}
 use Rattle.std.proofs.lemmas.Bool.Decides.{nat_tests}
 use Rattle.std.proofs.lemmas.List.{drop_more}
+use Rattle.std.proofs.lemmas.List.Elements.{All-nil, All-cons, All-append}
+use Rattle.std.proofs.lemmas.List.Splits.{slice_split_none, slice_split_at}
 use Rattle.std.proofs.lemmas.List.Sums.{prefix_len-drop_no}
 use Rattle.std.proofs.lemmas.Str.{IsUtf8-from_ascii}
 pub use Rattle.semver_texts.specs.Compared.{parts_after}
@@ -17,7 +21,7 @@ use Rattle.semver_texts.specs.Texts.{Text, is_dot, is_dotted_byte}
 use Rattle.semver_texts.specs.declared.dotted.Hyphens.{Hyphens}
 use Rattle.semver_texts.specs.declared.dotted.Hyphens.TheVariants.{Any, BetweenRuns}
 use Rattle.semver_texts.specs.Steps.DottedParts.{is_run_byte, runs_stand}
-use Rattle.semver_texts.proofs.Lists.{Passes, passes_apart, ascii_from}
+use Rattle.semver_texts.proofs.Lists.{Passes, ascii_from}
 
 -- ---- bytes
 
@@ -46,8 +50,11 @@ small_byte : (b : ℕ) → is_dotted_byte b ≡ true → b < 128
 small_byte b h = grind (arith, nat_tests)
 
 -- they are ASCII, and so a text
+pub dotted_ascii : (bytes : Text) → Passes is_dotted_byte bytes → IsAscii bytes
+dotted_ascii = ascii_from is_dotted_byte small_byte
+
 pub dotted_utf8 : (bytes : Text) → Passes is_dotted_byte bytes → IsUtf8 bytes
-dotted_utf8 bytes all = IsUtf8-from_ascii bytes (ascii_from is_dotted_byte small_byte bytes all)
+dotted_utf8 bytes all = IsUtf8-from_ascii bytes (dotted_ascii bytes all)
 
 -- ---- at a place of a loop over the bytes
 
@@ -86,10 +93,6 @@ found_same {X = X} {Y = Y} {x = x} {x' = x'} {y = y} {y' = y'} e =
 
 -- ---- what is left to be cut
 
-abbrev pub ArePartsAfter : Option (Bor Text) → Type 0
-ArePartsAfter None = Unit {0}
-ArePartsAfter (Some rest) = Passes is_dotted_byte rest.now
-
 abbrev pub size_after : Option (Bor Text) → ℕ
 size_after None = 0
 size_after (Some rest) = length rest.now + 1
@@ -99,14 +102,39 @@ abbrev pub IsSplit : Text → Text → Option (Bor Text) → Type 0
 IsSplit bytes part after = MatchOption after ((slice_split is_dot bytes ≡ part ∷ []) × (bytes ≡ part))
     (λ after. (slice_split is_dot bytes ≡ part ∷ slice_split is_dot after.now) × (bytes ≡ part ++ 46 ∷ after.now))
 
-pub split_dotted : (bytes part : Text) (after : Option (Bor Text)) → Passes is_dotted_byte bytes → IsSplit bytes part after
-    → Passes is_dotted_byte part × ArePartsAfter after
-split_dotted bytes part None all h = (subst (Passes is_dotted_byte) h.1 all, tt)
-split_dotted bytes part (Some after) all h =
-    let both = passes_apart is_dotted_byte part (46 ∷ after.now) (subst (Passes is_dotted_byte) h.1 all) in (both.0, both.1.1)
-
 pub split_more : (bytes part : Text) (after : Option (Bor Text)) (all cut : List Text) → IsSplit bytes part after
     → all ≡ cut ++ slice_split is_dot bytes → all ≡ (cut ++ part ∷ []) ++ parts_after after
 split_more bytes part None all cut h e = e ∙ ap (λ ts. cut ++ ts) h.0 ∙ sym (append-nil (cut ++ part ∷ []))
 split_more bytes part (Some after) all cut h e =
     e ∙ ap (λ ts. cut ++ ts) h.0 ∙ sym (append_assoc cut (part ∷ []) (slice_split is_dot after.now))
+
+-- ---- a text up to its first dot
+
+-- the byte is no dot
+abbrev pub IsOther : ℕ → Type 0
+IsOther b = is_dot b ≡ false
+
+-- one byte more is none
+pub others_more : (t : Text) (i : ℕ) → i < length t → ¬ (get_or t i 0 ≡ 46) → All IsOther (take i t) → All IsOther (take (i + 1) t)
+others_more t i inside no_dot others =
+    let b : ℕ = get_or t i 0 in
+    let other : IsOther b = false_from_ne_true (b == 46) (λ h. no_dot (eqb-true b 46 h)) in
+    let next : suc i ≡ i + 1 = omega arith in
+    let more : take i t ++ b ∷ [] ≡ take (i + 1) t = sym (take-suc t i 0 inside) ∙ ap (λ n. take n t) next in
+    subst (All IsOther) more (All-append IsOther (take i t) (b ∷ []) others (All-cons IsOther b [] other (All-nil IsOther)))
+
+-- at the first dot the text is split
+pub dot_splits : (t : Text) (i : ℕ) → i < length t → get_or t i 0 ≡ 46 → All IsOther (take i t)
+    → (slice_split is_dot t ≡ take i t ∷ slice_split is_dot (drop (i + 1) t)) × (t ≡ take i t ++ 46 ∷ drop (i + 1) t)
+dot_splits t i inside dot others =
+    let after : Text = drop (i + 1) t in
+    let whole : t ≡ take i t ++ 46 ∷ after =
+    sym (take-append-drop i t) ∙ ap (λ u. take i t ++ u) (drop_more t i 0 inside ∙ ap (λ b. b ∷ after) dot) in (
+      ap (slice_split is_dot) whole ∙ slice_split_at is_dot (take i t) 46 after others refl,
+      whole,
+    )
+
+-- where there is none it is one piece
+pub one_piece : (t : Text) (i : ℕ) → i ≡ length t → All IsOther (take i t) → slice_split is_dot t ≡ t ∷ []
+one_piece t i end others =
+    slice_split_none is_dot t (subst (All IsOther) (ap (λ n. take n t) end ∙ take-length t) others)

@@ -98,14 +98,15 @@ pub fn marked_part(bytes: &[u8], mark: u8, hyphens: Hyphens) -> Option<(&[u8], &
 }
 
 // Answer: equation.
-/// The text of parts. Their bytes and the dots between them are ASCII, which is proved, and so
-/// isn't checked.
-#[inline(always)]
+/// The text of parts. Their bytes and the dots between them are ASCII, so they always are a text.
 pub fn text_of_parts(bytes: &[u8]) -> &str
     requires { AllByRecursion (λ b. IsTrue (is_dotted_byte b)) bytes.now }
     ensures { result.now ≡ bytes.now }
 {
-    unsafe { str::from_utf8_unchecked(bytes) }
+    match str::from_utf8(bytes) {
+        Ok(text) => text,
+        Err(_) => "",
+    }
 }
 
 // Answer: law answer_laws::texts::one_split_at_dot.
@@ -200,44 +201,59 @@ pub(crate) fn are_digits(part: &[u8]) -> bool
     part.iter().all(|byte| byte.is_ascii_digit())
 }
 
+/// What [`split_at_dot`] returns, of a text. For speed, it is cut without a look at its characters:
+/// a dot is one.
+#[inline(always)]
+fn split_text_at_dot(text: &str) -> (&str, Option<&str>)
+    ensures { MatchOption result.1
+        ((slice_split is_dot text.now ≡ result.0.now ∷ []) × (text.now ≡ result.0.now))
+        (λ after. (slice_split is_dot text.now ≡ result.0.now ∷ slice_split is_dot after.now)
+        × (text.now ≡ result.0.now ++ 46 ∷ after.now)) }
+{
+    let bytes = text.as_bytes();
+    for at in 0..bytes.len() {
+        if bytes[at] == b'.' {
+            return (&text[..at], Some(&text[at + 1..]));
+        }
+    }
+    (text, None)
+}
+
 /// What is made of each part between the dots. Their list is asked for once, at its size.
 fn cut_parts<T: Drop, F: Fn(&str) -> Result<T, AllocError>>(
     alloc: Global,
-    bytes: &[u8],
+    text: &str,
     make: F,
 ) -> Result<Vec<T>, AllocError>
-    requires bytes { AllByRecursion (λ b. IsTrue (is_dotted_byte b)) bytes.now }
-    requires make { F.IsAlwaysCallable make }
+    requires { F.IsAlwaysCallable make }
     ensures { IfOk result (λ made. AllZip (λ item part. FnReturnsAt F.Fn make part (Ok item))
-        made.items (slice_split is_dot bytes.now)) }
+        made.items (slice_split is_dot text.now)) }
 {
-    let mut made = Vec::with_capacity(alloc, count_dots(bytes).saturating_add(1))?;
-    let mut rest = Some(bytes);
-    while let Some(bytes) = rest {
-        let (part, after) = split_at_dot(bytes);
-        made.push(make(text_of_parts(part))?)?;
+    let mut made = Vec::with_capacity(alloc, count_dots(text.as_bytes()).saturating_add(1))?;
+    let mut rest = Some(text);
+    while let Some(text) = rest {
+        let (part, after) = split_text_at_dot(text);
+        made.push(make(part)?)?;
         rest = after;
     }
     Ok(made)
 }
 
 // Answer: equation.
-/// What is made of each part between the dots; nothing where there are no bytes, which takes no
-/// memory.
+/// What is made of each part between the dots; nothing of an empty text, which takes no memory.
 #[inline(always)]
 pub fn of_parts<T: Drop, F: Fn(&str) -> Result<T, AllocError>>(
     alloc: Global,
-    bytes: &[u8],
+    text: &str,
     make: F,
 ) -> Result<Vec<T>, AllocError>
-    requires bytes { AllByRecursion (λ b. IsTrue (is_dotted_byte b)) bytes.now }
-    requires make { F.IsAlwaysCallable make }
+    requires { F.IsAlwaysCallable make }
     ensures made { IfOk result (λ made. AllZip (λ item part. FnReturnsAt F.Fn make part (Ok item))
-        made.items (cut_at_dots bytes.now)) }
-    ensures some { IfErr result (λ _. 0 < length bytes.now) }
+        made.items (cut_at_dots text.now)) }
+    ensures some { IfErr result (λ _. 0 < length text.now) }
 {
-    if bytes.is_empty() {
+    if text.is_empty() {
         return Ok(Vec::new(alloc));
     }
-    cut_parts(alloc, bytes, make)
+    cut_parts(alloc, text, make)
 }

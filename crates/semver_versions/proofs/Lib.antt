@@ -5,4 +5,5 @@ pub mod OneVersion
 pub mod OutlineVersions
 pub mod ReadTexts
 pub mod ReadVersions
+pub mod TextSlices
 pub mod WhiteSpaces

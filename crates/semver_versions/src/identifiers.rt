@@ -7,7 +7,7 @@ ghost use Rattle.semver_texts.specs.VersionViews.{identifier_value};
 ghost use Rattle.semver_versions.specs.Outlines.{identifier_of};
 
 use crate::comparing::InVersions;
-use semver_texts::dotted::of_parts;
+use semver_texts::dotted::{of_parts, text_of_parts};
 use semver_texts::identifiers::Reading;
 use semver_texts::precedence::IdentifierRef;
 use semver_texts::version::Identifier;
@@ -34,5 +34,19 @@ pub fn identifiers(alloc: Global, bytes: &[u8]) -> Result<Vec<Identifier>, Alloc
         map identifier_value ids.items ≡ map identifier_of (cut_at_dots bytes.now)) }
     ensures some { IfErr result (λ _. 0 < length bytes.now) }
 {
-    of_parts(alloc, bytes, |part| identifier(alloc, part))
+    if bytes.is_empty() {
+        return Ok(Vec::new(alloc));
+    }
+    identifiers_of_text(alloc, text_of_parts(bytes))
+}
+
+// Answer: equation.
+/// What [`identifiers`] returns, of a text.
+#[inline(always)]
+pub fn identifiers_of_text(alloc: Global, text: &str) -> Result<Vec<Identifier>, AllocError>
+    ensures kept { IfOk result (λ ids.
+        map identifier_value ids.items ≡ map identifier_of (cut_at_dots text.now)) }
+    ensures some { IfErr result (λ _. 0 < length text.now) }
+{
+    of_parts(alloc, text, |part| identifier(alloc, part))
 }

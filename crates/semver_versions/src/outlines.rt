@@ -8,12 +8,12 @@ ghost use Rattle.semver_texts.specs.Versions.{VersionValue};
 ghost use Rattle.semver_texts.specs.Precedence.{precedence};
 ghost use Rattle.semver_texts.specs.VersionGrammar.{SpellsVersion};
 ghost use Rattle.semver_texts.specs.VersionViews.{identifier_value, version_value};
-ghost use Rattle.semver_versions.specs.Outlines.{IsOutlineOf, after_mark};
+ghost use Rattle.semver_versions.specs.Outlines.{IsOutlineOf, StandsAt, after_mark, identifier_of};
 ghost use Rattle.semver_versions.specs.Outlines.{kept_version_of, version_of};
 ghost use Rattle.semver_versions.specs.Steps.Reading.{ArePartTexts, outline_with};
 
 use crate::comparing::InVersions;
-use crate::identifiers::identifiers;
+use crate::identifiers::{identifiers, identifiers_of_text};
 use semver_texts::dotted::text_of_parts;
 use semver_texts::grammar::Digits;
 use semver_texts::identifiers::{ByDigits, Joined};
@@ -30,8 +30,8 @@ pub struct Outline<'t> {
     pub(crate) major: u64,
     pub(crate) minor: u64,
     pub(crate) patch: u64,
-    pub(crate) pre: &'t str,
-    pub(crate) build: &'t str,
+    pub(crate) pre: &'t [u8],
+    pub(crate) build: &'t [u8],
     pub(crate) before_pre: usize,
     pub(crate) before_build: usize,
     pub(crate) digits: Digits,
@@ -88,21 +88,21 @@ impl<'t> Outline<'t> {
     // Answer: equation.
     /// The identifiers of the pre-release joined by dots, without the `-` before them; empty
     /// where there is no pre-release: `rc.4` in `1.2.3-rc.4+5aedf`.
-    #[inline(always)]
+    #[tactic(auto, using(semver_texts::proofs::PartRuns::parts_pass))]
     pub fn pre(&self) -> &'t str
         ensures { result.now ≡ self.now.pre }
     {
-        self.pre
+        text_of_parts(self.pre)
     }
 
     // Answer: equation.
     /// The identifiers of the build joined by dots, without the `+` before them; empty where
     /// there is no build: `5aedf` in `1.2.3-rc.4+5aedf`.
-    #[inline(always)]
+    #[tactic(auto, using(semver_texts::proofs::PartRuns::parts_pass))]
     pub fn build(&self) -> &'t str
         ensures { result.now ≡ self.now.build }
     {
-        self.build
+        text_of_parts(self.build)
     }
 
     // Answer: equation.
@@ -157,7 +157,7 @@ impl<'t> Outline<'t> {
         ensures { ⟦<ByDigits<Joined<'t, InVersions>> as Identifiers<'t>>⟧.left result
             ≡ (version_of self.now).plain.pre }
     {
-        ByDigits::of(Joined::of(self.pre.as_bytes(), InVersions), self.digits)
+        ByDigits::of(Joined::of(self.pre, InVersions), self.digits)
     }
 
     // Answer: equation.
@@ -180,7 +180,7 @@ impl<'t> Outline<'t> {
             ≡ (version_of self.now).plain.pre) }
         ensures out_of_memory { IfErr result (λ _. 0 < length self.now.pre) }
     {
-        identifiers(alloc, self.pre.as_bytes())
+        identifiers(alloc, self.pre)
     }
 
     // Answer: equation.
@@ -200,7 +200,7 @@ impl<'t> Outline<'t> {
             ≡ (version_of self.now).build) }
         ensures out_of_memory { IfErr result (λ _. 0 < length self.now.build) }
     {
-        identifiers(alloc, self.build.as_bytes())
+        identifiers(alloc, self.build)
     }
 
     // Answer: equation.
@@ -231,6 +231,26 @@ impl<'t> Outline<'t> {
         })
     }
 
+    /// The version, if the outline is that of the text. For speed, the identifiers are cut from the
+    /// text, so their bytes aren't checked for UTF-8.
+    #[inline(always)]
+    pub(crate) fn version_in(&self, alloc: Global, text: &str) -> Result<Version, AllocError>
+        requires pre { StandsAt self.now.pre_offset self.now.pre text.now }
+        requires build { StandsAt self.now.build_offset self.now.build text.now }
+        ensures kept { IfOk result (λ version.
+            version_value version ≡ kept_version_of self.now) }
+        ensures out_of_memory { IfErr result
+            (λ _. (0 < length self.now.pre) ⊎ (0 < length self.now.build)) }
+    {
+        Ok(Version {
+            major: self.major,
+            minor: self.minor,
+            patch: self.patch,
+            pre: identifiers_at(alloc, text, self.before_pre, self.pre)?,
+            build: identifiers_at(alloc, text, self.before_build, self.build)?,
+        })
+    }
+
     // Answer: equation.
     /// How the version of this outline compares with another by precedence (SemVer 2.0.0, section
     /// 11), as `version::cmp_precedence` says of two versions: the outline of
@@ -253,6 +273,26 @@ impl<'t> Outline<'t> {
             ByDigits::of(version.pre.as_slice(), self.digits),
         )
     }
+}
+
+/// The identifiers of parts that are in a text at an offset.
+#[inline(always)]
+fn identifiers_at(
+    alloc: Global,
+    text: &str,
+    offset: usize,
+    parts: &[u8],
+) -> Result<Vec<Identifier>, AllocError>
+    requires place { StandsAt offset parts.now text.now }
+    requires parts { ArePartTexts parts.now }
+    ensures kept { IfOk result (λ ids.
+        map identifier_value ids.items ≡ map identifier_of (cut_at_dots parts.now)) }
+    ensures some { IfErr result (λ _. 0 < length parts.now) }
+{
+    if parts.is_empty() {
+        return Ok(Vec::new(alloc));
+    }
+    identifiers_of_text(alloc, &text[offset..offset + parts.len()])
 }
 
 /// How many bytes a part has with its mark.
@@ -297,8 +337,8 @@ pub(crate) fn with_parts<'t>(
         major,
         minor,
         patch,
-        pre: text_of_parts(pre),
-        build: text_of_parts(build),
+        pre,
+        build,
         before_pre: after_mark_at(numbers_end, pre),
         before_build: after_mark_at(pre_end, build),
         digits,

@@ -44,7 +44,10 @@ pub fn read(alloc: Global, input: &str) -> Result<Option<Version>, AllocError>
     ensures out_of_memory { IfErr result (λ _. (v : VersionValue) × SpellsVersion v input.now
         × ((0 < length v.plain.pre) ⊎ (0 < length v.build))) }
 {
-    read_bytes(alloc, input.as_bytes())
+    let Some(outline) = outline(input) else {
+        return Ok(None);
+    };
+    Ok(Some(outline.version_in(alloc, input)?))
 }
 
 // Answer: law answer_laws::versions::one_read_bytes.

@@ -7,10 +7,12 @@ use Rattle.semver_ranges.specs.Partials.{kept}
 use Rattle.semver_ranges.specs.RangeViews.{identifier_of}
 use Rattle.semver_ranges.proofs.partial.kept_parts.Goals as goal
 
-pub of_parts-requires-clause-bytes : goal.of_parts-requires-clause-bytes
-of_parts-requires-clause-bytes c = parts_pass c.args.pre.now c.requires
+pub text_of_parts-requires : goal.text_of_parts-requires
+text_of_parts-requires c = parts_pass c.args.pre.now c.requires
 
 pub returns : goal.returns
-returns c = IfOk-weaker c.of_parts.result _ _
-    (λ parts made. zip_same identifier_of kept (λ id part is. search rules) parts.items (cut_at_dots c.args.pre.now) made)
-    c.of_parts.ensures.made
+returns c =
+    let cut = IfOk-weaker c.of_parts.result _ _
+        (λ parts made. zip_same identifier_of kept (λ id part is. search rules) parts.items (cut_at_dots c.text_of_parts.result.now) made)
+        c.of_parts.ensures.made in
+    rw c.text_of_parts.ensures at cut

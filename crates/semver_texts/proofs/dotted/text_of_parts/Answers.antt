@@ -1,5 +1,5 @@
 use Rattle.semver_texts.proofs.DottedParts.{dotted_utf8}
 use Rattle.semver_texts.proofs.dotted.text_of_parts.Goals as goal
 
-pub from_utf8_unchecked-requires : goal.from_utf8_unchecked-requires
-from_utf8_unchecked-requires c = dotted_utf8 c.args.bytes.now c.requires
+pub returns-in-Err : goal.returns-in-Err
+returns-in-Err c = absurd (c.in-Err.ensures.cases.0 (dotted_utf8 c.args.bytes.now c.requires))

@@ -1,16 +1,5 @@
-use Rattle.std.proofs.Common.{rules}
-use Rattle.std.proofs.lemmas.Result.{IfOk-weaker}
-use Rattle.semver_texts.proofs.Lists.{zip_same}
 use Rattle.semver_texts.proofs.PartRuns.{parts_pass}
-use Rattle.semver_texts.specs.Texts.{cut_at_dots}
-use Rattle.semver_texts.specs.VersionViews.{identifier_value}
-use Rattle.semver_versions.specs.Outlines.{identifier_of}
 use Rattle.semver_versions.proofs.identifiers.identifiers.Goals as goal
 
-pub of_parts-requires-clause-bytes : goal.of_parts-requires-clause-bytes
-of_parts-requires-clause-bytes c = parts_pass c.args.bytes.now c.requires
-
-pub returns-clause-kept : goal.returns-clause-kept
-returns-clause-kept c = IfOk-weaker c.of_parts.result _ _
-    (λ ids made. zip_same identifier_value identifier_of (λ id part is. search rules) ids.items (cut_at_dots c.args.bytes.now) made)
-    c.of_parts.ensures.made
+pub text_of_parts-requires : goal.text_of_parts-requires
+text_of_parts-requires c = parts_pass c.args.bytes.now c.requires

@@ -1,13 +1,6 @@
 use Rattle.std.proofs.Common.{arith}
 use Rattle.semver_versions.proofs.KeptTexts.{part_fits}
-use Rattle.semver_texts.proofs.PartRuns.{parts_pass}
 use Rattle.semver_versions.proofs.outlines.with_parts.Goals as goal
-
-pub text_of_parts-requires : goal.text_of_parts-requires
-text_of_parts-requires c = parts_pass c.args.pre.now c.requires.pre
-
-pub text_of_parts-requires-2 : goal.text_of_parts-requires-2
-text_of_parts-requires-2 c = parts_pass c.args.build.now c.requires.build
 
 pub after_mark_at-requires : goal.after_mark_at-requires
 after_mark_at-requires c = omega (arith, c.requires.fits, part_fits 45 c.args.pre.now)
@@ -18,8 +11,6 @@ after_mark_at-requires-2 c =
 
 pub returns : goal.returns
 returns c = rw (
-  c.text_of_parts.ensures,
-  c.text_of_parts-2.ensures,
   c.after_mark_at.ensures,
   c.after_mark_at-2.ensures,
   c.marked_len.ensures 45,

@@ -9,7 +9,7 @@ use Rattle.semver_versions.proofs.outlines.Outline.pre_identifiers.Goals as goal
 pub returns-clause-kept : goal.returns-clause-kept
 returns-clause-kept c =
     if_ok_more c.identifiers.result (λ ids is. is ∙ ap (λ t. map identifier_of (cut_at_dots t))
-    (c.as_bytes.ensures.value ∙ ap (λ (o : OutlineValue). o.pre) c.self.view_is))
+    (ap (λ (o : OutlineValue). o.pre) c.self.view_is))
     c.identifiers.ensures.kept
 
 pub returns-clause-of_version : goal.returns-clause-of_version
