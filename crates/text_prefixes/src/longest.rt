@@ -132,12 +132,13 @@ fn is_prefix<L: Language>(language: &L, prefix: &str, buffer: &mut [u8]) -> bool
     false
 }
 
-/// Whether the bytes, which are UTF-8, are a text of the language. For speed, that is not checked
-/// again.
+/// Whether the bytes, which are UTF-8, are a text of the language.
 fn is_text<L: Language>(language: &L, bytes: &[u8]) -> bool
     requires { IsUtf8 bytes.now }
     ensures { IsTrue result ↔ L.is_text language.now bytes.now }
 {
-    // The bytes are a prefix and a completion, which are UTF-8.
-    language.has(unsafe { str::from_utf8_unchecked(bytes) })
+    match str::from_utf8(bytes) {
+        Ok(text) => language.has(text),
+        Err(_) => false,
+    }
 }
