@@ -96,6 +96,15 @@ impl<'t> Outline<'t> {
     }
 
     // Answer: equation.
+    /// The bytes of [`Outline::pre`]. For speed, they are not made a text.
+    #[inline(always)]
+    pub fn pre_bytes(&self) -> &'t [u8]
+        ensures { result.now ≡ self.now.pre }
+    {
+        self.pre
+    }
+
+    // Answer: equation.
     /// The identifiers of the build joined by dots, without the `+` before them; empty where
     /// there is no build: `5aedf` in `1.2.3-rc.4+5aedf`.
     #[tactic(auto, using(semver_texts::proofs::PartRuns::parts_pass))]

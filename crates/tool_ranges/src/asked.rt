@@ -47,7 +47,7 @@ impl<'t> Asked<'t> {
             major: version.major(),
             minor: version.minor(),
             patch: version.patch(),
-            pre: version.pre().as_bytes(),
+            pre: version.pre_bytes(),
             digits: version.digits(),
         }
     }

@@ -35,7 +35,7 @@ impl<'t> Place<'t> {
             major: outline.major(),
             minor: outline.minor(),
             patch: outline.patch(),
-            pre: outline.pre().as_bytes(),
+            pre: outline.pre_bytes(),
             digits: outline.digits(),
         }
     }
