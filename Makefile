@@ -6,6 +6,7 @@
 #   make archive              makes OUT/semver-parser-VERSION-linux-x86_64.tar.gz
 #   make wheel                makes a wheel in OUT, for pip: the Python package with the library
 #   make js                   makes the JavaScript package in OUT, for npm
+#   make crate                makes the Rust crate in OUT, for cargo; needs cargo alone
 #   make page                 makes OUT/semver-ranges.html, the page of web/ in one file
 #   make clean                removes what was compiled of C; what is proved stays
 #   dpkg-buildpackage -b -uc  makes the Debian packages, in the directory above this one
@@ -18,7 +19,7 @@ export PREFIX OUT ZSHDIR
 MAKEFLAGS += -r -j$(shell nproc) --no-print-directory
 .ONESHELL .SILENT .DELETE_ON_ERROR:
 .SHELLFLAGS := -euc
-.PHONY: all stage stage-python install install-python uninstall archive wheel js page clean
+.PHONY: all stage stage-python install install-python uninstall archive wheel js page crate clean
 
 programs := semver-parser release-filter compare-ranges
 checkers := check-lock-file compare-requirements
@@ -217,3 +218,14 @@ page: $(module)
 	web/build "$$work/package" "$$work/semver-ranges.html"
 	mkdir -p "$$OUT" && to=$$OUT put "$$work" ./semver-ranges.html
 	echo "made $$OUT/semver-ranges.html"
+
+# The files of rust/ as they are there; a link becomes the file that it leads to.
+crate:
+	$(begin)
+	may_write "$$OUT"
+	command -v cargo > /dev/null || refuse 'needs the command cargo'
+	cargo package --quiet --offline --allow-dirty --no-verify --manifest-path rust/Cargo.toml \
+		--target-dir "$$work/target" 2> "$$work/notes" || { cat "$$work/notes" >&2; exit 2; }
+	name=semver-parser-proved-$(version).crate
+	mkdir -p "$$OUT" && to=$$OUT put "$$work/target/package" "./$$name"
+	echo "made $$OUT/$$name"

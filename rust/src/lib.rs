@@ -1,6 +1,38 @@
-//! x
+//! Version strings and range strings of Cargo and npm as plain data: the crate `semver-parser`
+//! 0.10.3 under its own names, and what release tools need beyond it.
+//!
+//! ```
+//! use semver_parser::{version, Compat, RangeSet};
+//!
+//! let version = version::parse("1.2.3-rc.4")?;
+//! assert_eq!((version.major, version.minor, version.patch), (1, 2, 3));
+//! let ranges = RangeSet::parse("^1.2.3", Compat::Cargo)?;
+//! assert_eq!(ranges.to_string(), ">=1.2.3 <2.0.0");
+//! # Ok::<(), String>(())
+//! ```
+//!
+//! What a range means to Cargo and npm themselves, [`satisfies`] decides:
+//!
+//! ```
+//! use semver_parser::{satisfies, Dialect};
+//!
+//! assert!(satisfies("1.9.0", "^1.2", Dialect::Npm)?);
+//! assert!(satisfies("1.2.4", "1.2.3", Dialect::Cargo)?); // to Cargo it is ^1.2.3
+//! # Ok::<(), semver_parser::SatisfiesError>(())
+//! ```
+//!
+//! [`sets`] has sets of versions: what two ranges share, and what a changed one loses. [`refusals`]
+//! says where and why a string is refused. [`filters`] has filters of versions and lines.
+//!
+//! The code is written in Rattle, Rust with contracts, and proved there for every input;
+//! `rust/src/proved` is that code without its contracts. It allocates by `try_reserve`: a call that
+//! returns a `Result` with a case for it reports that an allocation failed, and any other ends as
+//! all of Rust does.
+//!
+//! Without the feature `std` (default) the crate needs `alloc` alone, and there are no programs.
 #![no_std]
 #![forbid(unsafe_code)]
+#![warn(missing_docs)]
 
 extern crate alloc;
 #[cfg(feature = "std")]
@@ -10,3 +42,21 @@ extern crate std;
 pub mod proved;
 #[doc(hidden)]
 pub mod rattle_std;
+
+pub mod filters;
+mod original;
+pub mod refusals;
+mod satisfying;
+pub mod sets;
+
+pub use proved::semver_parser::{lexer, parser, version};
+pub use proved::semver_ranges::{Comparator, Compat, Identifier, Op, Range, RangeError, RangeSet};
+pub use proved::tool_ranges::dialect::Dialect;
+pub use proved::tool_ranges::meaning::Meaning;
+pub use proved::version_sets::PreReleases;
+pub use rattle_std::AllocError;
+pub use satisfying::{satisfies, SatisfiesError};
+
+#[cfg(all(doctest, feature = "std"))]
+#[doc = include_str!("../README.md")]
+struct Readme;

@@ -303,6 +303,7 @@ pub mod rt {
     use core::fmt::Display;
     use std::io::{self, Write};
 
+    pub trait AllocGlobal {}
     pub trait Env {}
 
     pub trait Print {
@@ -317,6 +318,7 @@ pub mod rt {
         }
     }
 
+    impl AllocGlobal for super::HostRuntime {}
     impl Env for super::HostRuntime {}
     impl Eprint for super::HostRuntime {}
     impl Print for super::HostRuntime {}
@@ -380,7 +382,7 @@ pub mod prelude {
     };
     #[cfg(feature = "std")]
     pub use super::{
-        rt::{Eprint, Print},
+        rt::{AllocGlobal, Eprint, Print},
         HostRuntime,
     };
     pub use alloc::string::String;

@@ -20,7 +20,7 @@ use std::alloc::{AllocError, Global};
 const CHARACTERS: usize = 256;
 
 /// Why a text is no version.
-#[derive(Clone, Copy, PartialEq, Eq)]
+#[derive(Clone, Copy, PartialEq, Eq, Debug)]
 pub enum Reason {
     /// The text is empty, or only white space that the dialect takes before a version.
     Empty,
@@ -44,7 +44,7 @@ pub enum Reason {
 }
 
 /// Where and why a text is no version.
-#[derive(Clone, Copy)]
+#[derive(Clone, Copy, PartialEq, Eq, Debug)]
 pub struct Refusal {
     /// The byte offset of the first character that no version has there, or the length of the text
     /// if something is missing at its end.

@@ -1,0 +1,59 @@
+# The tests of rust/ for other processors, read by tools/compare: rows, library tests and refused
+# requests on aarch64 and i686 by qemu, with checks of overflow, over Debian's std for these; and
+# `cargo check` for each other target for which there is a std. The packages are unpacked into a
+# folder of its own, and nothing of another architecture is installed.
+for tool in /usr/bin/rustc=rustc-web aarch64-linux-gnu-gcc=gcc-aarch64-linux-gnu \
+    i686-linux-gnu-gcc=gcc-i686-linux-gnu qemu-aarch64=qemu-user; do
+    command -v "${tool%=*}" > /dev/null || {
+        echo "needs ${tool%=*} (Debian: apt-get install ${tool#*=})" >&2
+        exit 2
+    }
+done
+folder=$(mktemp -d)
+trap 'rm -rf "$folder"' EXIT
+trap 'exit 2' HUP INT TERM
+export RUSTC=/usr/bin/rustc CARGO_NET_OFFLINE=true
+version=$(dpkg-query --show --showformat '${Version}' rustc-web)
+"$RUSTC" --version
+
+# apt_of ARCHITECTURE WORD..: apt-get for another architecture, with lists of its own.
+apt_of() {
+    architecture=$1
+    shift
+    mkdir -p "$folder/$architecture/lists/partial" "$folder/$architecture/archives/partial"
+    : > "$folder/$architecture/status"
+    apt-get -qq -o APT::Architecture="$architecture" -o APT::Architectures="$architecture" \
+        -o Dir::State="$folder/$architecture" -o Dir::State::status="$folder/$architecture/status" \
+        -o Dir::Cache="$folder/$architecture" -o APT::Sandbox::User=root "$@"
+}
+
+# unpack ARCHITECTURE TARGET: std for a target, beside that of this machine.
+unpack() {
+    apt_of "$1" update
+    (cd "$folder" && apt_of "$1" download "libstd-rust-web-dev=$version")
+    dpkg -x "$folder"/libstd-rust-web-dev_*_"$1".deb "$folder/sysroot-$2"
+}
+
+# pass TARGET COMPILER RUNNER..: all tests of the crate.
+pass() {
+    name=$(echo "$1" | tr a-z- A-Z_) target=$1 compiler=$2
+    shift 2
+    echo "$target:"
+    env "CARGO_TARGET_${name}_LINKER=$compiler" "CARGO_TARGET_${name}_RUNNER=$*" RUNNER="$*" \
+        RUSTFLAGS="--sysroot $folder/sysroot-$target/usr" \
+        cargo test --quiet --target "$target" --target-dir "$folder/target" --test proved --test api
+}
+
+unpack arm64 aarch64-unknown-linux-gnu
+pass aarch64-unknown-linux-gnu aarch64-linux-gnu-gcc qemu-aarch64 -L /usr/aarch64-linux-gnu
+unpack i386 i686-unknown-linux-gnu
+pass i686-unknown-linux-gnu i686-linux-gnu-gcc qemu-i386 -L /usr/i686-linux-gnu
+unset RUSTC
+here=$(rustc -vV | sed -n 's/^host: //p')
+for target in "$(rustc --print sysroot)"/lib/rustlib/*-*-*/lib; do
+    target=$(basename "$(dirname "$target")")
+    [ "$target" = "$here" ] || {
+        echo "cargo check for $target:"
+        cargo check --quiet --target "$target" --target-dir "$folder/target"
+    }
+done

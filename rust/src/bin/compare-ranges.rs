@@ -1,0 +1,15 @@
+//! The program `compare-ranges`, whose code is that of `crates/compare_ranges_main`.
+
+use semver_parser::rattle_std::{self, HostRuntime};
+
+#[path = "../proved"]
+mod proved {
+    pub use ::semver_parser::proved::*;
+
+    #[allow(clippy::all, unused_imports, unused_variables)]
+    pub mod compare_ranges_main;
+}
+
+fn main() -> rattle_std::process::ExitCode {
+    proved::compare_ranges_main::main(HostRuntime)
+}

@@ -1,0 +1,15 @@
+//! The program `release-filter`, whose code is that of `crates/release_filter_main`.
+
+use semver_parser::rattle_std::{self, HostRuntime};
+
+#[path = "../proved"]
+mod proved {
+    pub use ::semver_parser::proved::*;
+
+    #[allow(clippy::all, unused_imports, unused_variables)]
+    pub mod release_filter_main;
+}
+
+fn main() -> rattle_std::process::ExitCode {
+    proved::release_filter_main::main(HostRuntime)
+}

@@ -1,0 +1,15 @@
+//! The program `semver-parser`, whose code is that of `crates/semver_parser_main`.
+
+use semver_parser::rattle_std::{self, HostRuntime};
+
+#[path = "../proved"]
+mod proved {
+    pub use ::semver_parser::proved::*;
+
+    #[allow(clippy::all, unused_imports, unused_variables)]
+    pub mod semver_parser_main;
+}
+
+fn main() -> rattle_std::process::ExitCode {
+    proved::semver_parser_main::main(HostRuntime)
+}

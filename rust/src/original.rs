@@ -1,0 +1,82 @@
+//! The signatures of the Rust crate `semver-parser` 0.10.3 that the proved calls don't have: they
+//! report a failed allocation, and these end the process, as all of Rust does.
+
+use crate::parser;
+use crate::version;
+use crate::{Compat, RangeError, RangeSet};
+use alloc::alloc::{handle_alloc_error, Layout};
+use alloc::string::{String, ToString};
+use core::str::FromStr;
+
+/// What Rust does if an allocation fails.
+#[cold]
+pub(crate) fn out_of_memory() -> ! {
+    handle_alloc_error(Layout::new::<u64>())
+}
+
+impl RangeSet {
+    /// Reads a range string into plain comparators, as the Rust crate does: its error is a sentence.
+    /// [`RangeSet::try_parse`] has an error that a program can match.
+    ///
+    /// # Errors
+    ///
+    /// The sentence of [`RangeError`], if the string isn't a range, or a number of it is too large.
+    ///
+    /// ```
+    /// use semver_parser::{Compat, RangeSet};
+    ///
+    /// let set = RangeSet::parse("1.2.3", Compat::Cargo)?;
+    /// assert_eq!(set.to_string(), ">=1.2.3 <2.0.0");
+    /// assert_eq!(RangeSet::parse("1.2.3", Compat::Npm)?.to_string(), "=1.2.3");
+    /// assert_eq!(RangeSet::parse("a", Compat::Npm).unwrap_err(), "not a range");
+    /// # Ok::<(), String>(())
+    /// ```
+    pub fn parse(input: &str, compat: Compat) -> Result<RangeSet, String> {
+        Ok(RangeSet::try_parse(input, compat)?)
+    }
+}
+
+impl FromStr for RangeSet {
+    type Err = String;
+
+    /// As [`RangeSet::parse`] does in Cargo mode.
+    fn from_str(input: &str) -> Result<RangeSet, String> {
+        RangeSet::parse(input, Compat::Cargo)
+    }
+}
+
+impl From<RangeError> for String {
+    fn from(error: RangeError) -> String {
+        match error {
+            RangeError::OutOfMemory => out_of_memory(),
+            error => error.to_string(),
+        }
+    }
+}
+
+impl version::Identifier {
+    /// The identifier followed by `add_str`, as `AlphaNumeric` whatever both are.
+    /// [`version::Identifier::try_concat`] gives the identifier back if an allocation fails.
+    ///
+    /// ```
+    /// use semver_parser::version::Identifier;
+    ///
+    /// let joined = Identifier::Numeric(7).concat("a");
+    /// assert_eq!(joined, Identifier::AlphaNumeric("7a".to_string()));
+    /// ```
+    pub fn concat(self, add_str: &str) -> version::Identifier {
+        self.try_concat(add_str).unwrap_or_else(|_| out_of_memory())
+    }
+}
+
+impl From<parser::Error<'_>> for String {
+    fn from(error: parser::Error<'_>) -> String {
+        match error {
+            parser::Error::OutOfMemory => out_of_memory(),
+            error => error.to_string(),
+        }
+    }
+}
+
+#[cfg(feature = "std")]
+impl std::error::Error for parser::Error<'_> {}

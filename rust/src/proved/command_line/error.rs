@@ -1,0 +1,62 @@
+// Made by tools/erase from crates/command_line/src/error.rt; not edited by hand.
+//! What is wrong with arguments.
+
+use crate::rattle_std::prelude::*;
+use crate::rattle_std::AllocError;
+
+/// What is wrong with the arguments of a program. Each text names options as they are written.
+#[derive(Debug)]
+pub enum ArgumentError {
+    /// They can't be read, or memory ran out.
+    Unreadable,
+    /// This option is unknown.
+    UnknownOption(String),
+    /// Nothing follows `--dialect`, or `--as`.
+    NoDialect,
+    /// What follows `--dialect` names no dialect.
+    UnknownDialect(String),
+    /// Nothing follows `--prefix`.
+    NoPrefix,
+    /// Before this option it, or another of the same meaning, was given.
+    GivenTwice(&'static str),
+    /// The first option says otherwise than the second, which was given before.
+    Contradiction(&'static str, &'static str),
+    /// Nothing, or something unknown, follows `--fail-on`.
+    NoChange,
+    /// `--fail-on` is given with one range.
+    NoComparison,
+    /// `--reverse` is given without `--sort`.
+    NoOrder,
+    /// There is no range text.
+    NoRange,
+    /// There are more than two range texts.
+    MoreThanTwoRanges,
+}
+
+impl crate::rattle_std::fmt::Display for ArgumentError {
+    fn fmt(&self, f: &mut crate::rattle_std::fmt::Formatter<'_>) -> crate::rattle_std::fmt::Result {
+        match self {
+            ArgumentError::Unreadable => write!(f, "cannot read arguments"),
+            ArgumentError::UnknownOption(_0) => write!(f, "unknown option: {_0:?}"),
+            ArgumentError::NoDialect => write!(f, "--dialect needs a name"),
+            ArgumentError::UnknownDialect(_0) => write!(f, "unknown dialect: {_0:?}"),
+            ArgumentError::NoPrefix => write!(f, "--prefix needs a text"),
+            ArgumentError::GivenTwice(_0) => write!(f, "{_0} is given twice"),
+            ArgumentError::Contradiction(_0, _1) => write!(f, "{_0} contradicts {_1}"),
+            ArgumentError::NoChange => write!(f, "--fail-on needs lost, gained or any"),
+            ArgumentError::NoComparison => write!(f, "--fail-on needs two ranges"),
+            ArgumentError::NoOrder => write!(f, "--reverse needs --sort"),
+            ArgumentError::NoRange => write!(f, "no range"),
+            ArgumentError::MoreThanTwoRanges => write!(f, "more than two ranges"),
+        }
+    }
+}
+
+#[cfg(feature = "std")]
+impl crate::rattle_std::Error for ArgumentError {}
+
+impl From<AllocError> for ArgumentError {
+    fn from(_error: AllocError) -> ArgumentError {
+        ArgumentError::Unreadable
+    }
+}

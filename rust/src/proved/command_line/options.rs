@@ -1,0 +1,129 @@
+// Made by tools/erase from crates/command_line/src/options.rt; not edited by hand.
+
+use crate::rattle_std::prelude::*;
+use crate::proved::command_line::error::ArgumentError;
+use crate::proved::tool_ranges::dialect::Dialect;
+use crate::proved::tool_ranges::meaning::Meaning;
+use crate::proved::version_sets::PreReleases;
+
+/// What the options say that were taken so far: the dialect, and which pre-releases count.
+pub struct MeaningOptions {
+    /// The dialect that was asked for, and the option that did so.
+    dialect: Option<(Dialect, &'static str)>,
+    /// The rule for pre-releases that was asked for.
+    rule: Option<PreReleases>,
+    /// Whether the next argument names the dialect.
+    wants_name: bool,
+}
+
+impl MeaningOptions {
+    /// What holds without an option.
+    pub fn new() -> MeaningOptions {
+        MeaningOptions {
+            dialect: None,
+            rule: None,
+            wants_name: false,
+        }
+    }
+
+    /// Takes an argument, and returns whether it is one of these options, or the name that follows
+    /// `--dialect` or `--as`. Others are left to the program.
+    ///
+    /// # Errors
+    ///
+    /// `UnknownDialect` of a name that no dialect has, and `Unreadable` in its place only.
+    /// `GivenTwice` and `Contradiction` if an earlier option says the same or otherwise; they name
+    /// the long forms. After an error the options are those before it, and no name is wanted.
+    pub fn take(&mut self,argument: &str) -> Result<bool, ArgumentError> {
+        if self.wants_name {
+            self.wants_name = false;
+            self.ask_by_name(argument)?;
+            return Ok(true);
+        }
+        if let Some(name) = argument.strip_prefix("--dialect=") {
+            self.ask_by_name(name)?;
+            return Ok(true);
+        }
+        if let Some(name) = argument.strip_prefix("--as=") {
+            self.ask_by_name(name)?;
+            return Ok(true);
+        }
+        match argument {
+            "--dialect" | "--as" => self.wants_name = true,
+            "--npm" => self.ask(Dialect::Npm, "--npm")?,
+            "--releases-only" | "--releases" => self.count(PreReleases::Excluded)?,
+            "--include-prerelease" | "--pre" => self.count(PreReleases::Included)?,
+            "--pre-stated" => self.count(PreReleases::Default)?,
+            _ => return Ok(false),
+        }
+        Ok(true)
+    }
+
+    /// Whether an option asked for a dialect.
+    pub fn has_dialect(&self) -> bool {
+        self.dialect.is_some()
+    }
+
+    /// What the options say, once all are taken. Without one it is Cargo's dialect, and the default
+    /// rule for pre-releases.
+    ///
+    /// # Errors
+    ///
+    /// `NoDialect` if nothing followed `--dialect` or `--as`.
+    pub fn finish(self) -> Result<Meaning, ArgumentError> {
+        if self.wants_name {
+            return Err(ArgumentError::NoDialect);
+        }
+        Ok(Meaning {
+            dialect: self.dialect.map_or(Dialect::Cargo, |(dialect, _)| dialect),
+            pre_releases: self.rule.unwrap_or(PreReleases::Default),
+        })
+    }
+
+    /// Takes the dialect of a name.
+    fn ask_by_name(&mut self,name: &str) -> Result<(), ArgumentError> {
+        match name {
+            "cargo" => self.ask(Dialect::Cargo, "--dialect cargo"),
+            "npm" => self.ask(Dialect::Npm, "--dialect npm"),
+            "crate-cargo" => self.ask(Dialect::CrateCargo, "--dialect crate-cargo"),
+            "crate-npm" => self.ask(Dialect::CrateNpm, "--dialect crate-npm"),
+            _ => Err(ArgumentError::UnknownDialect(name.fallible_to_string()?)),
+        }
+    }
+
+    /// Takes the dialect that an option asks for.
+    fn ask(&mut self, dialect: Dialect, option: &'static str) -> Result<(), ArgumentError> {
+        let earlier = self.dialect;
+        match earlier {
+            Some((earlier, _)) if earlier == dialect => Err(ArgumentError::GivenTwice(option)),
+            Some((_, earlier)) => Err(ArgumentError::Contradiction(option, earlier)),
+            None => {
+                self.dialect = Some((dialect, option));
+                Ok(())
+            }
+        }
+    }
+
+    /// Takes the rule for pre-releases that an option asks for.
+    fn count(&mut self, rule: PreReleases) -> Result<(), ArgumentError> {
+        let option = option_of(rule);
+        let earlier = self.rule;
+        match earlier {
+            Some(earlier) if earlier == rule => Err(ArgumentError::GivenTwice(option)),
+            Some(earlier) => Err(ArgumentError::Contradiction(option, option_of(earlier))),
+            None => {
+                self.rule = Some(rule);
+                Ok(())
+            }
+        }
+    }
+}
+
+/// The option that asks for a rule for pre-releases.
+fn option_of(rule: PreReleases) -> &'static str {
+    match rule {
+        PreReleases::Excluded => "--releases-only",
+        PreReleases::Default => "--pre-stated",
+        PreReleases::Included => "--include-prerelease",
+    }
+}

@@ -1,0 +1,65 @@
+// Made by tools/erase from crates/command_line/src/program.rt; not edited by hand.
+//! What a program writes of itself and of errors.
+#![cfg(feature = "std")]
+
+use crate::rattle_std::prelude::*;
+use crate::proved::command_line::error::ArgumentError;
+use crate::proved::command_line::refused::refused_text;
+use crate::proved::semver_parser::RangeError;
+use crate::rattle_std::io::{self, ErrorKind};
+use crate::rattle_std::process::ExitCode;
+use crate::proved::tool_ranges::dialect::Dialect;
+
+/// A program. Each line that it writes on standard error begins with its name. What can't be
+/// written there is left out.
+#[derive(Clone, Copy)]
+pub struct Program {
+    /// The name.
+    pub name: &'static str,
+}
+
+impl Program {
+    /// Writes texts to standard output, each with a line feed, and returns the status. It is no
+    /// error if the reader closed the pipe.
+    pub fn write_texts(self, rt: &HostRuntime, texts: &[&str]) -> ExitCode {
+        for text in texts {
+            match crate::rattle_std::fallible_println!(rt; "{text}") {
+                Ok(()) => {}
+                Err(error) if error.kind() == ErrorKind::BrokenPipe => return ExitCode::SUCCESS,
+                Err(error) => return self.cannot_write(rt, &error),
+            }
+        }
+        ExitCode::SUCCESS
+    }
+
+    /// Writes what is wrong with the arguments, in one line, and returns status 2.
+    pub fn misused(self, rt: &impl Eprint, error: &ArgumentError) -> ExitCode {
+        let name = self.name;
+        let _ = match error {
+            ArgumentError::Unreadable => crate::rattle_std::fallible_eprintln!(rt; "{name}: {error}"),
+            _ => crate::rattle_std::fallible_eprintln!(rt; "{name}: {error}; see {name} --help"),
+        };
+        ExitCode::from(2)
+    }
+
+    /// Writes that output can't be written, and returns status 2.
+    pub fn cannot_write(self, rt: &impl Eprint, error: &io::Error) -> ExitCode {
+        let _ = crate::rattle_std::fallible_eprintln!(rt; "{}: cannot write output: {error}", self.name);
+        ExitCode::from(2)
+    }
+
+    /// Writes the error of a range text, with the text and the offset, and returns status 2.
+    pub fn refuse_range(
+        self,
+        rt: &HostRuntime,
+        dialect: Dialect,
+        error: &RangeError,
+        range: &str,
+    ) -> ExitCode {
+        let _ = match refused_text(dialect, error, range) {
+            Ok(text) => crate::rattle_std::fallible_eprintln!(rt; "{}: {text}", self.name),
+            Err(_) => crate::rattle_std::fallible_eprintln!(rt; "{}: {error}: {range:?}", self.name),
+        };
+        ExitCode::from(2)
+    }
+}

@@ -1,0 +1,75 @@
+// Made by tools/erase from crates/command_line/src/refused.rt; not edited by hand.
+//! The text of a range's error: the offset of the first byte that no range could have there, with a
+//! caret under it, and a hint if another dialect takes it or a known rule is broken.
+
+use crate::rattle_std::prelude::*;
+use crate::proved::command_line::sentences::sentence;
+use crate::proved::command_line::shown::Shown;
+use crate::proved::semver_parser::RangeError;
+use crate::rattle_std::AllocError;
+use crate::proved::tool_ranges::dialect::Dialect;
+use crate::proved::tool_ranges::refusals::{Refusal, refused};
+
+/// The text of an error: the error and the range text, and two lines more with the offset, and a
+/// hint if there is one. A long text is shortened. `Err` is out of memory.
+///
+/// Of `1.2 || 3` as Cargo reads it:
+///
+/// ```text
+/// not a range: "1.2 || 3"
+///     1.2 || 3
+///         ^ at byte 4: Cargo takes no ||; --dialect npm does
+/// ```
+pub fn refused_text(dialect: Dialect,
+    error: &RangeError,
+    text: &str,
+) -> Result<String, AllocError> {
+    let mut written = String::new();
+    match refused(dialect, text)? {
+        Some(refusal) => write_refusal(&mut written, &refusal, text)?,
+        None => write!(written, "{error}: {}", Shown::round(text, 0))?,
+    }
+    Ok(written)
+}
+
+/// The text of an error in one line, without the range text:
+/// `not a range (at byte 4: Cargo takes no ||; --dialect npm does)`. `Err` is out of memory.
+pub fn refused_line(dialect: Dialect,
+    error: &RangeError,
+    text: &str,
+) -> Result<String, AllocError> {
+    let mut written = String::new();
+    match refused(dialect, text)? {
+        Some(refusal) => {
+            write!(written, "{} (", refusal.error)?;
+            write_why(&mut written, &refusal, text)?;
+            written.fallible_push(')')?;
+        }
+        None => write!(written, "{error}")?,
+    }
+    Ok(written)
+}
+
+/// Writes the lines of an error with its offset.
+fn write_refusal(out: &mut String, refusal: &Refusal, text: &str) -> Result<(), AllocError> {
+    let shown = Shown::round(text, refusal.offset);
+    write!(out, "{}: {shown}", refusal.error)?;
+    shown.write_pointed(out)?;
+    write_why(out, refusal, text)
+}
+
+/// Writes the offset of an error, and the hint if there is one.
+fn write_why(out: &mut String, refusal: &Refusal, text: &str) -> Result<(), AllocError> {
+    let offset = refusal.offset;
+    if offset < text.len() {
+        write!(out, "at byte {offset}")?;
+    } else if refusal.hint.is_some() {
+        write!(out, "at the end")?;
+    } else {
+        write!(out, "something is missing at the end")?;
+    }
+    match refusal.hint {
+        Some(hint) => write!(out, ": {}", sentence(hint)),
+        None => Ok(()),
+    }
+}

@@ -1,0 +1,186 @@
+// Made by tools/erase from crates/compare_ranges_main/src/arguments.rt; not edited by hand.
+//! What the arguments ask for.
+#![cfg(feature = "std")]
+
+use crate::rattle_std::prelude::*;
+use crate::proved::command_line::{ArgumentError, MeaningOptions};
+use crate::rattle_std::env;
+use crate::rattle_std::rt::Env;
+use crate::proved::tool_ranges::meaning::Meaning;
+
+/// What the arguments ask for.
+pub enum Request {
+    /// To say what a range means, or to compare two.
+    Read(Wanted),
+    /// To tell the usage.
+    Help,
+    /// To tell the version of the program.
+    Version,
+}
+
+/// The ranges that the arguments name, and what is to be written of them.
+pub struct Wanted {
+    /// The range text; of two the old one.
+    pub range: String,
+    /// The new range text, if there are two.
+    pub new: Option<String>,
+    /// How they are read.
+    pub meaning: Meaning,
+    /// Whether an option named the dialect.
+    pub has_dialect: bool,
+    /// What is written, and which status says that two ranges differ.
+    pub options: Options,
+}
+
+/// What is written of some versions.
+#[derive(Clone, Copy)]
+pub enum Extent {
+    /// All of them, as ranges.
+    Whole,
+    /// The lowest of them.
+    Lowest,
+}
+
+/// Which change of two ranges is the status 1.
+#[derive(Clone, Copy)]
+pub enum Change {
+    /// Versions are lost.
+    Lost,
+    /// Versions are gained.
+    Gained,
+    /// Either.
+    Any,
+}
+
+/// The options of this program alone.
+#[derive(Clone, Copy)]
+pub struct Options {
+    /// What is written of the versions.
+    pub extent: Extent,
+    /// Whether it is written as JSON.
+    pub is_json: bool,
+    /// The change that `--fail-on` asks for.
+    pub fails_on: Option<Change>,
+    /// Whether the next argument names that change.
+    wants_change: bool,
+    /// Whether options may follow.
+    has_more: bool,
+}
+
+impl Options {
+    /// What holds without an option.
+    fn new() -> Options {
+        Options {
+            extent: Extent::Whole,
+            is_json: false,
+            fails_on: None,
+            wants_change: false,
+            has_more: true,
+        }
+    }
+
+    /// Takes an option, and returns whether it is known.
+    fn take(&mut self, option: &str) -> Result<bool, ArgumentError> {
+        if let Some(change) = option.strip_prefix("--fail-on=") {
+            self.take_change(change)?;
+            return Ok(true);
+        }
+        match option {
+            "--lowest" | "--least" => self.take_lowest()?,
+            "--json" if self.is_json => return Err(ArgumentError::GivenTwice("--json")),
+            "--json" => self.is_json = true,
+            "--fail-on" => self.wants_change = true,
+            "--" => self.has_more = false,
+            _ => return Ok(false),
+        }
+        Ok(true)
+    }
+
+    /// Takes that the lowest versions are written.
+    fn take_lowest(&mut self) -> Result<(), ArgumentError> {
+        match self.extent {
+            Extent::Lowest => Err(ArgumentError::GivenTwice("--lowest")),
+            Extent::Whole => {
+                self.extent = Extent::Lowest;
+                Ok(())
+            }
+        }
+    }
+
+    /// Takes the change that is the status 1.
+    fn take_change(&mut self, change: &str) -> Result<(), ArgumentError> {
+        self.wants_change = false;
+        if self.fails_on.is_some() {
+            return Err(ArgumentError::GivenTwice("--fail-on"));
+        }
+        self.fails_on = match change {
+            "lost" => Some(Change::Lost),
+            "gained" => Some(Change::Gained),
+            "any" => Some(Change::Any),
+            _ => return Err(ArgumentError::NoChange),
+        };
+        Ok(())
+    }
+}
+
+/// What the arguments ask for. What begins with a hyphen is an option, up to the first `--`, but
+/// for what follows `--dialect`, `--as` and `--fail-on`.
+pub fn requested(rt: &(impl Env + AllocGlobal)) -> Result<Request, ArgumentError> {
+    let Ok(mut arguments) = env::args(rt) else {
+        return Err(ArgumentError::Unreadable);
+    };
+    let _program = arguments.next();
+    let mut range = None;
+    let mut new = None;
+    let mut meaning = MeaningOptions::new();
+    let mut options = Options::new();
+    for argument in arguments {
+        if options.wants_change {
+            options.take_change(argument.as_str())?;
+            continue;
+        }
+        if options.has_more && meaning.take(argument.as_str())? {
+            continue;
+        }
+        match argument.as_str() {
+            "-h" | "--help" if options.has_more => return Ok(Request::Help),
+            "--version" if options.has_more => return Ok(Request::Version),
+            text if options.has_more && text.starts_with('-') => {
+                if !options.take(text)? {
+                    return Err(ArgumentError::UnknownOption(argument));
+                }
+            }
+            _ if new.is_some() => return Err(ArgumentError::MoreThanTwoRanges),
+            _ if range.is_some() => new = Some(argument),
+            _ => range = Some(argument),
+        }
+    }
+    request_of(range, new, meaning, options)
+}
+
+/// What arguments ask for that are taken one by one.
+fn request_of(
+    range: Option<String>,
+    new: Option<String>,
+    meaning: MeaningOptions,
+    options: Options,
+) -> Result<Request, ArgumentError> {
+    if options.wants_change {
+        return Err(ArgumentError::NoChange);
+    }
+    let has_dialect = meaning.has_dialect();
+    let meaning = meaning.finish()?;
+    let Some(range) = range else {
+        return Err(ArgumentError::NoRange);
+    };
+    if options.fails_on.is_some() && new.is_none() {
+        return Err(ArgumentError::NoComparison);
+    }
+    Ok(Request::Read(Wanted {
+        range,
+        new,
+        meaning,
+        has_dialect,
+        options,
+    }))
+}

@@ -1,0 +1,164 @@
+// Made by tools/erase from crates/library_tests/src/bytes.rt; not edited by hand.
+//! Versions read from bytes, which needn't be UTF-8.
+#![cfg(feature = "std")]
+
+use crate::rattle_std::prelude::*;
+use crate::proved::semver_parser::version::{self, Grammar, Identifier};
+use crate::proved::semver_versions::version::outline_of_numbers;
+use crate::rattle_std::AllocError;
+use crate::rattle_std::io;
+
+/// Bytes, and the printed version that they spell; none where they spell none.
+const BYTES: [(&[u8], Option<&str>); 14] = [
+    (b"1.2.3", Some("1.2.3")),
+    (b" 1.2.3-rc.4+b5\n", Some("1.2.3-rc.4+b5")),
+    (b"\t1.2.3+7\r\n", Some("1.2.3+7")),
+    (b"", None),
+    (b"1.2", None),
+    (b"\xff", None),
+    (b"\xff1.2.3", None),
+    (b"1.2.3\xff", None),
+    (b"1.2.3 \xff", None),
+    (b"1.2.3-a\xff", None),
+    (b"1.2.3-\xc3\xa9", None),
+    (b"1.2.3+a.\xc3", None),
+    (b"1.\xd9\xa2.3", None),
+    (b"\xc2\xa01.2.3", None),
+];
+
+/// Texts, and their parts, each with how many bytes are before it.
+const PARTS: [(&str, (&str, usize), (&str, usize)); 6] = [
+    ("1.2.3", ("", 0), ("", 0)),
+    ("1.2.3-rc.1+b5", ("rc.1", 6), ("b5", 11)),
+    (" 1.2.3-rc.4+b5\n", ("rc.4", 7), ("b5", 12)),
+    ("1.2.3+b5", ("", 0), ("b5", 6)),
+    ("\t 10.20.30-a-b ", ("a-b", 11), ("", 0)),
+    ("1.0.0-1+1", ("1", 6), ("1", 8)),
+];
+
+/// Bytes, and whether they spell a version in the crate's dialect, in Cargo's and in npm's.
+const DIALECTS: [(&[u8], [bool; 3]); 10] = [
+    (b"1.2.3-rc.1+b5", [true, true, true]),
+    (b"\t1.2.3 ", [true, false, true]),
+    (b"v1.2.3", [false, false, true]),
+    (b"1.2.3-01", [true, false, false]),
+    (b"1.2.3-a--b", [false, true, true]),
+    (b"1.2.3+--", [false, true, true]),
+    (b"9007199254740992.0.0", [true, true, false]),
+    (b"\xc2\xa01.2.3\xe2\x80\x83", [false, false, true]),
+    (b"1.2.3\xff", [false, false, false]),
+    (b"1.2", [false, false, false]),
+];
+
+/// Writes the places of the bytes that are read as something else, and how many there were.
+pub fn write_bytes(rt: &impl Print) -> io::Result<()> {
+    for (place, (bytes, wanted)) in BYTES.iter().enumerate() {
+        if !are_read_as(bytes, *wanted)? || !are_outlined_as(bytes, *wanted)? {
+            crate::rattle_std::fallible_println!(rt; "bytes: wrong at {place}")?;
+        }
+    }
+    for (text, pre, build) in PARTS.iter() {
+        if !has_parts(text, *pre, *build) || !are_cut_as(text, pre.0, build.0)? {
+            crate::rattle_std::fallible_println!(rt; "parts: wrong of {text}")?;
+        }
+    }
+    for (place, (bytes, wanted)) in DIALECTS.iter().enumerate() {
+        if !are_versions(bytes, *wanted) {
+            crate::rattle_std::fallible_println!(rt; "dialects: wrong at {place}")?;
+        }
+    }
+    if !are_read_after_numbers() || !are_read_of_numbers() {
+        crate::rattle_std::fallible_println!(rt; "parts: wrong after numbers")?;
+    }
+    crate::rattle_std::fallible_println!(rt; "bytes: {} texts and others", BYTES.len())
+}
+
+/// Whether the bytes are read as the version that prints so, or as none.
+fn are_read_as(bytes: &[u8], wanted: Option<&str>) -> Result<bool, AllocError> {
+    match (version::read_bytes(bytes)?, wanted) {
+        (Some(version), Some(wanted)) => Ok(version.fallible_to_string()?.as_str() == wanted),
+        (None, None) => Ok(true),
+        _ => Ok(false),
+    }
+}
+
+/// Whether the bytes have an outline of which the version can be made that prints so, or none.
+fn are_outlined_as(bytes: &[u8], wanted: Option<&str>) -> Result<bool, AllocError> {
+    match (version::outline_bytes(bytes), wanted) {
+        (Some(outline), Some(wanted)) => {
+            let version = outline.version()?;
+            Ok(version.fallible_to_string()?.as_str() == wanted)
+        }
+        (None, None) => Ok(true),
+        _ => Ok(false),
+    }
+}
+
+/// Whether a text has these parts, and returns where they begin.
+fn has_parts(text: &str, pre: (&str, usize), build: (&str, usize)) -> bool {
+    let Some(outline) = version::outline(text) else {
+        return false;
+    };
+    outline.pre() == pre.0
+        && outline.pre_offset() == pre.1
+        && outline.build() == build.0
+        && outline.build_offset() == build.1
+}
+
+/// Whether the parts of `1.2.3-rc.4+b5` are read after its numbers, and none of `1.2.3.4`.
+fn are_read_after_numbers() -> bool {
+    let Some(outline) = outline_of_numbers(1, 2, 3, 5, b"-rc.4+b5", Grammar::Crate) else {
+        return false;
+    };
+    outline.patch() == 3
+        && outline.pre() == "rc.4"
+        && outline.pre_offset() == 6
+        && outline.build() == "b5"
+        && outline.build_offset() == 11
+        && outline_of_numbers(1, 2, 3, 5, b".4", Grammar::Crate).is_none()
+}
+
+/// Whether the bytes have an outline in the crate's dialect, in Cargo's and in npm's.
+fn are_versions(bytes: &[u8], wanted: [bool; 3]) -> bool {
+    let [by_crate, by_cargo, by_npm] = wanted;
+    version::outline_in(bytes, Grammar::Crate).is_some() == by_crate
+        && version::outline_in(bytes, Grammar::Cargo).is_some() == by_cargo
+        && version::outline_in(bytes, Grammar::Npm).is_some() == by_npm
+}
+
+/// Whether the parts of `1.2.3-a--b+b5` are read after its numbers as npm reads it, and none of it
+/// in the crate's dialect.
+fn are_read_of_numbers() -> bool {
+    let rest = b"-a--b+b5";
+    let Some(outline) = outline_of_numbers(1, 2, 3, 5, rest, Grammar::Npm) else {
+        return false;
+    };
+    outline.minor() == 2
+        && outline.pre() == "a--b"
+        && outline.pre_offset() == 6
+        && outline.build() == "b5"
+        && outline.build_offset() == 11
+        && outline_of_numbers(1, 2, 3, 5, rest, Grammar::Crate).is_none()
+}
+
+/// Whether the identifiers that a text's parts are cut to print as these.
+fn are_cut_as(text: &str, pre: &str, build: &str) -> Result<bool, AllocError> {
+    let Some(outline) = version::outline(text) else {
+        return Ok(false);
+    };
+    let identifiers = outline.pre_identifiers()?;
+    let others = outline.build_identifiers()?;
+    Ok(print_as(&identifiers, pre)? && print_as(&others, build)?)
+}
+
+/// Whether the identifiers print as the text, joined by dots.
+fn print_as(identifiers: &[Identifier], text: &str) -> Result<bool, AllocError> {
+    let mut joined = String::new();
+    for identifier in identifiers {
+        if !joined.is_empty() {
+            joined.fallible_push('.')?;
+        }
+        joined.fallible_push_str(identifier.fallible_to_string()?.as_str())?;
+    }
+    Ok(joined.as_str() == text)
+}

@@ -1,0 +1,344 @@
+// Made by tools/erase from crates/library_tests/src/lines.rt; not edited by hand.
+//! The lines of a text that comes in pieces: cut at each place, and in pieces of equal lengths.
+#![cfg(feature = "std")]
+
+use crate::rattle_std::prelude::*;
+use crate::proved::release_filter::{Filter, Lines, LinesError, PreReleases, Wanted};
+use crate::proved::semver_parser::Compat;
+use crate::rattle_std::AllocError;
+use crate::rattle_std::io;
+
+/// The text: a byte order mark, six versions of which `^1.2` means four, an empty line, and the
+/// second line, which is no version.
+const TEXT: &[u8] = b"\xEF\xBB\xBF1.2.0\r\nx\n1.3.0-rc\n\r\n1.9.0+b\n2.0.0\n1.9.0+a\n1.4.0";
+
+/// What is appended of it, by what is wanted.
+const APPENDED: [(Wanted, &str); 4] = [
+    (Wanted::Each, "1.2.0\r\n1.9.0+b\n1.9.0+a\n1.4.0"),
+    (Wanted::Greatest, "1.9.0+b\n"),
+    (Wanted::Least, "1.2.0\r\n"),
+    (Wanted::Sorted, "1.2.0\r\n1.4.0\n1.9.0+b\n1.9.0+a\n"),
+];
+
+/// Lines that are no version: bytes that are no UTF-8, a bad character, more than a version, less,
+/// and a word.
+const INVALID_LINES: [&[u8]; 5] = [b"1.2.\xff", b"1.2.0/", b"1.2.0 a", b"1.2.0-", b"a"];
+
+/// How many bytes a piece has. The last is the whole text.
+const LENGTHS: [usize; 5] = [1, 2, 3, 7, 64];
+
+/// Lines with two prefixes, and what `^11` keeps of them: the first prefix after which there is a
+/// version decides.
+const PREFIXES: [(&str, &str, &str, &str); 6] = [
+    (
+        "v",
+        "",
+        "v11.2.0\n11.4.0\nw11.5.0\nvv11.6.0\n",
+        "v11.2.0\n11.4.0\n",
+    ),
+    (
+        "",
+        "v",
+        "v11.2.0\n11.4.0\nw11.5.0\nvv11.6.0\n",
+        "v11.2.0\n11.4.0\n",
+    ),
+    ("1", "", "11.2.0\n111.2.0\n", "111.2.0\n"),
+    ("", "1", "11.2.0\n111.2.0\n", "11.2.0\n"),
+    ("v", "vv", "vv11.2.0\nv11.2.0", "vv11.2.0\nv11.2.0"),
+    ("v", "w", "é11.2.0\nv\n11.2.0\n", ""),
+];
+
+/// How long lines begin, the byte that follows again and again, and whether `^1.2` keeps them.
+const LONG_LINES: [(&str, u8, bool); 7] = [
+    ("", b'a', false),
+    ("1.2.0x", b'1', false),
+    ("\u{FEFF}1.2.0_", b'a', false),
+    ("", b' ', false),
+    ("1.2.0+", b'a', true),
+    ("1.2.0", b' ', true),
+    ("1.2.0", b'\r', true),
+];
+
+/// How many letters late lines have: they are a version so far, and show then that they are none.
+const LATE_LINES: [usize; 2] = [5000, 9000];
+
+/// Writes at which cuts of the text something else is appended, and how many cuts there were.
+pub fn write_cuts(rt: &impl Print) -> io::Result<()> {
+    let mut cuts = 0u32;
+    for (wanted, appended) in &APPENDED {
+        for place in 0..=TEXT.len() {
+            let (front, back) = TEXT.split_at(place);
+            if !appends(*wanted, &[front, back], appended)? {
+                crate::rattle_std::fallible_println!(rt; "lines: wrong where the text is cut after {place} bytes")?;
+            }
+            cuts = cuts.saturating_add(1);
+        }
+        for length in LENGTHS {
+            if !appends_in_pieces(*wanted, length, appended)? {
+                crate::rattle_std::fallible_println!(rt; "lines: wrong in pieces of {length}")?;
+            }
+            cuts = cuts.saturating_add(1);
+        }
+    }
+    crate::rattle_std::fallible_println!(rt; "lines: {cuts} cuts")
+}
+
+/// Writes at which lengths of pieces the lines don't stop at the line that is no version, and how
+/// many lengths there were.
+pub fn write_strict_lines(rt: &impl Print) -> io::Result<()> {
+    let mut stops = 0u32;
+    for (wanted, appended) in &APPENDED {
+        for length in LENGTHS {
+            if !stops_and_goes_on(*wanted, length, appended)? {
+                crate::rattle_std::fallible_println!(rt; "lines: wrong where pieces of {length} have an invalid line")?;
+            }
+            stops = stops.saturating_add(1);
+        }
+        if !stops_at_the_end(*wanted)? {
+            crate::rattle_std::fallible_println!(rt; "lines: wrong at an invalid last line")?;
+        }
+        stops = stops.saturating_add(1);
+    }
+    crate::rattle_std::fallible_println!(rt; "lines: {stops} stops")
+}
+
+/// Writes which invalid lines aren't skipped and counted, and how many there were.
+pub fn write_invalid_lines(rt: &impl Print) -> io::Result<()> {
+    let mut count = 0u32;
+    for line in &INVALID_LINES {
+        for before in ["", "\n", "1.2.0\n"] {
+            for after in ["", "\n", "\n1.9.0"] {
+                if !skips(before, line, after)? {
+                    crate::rattle_std::fallible_println!(rt; "lines: wrong at {}", line.escape_ascii())?;
+                }
+                count = count.saturating_add(1);
+            }
+        }
+    }
+    crate::rattle_std::fallible_println!(rt; "lines: {count} invalid lines")
+}
+
+/// Writes which long lines are kept, skipped or counted otherwise, and how many there were. The
+/// first 4,096 bytes show of most that they are no version, and of the late ones twice as many or
+/// four times as many do.
+pub fn write_long_lines(rt: &impl Print) -> io::Result<()> {
+    let mut count = 0u32;
+    for (front, byte, is_kept) in &LONG_LINES {
+        for length in 4094..4100usize {
+            let mut line = Vec::new();
+            line.fallible_extend_from_slice(front.as_bytes())?;
+            for _ in line.len()..length {
+                line.fallible_push(*byte)?;
+            }
+            for place in [0, 1, 4095, 4096, 4097, length] {
+                if !takes_long(line.as_slice(), place, *is_kept)? {
+                    crate::rattle_std::fallible_println!(rt; "lines: wrong at {length} bytes that begin with {front:?}")?;
+                }
+                count = count.saturating_add(1);
+            }
+        }
+    }
+    for letters in LATE_LINES {
+        let line = late_line(letters)?;
+        for place in [0, 4096, 4097, 8191, 8192, 8193, 16384, 16385] {
+            if !takes_long(line.as_slice(), place, false)? {
+                crate::rattle_std::fallible_println!(rt; "lines: wrong at {letters} letters, then a blank")?;
+            }
+            count = count.saturating_add(1);
+        }
+    }
+    crate::rattle_std::fallible_println!(rt; "lines: {count} long lines")
+}
+
+/// Writes with which prefixes something else is kept, and how many pairs of them there were.
+pub fn write_prefixes(rt: &impl Print) -> io::Result<()> {
+    for (first, second, text, appended) in &PREFIXES {
+        let mut prefixes = Vec::new();
+        prefixes.fallible_push(first.fallible_to_string()?)?;
+        prefixes.fallible_push(second.fallible_to_string()?)?;
+        let filter = filter("^11")?;
+        let mut lines = Lines::new(filter, prefixes, Wanted::Each, false);
+        let mut kept = Vec::new();
+        let is_taken = lines.push(text.as_bytes(), &mut kept).is_ok()
+            && lines.finish(&mut kept).is_ok();
+        if !is_taken || kept.as_slice() != appended.as_bytes() {
+            crate::rattle_std::fallible_println!(rt; "lines: wrong with the prefixes {first:?} and {second:?}")?;
+        }
+    }
+    let count = PREFIXES.len();
+    crate::rattle_std::fallible_println!(rt; "lines: {count} pairs of prefixes")
+}
+
+/// Whether pieces append this, the kept lines that they end as soon as these end.
+fn appends(wanted: Wanted,
+    pieces: &[&[u8]],
+    appended: &str,
+) -> Result<bool, AllocError> {
+    let mut lines = lines_of("^1.2", wanted, false)?;
+    let mut kept = Vec::new();
+    for piece in pieces {
+        if lines.push(piece, &mut kept).is_err() {
+            return Ok(false);
+        }
+    }
+    let so_far = kept.len();
+    if lines.finish(&mut kept).is_err() {
+        return Ok(false);
+    }
+    let has_last = match wanted {
+        Wanted::Each => so_far + "1.4.0".len() == kept.len(),
+        _ => so_far == 0,
+    };
+    Ok(has_last && kept.as_slice() == appended.as_bytes() && are_counted(&lines))
+}
+
+/// Whether the lines of the text were counted.
+fn are_counted(lines: &Lines) -> bool {
+    let counts = lines.counts();
+    counts.lines == 8
+        && counts.empty == 1
+        && counts.invalid == 1
+        && counts.first_invalid.as_ref().is_some_and(|line| line.number == 2
+            && line.front.as_slice() == "x".as_bytes())
+}
+
+/// Whether pieces of this length append this.
+fn appends_in_pieces(wanted: Wanted,
+    length: usize,
+    appended: &str,
+) -> Result<bool, AllocError> {
+    let mut pieces = Vec::new();
+    let mut rest = TEXT;
+    for _ in 0..TEXT.len() {
+        if rest.is_empty() {
+            break;
+        }
+        let (piece, others) = rest.split_at(length.min(rest.len()));
+        pieces.fallible_push(piece)?;
+        rest = others;
+    }
+    appends(wanted, pieces.as_slice(), appended)
+}
+
+/// Whether strict lines stop once, after the second line, and append all else if the rest is
+/// pushed.
+fn stops_and_goes_on(wanted: Wanted,
+    length: usize,
+    appended: &str,
+) -> Result<bool, AllocError> {
+    let mut lines = lines_of("^1.2", wanted, true)?;
+    let mut kept = Vec::new();
+    let mut taken = 0usize;
+    let mut stops = 0u32;
+    for _ in 0..TEXT.len() + 2 {
+        let rest = TEXT.get(taken..).unwrap_or_default();
+        let piece = &rest[..length.min(rest.len())];
+        match lines.push(piece, &mut kept) {
+            Ok(()) => taken = taken.saturating_add(piece.len()),
+            Err(stopped) => {
+                taken = taken.saturating_add(stopped.taken);
+                stops = stops.saturating_add(1);
+                if !matches!(stopped.error, LinesError::NoVersion(2)) || taken != 12 {
+                    return Ok(false);
+                }
+            }
+        }
+    }
+    let has_ended = taken == TEXT.len() && lines.finish(&mut kept).is_ok();
+    Ok(stops == 1 && has_ended && kept.as_slice() == appended.as_bytes())
+}
+
+/// Whether strict lines stop at a last line that is no version, each time, and append nothing.
+fn stops_at_the_end(wanted: Wanted) -> Result<bool, AllocError> {
+    let mut lines = lines_of("^1.2", wanted, true)?;
+    let mut kept = Vec::new();
+    let mut is_right = lines.push(b"2.0.0\n\nx", &mut kept).is_ok();
+    for _ in 0..2 {
+        is_right &= matches!(
+            lines.finish(&mut kept),
+            Err(LinesError::NoVersion(3))
+        );
+    }
+    Ok(is_right && kept.is_empty() && lines.counts().invalid == 0)
+}
+
+/// Whether a line is skipped and counted, and the lines before and after it are appended.
+fn skips(before: &str, line: &[u8], after: &str) -> Result<bool, AllocError> {
+    let mut lines = lines_of("^1.2", Wanted::Each, false)?;
+    let mut kept = Vec::new();
+    let mut wanted = Vec::new();
+    wanted.fallible_extend_from_slice(before.trim_start().as_bytes())?;
+    wanted.fallible_extend_from_slice(after.trim_start().as_bytes())?;
+    for piece in [before.as_bytes(), line, after.as_bytes()] {
+        if lines.push(piece, &mut kept).is_err() {
+            return Ok(false);
+        }
+    }
+    let has_ended = lines.finish(&mut kept).is_ok();
+    let number = if before.is_empty() { 1 } else { 2 };
+    let counts = lines.counts();
+    let is_counted = counts.invalid == 1
+        && counts.first_invalid.as_ref().is_some_and(|first| first.number == number
+            && first.front.as_slice() == line);
+    Ok(has_ended && is_counted && kept == wanted)
+}
+
+/// A line that is a version for so many letters, and then has a blank and as many letters.
+fn late_line(letters: usize) -> Result<Vec<u8>, AllocError> {
+    let mut line = Vec::new();
+    line.fallible_extend_from_slice(b"1.2.3-")?;
+    for _ in 0..letters {
+        line.fallible_push(b'a')?;
+    }
+    line.fallible_push(b' ')?;
+    for _ in 0..letters {
+        line.fallible_push(b'a')?;
+    }
+    Ok(line)
+}
+
+/// Whether a long line that is cut after so many bytes is kept or else counted, and the line after
+/// it is kept.
+fn takes_long(line: &[u8], place: usize, is_kept: bool) -> Result<bool, AllocError> {
+    let mut lines = lines_of("^1.2", Wanted::Each, false)?;
+    let mut kept = Vec::new();
+    let mut wanted = Vec::new();
+    if is_kept {
+        wanted.fallible_extend_from_slice(line)?;
+        wanted.fallible_extend_from_slice(b"\n")?;
+    }
+    wanted.fallible_extend_from_slice(b"1.9.0")?;
+    let (front, back) = line.split_at(place.min(line.len()));
+    for piece in [front, back, b"", b"\n", b"1.9.0"] {
+        if lines.push(piece, &mut kept).is_err() {
+            return Ok(false);
+        }
+    }
+    let has_ended = lines.finish(&mut kept).is_ok();
+    let text = line
+        .strip_prefix(b"\xEF\xBB\xBF".as_slice())
+        .unwrap_or(line);
+    let shown = text.get(..81).unwrap_or_default();
+    let is_counted = match &lines.counts().first_invalid {
+        Some(first) => !is_kept && first.number == 1 && first.front.as_slice() == shown,
+        None => is_kept,
+    };
+    Ok(has_ended && is_counted && kept == wanted)
+}
+
+/// The lines of a text that a filter of a range keeps, releases only, without a prefix.
+fn lines_of(range: &str,
+    wanted: Wanted,
+    is_strict: bool,
+) -> Result<Lines, AllocError> {
+    let filter = filter(range)?;
+    Ok(Lines::new(filter, Vec::new(), wanted, is_strict))
+}
+
+/// The filter of a range in Cargo mode, releases only.
+fn filter(range: &str) -> Result<Filter, AllocError> {
+    match Filter::new(range, Compat::Cargo, PreReleases::Excluded) {
+        Ok(filter) => Ok(filter),
+        Err(_) => Err(AllocError),
+    }
+}

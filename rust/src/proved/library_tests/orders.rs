@@ -1,0 +1,111 @@
+// Made by tools/erase from crates/library_tests/src/orders.rt; not edited by hand.
+//! The derived orders: the cases of an enum in the order declared, and the fields of a struct from
+//! the first on.
+#![cfg(feature = "std")]
+
+use crate::rattle_std::prelude::*;
+use crate::proved::semver_parser::lexer::{self, Token};
+use crate::proved::semver_parser::parser::Error;
+use crate::proved::semver_parser::version::Version;
+use crate::proved::semver_parser::{Compat, Op, RangeSet, version};
+use crate::rattle_std::io;
+
+/// A range whose comparators are in order.
+const COMPARATORS: &str = "<1.1.1-1 <=0.1.1-1 <=1.0.1-1 <=1.1.0-1 <=1.1.1-0 <=1.1.1-1 >1.0.0 \
+    >=1.0.0 =1.0.0-9.10.1a.A.a.aa";
+
+/// Writes how many values of each enum are in order.
+pub fn write_enums(rt: &impl Print) -> io::Result<()> {
+    let tokens = [
+        Token::Eq,
+        Token::Gt,
+        Token::Lt,
+        Token::LtEq,
+        Token::GtEq,
+        Token::Caret,
+        Token::Tilde,
+        Token::Star,
+        Token::Dot,
+        Token::Comma,
+        Token::Hyphen,
+        Token::Plus,
+        Token::Or,
+        Token::Whitespace(0, 9),
+        Token::Whitespace(1, 2),
+        Token::Whitespace(1, 3),
+        Token::Numeric(9),
+        Token::Numeric(10),
+        Token::AlphaNumeric(""),
+        Token::AlphaNumeric("a"),
+    ];
+    write_order(rt, "Token", &tokens)?;
+    let characters = [
+        lexer::Error::UnexpectedChar('/'),
+        lexer::Error::UnexpectedChar('é'),
+    ];
+    write_order(rt, "lexer::Error", &characters)?;
+    let errors = [
+        Error::UnexpectedEnd,
+        Error::UnexpectedToken(Token::AlphaNumeric("z")),
+        Error::Lexer(lexer::Error::UnexpectedChar('é')),
+        Error::MoreInput(Vec::new()),
+        Error::EmptyPredicate,
+        Error::EmptyRange,
+        Error::OutOfMemory,
+    ];
+    write_order(rt, "parser::Error", &errors)?;
+    write_order(rt, "Op", &[Op::Lt, Op::Lte, Op::Gt, Op::Gte, Op::Eq])?;
+    write_order(rt, "Compat", &[Compat::Cargo, Compat::Npm])
+}
+
+/// Writes how many versions and sets are in order, and their parts.
+pub fn write_structs(rt: &impl Print) -> io::Result<()> {
+    let mut versions: Vec<Version> = Vec::new();
+    // The first five have a 0 in one field each: the earlier the field, the lower the version.
+    for text in [
+        "0.1.1-1+1",
+        "1.0.1-1+1",
+        "1.1.0-1+1",
+        "1.1.1-0+1",
+        "1.1.1-1+0",
+        "1.1.1-1+1",
+        "1.1.1-9.10.18446744073709551615.01.A.a.aa",
+    ] {
+        if let Ok(version) = version::parse(text) {
+            versions.fallible_push(version)?;
+        }
+    }
+    write_order(rt, "Version", &versions)?;
+    if let Some(last) = versions.last() {
+        write_order(rt, "version::Identifier", &last.pre)?;
+    }
+    let mut sets: Vec<RangeSet> = Vec::new();
+    for (text, compat) in [
+        (COMPARATORS, Compat::Npm),
+        ("<=1.0.0", Compat::Cargo),
+        ("<=1.0.0", Compat::Npm),
+    ] {
+        if let Ok(set) = RangeSet::try_parse(text, compat) {
+            sets.fallible_push(set)?;
+        }
+    }
+    if let Some(range) = sets.first().and_then(|set| set.ranges.first()) {
+        write_order(rt, "Comparator", &range.comparator_set)?;
+        if let Some(last) = range.comparator_set.last() {
+            write_order(rt, "Identifier", &last.pre)?;
+        }
+    }
+    write_order(rt, "RangeSet", &sets)
+}
+
+/// Writes how many values there are, and whether each is below the next.
+fn write_order<T: Ord>(rt: &impl Print, name: &str, values: &[T]) -> io::Result<()> {
+    let count = values.len();
+    let mut are_ascending = true;
+    for (lower, upper) in values.iter().zip(values.iter().skip(1)) {
+        if lower >= upper {
+            are_ascending = false;
+        }
+    }
+    crate::rattle_std::fallible_println!(rt; "{count} of {name} in order: {are_ascending}")
+}

@@ -1,0 +1,52 @@
+// Made by tools/erase from crates/library_tests/src/precedence.rt; not edited by hand.
+//! The order of precedence, by the examples of the standard.
+#![cfg(feature = "std")]
+
+use crate::rattle_std::prelude::*;
+use crate::proved::semver_parser::version::{self, Version};
+use crate::rattle_std::AllocError;
+use crate::rattle_std::io;
+
+/// Each is below the next: the example of SemVer 2.0.0, section 11.4, and then that of 11.2.
+const ASCENDING: [&str; 11] = [
+    "1.0.0-alpha",
+    "1.0.0-alpha.1",
+    "1.0.0-alpha.beta",
+    "1.0.0-beta",
+    "1.0.0-beta.2",
+    "1.0.0-beta.11",
+    "1.0.0-rc.1",
+    "1.0.0",
+    "2.0.0",
+    "2.1.0",
+    "2.1.1",
+];
+
+/// Writes which versions compare otherwise than their places, and how many there are. The one has
+/// no build, and the other has one.
+pub fn write_precedence(rt: &impl Print) -> io::Result<()> {
+    let versions = versions_with("")?;
+    let built = versions_with("+b5")?;
+    for (place, version) in versions.iter().enumerate() {
+        for (other_place, other) in built.iter().enumerate() {
+            let wanted = place.cmp(&other_place);
+            if version::cmp_precedence(version, other) != wanted
+                || version::cmp_precedence(other, version) != wanted.reverse() {
+                crate::rattle_std::fallible_println!(rt; "precedence: wrong of {version} and {other}")?;
+            }
+        }
+    }
+    crate::rattle_std::fallible_println!(rt; "precedence: {} versions", versions.len())
+}
+
+/// The versions, each with this text after it.
+fn versions_with(build: &str) -> Result<Vec<Version>, AllocError> {
+    let mut versions = Vec::new();
+    for text in ASCENDING {
+        let whole = crate::rattle_std::fallible_format!("{text}{build}")?;
+        if let Some(version) = version::read(whole.as_str())? {
+            versions.fallible_push(version)?;
+        }
+    }
+    Ok(versions)
+}

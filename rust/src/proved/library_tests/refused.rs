@@ -1,0 +1,253 @@
+// Made by tools/erase from crates/library_tests/src/refused.rt; not edited by hand.
+//! Calls what allocates, and checks that each call returns in full or out of memory, and leaves
+//! what it promises. With ample memory every call has to return in full; else the one request that
+//! is refused has to be met by exactly one call, which is named.
+#![cfg(feature = "std")]
+
+use crate::rattle_std::prelude::*;
+mod filters;
+mod fixed;
+mod identifiers;
+mod parsers;
+mod ranges;
+mod reports;
+mod sets;
+mod versions;
+
+use crate::proved::release_filter::Filter;
+use crate::proved::semver_parser::Compat;
+use crate::rattle_std::io;
+use crate::proved::version_sets::VersionSet;
+
+/// How a call ended.
+#[derive(Clone, Copy, PartialEq, Eq)]
+enum Ending {
+    /// With the full answer.
+    Full,
+    /// Out of memory, and what it promises then holds.
+    Refused,
+    /// In any other way.
+    Wrong,
+}
+
+impl Ending {
+    /// The full answer, if it is right.
+    fn full_if(is_right: bool) -> Ending {
+        if is_right {
+            Ending::Full
+        } else {
+            Ending::Wrong
+        }
+    }
+
+    /// A refusal, if what is promised of it holds.
+    fn refused_if(is_kept: bool) -> Ending {
+        if is_kept {
+            Ending::Refused
+        } else {
+            Ending::Wrong
+        }
+    }
+}
+
+/// After so many requests the next one is refused.
+const FIRST_REFUSED: u32 = 999;
+
+/// Makes so many requests, and then all calls, and writes how they ended.
+pub fn write_calls(rt: &HostRuntime, requests: u32) -> io::Result<()> {
+    for _ in 0..requests {
+        let _request = Vec::fallible_from_slice(b"1");
+    }
+    if requests == FIRST_REFUSED {
+        tell(rt, &of_long_texts())?;
+    }
+    tell(rt, &of_versions())?;
+    tell(rt, &of_range_sets())?;
+    tell(rt, &of_tool_ranges())?;
+    tell(rt, &of_filters_and_reports())?;
+    match filters::as_stated() {
+        Ok(filter) => tell(rt, &of_filter(&filter))?,
+        Err(ending) => tell(rt, &[("filter_as_stated", ending)])?,
+    }
+    tell(rt, &of_lines())?;
+    match sets::of_texts() {
+        Ok((first, second)) => tell(rt, &of_sets(&first, &second))?,
+        Err(ending) => tell(rt, &[("sets_of_texts", ending)])?,
+    }
+    rt.println("done")
+}
+
+/// Names the calls that were refused, and those that went wrong.
+fn tell(rt: &impl Print, endings: &[(&'static str, Ending)]) -> io::Result<()> {
+    for (call, ending) in endings {
+        match ending {
+            Ending::Full => {}
+            Ending::Refused => crate::rattle_std::fallible_println!(rt; "refused: {call}")?,
+            Ending::Wrong => crate::rattle_std::fallible_println!(rt; "wrong: {call}")?,
+        }
+    }
+    Ok(())
+}
+
+/// How each call on tokens, versions and their identifiers ends.
+fn of_versions() -> [(&'static str, Ending); 16] {
+    [
+        ("identifier", parsers::identifier()),
+        ("parser_version", parsers::version()),
+        ("tail", parsers::tail()),
+        ("bad_character", parsers::tail_before_a_bad_character()),
+        ("tail_of_nothing", parsers::tail_of_nothing()),
+        ("plain_versions", versions::without_identifiers()),
+        (
+            "version_with_identifiers",
+            versions::with_identifiers(),
+        ),
+        ("version_with_numbers", versions::with_numbers()),
+        (
+            "read_without_identifiers",
+            versions::read_without_identifiers(),
+        ),
+        ("version_read", versions::read_with_identifiers()),
+        ("more_input", versions::more_input()),
+        ("version_clone", versions::clone()),
+        ("version_error", versions::version_error()),
+        ("concat_of_a_number", identifiers::concat_of_a_number()),
+        ("concat_of_a_text", identifiers::concat_of_a_text()),
+        ("error_text", identifiers::error_text()),
+    ]
+}
+
+/// How each call that reads a range set in the crate's dialect ends.
+fn of_range_sets() -> [(&'static str, Ending); 11] {
+    [
+        (
+            "one_simple",
+            ranges::parse_text("^1.2.3", ">=1.2.3 <2.0.0", Compat::Npm),
+        ),
+        (
+            "two_simples",
+            ranges::parse_text(">=1.2.3 <2.0.0-rc.1",
+                ">=1.2.3 <2.0.0-rc.1",
+                Compat::Npm,
+            ),
+        ),
+        (
+            "hyphen_range",
+            ranges::parse_text("1.2 - 2", ">=1.2.0 <3.0.0", Compat::Npm),
+        ),
+        (
+            "three_simples",
+            ranges::parse_text(">1 <3 ~2",
+                ">1.0.0 <3.0.0 >=2.0.0 <3.0.0",
+                Compat::Npm,
+            ),
+        ),
+        (
+            "range_set_in_cargo_mode",
+            ranges::parse(Compat::Cargo),
+        ),
+        ("range_set_in_npm_mode", ranges::parse(Compat::Npm)),
+        ("range_set_from_str", ranges::from_str()),
+        (
+            "longer_second_range",
+            ranges::parse_text("1 || 2 3 4",
+                ">=1.0.0 <2.0.0 || >=2.0.0 <3.0.0 >=3.0.0 <4.0.0 >=4.0.0 <5.0.0",
+                Compat::Npm,
+            ),
+        ),
+        ("ninth_range", ranges::ninth_range()),
+        (
+            "exact_simple",
+            ranges::parse_exact_text("^1.2.3-beta.4",
+                ">=1.2.3-beta.4 <2.0.0-0",
+                Compat::Npm,
+            ),
+        ),
+        (
+            "exact_range_set",
+            ranges::parse_exact_text("1.2 - 2 || <2 ~3.4",
+                ">=1.2.0 <3.0.0-0 || <2.0.0 >=3.4.0 <3.5.0-0",
+                Compat::Cargo,
+            ),
+        ),
+    ]
+}
+
+/// How each call on the ranges of the tools ends, and each on errors and copies of ranges.
+fn of_tool_ranges() -> [(&'static str, Ending); 13] {
+    [
+        ("cargo_requirement", ranges::requirement()),
+        ("refused_requirements", ranges::refused_requirements()),
+        ("cargo_read", sets::of_requirement()),
+        ("refused_cargo_reads", sets::of_refused_requirements()),
+        ("npm_range", ranges::npm_range()),
+        ("refused_npm_ranges", ranges::refused_npm_ranges()),
+        ("npm_read", sets::of_npm_ranges()),
+        ("refused_npm_reads", sets::of_refused_npm_ranges()),
+        ("within_bounds", sets::within_bounds()),
+        ("refused_bounds", sets::of_refused_bounds()),
+        ("refused_range_texts", ranges::refused_texts()),
+        ("range_error", ranges::range_error()),
+        ("range_set_clone", ranges::clone()),
+    ]
+}
+
+/// How each call that makes a filter or a report ends.
+fn of_filters_and_reports() -> [(&'static str, Ending); 5] {
+    [
+        ("filter", filters::filter()),
+        (
+            "read_without_requests",
+            filters::read_without_requests(),
+        ),
+        ("refused_filter_texts", filters::refused_texts()),
+        ("report", reports::report()),
+        ("report_of_errors", reports::report_of_errors()),
+    ]
+}
+
+/// How each call on versions ends of a filter.
+fn of_filter(filter: &Filter) -> [(&'static str, Ending); 3] {
+    [
+        ("kept_versions", filters::kept_versions(filter)),
+        ("read_version", filters::read_version(filter)),
+        ("no_version_kept", filters::no_version_kept(filter)),
+    ]
+}
+
+/// How each filter of lines ends.
+fn of_lines() -> [(&'static str, Ending); 7] {
+    [
+        ("copied_lines", filters::copied_lines()),
+        ("greatest_line", filters::greatest_line()),
+        ("least_line", filters::least_line()),
+        ("sorted_lines", filters::sorted_lines()),
+        ("many_sorted_lines", filters::many_sorted_lines()),
+        ("line_without_an_end", filters::line_without_an_end()),
+        ("lines_passed_over", filters::lines_passed_over()),
+    ]
+}
+
+/// How each call on sets of versions ends, beside the texts of these two.
+fn of_sets(first: &VersionSet, second: &VersionSet) -> [(&'static str, Ending); 10] {
+    [
+        ("refused_set_texts", sets::of_refused_texts()),
+        ("set_of_comparators", sets::of_set()),
+        ("union", sets::union(first, second)),
+        ("intersection", sets::intersection(first, second)),
+        ("difference", sets::difference(first, second)),
+        ("least", sets::least(first)),
+        ("compared", sets::compared(first, second)),
+        ("release_ranges", sets::release_ranges(first)),
+        ("pre_release_ranges", sets::pre_release_ranges(first)),
+        (
+            "sets_without_requests",
+            sets::without_requests(first, second),
+        ),
+    ]
+}
+
+/// How calls on long texts end that make no request. They take long, and are made once.
+fn of_long_texts() -> [(&'static str, Ending); 1] {
+    [("refused_at_the_end", ranges::refused_at_the_end())]
+}

@@ -1,0 +1,52 @@
+// Made by tools/erase from crates/library_tests/src/refused/fixed.rt; not edited by hand.
+#![cfg(feature = "std")]
+
+use crate::rattle_std::prelude::*;
+use crate::rattle_std::io::Write;
+use crate::rattle_std::{fmt, io};
+
+const ROOM: usize = 512;
+
+/// Holds up to 512 bytes, and takes none past them.
+pub struct Fixed {
+    bytes: [u8; ROOM],
+    len: usize,
+}
+
+impl Fixed {
+    /// A writer that holds nothing.
+    pub fn new() -> Fixed {
+        Fixed {
+            bytes: [0; ROOM],
+            len: 0,
+        }
+    }
+
+    /// What was written.
+    pub fn as_bytes(&self) -> &[u8] {
+        &self.bytes[..self.len]
+    }
+}
+
+impl Write for Fixed {
+    fn write(&mut self, buf: &[u8]) -> io::Result<usize> {
+        let count = buf.len().min(ROOM - self.len);
+        let end = self.len + count;
+        self.bytes[self.len..end].copy_from_slice(&buf[..count]);
+        self.len = end;
+        Ok(count)
+    }
+
+    fn flush(&mut self) -> io::Result<()> {
+        Ok(())
+    }
+}
+
+impl fmt::Write for Fixed {
+    fn write_str(&mut self, s: &str) -> fmt::Result {
+        match io::Write::write(self, s.as_bytes()) {
+            Ok(count) if count == s.len() => Ok(()),
+            _ => Err(fmt::Error),
+        }
+    }
+}

@@ -1,0 +1,172 @@
+// Made by tools/erase from crates/library_tests/src/refused/ranges.rt; not edited by hand.
+//! Calls that read a range set, and its clone.
+
+use crate::rattle_std::prelude::*;
+use super::Ending;
+use super::fixed::Fixed;
+use crate::proved::semver_parser::{Compat, RangeError, RangeSet};
+use crate::rattle_std::fmt::Write as _;
+use crate::proved::tool_ranges::dialect::Dialect;
+use crate::proved::tool_ranges::refusals::refused;
+use crate::proved::tool_ranges::{cargo, npm};
+
+const TEXT: &str = "^1.2.3-beta.4 || 2.x";
+
+const PRINTED: &str = ">=1.2.3-beta.4 <2.0.0 || >=2.0.0 <3.0.0";
+
+/// The set of two ranges, in a mode.
+pub fn parse(compat: Compat) -> Ending {
+    parse_text(TEXT, PRINTED, compat)
+}
+
+/// The set of a text, in a mode, which prints as another.
+pub fn parse_text(text: &str, printed: &str, compat: Compat) -> Ending {
+    ending(RangeSet::try_parse(text, compat), printed, compat)
+}
+
+/// As `parse_text`, with exact bounds.
+pub fn parse_exact_text(text: &str, printed: &str, compat: Compat) -> Ending {
+    ending(RangeSet::parse_exact(text, compat), printed, compat)
+}
+
+fn ending(read: Result<RangeSet, RangeError>, printed: &str, compat: Compat) -> Ending {
+    match read {
+        Ok(set) => Ending::full_if(set.compat == compat && prints_as(&set, printed)),
+        Err(RangeError::OutOfMemory) => Ending::Refused,
+        Err(_) => Ending::Wrong,
+    }
+}
+
+/// The set of a requirement, as Cargo itself reads it.
+pub fn requirement() -> Ending {
+    ending(
+        cargo::rewrite("1.2, >1, <3.0.0-rc"),
+        ">=1.2.0 <2.0.0-0 >=2.0.0 <3.0.0-rc",
+        Compat::Cargo,
+    )
+}
+
+/// Requirements that are refused for their grammar or their numbers are refused without a request.
+pub fn refused_requirements() -> Ending {
+    let no_comma = cargo::rewrite("1 2");
+    let tab = cargo::rewrite("1,\t2");
+    let grammar_first = cargo::rewrite("99999999999999999999, 1,");
+    let bound = cargo::rewrite("1, >1.18446744073709551615");
+    Ending::full_if(
+        matches!(no_comma, Err(RangeError::NotARange))
+            && matches!(tab, Err(RangeError::NotARange))
+            && matches!(grammar_first, Err(RangeError::NotARange))
+            && matches!(bound, Err(RangeError::NumberTooLarge)),
+    )
+}
+
+/// The set of a range text, as npm itself reads it.
+pub fn npm_range() -> Ending {
+    ending(
+        npm::rewrite(">1.2 <3 || v1.2.3-b"),
+        ">=1.3.0 <3.0.0-0 || =1.2.3-b",
+        Compat::Npm,
+    )
+}
+
+/// Range texts of npm that are refused for their grammar or their numbers are refused without a
+/// request.
+pub fn refused_npm_ranges() -> Ending {
+    let comma = npm::rewrite("1, 2");
+    let character = npm::rewrite("1 || \u{200b}2");
+    let grammar_first = npm::rewrite("99999999999999999999 || 1,");
+    let bound = npm::rewrite("1 || >1.18446744073709551615");
+    Ending::full_if(
+        matches!(comma, Err(RangeError::NotARange))
+            && matches!(character, Err(RangeError::NotARange))
+            && matches!(grammar_first, Err(RangeError::NotARange))
+            && matches!(bound, Err(RangeError::NumberTooLarge)),
+    )
+}
+
+/// The same in Cargo mode.
+pub fn from_str() -> Ending {
+    match RangeSet::try_from_str(TEXT) {
+        Ok(set) => Ending::full_if(prints_as(&set, PRINTED)),
+        Err(RangeError::OutOfMemory) => Ending::Refused,
+        Err(_) => Ending::Wrong,
+    }
+}
+
+/// The sizes of eight ranges are remembered, and that of a ninth is counted ahead.
+pub fn ninth_range() -> Ending {
+    parse_text("<1||<2||<3||<4||<5||<6||<7||<8||1 2 3",
+        "<1.0.0 || <2.0.0 || <3.0.0 || <4.0.0 || <5.0.0 || <6.0.0 || <7.0.0 || <8.0.0 || \
+         >=1.0.0 <2.0.0 >=2.0.0 <3.0.0 >=3.0.0 <4.0.0",
+        Compat::Cargo,
+    )
+}
+
+/// Texts that are refused for their grammar or their numbers are refused without a request.
+pub fn refused_texts() -> Ending {
+    for compat in [Compat::Cargo, Compat::Npm] {
+        let half_a_bar = RangeSet::try_parse("|", compat);
+        let grammar_first = RangeSet::try_parse("99999999999999999999 ~", compat);
+        let too_large = RangeSet::try_parse("99999999999999999999", compat);
+        let bound = RangeSet::try_parse("<=18446744073709551615", compat);
+        if !matches!(half_a_bar, Err(RangeError::NotARange))
+            || !matches!(grammar_first, Err(RangeError::NotARange))
+            || !matches!(too_large, Err(RangeError::NumberTooLarge))
+            || !matches!(bound, Err(RangeError::NumberTooLarge)) {
+            return Ending::Wrong;
+        }
+    }
+    Ending::Full
+}
+
+/// Where a text stops being a range. What gives one is refused nothing, without a request.
+pub fn range_error() -> Ending {
+    if !matches!(refused(Dialect::Npm, "1.2 || 3"), Ok(None)) {
+        return Ending::Wrong;
+    }
+    match refused(Dialect::Cargo, "1.2 || 3") {
+        Ok(Some(refusal)) => Ending::full_if(refusal.offset == 4),
+        Ok(None) => Ending::Wrong,
+        Err(_) => Ending::Refused,
+    }
+}
+
+/// 9,999 times two bars, and one more: 10,000 ranges and half of what parts them from the next.
+const BARS: [u8; 19_999] = [b'|'; 19_999];
+
+/// A long text that is refused at its end is refused without a request.
+pub fn refused_at_the_end() -> Ending {
+    let Ok(text) = crate::rattle_std::str::from_utf8(&BARS) else {
+        return Ending::Wrong;
+    };
+    for compat in [Compat::Cargo, Compat::Npm] {
+        if !matches!(
+            RangeSet::try_parse(text, compat),
+            Err(RangeError::NotARange)
+        ) {
+            return Ending::Wrong;
+        }
+    }
+    Ending::Full
+}
+
+/// A clone equals its source, or finds no memory and leaves the source as it was.
+pub fn clone() -> Ending {
+    let Ok(set) = RangeSet::try_parse(TEXT, Compat::Npm) else {
+        return Ending::Refused;
+    };
+    let cloned: Result<_, _> = set.fallible_clone();
+    if !prints_as(&set, PRINTED) {
+        return Ending::Wrong;
+    }
+    match cloned {
+        Ok(clone) => Ending::full_if(clone == set),
+        Err(_) => Ending::Refused,
+    }
+}
+
+/// The set prints as the text.
+fn prints_as(set: &RangeSet, text: &str) -> bool {
+    let mut out = Fixed::new();
+    write!(out, "{set}").is_ok() && out.as_bytes() == text.as_bytes()
+}

@@ -1,0 +1,282 @@
+// Made by tools/erase from crates/library_tests/src/refused/sets.rt; not edited by hand.
+//! Sets of versions.
+
+use crate::rattle_std::prelude::*;
+use super::Ending;
+use crate::proved::semver_parser::{Compat, RangeError, RangeSet, version};
+use crate::rattle_std::AllocError;
+use crate::proved::tool_ranges::dialect::Dialect;
+use crate::proved::tool_ranges::meaning::{self, Meaning};
+use crate::proved::tool_ranges::{cargo, npm};
+use crate::proved::version_sets::{PreReleases, SetRanges, VersionSet};
+
+/// Cargo's dialect, with each pre-release within the bounds.
+const CARGO: Meaning = Meaning {
+    dialect: Dialect::Cargo,
+    pre_releases: PreReleases::Included,
+};
+
+/// So npm's.
+const NPM: Meaning = Meaning {
+    dialect: Dialect::Npm,
+    pre_releases: PreReleases::Included,
+};
+
+/// The sets of `>=1.2.0-b.c` as stated and of `<2.0.0` with all pre-releases, which the calls below
+/// are given.
+pub fn of_texts() -> Result<(VersionSet, VersionSet), Ending> {
+    let first = set_of(">=1.2.0-b.c", PreReleases::Default)?;
+    let second = set_of("<2.0.0", PreReleases::Included)?;
+    Ok((first, second))
+}
+
+/// The set of a text in npm mode.
+fn set_of(text: &str, pre_releases: PreReleases) -> Result<VersionSet, Ending> {
+    match VersionSet::of_text(text, Compat::Npm, pre_releases) {
+        Ok(set) => Ok(set),
+        Err(RangeError::OutOfMemory) => Err(Ending::Refused),
+        Err(_) => Err(Ending::Wrong),
+    }
+}
+
+/// Texts that are refused are refused without a request.
+pub fn of_refused_texts() -> Ending {
+    let pre_releases = PreReleases::Included;
+    let not_a_range = VersionSet::of_text("|", Compat::Npm, pre_releases);
+    let too_large = VersionSet::of_text("<=18446744073709551615",
+        Compat::Cargo,
+        pre_releases,
+    );
+    Ending::full_if(
+        matches!(not_a_range, Err(RangeError::NotARange))
+            && matches!(too_large, Err(RangeError::NumberTooLarge)),
+    )
+}
+
+/// The releases that meet the comparator `>=2.0.0`. Dialect it is part of the call. The least of
+/// them is told without a request.
+pub fn of_set() -> Ending {
+    let set = match RangeSet::try_parse(">=2.0.0", Compat::Npm) {
+        Ok(set) => set,
+        Err(RangeError::OutOfMemory) => return Ending::Refused,
+        Err(_) => return Ending::Wrong,
+    };
+    match VersionSet::of_set(&set, PreReleases::Excluded) {
+        Ok(set) => Ending::full_if(begins_at(&set, 2) && matches!(set.least(), Ok(Some(_)))),
+        Err(_) => Ending::Refused,
+    }
+}
+
+/// The versions that a requirement means to Cargo: 1.2.0-c is stated, and 1.3.0-c isn't.
+pub fn of_requirement() -> Ending {
+    match cargo::read("^1.2, >=1.2.0-b") {
+        Ok(set) => Ending::full_if(
+            begins_at(&set, 1) && has_stated(&set, "1.2.0-c") && !has_stated(&set, "1.3.0-c"),
+        ),
+        Err(RangeError::OutOfMemory) => Ending::Refused,
+        Err(_) => Ending::Wrong,
+    }
+}
+
+/// Requirements that are refused are refused without a request.
+pub fn of_refused_requirements() -> Ending {
+    let not_a_range = cargo::read("1.2.3-a, >=1 <2");
+    let too_large = cargo::read("1.2.3-a, >1.18446744073709551615");
+    Ending::full_if(
+        matches!(not_a_range, Err(RangeError::NotARange))
+            && matches!(too_large, Err(RangeError::NumberTooLarge)),
+    )
+}
+
+/// The versions that two range texts mean to npm. To the first 1.2.0-c is stated, and 1.3.0-c
+/// isn't. By the second npm asks nothing, and it means every release.
+pub fn of_npm_ranges() -> Ending {
+    let asked = match npm::read(">=0 >=1.2.0-b <1.5 || 3.x") {
+        Ok(set) => set,
+        Err(RangeError::OutOfMemory) => return Ending::Refused,
+        Err(_) => return Ending::Wrong,
+    };
+    let is_stated = has_stated(&asked, "1.2.0-c") && !has_stated(&asked, "1.3.0-c");
+    match npm::read("1.2.0-b || *") {
+        Ok(set) => Ending::full_if(
+            is_stated && begins_at(&asked, 1) && begins_at(&set, 0) && !has_stated(&set, "1.2.0-b"),
+        ),
+        Err(RangeError::OutOfMemory) => Ending::Refused,
+        Err(_) => Ending::Wrong,
+    }
+}
+
+/// Range texts of npm that are refused are refused without a request.
+pub fn of_refused_npm_ranges() -> Ending {
+    let not_a_range = npm::read("1.2.3-a || >=1, <2");
+    let too_large = npm::read("1.2.3-a || >1.18446744073709551615");
+    Ending::full_if(
+        matches!(not_a_range, Err(RangeError::NotARange))
+            && matches!(too_large, Err(RangeError::NumberTooLarge)),
+    )
+}
+
+/// The versions within the bounds of a requirement and of a range text of npm: both begin with a
+/// pre-release.
+pub fn within_bounds() -> Ending {
+    let requirement = match meaning::read(CARGO, "^1.2, <1.5.0-b") {
+        Ok(set) => set,
+        Err(RangeError::OutOfMemory) => return Ending::Refused,
+        Err(_) => return Ending::Wrong,
+    };
+    let is_begun = has_stated(&requirement, "1.2.0-a") && !has_stated(&requirement, "1.5.0-c");
+    match meaning::read(NPM, "1.2.3 - 2 || ~3.1") {
+        Ok(set) => Ending::full_if(
+            is_begun && has_stated(&set, "1.2.3-a") && !has_stated(&set, "3.1.0-a"),
+        ),
+        Err(RangeError::OutOfMemory) => Ending::Refused,
+        Err(_) => Ending::Wrong,
+    }
+}
+
+/// Those that are refused are refused without a request.
+pub fn of_refused_bounds() -> Ending {
+    let not_a_range = meaning::read(CARGO, "1.2.3-a, >=1 <2");
+    let no_npm_range = meaning::read(NPM, "1.2 || >=1, <2");
+    let bound = meaning::read(CARGO, "1.2, >1.18446744073709551615");
+    let too_large = meaning::read(NPM, "1 - 1.18446744073709551615");
+    Ending::full_if(
+        matches!(not_a_range, Err(RangeError::NotARange))
+            && matches!(no_npm_range, Err(RangeError::NotARange))
+            && matches!(bound, Err(RangeError::NumberTooLarge))
+            && matches!(too_large, Err(RangeError::NumberTooLarge)),
+    )
+}
+
+/// The union has both sets, and 0.0.0 of the second is its least release.
+pub fn union(first: &VersionSet, second: &VersionSet) -> Ending {
+    match first.union(second) {
+        Ok(set) => Ending::full_if(
+            first.is_within(&set) && second.is_within(&set) && begins_at(&set, 0),
+        ),
+        Err(_) => Ending::Refused,
+    }
+}
+
+/// The intersection is within both sets, and 1.2.0 is its least release.
+pub fn intersection(first: &VersionSet, second: &VersionSet) -> Ending {
+    match first.intersection(second) {
+        Ok(set) => Ending::full_if(
+            set.is_within(first) && set.is_within(second) && begins_at(&set, 1),
+        ),
+        Err(_) => Ending::Refused,
+    }
+}
+
+/// What the second set has alone is within it and apart from the first, and begins with 0.0.0.
+pub fn difference(first: &VersionSet, second: &VersionSet) -> Ending {
+    match second.difference(first) {
+        Ok(set) => Ending::full_if(
+            set.is_within(second) && !set.overlaps(first) && begins_at(&set, 0),
+        ),
+        Err(_) => Ending::Refused,
+    }
+}
+
+/// The least version of the first set is 1.2.0-b.c.
+pub fn least(first: &VersionSet) -> Ending {
+    match first.least() {
+        Ok(Some(least)) => Ending::full_if(least.minor == 2 && least.pre.len() == 2),
+        Ok(None) => Ending::Wrong,
+        Err(_) => Ending::Refused,
+    }
+}
+
+/// From the first set to the second 2.0.0 is lost, 0.0.0-0 is gained, and 1.2.0-b.c is shared.
+pub fn compared(first: &VersionSet, second: &VersionSet) -> Ending {
+    let Ok(answer) = first.compare(second) else {
+        return Ending::Refused;
+    };
+    let is_lost = answer.lost.is_some_and(|lost| lost.major == 2);
+    let is_gained = answer
+        .gained
+        .is_some_and(|gained| gained.major == 0 && gained.pre.len() == 1);
+    let is_shared = answer
+        .shared
+        .is_some_and(|shared| shared.minor == 2 && shared.pre.len() == 2);
+    Ending::full_if(is_lost && is_gained && is_shared)
+}
+
+/// The releases of the first set are `>=1.2.0`.
+pub fn release_ranges(first: &VersionSet) -> Ending {
+    match first.release_ranges() {
+        Ok(ranges) => Ending::full_if(has_bounds(&ranges, 1)),
+        Err(_) => Ending::Refused,
+    }
+}
+
+/// The pre-releases of the first set are `>=1.2.0-b.c <1.2.1-0`.
+pub fn pre_release_ranges(first: &VersionSet) -> Ending {
+    match first.pre_release_ranges() {
+        Ok(ranges) => Ending::full_if(has_bounds(&ranges, 2)),
+        Err(_) => Ending::Refused,
+    }
+}
+
+/// What is asked of sets without a request: also the least version where there is none, a
+/// combination that has no version, a comparison of sets that have none, and their ranges.
+pub fn without_requests(first: &VersionSet, second: &VersionSet) -> Ending {
+    let empty = VersionSet::empty();
+    let is_told = empty.is_empty()
+        && !first.is_empty()
+        && !first.is_within(second)
+        && first.overlaps(second)
+        && first != second
+        && begins_at(first, 1);
+    let has_both = has(first, "1.9.0") && has(second, "1.9.0");
+    let has_one = has(first, "2.0.0") && !has(second, "2.0.0");
+    let is_least = matches!(empty.least(), Ok(None));
+    let nothing = match first.difference(first) {
+        Ok(nothing) => nothing == empty,
+        Err(_) => false,
+    };
+    let is_compared = match empty.compare(&empty) {
+        Ok(answer) => answer.shared.is_none(),
+        Err(_) => false,
+    };
+    let is_shown = has_no_range(empty.release_ranges())
+        && has_no_range(empty.pre_release_ranges());
+    Ending::full_if(
+        is_told && has_both && has_one && is_least && nothing && is_compared && is_shown,
+    )
+}
+
+/// Whether there is one range, with so many comparators.
+fn has_bounds(ranges: &SetRanges, count: usize) -> bool {
+    match ranges.range_set.ranges.as_slice() {
+        [range] => range.comparator_set.len() == count,
+        _ => false,
+    }
+}
+
+/// Whether the call returned, with no range.
+fn has_no_range(ranges: Result<SetRanges, AllocError>) -> bool {
+    match ranges {
+        Ok(ranges) => ranges.range_set.ranges.is_empty(),
+        Err(_) => false,
+    }
+}
+
+/// Whether a version without identifiers, which is read without a request, is in a set.
+fn has(set: &VersionSet, text: &str) -> bool {
+    match version::read(text) {
+        Ok(Some(version)) => set.has(&version),
+        _ => false,
+    }
+}
+
+/// Whether a version, which is looked at without a request, is in a set.
+fn has_stated(set: &VersionSet, text: &str) -> bool {
+    version::outline(text).is_some_and(|outline| set.has_outline(&outline))
+}
+
+/// Whether the least release of a set has this major number.
+fn begins_at(set: &VersionSet, major: u64) -> bool {
+    set.least_release()
+        .is_some_and(|release| release.major == major)
+}

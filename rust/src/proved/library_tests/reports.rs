@@ -1,0 +1,38 @@
+// Made by tools/erase from crates/library_tests/src/reports.rt; not edited by hand.
+//! The report at a writer that refuses.
+#![cfg(feature = "std")]
+
+use crate::rattle_std::prelude::*;
+use super::writers::{Limited, Refusal};
+use crate::proved::semver_parser::report;
+use crate::rattle_std::io;
+
+/// The report of `1.2.3`.
+const REPORT: &str = "version: 1.2.3\ncargo: >=1.2.3 <2.0.0\nnpm: =1.2.3\n";
+
+/// Writes at which refusals the report doesn't end as it has to, and how many there were.
+pub fn write_report(rt: &impl Print) -> io::Result<()> {
+    let mut refusals = 0u32;
+    for refusal in [Refusal::Fail, Refusal::Interrupt, Refusal::TakeNone] {
+        for most in [1, usize::MAX] {
+            for left in 0..=REPORT.len() {
+                if !ends_with(left, most, refusal) {
+                    crate::rattle_std::fallible_println!(rt; "report: wrong after {left} bytes")?;
+                }
+                refusals = refusals.saturating_add(1);
+            }
+        }
+    }
+    crate::rattle_std::fallible_println!(rt; "report: {refusals} writers")
+}
+
+/// Whether the report writes all that is taken and nothing after a refusal, and its status is 2
+/// exactly if one came.
+fn ends_with(left: usize, most: usize, refusal: Refusal) -> bool {
+    let mut out = Limited::new(left, most, refusal);
+    let ran = report::run("1.2.3", &mut out);
+    let status = if left < REPORT.len() { 2 } else { 0 };
+    report::status(&ran) == status
+        && out.late_calls == 0
+        && Some(out.taken.as_slice()) == REPORT.as_bytes().get(..left)
+}

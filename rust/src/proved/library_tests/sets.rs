@@ -1,0 +1,202 @@
+// Made by tools/erase from crates/library_tests/src/sets.rt; not edited by hand.
+//! Sets of the versions that a range text means.
+#![cfg(feature = "std")]
+
+use crate::rattle_std::prelude::*;
+use crate::proved::semver_parser::version::Version;
+use crate::proved::semver_parser::{Compat, version};
+use crate::rattle_std::io::{self, ErrorKind};
+use crate::proved::version_sets::{PreReleases, VersionSet};
+
+/// The last numbers, as a text.
+const LAST: &str = "18446744073709551615.18446744073709551615.18446744073709551615";
+
+/// A range in Cargo mode, a rule, a version, and whether it is in the set.
+const TEXTS: [(&str, PreReleases, &str, bool); 24] = [
+    ("^1.2.3-beta.4", PreReleases::Default, "1.9.0", true),
+    ("^1.2.3-beta.4", PreReleases::Excluded, "1.2.3-rc", false),
+    ("^1.2.3-beta.4", PreReleases::Default, "1.2.3-rc", true),
+    ("^1.2.3-beta.4", PreReleases::Default, "1.3.0-rc", false),
+    ("^1.2.3-beta.4", PreReleases::Included, "1.3.0-rc", true),
+    ("^1.2.3-beta.4", PreReleases::Included, "2.0.0-alpha", false),
+    (">=1.2.3 <1.2.4-rc", PreReleases::Default, "1.2.4-a", true),
+    ("=2.0.1-a || >=2.0.0", PreReleases::Default, "2.0.1-a", true),
+    (
+        "=2.0.1-a || >=2.0.0",
+        PreReleases::Default,
+        "2.0.1-b",
+        false,
+    ),
+    ("1.2.3-a - 2", PreReleases::Default, "1.2.3-b", true),
+    ("1.2.3-a - 2", PreReleases::Default, "2.0.0-b", false),
+    (">1.2.3-a", PreReleases::Included, "1.2.3-a", false),
+    (">1.2.3-a", PreReleases::Included, "1.2.3-a.0", true),
+    (">1.2.3", PreReleases::Included, "1.2.4-0", true),
+    (">1.2.3", PreReleases::Included, "1.2.3-z", false),
+    (
+        "=1.2.18446744073709551615",
+        PreReleases::Included,
+        "1.2.18446744073709551615",
+        true,
+    ),
+    (
+        "=1.2.18446744073709551615",
+        PreReleases::Included,
+        "1.3.0-0",
+        false,
+    ),
+    (
+        "<1.2.0 || 2.x || >=4.0.0",
+        PreReleases::Excluded,
+        "0.0.0",
+        true,
+    ),
+    (
+        "<1.2.0 || 2.x || >=4.0.0",
+        PreReleases::Excluded,
+        "2.9.9+b5",
+        true,
+    ),
+    (
+        "<1.2.0 || 2.x || >=4.0.0",
+        PreReleases::Excluded,
+        "3.0.0",
+        false,
+    ),
+    (
+        "<1.2.0 || 2.x || >=4.0.0",
+        PreReleases::Excluded,
+        LAST,
+        true,
+    ),
+    (">2.0.0 <1.0.0", PreReleases::Included, "1.5.0", false),
+    (
+        "=18446744073709551615.18446744073709551615.18446744073709551615",
+        PreReleases::Default,
+        LAST,
+        true,
+    ),
+    (
+        ">18446744073709551615.18446744073709551615.18446744073709551615",
+        PreReleases::Included,
+        LAST,
+        false,
+    ),
+];
+
+/// Range texts that mean the same versions, releases only.
+const SAME: [(&str, &str); 3] = [
+    (">=1.0.0 <2.0.0 || >=2.0.0 <3.0.0", ">=1.0.0 <3.0.0"),
+    (">=1.0.0-rc", ">=1.0.0"),
+    (
+        "<0.0.0",
+        ">18446744073709551615.18446744073709551615.18446744073709551615",
+    ),
+];
+
+/// Two ranges in Cargo mode, a rule, and the least versions that are lost, gained and shared where
+/// the second takes the place of the first. A text without bytes says that there is none.
+const COMPARED: [(&str, &str, PreReleases, [&str; 3]); 6] = [
+    (
+        "^1.2.0",
+        ">=1.4.0",
+        PreReleases::Excluded,
+        ["1.2.0", "2.0.0", "1.4.0"],
+    ),
+    (
+        "^1.2",
+        "~1.2",
+        PreReleases::Excluded,
+        ["1.3.0", "", "1.2.0"],
+    ),
+    (
+        "=1.0.0",
+        "=2.0.0",
+        PreReleases::Excluded,
+        ["1.0.0", "2.0.0", ""],
+    ),
+    (
+        ">1.2.3-a",
+        ">=1.2.3-a",
+        PreReleases::Included,
+        ["", "1.2.3-a", "1.2.3-a.0"],
+    ),
+    (
+        ">=1.2.3-rc",
+        ">=1.2.3",
+        PreReleases::Default,
+        ["1.2.3-rc", "", "1.2.3"],
+    ),
+    (
+        "<0.0.0",
+        "<0.0.0-0",
+        PreReleases::Included,
+        ["0.0.0-0", "", ""],
+    ),
+];
+
+/// Writes the places of the texts whose sets are others, and how many texts there were.
+pub fn write_sets(rt: &impl Print) -> io::Result<()> {
+    for (place, (range, rule, text, wanted)) in TEXTS.iter().enumerate() {
+        if is_in(range, *rule, text)? != *wanted {
+            crate::rattle_std::fallible_println!(rt; "sets: wrong at {place}")?;
+        }
+    }
+    for (place, (range, other)) in SAME.iter().enumerate() {
+        if set_of(range, PreReleases::Excluded)?
+            != set_of(other, PreReleases::Excluded)? {
+            crate::rattle_std::fallible_println!(rt; "same sets: wrong at {place}")?;
+        }
+    }
+    crate::rattle_std::fallible_println!(rt; "sets: {} texts", TEXTS.len())?;
+    for (place, (old, new, rule, wanted)) in COMPARED.iter().enumerate() {
+        if !is_compared(old, new, *rule, wanted)? {
+            crate::rattle_std::fallible_println!(rt; "compared sets: wrong at {place}")?;
+        }
+    }
+    crate::rattle_std::fallible_println!(rt; "compared sets: {} pairs", COMPARED.len())
+}
+
+/// Whether the comparison of the sets of two ranges tells these versions.
+fn is_compared(old: &str,
+    new: &str,
+    rule: PreReleases,
+    wanted: &[&str; 3],
+) -> io::Result<bool> {
+    let answer = set_of(old, rule)?.compare(&set_of(new, rule)?);
+    let Ok(answer) = answer else {
+        return Err(io::Error::from(ErrorKind::OutOfMemory));
+    };
+    Ok(
+        is_text(&answer.lost, wanted[0])?
+            && is_text(&answer.gained, wanted[1])?
+            && is_text(&answer.shared, wanted[2])?,
+    )
+}
+
+/// Whether a version has this text; none has a text without bytes.
+fn is_text(version: &Option<Version>, wanted: &str) -> io::Result<bool> {
+    let Some(version) = version else {
+        return Ok(wanted.is_empty());
+    };
+    match version.fallible_to_string() {
+        Ok(text) => Ok(text.as_str() == wanted),
+        Err(_) => Err(io::Error::from(ErrorKind::OutOfMemory)),
+    }
+}
+
+/// Whether a version is in the set of a range.
+fn is_in(range: &str, rule: PreReleases, text: &str) -> io::Result<bool> {
+    let Ok(version) = version::parse(text) else {
+        return Err(io::Error::from(ErrorKind::InvalidInput));
+    };
+    Ok(set_of(range, rule)?.has(&version))
+}
+
+/// The set of a range.
+fn set_of(range: &str, rule: PreReleases) -> io::Result<VersionSet> {
+    match VersionSet::of_text(range, Compat::Cargo, rule) {
+        Ok(set) => Ok(set),
+        Err(_) => Err(io::Error::from(ErrorKind::InvalidInput)),
+    }
+}

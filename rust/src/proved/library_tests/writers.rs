@@ -1,0 +1,91 @@
+// Made by tools/erase from crates/library_tests/src/writers.rt; not edited by hand.
+//! A writer that refuses once.
+#![cfg(feature = "std")]
+
+use crate::rattle_std::prelude::*;
+use crate::rattle_std::AllocError;
+use crate::rattle_std::io::{ErrorKind, Write};
+use crate::rattle_std::{fmt, io};
+
+/// How a writer refuses.
+#[derive(Clone, Copy)]
+pub enum Refusal {
+    /// It fails.
+    Fail,
+    /// A signal interrupts it.
+    Interrupt,
+    /// It takes no byte.
+    TakeNone,
+}
+
+/// Takes so many bytes, refuses the call that brings more, and then takes everything. So what is
+/// written after a refusal is seen.
+pub struct Limited {
+    /// What it took.
+    pub taken: Vec<u8>,
+    /// How often it was called after it had refused.
+    pub late_calls: u32,
+    // How many more bytes it takes.
+    left: usize,
+    // How many bytes of a call it takes at most, where a call may be cut.
+    most: usize,
+    refusal: Refusal,
+    has_refused: bool,
+}
+
+impl Limited {
+    /// A writer of `left` bytes, and of at most `most` of them at a call that may be cut.
+    pub fn new(left: usize, most: usize, refusal: Refusal) -> Limited {
+        Limited {
+            taken: Vec::new(),
+            late_calls: 0,
+            left,
+            most,
+            refusal,
+            has_refused: false,
+        }
+    }
+
+    /// Takes bytes, whatever is left.
+    fn take(&mut self, bytes: &[u8]) -> Result<(), AllocError> {
+        if self.has_refused {
+            self.late_calls = self.late_calls.saturating_add(1);
+        }
+        self.left = self.left.saturating_sub(bytes.len());
+        self.taken.fallible_extend_from_slice(bytes)
+    }
+}
+
+impl Write for Limited {
+    fn write(&mut self, buf: &[u8]) -> io::Result<usize> {
+        if self.left == 0 && !self.has_refused {
+            self.has_refused = true;
+            return match self.refusal {
+                Refusal::Fail => Err(io::Error::from(ErrorKind::BrokenPipe)),
+                Refusal::Interrupt => Err(io::Error::from(ErrorKind::Interrupted)),
+                Refusal::TakeNone => Ok(0),
+            };
+        }
+        let mut count = buf.len().min(self.most);
+        if !self.has_refused {
+            count = count.min(self.left);
+        }
+        self.take(&buf[..count])?;
+        Ok(count)
+    }
+
+    fn flush(&mut self) -> io::Result<()> {
+        Ok(())
+    }
+}
+
+impl fmt::Write for Limited {
+    fn write_str(&mut self, s: &str) -> fmt::Result {
+        if s.len() > self.left && !self.has_refused {
+            self.has_refused = true;
+            return Err(fmt::Error);
+        }
+        self.take(s.as_bytes())?;
+        Ok(())
+    }
+}

@@ -1,0 +1,69 @@
+// Made by tools/erase from crates/library_tests/src/writes.rt; not edited by hand.
+//! Whole writes: of no byte and of some, at a writer that refuses.
+#![cfg(feature = "std")]
+
+use crate::rattle_std::prelude::*;
+use super::writers::{Limited, Refusal};
+use crate::proved::semver_parser::writing::write_whole;
+use crate::rattle_std::io;
+use crate::rattle_std::io::ErrorKind;
+
+/// What is written, and each beginning of it.
+const BYTES: &[u8] = b"1.2.3";
+
+/// Writes at which beginnings and refusals a whole write doesn't end as it has to, and how many
+/// there were.
+pub fn write_writes(rt: &impl Print) -> io::Result<()> {
+    let mut writes = 0u32;
+    for refusal in [Refusal::Fail, Refusal::Interrupt, Refusal::TakeNone] {
+        for most in [1, usize::MAX] {
+            let (count, wrong) = count_writes(most, refusal);
+            writes = writes.saturating_add(count);
+            if wrong > 0 {
+                crate::rattle_std::fallible_println!(rt; "writes: {wrong} wrong where {most} bytes are taken at a call")?;
+            }
+        }
+    }
+    crate::rattle_std::fallible_println!(rt; "writes: {writes} writers")
+}
+
+/// How many beginnings of the bytes were written to writers with each room, and how many of these
+/// writes didn't end as they have to.
+fn count_writes(most: usize, refusal: Refusal) -> (u32, u32) {
+    let mut count = 0u32;
+    let mut wrong = 0u32;
+    for len in 0..=BYTES.len() {
+        let bytes = BYTES.get(..len).unwrap_or_default();
+        for left in 0..=len {
+            count = count.saturating_add(1);
+            if !ends_as_documented(bytes, left, most, refusal) {
+                wrong = wrong.saturating_add(1);
+            }
+        }
+    }
+    (count, wrong)
+}
+
+/// Whether all is written, or what is taken before a refusal, and then the error of the
+/// documentation is told.
+fn ends_as_documented(bytes: &[u8],
+    left: usize,
+    most: usize,
+    refusal: Refusal,
+) -> bool {
+    let mut out = Limited::new(left, most, refusal);
+    let is_told = match write_whole(&mut out, bytes) {
+        Ok(()) => left == bytes.len(),
+        Err(error) => left < bytes.len() && error.kind() == kind_of(refusal),
+    };
+    is_told && out.late_calls == 0 && Some(out.taken.as_slice()) == bytes.get(..left)
+}
+
+/// The error that a refusal has to be told by.
+fn kind_of(refusal: Refusal) -> ErrorKind {
+    match refusal {
+        Refusal::Fail => ErrorKind::BrokenPipe,
+        Refusal::Interrupt => ErrorKind::Interrupted,
+        Refusal::TakeNone => ErrorKind::WriteZero,
+    }
+}

@@ -1,0 +1,25 @@
+// Made by tools/erase from crates.txt; not edited by hand.
+//! What is proved, as plain Rust: each crate of `crates/` without its contracts.
+#![allow(clippy::all, dead_code, missing_docs, private_bounds)]
+#![allow(unused_imports, unused_labels, unused_variables)]
+
+pub mod semver_texts;
+pub mod semver_tokens;
+pub mod semver_versions;
+pub mod text_prefixes;
+pub mod semver_ranges;
+pub mod semver_parser;
+pub mod version_sets;
+pub mod tool_ranges;
+pub mod release_filter;
+pub mod command_line;
+#[cfg(test)]
+pub mod semver_parser_main;
+#[cfg(test)]
+pub mod release_filter_main;
+#[cfg(test)]
+pub mod compare_ranges_main;
+#[cfg(test)]
+pub mod replayed_cases;
+#[cfg(test)]
+pub mod library_tests;

@@ -1,0 +1,103 @@
+// Made by tools/erase from crates/release_filter/src/counts.rt; not edited by hand.
+
+use crate::rattle_std::prelude::*;
+use crate::proved::release_filter::judging::Judged;
+use crate::proved::release_filter::line_texts::text_of;
+use crate::rattle_std::AllocError;
+
+/// So many bytes of the first line that is invalid are kept.
+const FRONT: usize = 81;
+
+/// How many lines a text has, and how many of these have no version. Each count stops at 2^64 - 1.
+#[derive(Debug)]
+pub struct Counts {
+    /// The lines that have ended, and the last one, once the end of the text was taken.
+    pub lines: u64,
+    /// Those of them whose text is empty.
+    pub empty: u64,
+    /// Those of them that are invalid: they aren't empty, and have no version.
+    pub invalid: u64,
+    /// The first invalid one.
+    pub first_invalid: Option<InvalidLine>,
+}
+
+/// A line that is not empty and has no version.
+#[derive(Debug)]
+pub struct InvalidLine {
+    /// Its number: that of the first line is 1.
+    pub number: u64,
+    /// The first 81 bytes of it, without the line feed that ends it and a carriage return before
+    /// that; fewer if it is shorter.
+    pub front: Vec<u8>,
+}
+
+/// What is to be counted of a line.
+pub(crate) enum Noted {
+    /// It has a version.
+    Version,
+    /// It is empty.
+    Empty,
+    /// It is invalid, and an earlier one is.
+    Invalid,
+    /// It is invalid, and the first such line.
+    FirstInvalid(InvalidLine),
+}
+
+impl Counts {
+    /// Counts no line.
+    pub(crate) fn new() -> Counts {
+        Counts {
+            lines: 0,
+            empty: 0,
+            invalid: 0,
+            first_invalid: None,
+        }
+    }
+
+    /// What is to be counted of a line of which a filter says this.
+    #[inline(always)]
+    pub(crate) fn noted(
+        &self,line: &[u8],
+        judged: &Judged<'_>,
+    ) -> Result<Noted, AllocError> {
+        match judged {
+            Judged::NoVersion => self.noted_without_version(line),
+            Judged::DoesNotPass | Judged::Passes(_) => Ok(Noted::Version),
+        }
+    }
+
+    /// What is to be counted of a line that has no version.
+    fn noted_without_version(&self,line: &[u8]) -> Result<Noted, AllocError> {
+        let text = text_of(line);
+        if text.is_empty() {
+            return Ok(Noted::Empty);
+        }
+        if self.first_invalid.is_some() {
+            return Ok(Noted::Invalid);
+        }
+        let number = self.lines.saturating_add(1);
+        let front = Vec::fallible_from_slice(&text[..text.len().min(FRONT)])?;
+        Ok(Noted::FirstInvalid(InvalidLine { number, front }))
+    }
+
+    /// Counts a line of which this was noted.
+    #[inline(always)]
+    pub(crate) fn add(&mut self, noted: Noted) {
+        self.lines = self.lines.saturating_add(1);
+        match noted {
+            Noted::Version => {}
+            Noted::Empty => self.empty = self.empty.saturating_add(1),
+            Noted::Invalid => self.invalid = self.invalid.saturating_add(1),
+            Noted::FirstInvalid(line) => {
+                self.invalid = self.invalid.saturating_add(1);
+                self.first_invalid = Some(line);
+            }
+        }
+    }
+}
+
+/// Whether a line of which a filter says this is not empty, and has no version.
+#[inline(always)]
+pub(crate) fn is_invalid(line: &[u8], judged: &Judged<'_>) -> bool {
+    matches!(judged, Judged::NoVersion) && !text_of(line).is_empty()
+}

@@ -1,0 +1,112 @@
+// Made by tools/erase from crates/release_filter/src/filter.rt; not edited by hand.
+
+use crate::rattle_std::prelude::*;
+use crate::proved::release_filter::precedence;
+use crate::proved::semver_parser::version::{Grammar, Version};
+use crate::proved::semver_parser::{Compat, RangeError};
+use crate::proved::version_sets::{PreReleases, VersionSet};
+
+/// Which versions a range text means, by one of the three rules for pre-releases, and the dialect
+/// by which version texts are read.
+///
+/// [`Filter::new`] reads the range once; the filter then judges any number of versions.
+pub struct Filter {
+    /// The versions that the text means.
+    pub(crate) versions: VersionSet,
+    /// The rule.
+    pre_releases: PreReleases,
+    /// The dialect of the version texts.
+    grammar: Grammar,
+}
+
+impl Filter {
+    /// Reads a range text: `^1.2.3-beta || 3.x` in Cargo mode and with `PreReleases::Default` gives
+    /// a filter that 1.2.3-rc, 1.9.0 and 3.0.0 pass, and 1.3.0-rc and 2.0.0 don't. Its version
+    /// texts are the crate's.
+    ///
+    /// # Errors
+    ///
+    /// Those of `RangeSet::parse`. `NotARange` exactly where the text isn't in the range grammar.
+    /// `NumberTooLarge` exactly where it is, and a stated number or a raised bound is above
+    /// 2^64 - 1. These two do not allocate; `OutOfMemory` comes only in place of a filter.
+    pub fn new(range: &str,
+        compat: Compat,
+        pre_releases: PreReleases,
+    ) -> Result<Filter, RangeError> {
+        let versions = VersionSet::of_text(range, compat, pre_releases)?;
+        Ok(Filter {
+            versions,
+            pre_releases,
+            grammar: Grammar::Crate,
+        })
+    }
+
+    /// A filter that the versions of a set pass, as the set that `tool_ranges::meaning::read`
+    /// returns, and that reads version texts by a dialect. It does not allocate.
+    pub fn of_versions(versions: VersionSet, grammar: Grammar) -> Filter {
+        Filter {
+            versions,
+            pre_releases: PreReleases::Included,
+            grammar,
+        }
+    }
+
+    /// Returns the dialect by which it reads version texts: that of [`Filter::new`] is the crate's.
+    #[inline(always)]
+    pub fn grammar(&self) -> Grammar {
+        self.grammar
+    }
+
+    /// Whether a version passes. Its build doesn't count, and an identifier of digits alone from
+    /// 2^64 on, which it keeps as a text, is what the filter's dialect says: a number to Cargo and
+    /// npm. It does not allocate.
+    pub fn meets(&self, version: &Version) -> bool {
+        self.versions.has_by(version, self.grammar.digits())
+    }
+
+    /// Of the versions that pass, the greatest by precedence (SemVer 2.0.0, section 11), and the
+    /// first of those that are equal to it; builds don't count. `None` exactly where none passes.
+    /// Of 1.2.0, 2.0.0, 1.9.0+a and 1.9.0+b, a filter of `^1.2` returns 1.9.0+a. It does not
+    /// allocate.
+    pub fn greatest<'v>(&self, versions: &'v [Version]) -> Option<&'v Version> {
+        let digits = self.grammar().digits();
+        let mut greatest: Option<&Version> = None;
+        for version in versions {
+            if !self.meets(version) {
+                continue;
+            }
+            match greatest {
+                Some(other) => {
+                    if precedence::is_above(version, other, digits) {
+                        greatest = Some(version);
+                    }
+                }
+                None => greatest = Some(version),
+            }
+        }
+        greatest
+    }
+}
+
+/// The releases among the versions that a range text means, in the given order and with repeats
+/// kept: each version without pre-release that meets the text's own meaning. Of `^0.2 || 2.x` in
+/// Cargo mode, and of 0.2.0, 0.3.0, 2.0.0-rc, 2.5.0 and 2.5.0 again, these are 0.2.0, 2.5.0 and
+/// 2.5.0.
+///
+/// The text is read first, so its refusal doesn't depend on the versions: `NotARange` where it
+/// isn't in the range grammar, `NumberTooLarge` where it is and a stated number or a raised bound
+/// is above 2^64 - 1. `OutOfMemory` comes only in place of an answer. Pre-releases are never
+/// in the result, whatever the text says.
+///
+/// Each version is judged once. Memory for the answer is asked for as it grows, and not at all
+/// where no version is kept.
+pub fn filter_text<'v>(text: &str,
+    compat: Compat,
+    versions: &'v [Version],
+) -> Result<Vec<&'v Version>, RangeError> {
+    let filter = Filter::new(text, compat, PreReleases::Excluded)?;
+    match filter.kept(versions) {
+        Ok(kept) => Ok(kept),
+        Err(_) => Err(RangeError::OutOfMemory),
+    }
+}

@@ -1,0 +1,335 @@
+// Made by tools/erase from crates/release_filter/src/lines.rt; not edited by hand.
+
+use crate::rattle_std::prelude::*;
+use crate::proved::release_filter::counts::{Counts, Noted, is_invalid};
+use crate::proved::release_filter::filter::Filter;
+use crate::proved::release_filter::judging::Judged;
+use crate::proved::release_filter::line_filter::LineFilter;
+use crate::proved::release_filter::line_texts::{after_mark, whole_line};
+use crate::proved::release_filter::wanted::{Held, Wanted, without_build};
+use crate::rattle_std::AllocError;
+use crate::rattle_std::mem;
+
+/// What ends a line.
+const LINE_FEED: &[u8] = b"\n";
+
+/// Why lines were not taken to the end.
+#[derive(Debug)]
+pub enum LinesError {
+    /// An allocation failed.
+    OutOfMemory,
+    /// The line of this number is not empty and has no version. The first line is line 1.
+    NoVersion(u64),
+}
+
+impl crate::rattle_std::fmt::Display for LinesError {
+    fn fmt(&self, f: &mut crate::rattle_std::fmt::Formatter<'_>) -> crate::rattle_std::fmt::Result {
+        match self {
+            LinesError::OutOfMemory => write!(f, "out of memory"),
+            LinesError::NoVersion(_0) => write!(f, "line {_0} is no version"),
+        }
+    }
+}
+
+#[cfg(feature = "std")]
+impl crate::rattle_std::Error for LinesError {}
+
+/// A piece was not taken to its end.
+#[derive(Debug)]
+pub struct Stopped {
+    /// How many bytes of the piece were taken. The rest can be pushed again.
+    pub taken: usize,
+    /// Why.
+    pub error: LinesError,
+}
+
+impl crate::rattle_std::fmt::Display for Stopped {
+    fn fmt(&self, f: &mut crate::rattle_std::fmt::Formatter<'_>) -> crate::rattle_std::fmt::Result {
+        match self {
+            Stopped { taken: _, error } => write!(f, "{error}"),
+        }
+    }
+}
+
+#[cfg(feature = "std")]
+impl crate::rattle_std::Error for Stopped {}
+
+/// The lines of a text that comes in pieces of any length, and which of them a filter keeps.
+///
+/// A line ends with a line feed, and the last one may have none. Its text is the line without that
+/// line feed, and then without one carriage return at its end. A line is kept if its text is one
+/// of the prefixes and then spells a version that passes, by the dialect of the filter
+/// (docs/GRAMMAR.md): by the crate's, spaces, tabs and carriage returns may be around the version.
+/// The first prefix after which it spells a version decides. Without a prefix it is as with the
+/// empty one.
+///
+/// A byte order mark at the front of the text is dropped, also one that is cut between pieces.
+///
+/// Of a line that goes on into the next piece its bytes are held. At 4,096 of them, at twice as
+/// many, and so on, they are checked: if no line with a version begins with them, no more than
+/// these are held, and the rest of the line is skipped.
+pub struct Lines {
+    chosen: LineFilter,
+    is_strict: bool,
+    at_front: bool,
+    unended: Vec<u8>,
+    is_skipped: bool,
+    held: Held,
+    counts: Counts,
+}
+
+impl Lines {
+    /// Returns the lines of a text of which no byte was taken yet. With a filter of `^1`, the
+    /// prefix `v` and `Wanted::Each`, those that are kept are `v1.4.0` and `v1.9.2`, and not
+    /// `v2.0.0` or `1.4.0`.
+    ///
+    /// Where `is_strict` is true, a line that isn't empty and has no version is an error.
+    pub fn new(filter: Filter,
+        prefixes: Vec<String>,
+        wanted: Wanted,
+        is_strict: bool,
+    ) -> Lines {
+        Lines {
+            chosen: LineFilter { filter, prefixes },
+            is_strict,
+            at_front: true,
+            unended: Vec::new(),
+            is_skipped: false,
+            held: Held::new(wanted),
+            counts: Counts::new(),
+        }
+    }
+
+    /// Takes the next bytes of the text, and appends of the lines that these end the kept ones that
+    /// are wanted at once: with a filter of `^1` and `Wanted::Each`, `1.4.0\n2.0.0\n1.` appends
+    /// `1.4.0\n`, and then `9.2\n` appends `1.9.2\n`.
+    ///
+    /// # Errors
+    ///
+    /// [`Stopped`] has how many bytes of the piece were taken: what was appended is what these end,
+    /// and pushing the rest goes on. `OutOfMemory` if an allocation fails: for a line that another
+    /// piece begins or ends, the first line of the text, a kept line, or the first invalid one.
+    /// `NoVersion`, only where the lines are strict, if a line of the piece isn't empty and has no
+    /// version: the piece was taken up to the end of the first such line.
+    ///
+    /// # Details
+    ///
+    /// A kept line is appended as it is, with the line feed that ends it, but for a byte order mark
+    /// at the front of the text. What a text appends doesn't depend on how it is cut into pieces
+    /// ([`pieces_do_not_matter`](crate::proved::release_filter::laws::pieces_do_not_matter)).
+    pub fn push(&mut self,piece: &[u8], kept: &mut Vec<u8>) -> Result<(), Stopped> {
+        let _ = &self.unended;
+        let mut taken = 0;
+        'lines: loop {
+            match self.take_first(&piece[taken..], kept) {
+                Ok(Some((end, is_valid))) => {
+                    taken += end.len();
+                    if self.is_strict && !is_valid {
+                        let error = LinesError::NoVersion(self.counts.lines);
+                        return Err(Stopped { taken, error });
+                    }
+                }
+                Ok(None) => break,
+                Err(_) => return Err(out_of_memory(taken)),
+            }
+        }
+        match self.take_rest(&piece[taken..]) {
+            Ok(_) => Ok(()),
+            Err(_) => Err(out_of_memory(taken)),
+        }
+    }
+
+    /// Takes the end of the text, with the last line if no line feed ends it, and appends the rest
+    /// of the answer: with a filter of `^1`, after `2.0.0\n1.4.0` it appends `1.4.0`, and with
+    /// `Wanted::Sorted`, after `1.9.0\n1.4.0`, `1.4.0\n1.9.0\n`.
+    ///
+    /// # Errors
+    ///
+    /// `OutOfMemory` if an allocation fails: for the last line, if it is kept or the first invalid
+    /// one, for lines that are sorted, or for the best line, if `kept` isn't empty. `NoVersion`,
+    /// exactly where the lines are strict and the last line isn't empty and has no version. Then
+    /// nothing was appended, the lines are as they were, and the call can be repeated.
+    ///
+    /// # Details
+    ///
+    /// But for `Wanted::Sorted` a line is appended as it is, with no line feed added. Then no byte
+    /// of a text was taken, as after [`Lines::new`], so that another text can be pushed; the lines
+    /// of both are counted.
+    pub fn finish(&mut self,kept: &mut Vec<u8>) -> Result<(), LinesError> {
+        let line = after_mark(self.at_front, self.unended.as_slice());
+        if line.is_empty() {
+            let Ok(_) = self.held.finish(line, &Judged::NoVersion, kept) else {
+                return Err(LinesError::OutOfMemory);
+            };
+            self.begin();
+            return Ok(());
+        }
+        let judged = self.chosen.judge_line(line);
+        let is_bad = is_invalid(line, &judged);
+        if self.is_strict && is_bad {
+            return Err(LinesError::NoVersion(self.counts.lines.saturating_add(1)));
+        }
+        let Ok(noted) = self.counts.noted(line, &judged) else {
+            return Err(LinesError::OutOfMemory);
+        };
+        let Ok(_) = self.held.finish(line, &judged, kept) else {
+            return Err(LinesError::OutOfMemory);
+        };
+        self.counts.add(noted);
+        self.begin();
+        Ok(())
+    }
+
+    /// Returns the counts of the lines so far: after `v1.2.0\n\n1.4.0\n` three lines, of which one
+    /// is empty and one is invalid, the first, `v1.2.0`. It does not allocate.
+    pub fn counts(&self) -> &Counts {
+        &self.counts
+    }
+
+    /// Makes this the state before the first byte of a text.
+    fn begin(&mut self) {
+        self.held.clear();
+        self.at_front = true;
+        self.unended.clear();
+        self.is_skipped = false;
+    }
+
+    /// Takes the bytes up to the first end of a line, if there is one: these bytes, and whether the
+    /// line is no invalid one. For speed, a line of which no byte was taken before is judged where
+    /// it is.
+    #[inline(always)]
+    fn take_first<'p>(
+        &mut self,bytes: &'p [u8],
+        kept: &mut Vec<u8>,
+    ) -> Result<Option<(&'p [u8], bool)>, AllocError> {
+        if self.at_front || !self.unended.is_empty() {
+            let Some(end) = whole_line(bytes) else {
+                return Ok(None);
+            };
+            let is_valid = self.take_line(end, kept)?;
+            return Ok(Some((end, is_valid)));
+        }
+        let Some((line, judged)) = self.chosen.first_judged(bytes) else {
+            return Ok(None);
+        };
+        let is_valid = take(line, &judged, &mut self.held, &mut self.counts, kept)?;
+        Ok(Some((line, is_valid)))
+    }
+
+    /// Takes bytes that end no line. Of a line that is skipped none are held or looked at.
+    fn take_rest(&mut self, rest: &[u8]) -> Result<(), AllocError> {
+        if self.is_skipped {
+            return Ok(());
+        }
+        if rest.is_empty() {
+            return Ok(());
+        }
+        let shown = self.chosen.hold(self.at_front, &mut self.unended, rest)?;
+        if let Some(size) = shown {
+            self.unended.truncate(size);
+            self.is_skipped = true;
+        }
+        Ok(())
+    }
+
+    /// Ends the line that has not ended, and returns whether it isn't an invalid one. Of a skipped
+    /// line nothing more is held but a line feed.
+    fn take_line(
+        &mut self,end: &[u8],
+        kept: &mut Vec<u8>,
+    ) -> Result<bool, AllocError> {
+        let begun = self.unended.len();
+        let end = if self.is_skipped { LINE_FEED } else { end };
+        self.unended.fallible_extend_from_slice(end)?;
+        match take_ended(&self.chosen,
+            self.at_front,
+            &mut self.unended,
+            &mut self.held,
+            &mut self.counts,
+            kept,
+        ) {
+            Ok(is_valid) => {
+                self.unended.clear();
+                self.at_front = false;
+                self.is_skipped = false;
+                Ok(is_valid)
+            }
+            Err(error) => {
+                self.unended.truncate(begun);
+                Err(error)
+            }
+        }
+    }
+}
+
+/// Takes a line that has ended, and returns whether it is no invalid one. So that a long line isn't
+/// held twice, one that is kept is handed over if nothing was appended before it, or held as it is.
+fn take_ended(chosen: &LineFilter,
+    at_front: bool,
+    bytes: &mut Vec<u8>,
+    held: &mut Held,
+    counts: &mut Counts,
+    kept: &mut Vec<u8>,
+) -> Result<bool, AllocError> {
+    let marked = bytes.as_slice();
+    let line = after_mark(at_front, marked);
+    let may_hand_over = may_hand_over(held.wanted, line, marked, kept.as_slice());
+    let may_hold = may_hold(held.wanted, line, marked);
+    let judged = chosen.judge_line(line);
+    if let Judged::Passes(outline) = &judged {
+        if may_hand_over {
+            counts.add(Noted::Version);
+            mem::swap(kept, bytes);
+            return Ok(true);
+        }
+        if may_hold {
+            let version = without_build(outline)?;
+            held.hold_whole(version, bytes);
+            counts.add(Noted::Version);
+            return Ok(true);
+        }
+    }
+    take(line, &judged, held, counts, kept)
+}
+
+/// Whether a kept line may take the place of what was appended, since it is all that is: it has no
+/// byte order mark before it, and nothing was appended.
+fn may_hand_over(wanted: Wanted, line: &[u8], marked: &[u8], kept: &[u8]) -> bool {
+    match wanted {
+        Wanted::Each => line.len() == marked.len() && kept.is_empty(),
+        Wanted::Greatest | Wanted::Least | Wanted::Sorted => false,
+    }
+}
+
+/// Whether a kept line may be held as it is: it has no byte order mark before it, and the best
+/// line is wanted.
+fn may_hold(wanted: Wanted, line: &[u8], marked: &[u8]) -> bool {
+    match wanted {
+        Wanted::Greatest | Wanted::Least => line.len() == marked.len(),
+        Wanted::Each | Wanted::Sorted => false,
+    }
+}
+
+/// Takes a line of which a filter says this, and returns whether it is no invalid one.
+#[inline(always)]
+fn take(line: &[u8],
+    judged: &Judged<'_>,
+    held: &mut Held,
+    counts: &mut Counts,
+    kept: &mut Vec<u8>,
+) -> Result<bool, AllocError> {
+    let noted = counts.noted(line, judged)?;
+    if let Judged::Passes(outline) = judged {
+        held.keep(outline, line, kept)?;
+    }
+    counts.add(noted);
+    Ok(!is_invalid(line, judged))
+}
+
+/// The memory ran out after so many bytes of a piece.
+fn out_of_memory(taken: usize) -> Stopped {
+    Stopped {
+        taken,
+        error: LinesError::OutOfMemory,
+    }
+}

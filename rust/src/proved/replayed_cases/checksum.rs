@@ -1,0 +1,51 @@
+// Made by tools/erase from crates/replayed_cases/src/checksum.rt; not edited by hand.
+//! The length and the Adler-32 checksum of a long answer, written in its place. A byte that is
+//! dropped, changed or moved changes them. Python's `zlib.adler32` computes the same.
+#![cfg(feature = "std")]
+
+use crate::rattle_std::prelude::*;
+use crate::rattle_std::io::Write;
+use crate::rattle_std::{fmt, io};
+
+/// The largest prime below 2^16.
+const MODULUS: u32 = 65521;
+
+/// Takes everything that is written, and keeps its length and its checksum.
+pub struct Checksum {
+    len: u64,
+    low: u32,
+    high: u32,
+}
+
+impl Checksum {
+    /// The checksum of nothing.
+    pub fn new() -> Checksum {
+        Checksum {
+            len: 0,
+            low: 1,
+            high: 0,
+        }
+    }
+}
+
+impl Write for Checksum {
+    fn write(&mut self, buf: &[u8]) -> io::Result<usize> {
+        for byte in buf {
+            self.len = self.len.saturating_add(1);
+            self.low = self.low.wrapping_add(u32::from(*byte)) % MODULUS;
+            self.high = self.high.wrapping_add(self.low) % MODULUS;
+        }
+        Ok(buf.len())
+    }
+
+    fn flush(&mut self) -> io::Result<()> {
+        Ok(())
+    }
+}
+
+impl fmt::Display for Checksum {
+    fn fmt(&self, f: &mut fmt::Formatter<'_>) -> fmt::Result {
+        let (len, high, low) = (self.len, self.high, self.low);
+        write!(f, "{len} bytes, Adler-32 {high:04x}{low:04x}")
+    }
+}

@@ -1,0 +1,104 @@
+// Made by tools/erase from crates/replayed_cases/src/ranges.rt; not edited by hand.
+//! Range sets, by their fields and as they print.
+#![cfg(feature = "std")]
+
+use crate::rattle_std::prelude::*;
+use crate::proved::semver_parser::{Compat, Identifier, RangeError, RangeSet};
+use crate::rattle_std::io;
+use crate::rattle_std::io::Write;
+
+/// Writes the fields of the set that a text is in a mode, or its error. The mode is written where
+/// the set and each range have it.
+pub fn write_set<W: Write>(text: &str,
+    compat: Compat,
+    out: &mut W,
+) -> io::Result<()> {
+    match RangeSet::try_parse(text, compat) {
+        Ok(set) => {
+            let compat = set.compat;
+            write!(out, "{compat:?}")?;
+            for (i, range) in set.ranges.iter().enumerate() {
+                if i > 0 {
+                    write!(out, " ||")?;
+                }
+                if range.compat != set.compat {
+                    write!(out, " another mode")?;
+                }
+                for comparator in range.comparator_set.iter() {
+                    let op = &comparator.op;
+                    let (major, minor, patch) = (
+                        comparator.major,
+                        comparator.minor,
+                        comparator.patch,
+                    );
+                    write!(out, " {op}{major}.{minor}.{patch}[")?;
+                    write_identifiers(comparator.pre.as_slice(), out)?;
+                    write!(out, "]")?;
+                }
+            }
+            Ok(())
+        }
+        Err(error) => write!(out, "{error:?}"),
+    }
+}
+
+/// Writes what the set of a text prints, if both calls read it back to an equal set, or its error.
+pub fn write_printed<W: Write>(text: &str,
+    compat: Compat,
+    out: &mut W,
+) -> io::Result<()> {
+    match RangeSet::try_parse(text, compat) {
+        Ok(set) => write_read_back(&set, out),
+        Err(error) => write!(out, "{error}"),
+    }
+}
+
+/// As `write_printed`, of the set with exact bounds.
+pub fn write_exact<W: Write>(text: &str,
+    compat: Compat,
+    out: &mut W,
+) -> io::Result<()> {
+    match RangeSet::parse_exact(text, compat) {
+        Ok(set) => write_read_back(&set, out),
+        Err(error) => write!(out, "{error}"),
+    }
+}
+
+fn write_read_back<W: Write>(set: &RangeSet, out: &mut W) -> io::Result<()> {
+    let printed = set.fallible_to_string()?;
+    let plain = RangeSet::try_parse(printed.as_str(), set.compat);
+    let exact = RangeSet::parse_exact(printed.as_str(), set.compat);
+    if is_answer(&plain, set) && is_answer(&exact, set) {
+        write!(out, "{printed}")
+    } else {
+        write!(out, "{printed} reads back as another set")
+    }
+}
+
+fn is_answer(answer: &Result<RangeSet, RangeError>, set: &RangeSet) -> bool {
+    match answer {
+        Ok(answered) => answered == set,
+        Err(_) => false,
+    }
+}
+
+/// Writes what `from_str` answers, as it prints.
+pub fn write_from_str<W: Write>(text: &str, out: &mut W) -> io::Result<()> {
+    match RangeSet::try_from_str(text) {
+        Ok(set) => write!(out, "{set}"),
+        Err(error) => write!(out, "{error}"),
+    }
+}
+
+fn write_identifiers<W: Write>(identifiers: &[Identifier], out: &mut W) -> io::Result<()> {
+    for (i, identifier) in identifiers.iter().enumerate() {
+        if i > 0 {
+            write!(out, " ")?;
+        }
+        match identifier {
+            Identifier::Numeric(number) => write!(out, "Numeric({number})")?,
+            Identifier::AlphaNumeric(word) => write!(out, "AlphaNumeric({word})")?,
+        }
+    }
+    Ok(())
+}

@@ -1,0 +1,214 @@
+// Made by tools/erase from crates/replayed_cases/src/sets.rt; not edited by hand.
+//! Sets of the versions that range texts mean, and how two of them stand to each other.
+#![cfg(feature = "std")]
+
+use crate::rattle_std::prelude::*;
+use crate::proved::replayed_cases::filtering::versions_of;
+use crate::proved::semver_parser::version::{self, Version};
+use crate::proved::semver_parser::{Compat, RangeError};
+use crate::rattle_std::AllocError;
+use crate::rattle_std::io;
+use crate::rattle_std::io::Write;
+use crate::proved::version_sets::{FlatSet, PreReleases, VersionSet};
+
+/// A rule for pre-releases, and a mode.
+pub type Dialect = (PreReleases, Compat);
+
+/// Writes the versions of a list, separated by blanks, that are in the set of a text, then its
+/// least version and its least release, or the error of the text.
+pub fn write_set<W: Write>(dialect: Dialect,
+    text: &str,
+    list: &str,
+    out: &mut W,
+) -> io::Result<()> {
+    let Some(versions) = versions_of(list)? else {
+        return write!(out, "not all are versions");
+    };
+    let set = match set_of(dialect, text) {
+        Ok(set) => set,
+        Err(error) => return write!(out, "{error}"),
+    };
+    let is_flat = is_same_flat(&set, &versions)?;
+    for version in versions.iter() {
+        if set.has(version) {
+            write!(out, "{version} ")?;
+        }
+    }
+    if !is_flat {
+        write!(out, "as flat data another set, ")?;
+    }
+    write!(out, "end, least ")?;
+    write_least(&set, out)?;
+    write!(out, ", least release ")?;
+    match set.least_release() {
+        Some(release) => write!(out, "{}", release.version())?,
+        None => write!(out, "none")?,
+    }
+    write!(out, ", empty {}", set.is_empty())
+}
+
+/// Whether the set as flat data is read back as the same set, and has the same of some versions.
+fn is_same_flat(set: &VersionSet, versions: &[Version]) -> io::Result<bool> {
+    let Some(data) = set.to_flat()? else {
+        return Ok(false);
+    };
+    let Some(flat) = FlatSet::read(&data.switches, data.bytes.as_bytes()) else {
+        return Ok(false);
+    };
+    for version in versions {
+        let text = version.fallible_to_string()?;
+        let Some(outline) = version::outline(&text) else {
+            return Ok(false);
+        };
+        if flat.has_outline(&outline) != set.has(version) {
+            return Ok(false);
+        }
+    }
+    Ok(flat.to_set()? == *set)
+}
+
+/// Writes how the sets of two texts stand to each other, or the error of a text. The second text
+/// may have a semicolon after it and then versions, separated by blanks: of each is written what
+/// it is in.
+pub fn write_pair<W: Write>(dialect: Dialect,
+    text: &str,
+    steps: &str,
+    out: &mut W,
+) -> io::Result<()> {
+    let (other, list) = steps.split_once(';').unwrap_or((steps, ""));
+    let first = match set_of(dialect, text) {
+        Ok(set) => set,
+        Err(error) => return write!(out, "{error}"),
+    };
+    let second = match set_of(dialect, other) {
+        Ok(set) => set,
+        Err(error) => return write!(out, "{error}"),
+    };
+    let Some(versions) = versions_of(list)? else {
+        return write!(out, "not all are versions");
+    };
+    let parts = Parts::of(&first, &second)?;
+    write_compared(&first, &second, &parts, out)?;
+    for version in versions.iter() {
+        write!(out, "; {version}:")?;
+        write_places(version, &first, &second, &parts, out)?;
+    }
+    Ok(())
+}
+
+/// Writes the releases and the pre-releases that a text means as ranges, or the error of the text.
+pub fn write_whole<W: Write>(dialect: Dialect,
+    text: &str,
+    out: &mut W,
+) -> io::Result<()> {
+    match set_of(dialect, text) {
+        Ok(set) => write_ranges(&set, out),
+        Err(error) => write!(out, "{error}"),
+    }
+}
+
+/// Writes what the second of two texts loses, gains and keeps of the first as ranges, or the error
+/// of a text.
+pub fn write_whole_pair<W: Write>(dialect: Dialect,
+    text: &str,
+    other: &str,
+    out: &mut W,
+) -> io::Result<()> {
+    let first = match set_of(dialect, text) {
+        Ok(set) => set,
+        Err(error) => return write!(out, "{error}"),
+    };
+    let second = match set_of(dialect, other) {
+        Ok(set) => set,
+        Err(error) => return write!(out, "{error}"),
+    };
+    let parts = Parts::of(&first, &second)?;
+    write!(out, "lost ")?;
+    write_ranges(&parts.lost, out)?;
+    write!(out, "; gained ")?;
+    write_ranges(&parts.gained, out)?;
+    write!(out, "; shared ")?;
+    write_ranges(&parts.shared, out)
+}
+
+/// Writes the releases and the pre-releases of a set as ranges.
+fn write_ranges<W: Write>(set: &VersionSet, out: &mut W) -> io::Result<()> {
+    let releases = set.release_ranges()?;
+    let pre_releases = set.pre_release_ranges()?;
+    write!(out, "{releases}, pre-releases {pre_releases}")
+}
+
+/// What two sets have alone and together.
+struct Parts {
+    lost: VersionSet,
+    gained: VersionSet,
+    shared: VersionSet,
+    union: VersionSet,
+}
+
+impl Parts {
+    fn of(first: &VersionSet, second: &VersionSet) -> Result<Parts, AllocError> {
+        Ok(Parts {
+            lost: first.difference(second)?,
+            gained: second.difference(first)?,
+            shared: first.intersection(second)?,
+            union: first.union(second)?,
+        })
+    }
+}
+
+/// Writes the least versions that the first set has alone, the second has alone, and both have, and
+/// whether the first is within the second, both overlap, and are the same.
+fn write_compared<W: Write>(first: &VersionSet,
+    second: &VersionSet,
+    parts: &Parts,
+    out: &mut W,
+) -> io::Result<()> {
+    write!(out, "lost ")?;
+    write_least(&parts.lost, out)?;
+    write!(out, ", gained ")?;
+    write_least(&parts.gained, out)?;
+    write!(out, ", shared ")?;
+    write_least(&parts.shared, out)?;
+    let (within, overlaps) = (first.is_within(second), first.overlaps(second));
+    let same = first == second;
+    write!(out, ", within {within}, overlaps {overlaps}, same {same}")
+}
+
+/// Writes what a version is in.
+fn write_places<W: Write>(
+    version: &Version,
+    first: &VersionSet,
+    second: &VersionSet,
+    parts: &Parts,
+    out: &mut W,
+) -> io::Result<()> {
+    let places = [
+        (" first", first),
+        (" second", second),
+        (" lost", &parts.lost),
+        (" gained", &parts.gained),
+        (" shared", &parts.shared),
+        (" union", &parts.union),
+    ];
+    for (place, set) in places {
+        if set.has(version) {
+            write!(out, "{place}")?;
+        }
+    }
+    Ok(())
+}
+
+/// Writes the least version of a set, if there is one.
+fn write_least<W: Write>(set: &VersionSet, out: &mut W) -> io::Result<()> {
+    match set.least()? {
+        Some(version) => write!(out, "{version}"),
+        None => write!(out, "none"),
+    }
+}
+
+/// The set of a text.
+fn set_of(dialect: Dialect, text: &str) -> Result<VersionSet, RangeError> {
+    let (pre_releases, compat) = dialect;
+    VersionSet::of_text(text, compat, pre_releases)
+}

@@ -1,0 +1,66 @@
+// Made by tools/erase from crates/replayed_cases/src/tools.rt; not edited by hand.
+//! Range texts as Cargo or npm itself reads them.
+#![cfg(feature = "std")]
+
+use crate::rattle_std::prelude::*;
+use crate::proved::replayed_cases::filtering::versions_of;
+use crate::proved::semver_parser::{RangeError, version};
+use crate::rattle_std::io;
+use crate::rattle_std::io::Write;
+use crate::proved::tool_ranges::dialect::{self, Dialect};
+use crate::proved::tool_ranges::meaning::{self, Meaning};
+
+/// Writes what a text of a dialect is rewritten to, or the word of its error.
+pub fn write_rewritten<W: Write>(tool: Dialect,
+    text: &str,
+    out: &mut W,
+) -> io::Result<()> {
+    match dialect::rewrite(tool, text) {
+        Ok(set) => write!(out, "{set}"),
+        Err(error) => write_error(&error, out),
+    }
+}
+
+/// Writes those versions of a list, separated by spaces, that a text means by the tool's own rule
+/// for pre-releases or with all of them, or the word of its error.
+pub fn write_meant<W: Write>(tool: Meaning,
+    text: &str,
+    list: &str,
+    out: &mut W,
+) -> io::Result<()> {
+    let Some(versions) = versions_of(list)? else {
+        return write!(out, "not all are versions");
+    };
+    let set = match meaning::read(tool, text) {
+        Ok(set) => set,
+        Err(error) => return write_error(&error, out),
+    };
+    write!(out, "means")?;
+    for (version, item) in versions.iter().zip(list.split(' ')) {
+        let is_meant = set.has_by(version, tool.dialect.grammar().digits());
+        if is_meant {
+            write!(out, " {version}")?;
+        }
+        if !is_asked_so(tool, text, item, is_meant) {
+            write!(out, ", but asked of {version} it says the other")?;
+        }
+    }
+    Ok(())
+}
+
+/// Whether a text that is asked of one version says this of it.
+fn is_asked_so(tool: Meaning, text: &str, item: &str, is_meant: bool) -> bool {
+    match version::outline_in(item.as_bytes(), tool.dialect.grammar()) {
+        Some(outline) => matches!(meaning::meets(tool, text, &outline), Ok(met) if met == is_meant),
+        None => false,
+    }
+}
+
+/// Writes the word of an error.
+fn write_error<W: Write>(error: &RangeError, out: &mut W) -> io::Result<()> {
+    match error {
+        RangeError::NotARange => write!(out, "not-a-range"),
+        RangeError::NumberTooLarge => write!(out, "number-too-large"),
+        RangeError::OutOfMemory => write!(out, "out-of-memory"),
+    }
+}

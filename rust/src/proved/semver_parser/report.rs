@@ -1,0 +1,141 @@
+// Made by tools/erase from crates/semver_parser/src/report.rt; not edited by hand.
+#![cfg(feature = "std")]
+
+use crate::rattle_std::prelude::*;
+use crate::proved::semver_parser::parser;
+use crate::proved::semver_parser::version::{self, Version};
+use crate::proved::semver_parser::writing::write_whole;
+use crate::proved::semver_ranges::{Compat, RangeError, RangeSet};
+use crate::rattle_std::io::{self, Write};
+
+/// What a line shows after its label.
+enum Shown {
+    /// A printed value.
+    Value(String),
+    /// The word of an error.
+    Word(&'static str),
+}
+
+/// Writes the three lines of a text, each with a printed value or an error word, and a line feed:
+/// `version: ` with the version, `cargo: ` and `npm: ` with the range set in Cargo and in npm mode.
+/// It answers true where at least one line holds no error word.
+///
+/// Of `1.2.3` it writes `version: 1.2.3`, `cargo: >=1.2.3 <2.0.0` and `npm: =1.2.3`; of `1.2` the
+/// first line is `version: unexpected-end`. The error words are `unexpected-end`,
+/// `unexpected-token`, `unexpected-char` and `more-input` for versions, `not-a-range` and
+/// `number-too-large` for ranges, and `out-of-memory` for each.
+///
+/// `Err` only where a write failed, was interrupted, or took no byte; then nothing more is written,
+/// and `out` got a beginning of the lines.
+pub fn run<W: Write>(text: &str, out: &mut W) -> Result<bool, io::Error> {
+    let version = version_shown(text);
+    let cargo = range_shown(text, Compat::Cargo);
+    let npm = range_shown(text, Compat::Npm);
+    write_lines(out, &version, &cargo, &npm)
+}
+
+/// Writes the lines, and returns whether some line holds no error word.
+fn write_lines<W: Write>(
+    out: &mut W,
+    version: &Shown,
+    cargo: &Shown,
+    npm: &Shown,
+) -> io::Result<bool> {
+    write_line(out, "version: ", version)?;
+    write_line(out, "cargo: ", cargo)?;
+    write_line(out, "npm: ", npm)?;
+    Ok(version.is_value() || (cargo.is_value() || npm.is_value()))
+}
+
+/// The exit status of a run: 0 where some line holds no error word, 1 where each holds one, 2 after
+/// a failed write.
+///
+/// Of `Ok(false)` it is 1.
+pub fn status(ran: &Result<bool, io::Error>) -> u8 {
+    match ran {
+        Ok(true) => 0,
+        Ok(false) => 1,
+        Err(_) => 2,
+    }
+}
+
+/// What the line of the version shows.
+fn version_shown(text: &str) -> Shown {
+    match version::parse(text) {
+        Ok(version) => printed_version(&version),
+        Err(error) => Shown::Word(version_error_word(&error)),
+    }
+}
+
+/// The printed version, or the word for out of memory.
+fn printed_version(version: &Version) -> Shown {
+    match version.fallible_to_string() {
+        Ok(text) => Shown::Value(text),
+        Err(_) => Shown::Word("out-of-memory"),
+    }
+}
+
+/// What the line of a range set in a mode shows.
+fn range_shown(text: &str, compat: Compat) -> Shown {
+    match RangeSet::try_parse(text, compat) {
+        Ok(set) => printed_set(&set),
+        Err(error) => Shown::Word(range_error_word(&error)),
+    }
+}
+
+/// The word for an error of a range text.
+fn range_error_word(error: &RangeError) -> &'static str {
+    match error {
+        RangeError::NotARange => "not-a-range",
+        RangeError::NumberTooLarge => "number-too-large",
+        RangeError::OutOfMemory => "out-of-memory",
+    }
+}
+
+/// The printed set, or the word for out of memory.
+fn printed_set(set: &RangeSet) -> Shown {
+    match set.fallible_to_string() {
+        Ok(text) => Shown::Value(text),
+        Err(_) => Shown::Word("out-of-memory"),
+    }
+}
+
+/// The word for an error of a version text.
+fn version_error_word(error: &parser::Error<'_>) -> &'static str {
+    match error {
+        parser::Error::UnexpectedEnd => "unexpected-end",
+        parser::Error::UnexpectedToken(_) => "unexpected-token",
+        parser::Error::Lexer(_) => "unexpected-char",
+        parser::Error::MoreInput(_) => "more-input",
+        parser::Error::EmptyPredicate => "empty-predicate",
+        parser::Error::EmptyRange => "empty-range",
+        parser::Error::OutOfMemory => "out-of-memory",
+    }
+}
+
+impl Shown {
+    /// Whether it is a printed value.
+    fn is_value(&self) -> bool {
+        matches!(self, Shown::Value(_))
+    }
+
+    /// Its text.
+    fn as_str(&self) -> &str {
+        match self {
+            Shown::Value(text) => text.as_str(),
+            Shown::Word(word) => word,
+        }
+    }
+}
+
+/// Writes one line: the label, what is shown, and a line feed.
+fn write_line<W: Write>(out: &mut W, label: &str, shown: &Shown) -> io::Result<()> {
+    write_text(out, label)?;
+    write_text(out, shown.as_str())?;
+    write_text(out, "\n")
+}
+
+/// Writes all of a text.
+fn write_text<W: Write>(out: &mut W, text: &str) -> io::Result<()> {
+    write_whole(out, text.as_bytes())
+}

@@ -1,0 +1,49 @@
+// Made by tools/erase from crates/semver_parser/src/version.rt; not edited by hand.
+
+use crate::rattle_std::prelude::*;
+use crate::proved::semver_parser::parser::{self, Parser};
+pub use crate::proved::semver_versions::version::{
+    Grammar, Identifier, Outline, Version, cmp_precedence, outline, outline_bytes, outline_in,
+    read, read_bytes,
+};
+
+/// The version that the text spells: `" 1.2.3-rc.4\n"` gives the numbers 1, 2 and 3, the
+/// pre-release `"rc"`, 4 and no build. It prints as the text without the white space round it, and
+/// a text that was printed from such a version gives that version.
+///
+/// Any other text is refused, with what comes first from the left:
+///
+/// - `UnexpectedEnd`: the text ends where a version can't, as `1.2` and the empty text.
+/// - `UnexpectedToken`: a token comes that can't come there, as the second hyphen of `1.2.3--1`, or
+///   `AlphaNumeric("01")` in `01.0.0`.
+/// - `MoreInput`: a version is followed by something else. It holds all tokens after the version
+///   and its white space: `1.2.3 a.b` gives `AlphaNumeric("a")`, `Dot`, `AlphaNumeric("b")`.
+/// - `Lexer`: a character begins no token. Since a token is read ahead, it is found before an error
+///   of the token before it: `a/` gives `Lexer(UnexpectedChar('/'))`. After a whole version it is
+///   found before `MoreInput`.
+/// - `OutOfMemory`: an allocation failed. Each identifier that isn't a number allocates, and so do
+///   the lists of identifiers and the tokens of `MoreInput`; a text that spells a version without
+///   pre-release and build never runs out of memory.
+///
+/// Returns the version that [`read`] finds. If there is none, the tokens show the error.
+#[inline(always)]
+pub fn parse(input: &str) -> Result<Version, parser::Error<'_>> {
+    match read(input) {
+        Ok(Some(version)) => Ok(version),
+        Ok(None) => Ok(parse_by_tokens(input)?),
+        Err(_) => Err(parser::Error::OutOfMemory),
+    }
+}
+
+/// Returns what [`parse`] does, with its errors, from the tokens alone. Of a text that spells no
+/// version, as [`outline`] may have shown, it takes less time: `1.2` gives `UnexpectedEnd`.
+#[inline(never)]
+pub fn parse_by_tokens(input: &str) -> Result<Version, parser::Error<'_>> {
+    let mut parser = Parser::new(input)?;
+    let version = parser.version()?;
+    if parser.is_eof() {
+        return Ok(version);
+    }
+    let rest = parser.tail()?;
+    Err(parser::Error::MoreInput(rest))
+}

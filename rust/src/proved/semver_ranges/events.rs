@@ -1,0 +1,153 @@
+// Made by tools/erase from crates/semver_ranges/src/events.rt; not edited by hand.
+
+use crate::rattle_std::prelude::*;
+use crate::proved::semver_ranges::grammar::{
+    Form, Simple, after_bars, after_blanks, ends_range, read_right_side, read_simple,
+};
+use crate::proved::semver_ranges::partial::{LowerBounds, Partial};
+use crate::proved::semver_ranges::range_set::RangeError;
+use crate::proved::semver_texts::dotted::strip_mark;
+use crate::proved::semver_texts::grammar::Grammar;
+
+/// What is next in a range text.
+#[derive(Clone, Copy)]
+pub enum Event<'input> {
+    /// A simple of the range. An empty range is a bare wildcard, and a hyphen range `>=` of its
+    /// left side and `<=` of its right.
+    Simple(Simple<'input>),
+    /// Two bars: the next range.
+    NextRange,
+}
+
+/// A cursor over a range text that yields its events.
+#[derive(Clone, Copy)]
+pub struct Events<'input> {
+    rest: &'input [u8],
+    begins_range: bool,
+    upper: Option<Simple<'input>>,
+    lower: LowerBounds,
+}
+
+impl<'input> Events<'input> {
+    /// The events of a text by a dialect. `lower` says how the left side of a hyphen range is
+    /// written.
+    #[inline(always)]
+    pub fn new(text: &'input [u8], grammar: Grammar, lower: LowerBounds) -> Events<'input> {
+        Events {
+            rest: after_blanks(text, grammar),
+            begins_range: true,
+            upper: None,
+            lower,
+        }
+    }
+
+    /// The next event by a dialect, or that the text isn't in its grammar from there on. None at
+    /// the end, and after an error.
+    #[inline(always)]
+    pub fn next_in(&mut self, grammar: Grammar) -> Option<Result<Event<'input>, RangeError>> {
+        if let Some(upper) = self.upper {
+            self.upper = None;
+            return Some(Ok(Event::Simple(upper)));
+        }
+        if !self.begins_range && self.rest.is_empty() {
+            return None;
+        }
+        match self.read_event(grammar) {
+            Some(event) => Some(Ok(event)),
+            None => {
+                self.rest = &[];
+                Some(Err(RangeError::NotARange))
+            }
+        }
+    }
+
+    /// Goes on after the event at the front of the text; none where the text isn't in the grammar.
+    #[inline(always)]
+    fn read_event(&mut self, grammar: Grammar) -> Option<Event<'input>> {
+        let begins_range = self.begins_range;
+        self.begins_range = false;
+        if !ends_range(self.rest) {
+            return self.read_in_range(begins_range, grammar);
+        }
+        if !begins_range {
+            return self.read_bars(grammar);
+        }
+        Some(Event::Simple(Simple::wildcard()))
+    }
+
+    /// Goes on after two bars.
+    #[inline(always)]
+    fn read_bars(&mut self, grammar: Grammar) -> Option<Event<'input>> {
+        self.rest = after_blanks(after_bars(self.rest)?, grammar);
+        self.begins_range = true;
+        Some(Event::NextRange)
+    }
+
+    /// Goes on after a simple, or after a hyphen range, which begins its range and is yielded in
+    /// two.
+    #[inline(always)]
+    fn read_in_range(&mut self, begins_range: bool, grammar: Grammar) -> Option<Event<'input>> {
+        let (simple, rest) = read_simple(self.rest, grammar)?;
+        match strip_mark(rest, b'-') {
+            Some(after) if begins_range => self.read_sides(simple, after, grammar),
+            _ => {
+                self.rest = rest;
+                Some(Event::Simple(simple))
+            }
+        }
+    }
+
+    /// Goes on after a hyphen range, whose left side and hyphen were read.
+    #[inline(always)]
+    fn read_sides(
+        &mut self,
+        left: Simple<'input>,
+        after: &'input [u8],
+        grammar: Grammar,
+    ) -> Option<Event<'input>> {
+        let (lower, upper, rest) = read_hyphen_range(left, after, grammar, self.lower)?;
+        self.rest = rest;
+        self.upper = upper;
+        Some(Event::Simple(lower))
+    }
+}
+
+/// The simples of a hyphen range, of which the left side has to be bare, and what follows it.
+fn read_hyphen_range<'input>(
+    left: Simple<'input>,
+    after: &'input [u8],
+    grammar: Grammar,
+    lower: LowerBounds,
+) -> Option<(Simple<'input>, Option<Simple<'input>>, &'input [u8])> {
+    let Form::Bare = left.form else {
+        return None;
+    };
+    let (right, rest) = read_right_side(after, grammar)?;
+    let (lower, upper) = sides(left.partial, right, lower);
+    Some((lower, upper, rest))
+}
+
+/// The simples of the sides of a hyphen range: one that states nothing is left out, but for the
+/// left where neither states a number.
+#[inline(always)]
+fn sides<'input>(
+    left: Partial<'input>,
+    right: Partial<'input>,
+    lower: LowerBounds,
+) -> (Simple<'input>, Option<Simple<'input>>) {
+    let lower = Simple {
+        form: Form::AtLeast,
+        partial: left.begun(lower),
+    };
+    let upper = Simple {
+        form: Form::AtMost,
+        partial: right,
+    };
+    if right.states_nothing() {
+        (lower, None)
+    } else if left.states_nothing() {
+        (upper, None)
+    } else {
+        (lower, Some(upper))
+    }
+}

@@ -1,0 +1,312 @@
+// Made by tools/erase from crates/semver_ranges/src/grammar.rt; not edited by hand.
+
+use crate::rattle_std::prelude::*;
+use crate::proved::semver_ranges::limits::is_short_word;
+use crate::proved::semver_ranges::partial::{Component, Components, Partial};
+use crate::proved::semver_texts::decimals;
+use crate::proved::semver_texts::dotted::{Hyphens, have_no_leading_zeros, marked_part, strip_mark};
+use crate::proved::semver_texts::grammar::Grammar;
+
+/// A word of so many bytes is never too long to npm.
+const SHORT: usize = 250;
+
+/// What is before a partial: nothing, or an operator.
+#[derive(Clone, Copy, PartialEq, Eq)]
+pub enum Form {
+    /// Nothing.
+    Bare,
+    /// `=`.
+    Equal,
+    /// `<`.
+    Less,
+    /// `<=`.
+    AtMost,
+    /// `>`.
+    Greater,
+    /// `>=`.
+    AtLeast,
+    /// `~` or `~>`.
+    Tilde,
+    /// `^`.
+    Caret,
+}
+
+/// What a word is after, which is a partial and its `v`.
+#[derive(Clone, Copy)]
+pub(crate) enum Role {
+    /// What is before it in a simple, or nothing at the left of a hyphen range.
+    AfterForm(Form),
+    /// The hyphen of a hyphen range.
+    AfterHyphen,
+}
+
+/// A partial and what is before it.
+#[derive(Clone, Copy)]
+pub struct Simple<'input> {
+    /// What is before it.
+    pub form: Form,
+    /// The partial.
+    pub partial: Partial<'input>,
+}
+
+impl<'input> Simple<'input> {
+    /// A bare wildcard.
+    #[inline(always)]
+    pub(crate) fn wildcard() -> Simple<'input> {
+        let none = Component::Wildcard;
+        Simple {
+            form: Form::Bare,
+            partial: Partial::new(none, none, none, &[]),
+        }
+    }
+}
+
+/// The right side of a hyphen range after its hyphen, up to the end of the range, and what follows
+/// it.
+#[inline(always)]
+pub(crate) fn read_right_side(after: &[u8], grammar: Grammar) -> Option<(Partial<'_>, &[u8])> {
+    let text = after_blank(after, grammar)?;
+    let text = after_blanks(text, grammar);
+    let (right, rest) = read_partial(text, grammar, Role::AfterHyphen)?;
+    let rest = after_blanks(rest, grammar);
+    if ends_range(rest) {
+        Some((right, rest))
+    } else {
+        None
+    }
+}
+
+/// The simple at the front of a text, and what follows it and the blanks after it; none where
+/// there is none.
+#[inline(always)]
+pub(crate) fn read_simple(text: &[u8], grammar: Grammar) -> Option<(Simple<'_>, &[u8])> {
+    let (form, rest) = read_operator(text, grammar);
+    let (partial, rest) = read_partial(rest, grammar, Role::AfterForm(form))?;
+    Some((Simple { form, partial }, after_blanks(rest, grammar)))
+}
+
+/// The operator at the front of a text, and what follows it and its blanks.
+#[inline(always)]
+pub fn read_operator(text: &[u8], grammar: Grammar) -> (Form, &[u8]) {
+    let (form, rest) = match text {
+        [b'^', rest @ ..] => (Form::Caret, rest),
+        [b'>', b'=', rest @ ..] => (Form::AtLeast, rest),
+        [b'>', rest @ ..] => (Form::Greater, rest),
+        [b'<', b'=', rest @ ..] => (Form::AtMost, rest),
+        [b'<', rest @ ..] => (Form::Less, rest),
+        [b'~', b'>', rest @ ..] => (Form::Tilde, rest),
+        [b'~', rest @ ..] => (Form::Tilde, rest),
+        [b'=', rest @ ..] => (Form::Equal, rest),
+        _ => return (Form::Bare, text),
+    };
+    (form, after_blanks(rest, grammar))
+}
+
+/// The partial at the front of a text, up to the end of its word, and what follows it.
+#[inline(always)]
+fn read_partial(text: &[u8], grammar: Grammar, role: Role) -> Option<(Partial<'_>, &[u8])> {
+    let (written, rest) = read_components(after_v(text, grammar))?;
+    if ends_word(rest, grammar) && takes(text, rest, &written, grammar, role) {
+        Some((
+            Partial::new(written.major, written.minor, written.patch, written.pre),
+            rest,
+        ))
+    } else {
+        None
+    }
+}
+
+/// What follows one `v`, to npm.
+#[inline(always)]
+pub(crate) fn after_v(text: &[u8], grammar: Grammar) -> &[u8] {
+    match (grammar, text) {
+        (Grammar::Npm, [b'v', rest @ ..]) => rest,
+        _ => text,
+    }
+}
+
+/// Whether the word is read that is before a rest.
+#[inline(always)]
+fn takes(text: &[u8], rest: &[u8], written: &Components<'_>, grammar: Grammar, role: Role) -> bool {
+    match grammar {
+        Grammar::Crate | Grammar::Cargo => true,
+        Grammar::Npm => has_no_leading_zeros(written) && is_short(text, rest, role),
+    }
+}
+
+/// Whether no part of the pre-release that is digits alone begins with `0`.
+#[inline(always)]
+fn has_no_leading_zeros(written: &Components<'_>) -> bool {
+    written.count < 3 || have_no_leading_zeros(written.pre)
+}
+
+/// Whether the word isn't too long to npm that is before a rest.
+#[inline(always)]
+fn is_short(text: &[u8], rest: &[u8], role: Role) -> bool {
+    let len = text.len() - rest.len();
+    if len <= SHORT {
+        return true;
+    }
+    is_short_word(&text[..len], role)
+}
+
+/// The components of the partial at the front of a text, whatever follows it.
+#[inline(always)]
+pub fn read_components(text: &[u8]) -> Option<(Components<'_>, &[u8])> {
+    let (major, rest) = read_component(text)?;
+    let one = Components {
+        major,
+        minor: Component::Wildcard,
+        patch: Component::Wildcard,
+        count: 1,
+        pre: &[],
+        build: &[],
+        is_qualified: false,
+    };
+    let Some(after) = strip_mark(rest, b'.') else {
+        return Some((one, rest));
+    };
+    let (minor, rest) = read_component(after)?;
+    let two = Components {
+        minor,
+        count: 2,
+        ..one
+    };
+    let Some(after) = strip_mark(rest, b'.') else {
+        return Some((two, rest));
+    };
+    let (patch, qualifier) = read_component(after)?;
+    let (pre, build, rest) = read_qualifier(qualifier)?;
+    let three = Components {
+        patch,
+        count: 3,
+        pre,
+        build,
+        is_qualified: begins_qualifier(qualifier),
+        ..two
+    };
+    Some((three, rest))
+}
+
+/// Whether a pre-release or a build begins here.
+#[inline(always)]
+fn begins_qualifier(text: &[u8]) -> bool {
+    matches!(text, [b'-' | b'+', ..])
+}
+
+/// The pre-release at the front of a text and the build after it, each where it is there, and what
+/// follows them.
+#[inline(always)]
+fn read_qualifier(text: &[u8]) -> Option<(&[u8], &[u8], &[u8])> {
+    match text {
+        [b'-' | b'+', ..] => read_pre(text),
+        _ => Some((&[], &[], text)),
+    }
+}
+
+/// The same where one of them is there, which is seldom.
+#[inline(never)]
+fn read_pre(text: &[u8]) -> Option<(&[u8], &[u8], &[u8])> {
+    let (pre, rest) = marked_part(text, b'-', Hyphens::Any)?;
+    let (build, rest) = marked_part(rest, b'+', Hyphens::Any)?;
+    Some((pre, build, rest))
+}
+
+/// The component at the front of a text, and what follows it.
+#[inline(always)]
+fn read_component(text: &[u8]) -> Option<(Component, &[u8])> {
+    match text {
+        [b'0', rest @ ..] => Some((Component::Number(Some(0)), rest)),
+        [first, rest @ ..] if first.is_ascii_digit() => {
+            let (number, rest) = read_digits(u64::from(*first - b'0'), rest);
+            Some((Component::Number(number), rest))
+        }
+        [b'x' | b'X' | b'*', rest @ ..] => Some((Component::Wildcard, rest)),
+        _ => None,
+    }
+}
+
+/// The value of a first digit and the digits at the front of a text, and what follows them. One
+/// digit alone is read first, for speed: so the loop runs for longer numbers only.
+#[inline(always)]
+fn read_digits(first: u64, text: &[u8]) -> (Option<u64>, &[u8]) {
+    if !decimals::begins_with_digit(text) {
+        return (Some(first), text);
+    }
+    let mut value = Some(first);
+    for at in 0..text.len() {
+        let digit = text[at];
+        if !digit.is_ascii_digit() {
+            return (value, &text[at..]);
+        }
+        value = with_digit(value, digit - b'0');
+    }
+    (value, &text[text.len()..])
+}
+
+/// The value of a number with one digit more.
+#[inline(always)]
+fn with_digit(value: Option<u64>, digit: u8) -> Option<u64> {
+    decimals::with_digit(value?, digit)
+}
+
+/// What follows the blanks at the front of a text.
+#[inline(always)]
+pub fn after_blanks(text: &[u8], grammar: Grammar) -> &[u8] {
+    for at in 0..text.len() {
+        if !is_blank(text[at], grammar) {
+            return &text[at..];
+        }
+    }
+    &text[text.len()..]
+}
+
+/// What follows one blank, where the text begins with it.
+#[inline(always)]
+fn after_blank(text: &[u8], grammar: Grammar) -> Option<&[u8]> {
+    match text {
+        [first, rest @ ..] if is_blank(*first, grammar) => Some(rest),
+        _ => None,
+    }
+}
+
+/// What follows two bars, where the text begins with them.
+#[inline(always)]
+pub(crate) fn after_bars(text: &[u8]) -> Option<&[u8]> {
+    match text {
+        [b'|', b'|', rest @ ..] => Some(rest),
+        _ => None,
+    }
+}
+
+/// Whether a range ends here: at the end of the text, or at a bar.
+#[inline(always)]
+pub(crate) fn ends_range(text: &[u8]) -> bool {
+    matches!(text, [] | [b'|', ..])
+}
+
+/// Whether a word ends here: at the end of the text, at a blank, or at a bar.
+#[inline(always)]
+fn ends_word(text: &[u8], grammar: Grammar) -> bool {
+    match text {
+        [] => true,
+        [first, ..] => is_blank(*first, grammar) || *first == b'|',
+    }
+}
+
+/// Whether a byte is one of a blank.
+#[inline(always)]
+fn is_blank(byte: u8, grammar: Grammar) -> bool {
+    match grammar {
+        Grammar::Crate => byte == b' ' || byte == b'\t',
+        Grammar::Cargo => byte == b' ',
+        Grammar::Npm => is_white_space(byte),
+    }
+}
+
+/// Whether a byte is one of a blank of npm. For speed it is a function of its own: the copies for
+/// the crate's dialect stay small.
+#[inline(never)]
+fn is_white_space(byte: u8) -> bool {
+    matches!(byte, b'\t'..=b'\r' | b' ' | 128..=255)
+}

@@ -1,0 +1,319 @@
+// Made by tools/erase from crates/semver_ranges/src/partial.rt; not edited by hand.
+
+use crate::rattle_std::prelude::*;
+use crate::proved::semver_ranges::range::{Comparator, Identifier, Op};
+use crate::proved::semver_texts::decimals::number_of_digits;
+use crate::proved::semver_texts::dotted::{of_parts, text_of_parts};
+use crate::rattle_std::AllocError;
+
+/// A component: a wildcard, or a number, whose value is none above 2^64 - 1.
+#[derive(Clone, Copy)]
+pub enum Component {
+    Wildcard,
+    Number(Option<u64>),
+}
+
+/// The components of a partial as they are written: those that aren't there are wildcards.
+#[derive(Clone, Copy)]
+pub struct Components<'input> {
+    /// The first.
+    pub major: Component,
+    /// The second.
+    pub minor: Component,
+    /// The third.
+    pub patch: Component,
+    /// How many are written.
+    pub count: usize,
+    /// The parts of the pre-release after three, joined by dots.
+    pub pre: &'input [u8],
+    /// Those of the build.
+    pub build: &'input [u8],
+    /// Whether a pre-release or a build is written after three.
+    pub is_qualified: bool,
+}
+
+/// How many numbers a partial states.
+#[derive(Clone, Copy, PartialEq, Eq)]
+pub enum PartialKind {
+    /// None: it begins with a wildcard.
+    XRangeOnly,
+    /// One.
+    MajorOnly,
+    /// Two.
+    MajorMinor,
+    /// Three.
+    MajorMinorPatch,
+}
+
+/// One of the three numbers.
+#[derive(Clone, Copy, PartialEq, Eq)]
+pub enum Place {
+    Major,
+    Minor,
+    Patch,
+}
+
+/// How a bound that is raised is written.
+#[derive(Clone, Copy)]
+pub enum RaisedBounds {
+    /// Without pre-release, as `<2.0.0`.
+    Plain,
+    /// With the lowest pre-release, as `<2.0.0-0`.
+    Exact,
+}
+
+/// How a bound that begins with a partial is written.
+#[derive(Clone, Copy)]
+pub enum LowerBounds {
+    /// As stated, as `>=1.2.0`.
+    Stated,
+    /// With the lowest pre-release where it states none, as `>=1.2.0-0`.
+    Lowest,
+}
+
+/// The numbers that a partial states, with zeros for the others, and its pre-release after three,
+/// as a slice of the text.
+#[derive(Clone, Copy)]
+pub struct Partial<'input> {
+    major: u64,
+    minor: u64,
+    patch: u64,
+    pre: &'input [u8],
+    kind: PartialKind,
+    fits: bool,
+}
+
+impl<'input> Partial<'input> {
+    /// The partial of three components, of which those that aren't there are wildcards, and of the
+    /// parts of a pre-release, which count after three numbers alone.
+    #[inline(always)]
+    pub(crate) fn new(
+        major: Component,
+        minor: Component,
+        patch: Component,
+        pre: &'input [u8],
+    ) -> Partial<'input> {
+        let nothing = Partial {
+            major: 0,
+            minor: 0,
+            patch: 0,
+            pre: &[],
+            kind: PartialKind::XRangeOnly,
+            fits: true,
+        };
+        let Component::Number(major) = major else {
+            return nothing;
+        };
+        let one = Partial {
+            major: major.unwrap_or(0),
+            kind: PartialKind::MajorOnly,
+            fits: major.is_some(),
+            ..nothing
+        };
+        let Component::Number(minor) = minor else {
+            return one;
+        };
+        let two = Partial {
+            minor: minor.unwrap_or(0),
+            kind: PartialKind::MajorMinor,
+            fits: one.fits & minor.is_some(),
+            ..one
+        };
+        let Component::Number(patch) = patch else {
+            return two;
+        };
+        Partial {
+            patch: patch.unwrap_or(0),
+            pre,
+            kind: PartialKind::MajorMinorPatch,
+            fits: two.fits & patch.is_some(),
+            ..two
+        }
+    }
+
+    /// How many numbers are stated.
+    #[inline(always)]
+    pub fn kind(&self) -> PartialKind {
+        self.kind
+    }
+
+    /// Whether no number is stated.
+    #[inline(always)]
+    pub fn states_nothing(&self) -> bool {
+        matches!(self.kind, PartialKind::XRangeOnly)
+    }
+
+    /// Whether the numbers that are stated are at most 2^64 - 1.
+    #[inline(always)]
+    pub fn fits(&self) -> bool {
+        self.fits
+    }
+
+    /// The place of the first number that isn't 0, or of the last that is stated.
+    #[inline(always)]
+    pub(crate) fn leading_place(&self) -> Place {
+        match self.kind {
+            PartialKind::XRangeOnly | PartialKind::MajorOnly => Place::Major,
+            PartialKind::MajorMinor | PartialKind::MajorMinorPatch if self.major > 0 =>
+                Place::Major,
+            PartialKind::MajorMinor => Place::Minor,
+            PartialKind::MajorMinorPatch if self.minor > 0 => Place::Minor,
+            PartialKind::MajorMinorPatch => Place::Patch,
+        }
+    }
+
+    /// The same numbers with the lowest pre-release: `0`.
+    #[inline(always)]
+    pub fn lowest(self) -> Partial<'input> {
+        Partial { pre: b"0", ..self }
+    }
+
+    /// The same as a bound that begins with it is written.
+    #[inline(always)]
+    pub(crate) fn begun(self, lower: LowerBounds) -> Partial<'input> {
+        let LowerBounds::Lowest = lower else {
+            return self;
+        };
+        if self.states_three() && self.pre.is_empty() {
+            return self.lowest();
+        }
+        self
+    }
+
+    /// Whether three numbers are stated.
+    #[inline(always)]
+    pub fn states_three(&self) -> bool {
+        matches!(self.kind, PartialKind::MajorMinorPatch)
+    }
+
+    /// The first number, or 0 where none is stated.
+    #[inline(always)]
+    pub fn major(&self) -> u64 {
+        self.major
+    }
+
+    /// The second number, or 0 where none is stated.
+    #[inline(always)]
+    pub fn minor(&self) -> u64 {
+        self.minor
+    }
+
+    /// The third number, or 0 where none is stated.
+    #[inline(always)]
+    pub fn patch(&self) -> u64 {
+        self.patch
+    }
+
+    /// The parts of the pre-release that is stated after three numbers, joined by dots.
+    #[inline(always)]
+    pub fn pre(&self) -> &'input [u8] {
+        self.pre
+    }
+
+    /// Whether a pre-release is stated after three numbers.
+    #[inline(always)]
+    pub fn has_pre_release(&self) -> bool {
+        !self.pre.is_empty()
+    }
+
+    /// Whether the numbers that are stated are at most this one.
+    #[inline(always)]
+    pub fn states_at_most(&self, most: u64) -> bool {
+        self.fits
+            && match self.kind {
+                PartialKind::XRangeOnly => true,
+                PartialKind::MajorOnly => self.major <= most,
+                PartialKind::MajorMinor => self.major <= most && self.minor <= most,
+                PartialKind::MajorMinorPatch => self.major <= most
+                    && self.minor <= most
+                    && self.patch <= most,
+            }
+    }
+
+    /// The number at a place.
+    #[inline(always)]
+    pub fn number(&self, place: Place) -> u64 {
+        match place {
+            Place::Major => self.major,
+            Place::Minor => self.minor,
+            Place::Patch => self.patch,
+        }
+    }
+
+    /// Whether the number at a place is below 2^64 - 1.
+    #[inline(always)]
+    pub(crate) fn may_rise(&self, place: Place) -> bool {
+        let number = match place {
+            Place::Major => self.major,
+            Place::Minor => self.minor,
+            Place::Patch => self.patch,
+        };
+        number < u64::MAX
+    }
+
+    /// The comparator of an operator and this partial, with zeros for what isn't stated.
+    #[inline(always)]
+    pub(crate) fn as_comparator(&self,op: Op) -> Result<Comparator, AllocError> {
+        let pre = if self.pre.is_empty() {
+            Vec::new()
+        } else {
+            kept_parts(self.pre)?
+        };
+        Ok(Comparator {
+            op,
+            major: self.major,
+            minor: self.minor,
+            patch: self.patch,
+            pre,
+        })
+    }
+
+    /// Below the bound above all versions with these numbers up to a place: that number is raised
+    /// by one, and those after it are 0.
+    #[inline(always)]
+    pub(crate) fn raised(
+        &self,place: Place,
+        raised: RaisedBounds,
+    ) -> Result<Comparator, AllocError> {
+        let (major, minor, patch) = match place {
+            Place::Major => (self.major + 1, 0, 0),
+            Place::Minor => (self.major, self.minor + 1, 0),
+            Place::Patch => (self.major, self.minor, self.patch + 1),
+        };
+        Ok(Comparator {
+            op: Op::Lt,
+            major,
+            minor,
+            patch,
+            pre: raised_pre(raised)?,
+        })
+    }
+}
+
+/// The pre-release of a bound that is raised: none, or the lowest.
+#[inline(always)]
+fn raised_pre(raised: RaisedBounds) -> Result<Vec<Identifier>, AllocError> {
+    match raised {
+        RaisedBounds::Plain => Ok(Vec::new()),
+        RaisedBounds::Exact => {
+            let mut pre = Vec::fallible_with_capacity(1)?;
+            pre.push_reserved(Identifier::Numeric(0));
+            Ok(pre)
+        }
+    }
+}
+
+/// The parts of a pre-release as they are kept. For speed it is a function of its own: most
+/// partials have none, and then nothing is called.
+#[inline(never)]
+fn kept_parts(pre: &[u8]) -> Result<Vec<Identifier>, AllocError> {
+    of_parts(text_of_parts(pre), |part| read_identifier(part))
+}
+
+/// A part as it is kept.
+fn read_identifier(part: &str) -> Result<Identifier, AllocError> {
+    match number_of_digits(part.as_bytes()) {
+        Some(number) => Ok(Identifier::Numeric(number)),
+        None => Ok(Identifier::AlphaNumeric(String::fallible_from_str(part)?)),
+    }
+}

@@ -1,0 +1,148 @@
+// Made by tools/erase from crates/semver_ranges/src/range.rt; not edited by hand.
+
+use crate::rattle_std::prelude::*;
+use crate::proved::semver_texts::printing::{write_joined, write_part};
+use crate::rattle_std::fmt;
+
+/// A range: comparators that a version meets all together.
+#[derive(Clone, PartialEq, Eq, PartialOrd, Ord, Hash, Debug)]
+pub struct Range {
+    /// The comparators, in the order of the text.
+    pub comparator_set: Vec<Comparator>,
+    /// The mode in which the text was read.
+    pub compat: Compat,
+}
+
+impl crate::rattle_std::FallibleClone for Range {
+    fn fallible_clone(&self) -> Result<Self, crate::rattle_std::AllocError> {
+        match self {
+            Range { comparator_set, compat } => Ok(Range { comparator_set: comparator_set.fallible_clone()?, compat: *compat }),
+        }
+    }
+}
+
+/// A comparator: an operator and the version that it compares with.
+#[derive(Clone, PartialEq, Eq, PartialOrd, Ord, Hash, Debug)]
+pub struct Comparator {
+    /// How a version compares that meets it.
+    pub op: Op,
+    /// The first number.
+    pub major: u64,
+    /// The second number.
+    pub minor: u64,
+    /// The third number.
+    pub patch: u64,
+    /// The identifiers of the pre-release.
+    pub pre: Vec<Identifier>,
+}
+
+impl crate::rattle_std::FallibleClone for Comparator {
+    fn fallible_clone(&self) -> Result<Self, crate::rattle_std::AllocError> {
+        match self {
+            Comparator { op, major, minor, patch, pre } => Ok(Comparator { op: op.fallible_clone()?, major: *major, minor: *minor, patch: *patch, pre: pre.fallible_clone()? }),
+        }
+    }
+}
+
+/// How a comparator compares.
+#[derive(Clone, PartialEq, Eq, PartialOrd, Ord, Hash, Debug)]
+pub enum Op {
+    /// `<`: below.
+    Lt,
+    /// `<=`: not above.
+    Lte,
+    /// `>`: above.
+    Gt,
+    /// `>=`: not below.
+    Gte,
+    /// `=`: equal in precedence.
+    Eq,
+}
+
+impl crate::rattle_std::FallibleClone for Op {
+    fn fallible_clone(&self) -> Result<Self, crate::rattle_std::AllocError> {
+        match self {
+            Op::Lt => Ok(Op::Lt),
+            Op::Lte => Ok(Op::Lte),
+            Op::Gt => Ok(Op::Gt),
+            Op::Gte => Ok(Op::Gte),
+            Op::Eq => Ok(Op::Eq),
+        }
+    }
+}
+
+/// An identifier of a comparator's pre-release. It is another type than that of versions, as in the
+/// Rust crate.
+#[derive(Clone, PartialEq, Eq, PartialOrd, Ord, Hash, Debug)]
+pub enum Identifier {
+    /// A part made only of digits, of a value up to 2^64 - 1. Leading zeros aren't kept.
+    Numeric(u64),
+    /// The text of any other part.
+    AlphaNumeric(String),
+}
+
+impl crate::rattle_std::FallibleClone for Identifier {
+    fn fallible_clone(&self) -> Result<Self, crate::rattle_std::AllocError> {
+        match self {
+            Identifier::Numeric(_0) => Ok(Identifier::Numeric(*_0)),
+            Identifier::AlphaNumeric(_0) => Ok(Identifier::AlphaNumeric(_0.fallible_clone()?)),
+        }
+    }
+}
+
+/// How a bare version of three numbers is read.
+#[derive(Clone, Copy, PartialEq, Eq, PartialOrd, Ord, Hash, Debug)]
+pub enum Compat {
+    /// As with a caret: `1.2.3` is `>=1.2.3 <2.0.0`.
+    Cargo,
+    /// As this version alone: `1.2.3` is `=1.2.3`.
+    Npm,
+}
+
+impl fmt::Display for Op {
+    /// Writes the operator as it is in a range text: `Op::Gte` as `>=`. It does not allocate, and
+    /// its only error is the writer's.
+    fn fmt(&self, f: &mut fmt::Formatter<'_>) -> fmt::Result {
+        f.write_str(match self {
+            Op::Lt => "<",
+            Op::Lte => "<=",
+            Op::Gt => ">",
+            Op::Gte => ">=",
+            Op::Eq => "=",
+        })
+    }
+}
+
+impl fmt::Display for Identifier {
+    /// Writes the decimal, or the text itself: `Numeric(4)` as `4`, `AlphaNumeric("beta")` as
+    /// `beta`. It does not allocate, and its only error is the writer's.
+    fn fmt(&self, f: &mut fmt::Formatter<'_>) -> fmt::Result {
+        match self {
+            Identifier::Numeric(number) => {
+                let number = *number;
+                write!(f, "{number}")
+            }
+            Identifier::AlphaNumeric(text) => write!(f, "{text}"),
+        }
+    }
+}
+
+impl fmt::Display for Comparator {
+    /// Writes the operator and all three numbers, separated by dots; then, where there is a
+    /// pre-release, `-` and its identifiers joined by dots: `>=1.2.3-beta.4`. It does not allocate,
+    /// and its only error is the writer's.
+    fn fmt(&self, f: &mut fmt::Formatter<'_>) -> fmt::Result {
+        let (op, major, minor, patch) = (&self.op, self.major, self.minor, self.patch);
+        write!(f, "{op}{major}.{minor}.{patch}")?;
+        write_part(f, "-", &self.pre)
+    }
+}
+
+impl fmt::Display for Range {
+    /// Writes the comparators with a space between each two: `>=1.2.3 <2.0.0`. A range without
+    /// comparators is written as the empty text. It does not allocate, and its only error is the
+    /// writer's.
+    fn fmt(&self, f: &mut fmt::Formatter<'_>) -> fmt::Result {
+        write_joined(f, " ", &self.comparator_set)
+    }
+}

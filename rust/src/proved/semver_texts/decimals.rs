@@ -1,0 +1,118 @@
+// Made by tools/erase from crates/semver_texts/src/decimals.rt; not edited by hand.
+
+use crate::rattle_std::prelude::*;
+/// For speed: what is below this may be multiplied by ten and a digit added without a test.
+const LIMIT: u64 = 1_000_000_000_000_000_000;
+
+/// The number with one digit more after it.
+#[inline(always)]
+pub(crate) fn with_digit(number: u64, digit: u8) -> Option<u64> {
+    if number < LIMIT {
+        return Some(number * 10 + u64::from(digit));
+    }
+    number.checked_mul(10)?.checked_add(u64::from(digit))
+}
+
+/// The number that the digits at the front write, and how many they are; none where it is 2^64 or
+/// more.
+#[inline(always)]
+fn digits(bytes: &[u8]) -> Option<(u64, usize)> {
+    let mut number = u64::from(bytes[0] - b'0');
+    for at in 1..bytes.len() {
+        let digit = bytes[at];
+        if !digit.is_ascii_digit() {
+            return Some((number, at));
+        }
+        number = with_digit(number, digit - b'0')?;
+    }
+    Some((number, bytes.len()))
+}
+
+/// Whether a digit is at the front: of `1.2`, and not of `.2` or of nothing.
+#[inline(always)]
+pub fn begins_with_digit(bytes: &[u8]) -> bool {
+    match bytes {
+        [first, ..] => first.is_ascii_digit(),
+        [] => false,
+    }
+}
+
+/// The number at the front of bytes that begin with a digit, and what follows it, which doesn't
+/// begin with one.
+///
+/// One digit alone is read first, for speed: so a loop runs for longer numbers only.
+#[inline(always)]
+fn number_at_digit(bytes: &[u8]) -> Option<(u64, &[u8])> {
+    let first = bytes[0];
+    let rest = &bytes[1..];
+    if !begins_with_digit(rest) {
+        return Some((u64::from(first - b'0'), rest));
+    }
+    if first == b'0' {
+        return None;
+    }
+    let (number, len) = digits(bytes)?;
+    Some((number, &bytes[len..]))
+}
+
+/// The number at the front, and what follows it, which doesn't begin with a digit.
+#[inline(always)]
+fn number(bytes: &[u8]) -> Option<(u64, &[u8])> {
+    if !begins_with_digit(bytes) {
+        return None;
+    }
+    number_at_digit(bytes)
+}
+
+/// The number up to 2^64 - 1 that a part of digits writes, which may begin with zeros. That of no
+/// digits is 0.
+#[inline(always)]
+pub fn number_of_digits(part: &[u8]) -> Option<u64> {
+    if part.is_empty() {
+        return Some(0);
+    }
+    if !begins_with_digit(part) {
+        return None;
+    }
+    let (number, len) = digits(part)?;
+    if len == part.len() {
+        Some(number)
+    } else {
+        None
+    }
+}
+
+/// The number up to 2^64 - 1 that the whole text is.
+#[inline(always)]
+pub fn whole_number(text: &str) -> Option<u64> {
+    let (number, rest) = number(text.as_bytes())?;
+    if rest.is_empty() { Some(number) } else { None }
+}
+
+/// The number after a dot, and what follows it.
+#[inline(always)]
+fn dot_number(bytes: &[u8]) -> Option<(u64, &[u8])> {
+    match bytes {
+        [b'.', after @ ..] => number(after),
+        _ => None,
+    }
+}
+
+/// What [`numbers`] returns of bytes that begin with a digit. For speed, it isn't tested again.
+#[inline(always)]
+pub(crate) fn numbers_at_digit(bytes: &[u8]) -> Option<(u64, u64, u64, &[u8])> {
+    let (major, rest) = number_at_digit(bytes)?;
+    let (minor, rest) = dot_number(rest)?;
+    let (patch, rest) = dot_number(rest)?;
+    Some((major, minor, patch, rest))
+}
+
+/// The three numbers at the front, joined by dots, and what follows them, which doesn't begin with
+/// a digit: 1, 2, 3 and `-rc` of `1.2.3-rc`. A number is at most 2^64 - 1.
+#[inline(always)]
+pub fn numbers(bytes: &[u8]) -> Option<(u64, u64, u64, &[u8])> {
+    if !begins_with_digit(bytes) {
+        return None;
+    }
+    numbers_at_digit(bytes)
+}

@@ -1,0 +1,34 @@
+// Made by tools/erase from crates/semver_texts/src/grammar.rt; not edited by hand.
+
+use crate::rattle_std::prelude::*;
+/// A grammar of version texts and range texts.
+#[derive(Clone, Copy, PartialEq, Eq)]
+pub enum Grammar {
+    /// That of the crate `semver-parser`.
+    Crate,
+    /// Cargo's. Its versions are those of SemVer 2.0.0.
+    Cargo,
+    /// npm's, as node-semver 7 reads without options.
+    Npm,
+}
+
+/// What an identifier of digits alone is from 2^64 on. Below, it is a number.
+#[derive(Clone, Copy, Debug, PartialEq, Eq)]
+pub enum Digits {
+    /// A text, as `semver-parser` keeps it.
+    Kept,
+    /// A number, as in SemVer 2.0.0, Cargo and npm.
+    AnySize,
+}
+
+impl Grammar {
+    /// How identifiers of digits alone are read: `Kept` by the crate's grammar, and `AnySize` by
+    /// the others.
+    #[inline(always)]
+    pub fn digits(self) -> Digits {
+        match self {
+            Grammar::Crate => Digits::Kept,
+            Grammar::Cargo | Grammar::Npm => Digits::AnySize,
+        }
+    }
+}

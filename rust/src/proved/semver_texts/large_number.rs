@@ -1,0 +1,29 @@
+// Made by tools/erase from crates/semver_texts/src/large_number.rt; not edited by hand.
+
+use crate::rattle_std::prelude::*;
+use crate::rattle_std::cmp::Ordering;
+
+/// A number of 2^64 or more, by its digits, of which the first isn't 0.
+#[derive(Clone, Copy)]
+pub struct LargeNumber<'a> {
+    digits: &'a [u8],
+}
+
+impl<'a> LargeNumber<'a> {
+    /// The number that the digits write.
+    #[inline(always)]
+    pub(crate) fn of(digits: &'a [u8]) -> LargeNumber<'a> {
+        LargeNumber { digits }
+    }
+
+    /// How two compare: the one with more digits is greater, and as many go by the first that
+    /// differ. It does not allocate.
+    #[inline(always)]
+    pub fn compare(&self, other: &LargeNumber<'_>) -> Ordering {
+        let by_length = self.digits.len().cmp(&other.digits.len());
+        if by_length.is_ne() {
+            return by_length;
+        }
+        self.digits.cmp(other.digits)
+    }
+}

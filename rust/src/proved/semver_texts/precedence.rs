@@ -1,0 +1,110 @@
+// Made by tools/erase from crates/semver_texts/src/precedence.rt; not edited by hand.
+
+use crate::rattle_std::prelude::*;
+use crate::proved::semver_texts::large_number::LargeNumber;
+use crate::proved::semver_texts::version::Version;
+use crate::rattle_std::cmp::Ordering;
+
+/// An identifier of a pre-release as it is compared.
+#[derive(Clone, Copy)]
+pub enum IdentifierRef<'a> {
+    /// A number below 2^64.
+    Numeric(u64),
+    /// A greater number.
+    LargeNumeric(LargeNumber<'a>),
+    /// Any other text, by its bytes.
+    AlphaNumeric(&'a [u8]),
+}
+
+/// The identifiers of a pre-release, from the first on.
+pub trait Identifiers<'a>: Copy {
+    /// Whether none is left.
+    fn is_empty(&self) -> bool;
+
+    /// Takes the first of those that are left.
+    fn next(&mut self) -> Option<IdentifierRef<'a>>;
+}
+
+/// How two versions compare by precedence (SemVer 2.0.0, section 11): `Less` where the first is
+/// below the other. Builds don't count. It does not allocate.
+///
+/// The first difference decides of the three numbers, the first of them first. Where these are
+/// equal, no pre-release is above any, and two go by the first identifiers that differ: numbers as
+/// numbers, texts by their bytes, and a number is below any text. Where there are none, the longer
+/// pre-release is above.
+///
+/// 1.0.0-alpha, 1.0.0-alpha.1, 1.0.0-alpha.beta, 1.0.0-beta.2, 1.0.0-beta.11, 1.0.0 and 1.0.1 are
+/// each below the next, and 1.0.0+a and 1.0.0+b are `Equal`.
+pub fn cmp_precedence(version: &Version, other: &Version) -> Ordering {
+    compare(
+        (version.major, version.minor, version.patch),
+        version.pre.as_slice(),
+        (other.major, other.minor, other.patch),
+        other.pre.as_slice(),
+    )
+}
+
+/// How two versions compare by precedence, each of its numbers and the identifiers of its
+/// pre-release. It does not allocate.
+#[inline(always)]
+pub fn compare<'a, A: Identifiers<'a>, B: Identifiers<'a>>(
+    numbers: (u64, u64, u64),
+    pre: A,
+    other_numbers: (u64, u64, u64),
+    other_pre: B,
+) -> Ordering {
+    let by_numbers = numbers.cmp(&other_numbers);
+    if by_numbers.is_ne() {
+        return by_numbers;
+    }
+    compare_pre_releases(pre, other_pre)
+}
+
+/// How two pre-releases compare. None is above any, and two go by their identifiers.
+#[inline(always)]
+pub fn compare_pre_releases<'a, A: Identifiers<'a>, B: Identifiers<'a>>(
+    version: A,
+    other: B,
+) -> Ordering {
+    match (version.is_empty(), other.is_empty()) {
+        (true, true) => Ordering::Equal,
+        (true, false) => Ordering::Greater,
+        (false, true) => Ordering::Less,
+        (false, false) => compare_lists(version, other),
+    }
+}
+
+/// The first identifiers that differ decide. Where there are none, the longer list is above.
+fn compare_lists<'a, A: Identifiers<'a>, B: Identifiers<'a>>(version: A, other: B) -> Ordering {
+    let (mut rest, mut others) = (version, other);
+    while let Some(first) = rest.next() {
+        let Some(beside) = others.next() else {
+            return Ordering::Greater;
+        };
+        let ordering = compare_identifiers(first, beside);
+        if ordering.is_ne() {
+            return ordering;
+        }
+    }
+    if others.is_empty() {
+        Ordering::Equal
+    } else {
+        Ordering::Less
+    }
+}
+
+/// Numbers go as numbers and texts by their bytes, and a number is below any text.
+#[inline(always)]
+fn compare_identifiers(first: IdentifierRef<'_>, other: IdentifierRef<'_>) -> Ordering {
+    match (first, other) {
+        (IdentifierRef::Numeric(number), IdentifierRef::Numeric(bound)) => number.cmp(&bound),
+        (IdentifierRef::Numeric(_), _) => Ordering::Less,
+        (IdentifierRef::AlphaNumeric(text), IdentifierRef::AlphaNumeric(bound)) => text.cmp(bound),
+        (IdentifierRef::AlphaNumeric(_), _) => Ordering::Greater,
+        (IdentifierRef::LargeNumeric(_), IdentifierRef::Numeric(_)) => Ordering::Greater,
+        (IdentifierRef::LargeNumeric(number), IdentifierRef::LargeNumeric(bound)) => {
+            number.compare(&bound)
+        }
+        (IdentifierRef::LargeNumeric(_), IdentifierRef::AlphaNumeric(_)) => Ordering::Less,
+    }
+}

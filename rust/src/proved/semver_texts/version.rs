@@ -1,0 +1,116 @@
+// Made by tools/erase from crates/semver_texts/src/version.rt; not edited by hand.
+
+use crate::rattle_std::prelude::*;
+use crate::proved::semver_texts::printing::write_part;
+use crate::rattle_std::AllocError;
+use crate::rattle_std::fmt;
+
+/// A version: three numbers, a pre-release and a build.
+///
+/// The derived order goes by the fields in the order written. It isn't the precedence of the
+/// standard, which `cmp_precedence` returns: it reads the build, and puts `1.0.0` below `1.0.0-rc`.
+#[derive(Clone, PartialOrd, Ord, Hash, Debug, PartialEq, Eq)]
+pub struct Version {
+    /// The first number: 1 in `1.2.3-rc.4+5aedf`.
+    pub major: u64,
+    /// The second number: 2 in `1.2.3-rc.4+5aedf`.
+    pub minor: u64,
+    /// The third number: 3 in `1.2.3-rc.4+5aedf`.
+    pub patch: u64,
+    /// The identifiers after `-`, none where there is no pre-release: `"rc"` and 4 in
+    /// `1.2.3-rc.4+5aedf`.
+    pub pre: Vec<Identifier>,
+    /// The identifiers after `+`, none where there is no build: `"5aedf"` in `1.2.3-rc.4+5aedf`.
+    pub build: Vec<Identifier>,
+}
+
+impl crate::rattle_std::FallibleClone for Version {
+    fn fallible_clone(&self) -> Result<Self, crate::rattle_std::AllocError> {
+        match self {
+            Version { major, minor, patch, pre, build } => Ok(Version { major: *major, minor: *minor, patch: *patch, pre: pre.fallible_clone()?, build: build.fallible_clone()? }),
+        }
+    }
+}
+
+/// An identifier of a pre-release or a build.
+///
+/// A text is read as `Numeric` only where it is the canonical decimal of a number up to
+/// 18446744073709551615, so each identifier prints as it was read: `7` is `Numeric(7)`, and `07`,
+/// `18446744073709551616`, `1-2` and `rc` are kept as their texts.
+#[derive(Clone, PartialOrd, Ord, Hash, Debug, PartialEq, Eq)]
+pub enum Identifier {
+    /// A number, as `7`.
+    Numeric(u64),
+    /// Any other text, as `rc` or `07`.
+    AlphaNumeric(String),
+}
+
+impl crate::rattle_std::FallibleClone for Identifier {
+    fn fallible_clone(&self) -> Result<Self, crate::rattle_std::AllocError> {
+        match self {
+            Identifier::Numeric(_0) => Ok(Identifier::Numeric(*_0)),
+            Identifier::AlphaNumeric(_0) => Ok(Identifier::AlphaNumeric(_0.fallible_clone()?)),
+        }
+    }
+}
+
+impl Identifier {
+    /// The text of the identifier followed by `add_str`, as `AlphaNumeric` whatever the texts are:
+    /// `Numeric(7)` and `"a"` give `AlphaNumeric("7a")`, and `Numeric(7)` and `""` give
+    /// `AlphaNumeric("7")`.
+    ///
+    /// It allocates once, for all of the new text, and not at all if an empty text is added to an
+    /// `AlphaNumeric`. `Err` is out of memory, and gives the unchanged identifier back.
+    pub fn try_concat(self,add_str: &str) -> Result<Identifier, Identifier> {
+        match self {
+            Identifier::Numeric(number) => match number_and(number, add_str) {
+                Ok(text) => Ok(Identifier::AlphaNumeric(text)),
+                Err(_) => Err(Identifier::Numeric(number)),
+            },
+            Identifier::AlphaNumeric(mut text) => {
+                if text.fallible_reserve_exact(add_str.len()).is_err() || text.fallible_push_str(add_str).is_err() {
+                    return Err(Identifier::AlphaNumeric(text));
+                }
+                Ok(Identifier::AlphaNumeric(text))
+            }
+        }
+    }
+}
+
+/// The number's decimal and then the text, in one allocation.
+fn number_and(number: u64, text: &str) -> Result<String, AllocError> {
+    let digits = number.checked_ilog10().map_or(1, |log| log as usize + 1);
+    let mut whole = String::fallible_with_capacity(digits.saturating_add(text.len()))?;
+    write!(whole, "{number}{text}")?;
+    Ok(whole)
+}
+
+impl fmt::Display for Identifier {
+    /// Writes the decimal, or the text itself. It does not allocate, and its only error is the
+    /// writer's.
+    ///
+    /// `Numeric(7)` is written as `7`, `AlphaNumeric("alpha1")` as `alpha1`.
+    fn fmt(&self, f: &mut fmt::Formatter<'_>) -> fmt::Result {
+        match self {
+            Identifier::Numeric(number) => {
+                let number = *number;
+                write!(f, "{number}")
+            }
+            Identifier::AlphaNumeric(text) => write!(f, "{text}"),
+        }
+    }
+}
+
+impl fmt::Display for Version {
+    /// Writes `major.minor.patch`; then, where there is a pre-release, `-` and its identifiers
+    /// joined by dots; then, where there is a build, `+` and its identifiers joined by dots. It
+    /// does not allocate, and its only error is the writer's.
+    ///
+    /// The version read from ` 1.2.3-alpha1.9+build5 ` is written as `1.2.3-alpha1.9+build5`.
+    fn fmt(&self, f: &mut fmt::Formatter<'_>) -> fmt::Result {
+        let (major, minor, patch) = (self.major, self.minor, self.patch);
+        write!(f, "{major}.{minor}.{patch}")?;
+        write_part(f, "-", &self.pre)?;
+        write_part(f, "+", &self.build)
+    }
+}

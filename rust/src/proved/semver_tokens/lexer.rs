@@ -1,0 +1,200 @@
+// Made by tools/erase from crates/semver_tokens/src/lexer.rt; not edited by hand.
+
+use crate::rattle_std::prelude::*;
+use crate::proved::semver_texts::bytes::{is_space, run_len, space_len};
+use crate::proved::semver_texts::decimals::whole_number;
+
+/// A token. Those of two characters are taken before those of one: `<=` is `LtEq`, and never `Lt`
+/// and `Eq`.
+#[derive(Debug, PartialEq, Eq, PartialOrd, Ord)]
+pub enum Token<'input> {
+    /// `=`
+    Eq,
+    /// `>`
+    Gt,
+    /// `<`
+    Lt,
+    /// `<=`
+    LtEq,
+    /// `>=`
+    GtEq,
+    /// `^`
+    Caret,
+    /// `~`
+    Tilde,
+    /// `*`
+    Star,
+    /// `.`
+    Dot,
+    /// `,`
+    Comma,
+    /// `-`
+    Hyphen,
+    /// `+`
+    Plus,
+    /// `||`
+    Or,
+    /// A longest run of spaces, tabs, line feeds and carriage returns: the byte where it begins,
+    /// and the byte after it.
+    Whitespace(usize, usize),
+    /// A longest run of ASCII letters and digits that is the canonical decimal of a number up to
+    /// 2^64 - 1: `0`, or digits that don't begin with `0`.
+    Numeric(u64),
+    /// Any other longest run of ASCII letters and digits, as the slice of the input: `beta2`, `01`,
+    /// `18446744073709551616`.
+    AlphaNumeric(&'input str),
+}
+
+impl<'input> Token<'input> {
+    /// Whether the token is white space, of any length.
+    ///
+    /// `Whitespace(0, 2)` is; `Dot` isn't.
+    #[inline(always)]
+    pub fn is_whitespace(&self) -> bool {
+        matches!(self, Token::Whitespace(_, _))
+    }
+
+    /// Whether the token is a wildcard: `*`, `x` or `X`.
+    ///
+    /// `Star` and `AlphaNumeric("x")` are; `AlphaNumeric("xx")` isn't.
+    #[inline(always)]
+    pub fn is_wildcard(&self) -> bool {
+        matches!(self, Token::Star | Token::AlphaNumeric("x" | "X"))
+    }
+}
+
+/// Why a text has no further token.
+#[derive(Debug, PartialEq, Eq, PartialOrd, Ord)]
+pub enum Error {
+    /// A character that opens no token; also a `|` that no second `|` follows.
+    UnexpectedChar(char),
+}
+
+/// The sign that two bytes begin with, and its length.
+#[inline(always)]
+fn sign<'input>(first: u8, second: u8) -> Option<(Token<'input>, usize)> {
+    match (first, second) {
+        (b'=', _) => Some((Token::Eq, 1)),
+        (b'>', b'=') => Some((Token::GtEq, 2)),
+        (b'>', _) => Some((Token::Gt, 1)),
+        (b'<', b'=') => Some((Token::LtEq, 2)),
+        (b'<', _) => Some((Token::Lt, 1)),
+        (b'^', _) => Some((Token::Caret, 1)),
+        (b'~', _) => Some((Token::Tilde, 1)),
+        (b'*', _) => Some((Token::Star, 1)),
+        (b'.', _) => Some((Token::Dot, 1)),
+        (b',', _) => Some((Token::Comma, 1)),
+        (b'-', _) => Some((Token::Hyphen, 1)),
+        (b'+', _) => Some((Token::Plus, 1)),
+        (b'|', b'|') => Some((Token::Or, 2)),
+        _ => None,
+    }
+}
+
+/// The token of a run of letters and digits.
+#[inline(always)]
+fn component<'input>(run: &'input str) -> Token<'input> {
+    match whole_number(run) {
+        Some(number) => Token::Numeric(number),
+        None => Token::AlphaNumeric(run),
+    }
+}
+
+/// The token at the front of what is left of a text from `start` on, if one is there, and its
+/// length.
+#[inline(always)]
+fn front_token<'input>(rest: &'input str, start: usize) -> Option<(Token<'input>, usize)> {
+    let bytes = rest.as_bytes();
+    let first = *bytes.first()?;
+    if first.is_ascii_alphanumeric() {
+        let len = run_len(bytes);
+        return Some((component(&rest[..len]), len));
+    }
+    if is_space(first) {
+        let len = space_len(bytes);
+        return Some((Token::Whitespace(start, start + len), len));
+    }
+    let second = if bytes.len() > 1 { bytes[1] } else { 0 };
+    sign(first, second)
+}
+
+/// Gives the tokens of a text one after the other, then at most one error, and then nothing for
+/// good.
+///
+/// It holds the text, the byte where it is, and whether its error was given.
+#[derive(Debug)]
+pub struct Lexer<'input> {
+    input: &'input str,
+    position: usize,
+    failed: bool,
+}
+
+impl<'input> Lexer<'input> {
+    /// A lexer at the start of the text. Any text will do.
+    #[inline(always)]
+    pub fn new(input: &'input str) -> Lexer<'input> {
+        Lexer {
+            input,
+            position: 0,
+            failed: false,
+        }
+    }
+}
+
+impl<'input> Iterator for Lexer<'input> {
+    type Item = Result<Token<'input>, Error>;
+
+    /// The next token; where no token begins, the error that names the character there, once; at
+    /// the end, and after the error, `None`. It does not allocate.
+    ///
+    /// On `1é2` it gives `Ok(Numeric(1))`, `Err(UnexpectedChar('é'))`, and then `None` each time.
+    #[inline(always)]
+    fn next(&mut self) -> Option<Result<Token<'input>, Error>> {
+        if self.failed {
+            return None;
+        }
+        let rest = &self.input[self.position..];
+        if let Some((token, len)) = front_token(rest, self.position) {
+            self.position += len;
+            return Some(Ok(token));
+        }
+        let character = rest.chars().next()?;
+        self.failed = true;
+        Some(Err(Error::UnexpectedChar(character)))
+    }
+}
+
+/// A lexer that has the same items left.
+#[inline(always)]
+pub fn copy<'input>(lexer: &Lexer<'input>) -> Lexer<'input> {
+    Lexer {
+        input: lexer.input,
+        position: lexer.position,
+        failed: lexer.failed,
+    }
+}
+
+/// Returns the text from the first remaining token on, up to the end of the input; empty once the
+/// error was returned. On `1.2`, after the first token, it is `.2`.
+#[inline(always)]
+pub fn rest<'input>(lexer: &Lexer<'input>) -> &'input str {
+    if lexer.failed {
+        return "";
+    }
+    &lexer.input[lexer.position..]
+}
+
+/// How many tokens are left, and a lexer after the last of them: on `1.2/` these are 3, and a
+/// lexer whose next item is the error.
+pub fn count_tokens<'input>(lexer: &Lexer<'input>) -> (usize, Lexer<'input>) {
+    let mut end = copy(lexer);
+    let mut count = 0;
+    loop {
+        let mut ahead = copy(&end);
+        let Some(Ok(_)) = ahead.next() else {
+            return (count, end);
+        };
+        end = ahead;
+        count += 1;
+    }
+}

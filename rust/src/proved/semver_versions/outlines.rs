@@ -1,0 +1,208 @@
+// Made by tools/erase from crates/semver_versions/src/outlines.rt; not edited by hand.
+
+use crate::rattle_std::prelude::*;
+use crate::proved::semver_versions::comparing::InVersions;
+use crate::proved::semver_versions::identifiers::{identifiers, identifiers_of_text};
+use crate::proved::semver_texts::dotted::text_of_parts;
+use crate::proved::semver_texts::grammar::Digits;
+use crate::proved::semver_texts::identifiers::{ByDigits, Joined};
+use crate::proved::semver_texts::precedence::{Identifiers, compare};
+use crate::proved::semver_texts::version::{Identifier, Version};
+use crate::rattle_std::AllocError;
+use crate::rattle_std::cmp::Ordering;
+
+/// A version text in outline: the three numbers, and the texts of the pre-release and of the build
+/// with where they are. `version::outline` answers it, and the version can be made of it.
+#[derive(Debug)]
+pub struct Outline<'t> {
+    pub(crate) major: u64,
+    pub(crate) minor: u64,
+    pub(crate) patch: u64,
+    pub(crate) pre: &'t [u8],
+    pub(crate) build: &'t [u8],
+    pub(crate) before_pre: usize,
+    pub(crate) before_build: usize,
+    pub(crate) digits: Digits,
+}
+
+impl<'t> Outline<'t> {
+    /// The first number: 1 in `1.2.3-rc.4+5aedf`.
+    #[inline(always)]
+    pub fn major(&self) -> u64 {
+        self.major
+    }
+
+    /// The second number: 2 in `1.2.3-rc.4+5aedf`.
+    #[inline(always)]
+    pub fn minor(&self) -> u64 {
+        self.minor
+    }
+
+    /// The third number: 3 in `1.2.3-rc.4+5aedf`.
+    #[inline(always)]
+    pub fn patch(&self) -> u64 {
+        self.patch
+    }
+
+    /// The identifiers of the pre-release joined by dots, without the `-` before them; empty
+    /// where there is no pre-release: `rc.4` in `1.2.3-rc.4+5aedf`.
+    pub fn pre(&self) -> &'t str {
+        text_of_parts(self.pre)
+    }
+
+    /// The bytes of [`Outline::pre`]. For speed, they are not made a text.
+    #[inline(always)]
+    pub fn pre_bytes(&self) -> &'t [u8] {
+        self.pre
+    }
+
+    /// The identifiers of the build joined by dots, without the `+` before them; empty where
+    /// there is no build: `5aedf` in `1.2.3-rc.4+5aedf`.
+    pub fn build(&self) -> &'t str {
+        text_of_parts(self.build)
+    }
+
+    /// Whether it has a pre-release: that of `1.2.3-rc.4+5aedf` has one, and that of `1.2.3+5aedf`
+    /// hasn't.
+    #[inline(always)]
+    pub fn is_pre_release(&self) -> bool {
+        !self.pre.is_empty()
+    }
+
+    /// How many bytes of the text that was read are before the identifiers of the
+    /// pre-release: 7 of ` 1.2.3-rc.4`. It is 0 where there is no pre-release.
+    #[inline(always)]
+    pub fn pre_offset(&self) -> usize {
+        self.before_pre
+    }
+
+    /// How many bytes of the text that was read are before the identifiers of the build: 11
+    /// of `1.2.3-rc.4+5aedf`. It is 0 where there is no build.
+    #[inline(always)]
+    pub fn build_offset(&self) -> usize {
+        self.before_build
+    }
+
+    /// What an identifier of digits alone is from 2^64 on, by the dialect that the text was read
+    /// by: a text as `semver-parser` keeps it, or a number.
+    #[inline(always)]
+    pub fn digits(&self) -> Digits {
+        self.digits
+    }
+
+    /// The identifiers of the pre-release, as they are compared: they are read while they are
+    /// taken. It does not allocate.
+    #[inline(always)]
+    pub fn compared_pre(&self) -> ByDigits<Joined<'t, InVersions>> {
+        ByDigits::of(Joined::of(self.pre, InVersions), self.digits)
+    }
+
+    /// The identifiers of the pre-release: `"rc"` and 4 of `1.2.3-rc.4+5aedf`. Digits from 2^64 on
+    /// are kept as a text.
+    ///
+    /// Memory is asked for where there are some: for their list, and for each that isn't a number.
+    /// `Err` is out of memory.
+    #[inline(always)]
+    pub fn pre_identifiers(&self) -> Result<Vec<Identifier>, AllocError> {
+        identifiers(self.pre)
+    }
+
+    /// The identifiers of the build: `"5aedf"` of `1.2.3-rc.4+5aedf`. Memory is asked for as by
+    /// [`Outline::pre_identifiers`].
+    #[inline(always)]
+    pub fn build_identifiers(&self) -> Result<Vec<Identifier>, AllocError> {
+        identifiers(self.build)
+    }
+
+    /// The version: of the outline of `1.2.3-rc.4+5aedf` the numbers 1, 2 and 3, the pre-release
+    /// `"rc"`, 4 and the build `"5aedf"`.
+    ///
+    /// Memory is asked for where there is a pre-release or a build: for the lists of identifiers,
+    /// and for each identifier that isn't a number. `Err` is out of memory.
+    #[inline(always)]
+    pub fn version(&self) -> Result<Version, AllocError> {
+        Ok(Version {
+            major: self.major,
+            minor: self.minor,
+            patch: self.patch,
+            pre: self.pre_identifiers()?,
+            build: self.build_identifiers()?,
+        })
+    }
+
+    /// The version, if the outline is that of the text. For speed, the identifiers are cut from the
+    /// text, so their bytes aren't checked for UTF-8.
+    #[inline(always)]
+    pub(crate) fn version_in(&self,text: &str) -> Result<Version, AllocError> {
+        Ok(Version {
+            major: self.major,
+            minor: self.minor,
+            patch: self.patch,
+            pre: identifiers_at(text, self.before_pre, self.pre)?,
+            build: identifiers_at(text, self.before_build, self.build)?,
+        })
+    }
+
+    /// How the version of this outline compares with another by precedence (SemVer 2.0.0, section
+    /// 11), as `version::cmp_precedence` says of two versions: the outline of
+    /// `1.2.3-rc.4+5aedf` is `Less` than 1.2.3-rc.11. Builds don't count. Identifiers of digits
+    /// alone are read by the outline's dialect, on both sides. It does not allocate.
+    #[inline(always)]
+    pub fn cmp_precedence(&self, version: &Version) -> Ordering {
+        compare(
+            (self.major, self.minor, self.patch),
+            self.compared_pre(),
+            (version.major, version.minor, version.patch),
+            ByDigits::of(version.pre.as_slice(), self.digits),
+        )
+    }
+}
+
+/// The identifiers of parts that are in a text at an offset.
+#[inline(always)]
+fn identifiers_at(text: &str,
+    offset: usize,
+    parts: &[u8],
+) -> Result<Vec<Identifier>, AllocError> {
+    if parts.is_empty() {
+        return Ok(Vec::new());
+    }
+    identifiers_of_text(&text[offset..offset + parts.len()])
+}
+
+/// How many bytes a part has with its mark.
+#[inline(always)]
+fn marked_len(part: &[u8]) -> usize {
+    if part.is_empty() { 0 } else { part.len() + 1 }
+}
+
+/// Where a part begins whose mark is at the place; 0 where there is no part.
+#[inline(always)]
+fn after_mark_at(place: usize, part: &[u8]) -> usize {
+    if part.is_empty() { 0 } else { place + 1 }
+}
+
+/// The outline of these numbers, how many bytes there are up to their end, and the texts of the
+/// pre-release and of the build, which follow, each after its mark.
+#[inline(always)]
+pub(crate) fn with_parts<'t>(
+    major: u64,
+    minor: u64,
+    patch: u64,
+    numbers_end: usize,
+    pre: &'t [u8],
+    build: &'t [u8],
+    digits: Digits,
+) -> Outline<'t> {
+    let pre_end = numbers_end + marked_len(pre);
+    Outline {
+        major,
+        minor,
+        patch,
+        pre,
+        build,
+        before_pre: after_mark_at(numbers_end, pre),
+        before_build: after_mark_at(pre_end, build),
+        digits,
+    }
+}

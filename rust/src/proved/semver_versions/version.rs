@@ -1,0 +1,92 @@
+// Made by tools/erase from crates/semver_versions/src/version.rt; not edited by hand.
+
+use crate::rattle_std::prelude::*;
+pub use crate::proved::semver_versions::outlines::Outline;
+use crate::proved::semver_versions::reader;
+pub use crate::proved::semver_texts::grammar::{Digits, Grammar};
+pub use crate::proved::semver_texts::precedence::cmp_precedence;
+pub use crate::proved::semver_texts::version::{Identifier, Version};
+use crate::rattle_std::AllocError;
+
+/// The version that the text spells, if it spells one: `" 1.2.3-rc.4\n"` gives the numbers 1, 2
+/// and 3, the pre-release `"rc"`, 4 and no build, and `1.2` and `1.2.3 a` give `None`. What is
+/// wrong with a text that spells none, `semver_parser::version::parse` reports.
+///
+/// `Err` is out of memory, and comes only if the text spells a version with a pre-release or a
+/// build: nothing is allocated before the whole text is known to spell one. Then each identifier
+/// that isn't a number allocates, and so do the lists of identifiers. A text that spells no version
+/// allocates nothing, however long it is.
+#[inline(always)]
+pub fn read(input: &str) -> Result<Option<Version>, AllocError> {
+    let Some(outline) = outline(input) else {
+        return Ok(None);
+    };
+    Ok(Some(outline.version_in(input)?))
+}
+
+/// What [`read`] answers of a text, of bytes that needn't be UTF-8: `1.2.3-rc.4` gives that
+/// version, and `1.2.3` with a byte 255 after it gives `None`, as all bytes that are no UTF-8.
+///
+/// The bytes aren't checked for UTF-8, since each byte of a version is ASCII. So for lines of a
+/// file this is quicker than such a check and [`read`].
+#[inline(always)]
+pub fn read_bytes(input: &[u8]) -> Result<Option<Version>, AllocError> {
+    let Some(outline) = outline_bytes(input) else {
+        return Ok(None);
+    };
+    Ok(Some(outline.version()?))
+}
+
+/// The version that the text spells in outline, if it spells one: `" 1.2.3-rc.4+b5\n"` gives the
+/// numbers 1, 2 and 3, the pre-release `rc.4` after 7 bytes and the build `b5` after 12, and
+/// `1.2` and `1.2.3 a` give `None`.
+///
+/// It does not allocate: the texts are slices of the input.
+#[inline(always)]
+pub fn outline(input: &str) -> Option<Outline<'_>> {
+    outline_bytes(input.as_bytes())
+}
+
+/// What [`outline`] answers of a text, of bytes that needn't be UTF-8: `1.2.3-rc.4` gives the
+/// numbers 1, 2 and 3 and the pre-release `rc.4`, and `1.2.3` with a byte 255 after it gives
+/// `None`, as all bytes that are no UTF-8. They aren't checked for it. It does not allocate.
+#[inline(always)]
+pub fn outline_bytes(input: &[u8]) -> Option<Outline<'_>> {
+    outline_in(input, Grammar::Crate)
+}
+
+/// Returns what [`outline_bytes`] does, by a dialect: by Cargo's and npm's, `1.0.0-a--b` has an
+/// outline and `1.0.0-01` has none; by npm's alone, ` v1.2.3` has one.
+///
+/// The bytes need not be UTF-8, and it does not allocate. `docs/GRAMMAR.md` has the grammars.
+#[inline(always)]
+pub fn outline_in(input: &[u8], grammar: Grammar) -> Option<Outline<'_>> {
+    reader::outline(input, grammar)
+}
+
+/// Returns whether the bytes spell a version in a dialect, whatever their length: only npm has a
+/// limit, 256 characters. For `1.2.3` after 300 spaces this is true by npm's dialect, although
+/// [`outline_in`] returns `None`.
+///
+/// The bytes need not be UTF-8, and it does not allocate.
+pub fn is_version_at_any_length(input: &[u8], grammar: Grammar) -> bool {
+    reader::outline_at_any_length(input, grammar).is_some()
+}
+
+/// Returns what [`outline_in`] does of a text that begins with three numbers, if these are read
+/// already: 1, 2 and 3, their 5 bytes, and the rest `-rc.4` give the outline of `1.2.3-rc.4`. It
+/// does not allocate.
+///
+/// Two conditions have to hold, or the result is not specified: `numbers_end` is the length of the
+/// three numbers with two dots, and the rest does not begin with a digit.
+#[inline(always)]
+pub(crate) fn outline_of_numbers(
+    major: u64,
+    minor: u64,
+    patch: u64,
+    numbers_end: usize,
+    rest: &[u8],
+    grammar: Grammar,
+) -> Option<Outline<'_>> {
+    reader::outline_of_numbers(major, minor, patch, numbers_end, rest, grammar)
+}

@@ -1,0 +1,223 @@
+// Made by tools/erase from crates/text_prefixes/src/reasons.rt; not edited by hand.
+
+use crate::rattle_std::prelude::*;
+use crate::proved::text_prefixes::buffers::write;
+use crate::proved::text_prefixes::bytes::{Length, begins, is_version};
+use crate::proved::text_prefixes::versions::offset;
+use crate::proved::semver_texts::bytes::is_part_byte;
+use crate::proved::semver_texts::grammar::Grammar;
+use crate::rattle_std::AllocError;
+
+/// A version of npm has at most so many characters; the other dialects have no limit.
+const CHARACTERS: usize = 256;
+
+/// Why a text is no version.
+#[derive(Clone, Copy, PartialEq, Eq, Debug)]
+pub enum Reason {
+    /// The text is empty, or only white space that the dialect takes before a version.
+    Empty,
+    /// One of the three numbers is missing: `1.2`, `1..3`, `1.2-rc`.
+    NotThreeNumbers,
+    /// A number, or a pre-release identifier of digits only, has a leading zero: `01.2.3`,
+    /// `1.2.3-01`.
+    LeadingZero,
+    /// An identifier is empty: `1.2.3-`, `1.2.3-a..b`. In the crate's dialect also what is before
+    /// or after a hyphen: `1.2.3--a`.
+    EmptyIdentifier,
+    /// No version has this character there: `1.x`, `vv1.2.3`.
+    UnexpectedCharacter,
+    /// A number is too large.
+    TooLarge,
+    /// Each version that begins so is longer than npm's 256 characters.
+    TooLong,
+    /// Text follows a version and white space: `1.2.3 x`. In Cargo's dialect also the white space
+    /// itself, and in the crate's a vertical tab or a form feed.
+    TextAfter,
+}
+
+/// Where and why a text is no version.
+#[derive(Clone, Copy, PartialEq, Eq, Debug)]
+pub struct Refusal {
+    /// The byte offset of the first character that no version has there, or the length of the text
+    /// if something is missing at its end.
+    pub offset: usize,
+    /// Why.
+    pub reason: Reason,
+}
+
+/// Whether the byte is white space of ASCII.
+fn is_ascii_white(byte: u8) -> bool {
+    matches!(byte, 9..=13 | 32)
+}
+
+/// Whether the byte follows a number or an identifier in some versions.
+fn is_separator(byte: u8) -> bool {
+    matches!(byte, b'.' | b'-' | b'+') || is_ascii_white(byte)
+}
+
+/// A byte by its offset from the end; 0 before the first.
+fn from_end(prefix: &[u8], offset: usize) -> u8 {
+    if offset < prefix.len() {
+        prefix[prefix.len() - 1 - offset]
+    } else {
+        0
+    }
+}
+
+/// Whether it has no digit.
+fn has_no_digit(prefix: &[u8]) -> bool {
+    prefix.iter().all(|byte| !byte.is_ascii_digit())
+}
+
+/// Whether neither a number nor a `v` has begun.
+fn is_blank(prefix: &[u8]) -> bool {
+    prefix
+        .iter()
+        .all(|&byte| !(byte.is_ascii_digit() || byte == b'v'))
+}
+
+/// The reason, by what the prefix is and takes.
+fn reason_by(
+    version: bool,
+    letter: bool,
+    zero: bool,
+    too_long: bool,
+    prefix: &[u8],
+    next: Option<u8>,
+) -> Reason {
+    let Some(byte) = next else {
+        return if is_blank(prefix) {
+            Reason::Empty
+        } else if !letter {
+            Reason::NotThreeNumbers
+        } else if zero {
+            Reason::EmptyIdentifier
+        } else {
+            Reason::LeadingZero
+        };
+    };
+    let last = from_end(prefix, 0);
+    if too_long {
+        Reason::TooLong
+    } else if byte.is_ascii_digit() && (last.is_ascii_digit() && !letter) {
+        if last == b'0' && !from_end(prefix, 1).is_ascii_digit() {
+            Reason::LeadingZero
+        } else {
+            Reason::TooLarge
+        }
+    } else if version {
+        if is_ascii_white(byte) || !is_part_byte(last) {
+            Reason::TextAfter
+        } else {
+            Reason::UnexpectedCharacter
+        }
+    } else if !is_separator(byte) {
+        Reason::UnexpectedCharacter
+    } else if !letter {
+        if has_no_digit(prefix) {
+            Reason::UnexpectedCharacter
+        } else {
+            Reason::NotThreeNumbers
+        }
+    } else if zero {
+        Reason::EmptyIdentifier
+    } else {
+        Reason::LeadingZero
+    }
+}
+
+/// Whether the prefix and one more byte are a version of any length.
+fn takes(prefix: &[u8], byte: u8, grammar: Grammar, buffer: &mut [u8]) -> bool {
+    let end = prefix.len();
+    write(buffer, 0, prefix);
+    write(buffer, end, &[byte]);
+    is_version(&buffer[..end + 1], Length::Any, grammar)
+}
+
+/// Whether the dialect limits the length of a version.
+fn has_limit(grammar: Grammar) -> bool {
+    match grammar {
+        Grammar::Crate => false,
+        Grammar::Cargo => false,
+        Grammar::Npm => true,
+    }
+}
+
+/// Whether some version begins with the bytes, but each is longer than the dialect allows. For
+/// speed, of a short text the answer is known.
+fn is_too_long(text: &[u8], grammar: Grammar, buffer: &mut [u8]) -> bool {
+    if !has_limit(grammar) {
+        return false;
+    }
+    if text.len() + 8 <= CHARACTERS {
+        return false;
+    }
+    begins(text, Length::Any, grammar, buffer) && !begins(text, Length::Allowed, grammar, buffer)
+}
+
+/// The byte at an offset, if there is one.
+fn byte_at(input: &[u8], offset: usize) -> Option<u8> {
+    if offset < input.len() {
+        Some(input[offset])
+    } else {
+        None
+    }
+}
+
+/// The bytes up to an offset, and the one at it, if there is one.
+fn with_next(input: &[u8], offset: usize) -> &[u8] {
+    if offset < input.len() {
+        &input[..offset + 1]
+    } else {
+        input
+    }
+}
+
+/// Returns where and why a text is not a version, or `None` if it is one.
+///
+/// ```text
+/// explain(alloc, b"1.2.03", Grammar::Cargo)?    // at 5: LeadingZero
+/// explain(alloc, b"1.2", Grammar::Npm)?         // at 3: NotThreeNumbers
+/// explain(alloc, b"1.2.3 x", Grammar::Npm)?     // at 6: TextAfter
+/// explain(alloc, b" v1.2.3", Grammar::Npm)?     // None
+/// ```
+///
+/// # Errors
+///
+/// `AllocError` if an allocation fails. It allocates only if the text is not a version, and then
+/// one buffer of about its length.
+pub fn explain(text: &[u8], grammar: Grammar) -> Result<Option<Refusal>, AllocError> {
+    if is_version(text, Length::Allowed, grammar) {
+        return Ok(None);
+    }
+    let mut buffer = Vec::fallible_from_elem(0, text.len().saturating_add(8))?;
+    Ok(refused(text, grammar, buffer.as_mut_slice()))
+}
+
+/// Returns what [`explain`] does, without allocating. The buffer must have at least 8 bytes more
+/// than the text; what it holds then is not specified.
+pub(crate) fn refused(input: &[u8], grammar: Grammar, buffer: &mut [u8]) -> Option<Refusal> {
+    if is_version(input, Length::Allowed, grammar) {
+        return None;
+    }
+    let offset = offset(input, grammar, buffer);
+    let reason = reason_at(input, offset, grammar, buffer);
+    Some(Refusal { offset, reason })
+}
+
+/// The reason at an offset, up to which some version begins with the text.
+fn reason_at(input: &[u8], offset: usize, grammar: Grammar, buffer: &mut [u8]) -> Reason {
+    let prefix = &input[..offset];
+    let version = is_version(prefix, Length::Any, grammar);
+    let letter = takes(prefix, b'a', grammar, buffer);
+    let zero = takes(prefix, b'0', grammar, buffer);
+    let too_long = is_too_long(with_next(input, offset), grammar, buffer);
+    reason_by(
+        version,
+        letter,
+        zero,
+        too_long,
+        prefix,
+        byte_at(input, offset),
+    )
+}

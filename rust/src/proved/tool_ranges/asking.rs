@@ -1,0 +1,179 @@
+// Made by tools/erase from crates/tool_ranges/src/asking.rt; not edited by hand.
+
+use crate::rattle_std::prelude::*;
+use crate::proved::tool_ranges::asked::Asked;
+use crate::proved::semver_ranges::Compat;
+use crate::proved::semver_ranges::grammar::{Form, Simple};
+use crate::proved::semver_ranges::partial::{Partial, PartialKind};
+use crate::proved::semver_texts::grammar::Digits;
+
+/// As Cargo reads it, which pre-releases count aside.
+#[inline(always)]
+pub(crate) fn meets_cargo(simple: &Simple<'_>, version: &Asked<'_>) -> bool {
+    match simple.partial.kind() {
+        PartialKind::XRangeOnly => version.is_release(),
+        PartialKind::MajorOnly | PartialKind::MajorMinor => meets_some_of_cargo(simple, version),
+        PartialKind::MajorMinorPatch => meets_form(simple, Compat::Cargo, version, Digits::AnySize),
+    }
+}
+
+/// One or two numbers stated, as Cargo reads them.
+#[inline(always)]
+fn meets_some_of_cargo(simple: &Simple<'_>, version: &Asked<'_>) -> bool {
+    let order = version.against(&simple.partial);
+    let is_release_of = order.is_eq() && version.is_release();
+    match simple.form {
+        Form::Less => order.is_lt(),
+        Form::Greater => order.is_gt(),
+        Form::AtMost => order.is_lt() || is_release_of,
+        Form::AtLeast => order.is_gt() || is_release_of,
+        Form::Caret => order.is_ge() && version.agrees_past_zeros(&simple.partial),
+        Form::Bare | Form::Equal | Form::Tilde => is_release_of,
+    }
+}
+
+/// As npm reads it, which pre-releases count aside.
+#[inline(always)]
+pub(crate) fn meets_npm(simple: &Simple<'_>, version: &Asked<'_>) -> bool {
+    match simple.partial.kind() {
+        PartialKind::XRangeOnly => !matches!(simple.form, Form::Less | Form::Greater),
+        PartialKind::MajorOnly | PartialKind::MajorMinor => meets_some_of_npm(simple, version),
+        PartialKind::MajorMinorPatch => meets_three_of_npm(simple, version),
+    }
+}
+
+/// One or two numbers stated, as npm reads them.
+#[inline(always)]
+fn meets_some_of_npm(simple: &Simple<'_>, version: &Asked<'_>) -> bool {
+    let partial = &simple.partial;
+    match simple.form {
+        Form::Less => version.against(partial).is_lt(),
+        Form::AtMost => version.against(partial).is_le(),
+        Form::Greater => version.is_from_raised(partial),
+        Form::AtLeast => is_from(partial, version),
+        Form::Caret => is_from(partial, version) && version.agrees_past_zeros(partial),
+        Form::Bare | Form::Equal | Form::Tilde => {
+            is_from(partial, version) && version.agrees(partial)
+        }
+    }
+}
+
+/// Three numbers stated, as npm reads them.
+#[inline(always)]
+fn meets_three_of_npm(simple: &Simple<'_>, version: &Asked<'_>) -> bool {
+    let partial = &simple.partial;
+    match simple.form {
+        Form::Less => version.precedence(partial, Digits::AnySize).is_lt(),
+        Form::AtMost => version.precedence(partial, Digits::AnySize).is_le(),
+        Form::Greater => version.precedence(partial, Digits::AnySize).is_gt(),
+        Form::AtLeast => is_from(partial, version),
+        Form::Tilde => is_from(partial, version) && version.agrees_on_two(partial),
+        Form::Caret => is_from(partial, version) && version.agrees_past_zeros(partial),
+        Form::Bare | Form::Equal => version.precedence(partial, Digits::AnySize).is_eq(),
+    }
+}
+
+/// Not below the zero-filled version; any version where that is 0.0.0.
+#[inline(always)]
+fn is_from(partial: &Partial<'_>, version: &Asked<'_>) -> bool {
+    is_zero(partial) || version.precedence(partial, Digits::AnySize).is_ge()
+}
+
+/// Whether the zero-filled version is 0.0.0.
+#[inline(always)]
+pub(crate) fn is_zero(partial: &Partial<'_>) -> bool {
+    partial.major() == 0
+        && partial.minor() == 0
+        && partial.patch() == 0
+        && !partial.has_pre_release()
+}
+
+/// Where each pre-release within the bounds counts.
+#[inline(always)]
+pub(crate) fn meets_all(simple: &Simple<'_>, compat: Compat, version: &Asked<'_>) -> bool {
+    if simple.partial.states_three() {
+        return meets_three_of_all(simple, compat, version);
+    }
+    let partial = &simple.partial;
+    match (compat, simple.form) {
+        (Compat::Cargo, Form::Less) => version.precedence(partial, Digits::AnySize).is_lt(),
+        (Compat::Npm, Form::Less) => version.against(partial).is_lt(),
+        (_, Form::AtMost) => version.against(partial).is_le(),
+        (_, Form::Greater) => version.against(partial).is_gt(),
+        (_, Form::AtLeast) => version.against(partial).is_ge(),
+        (_, Form::Caret) => {
+            version.against(partial).is_ge() && version.agrees_past_zeros(partial)
+        }
+        (Compat::Npm, Form::Tilde) => {
+            (partial.states_nothing() || version.precedence(partial, Digits::AnySize).is_ge())
+                && version.agrees(partial)
+        }
+        _ => version.agrees(partial),
+    }
+}
+
+/// Three numbers stated, where each pre-release within the bounds counts.
+#[inline(always)]
+fn meets_three_of_all(simple: &Simple<'_>, compat: Compat, version: &Asked<'_>) -> bool {
+    let partial = &simple.partial;
+    match (compat, simple.form) {
+        (Compat::Npm, Form::Caret) if partial.major() == 0 => {
+            is_from_numbers(partial, version) && version.agrees_past_zeros(partial)
+        }
+        _ => meets_form(simple, compat, version, Digits::AnySize),
+    }
+}
+
+/// Not below the zero-filled version; where that has no pre-release, not below its numbers.
+#[inline(always)]
+fn is_from_numbers(partial: &Partial<'_>, version: &Asked<'_>) -> bool {
+    if partial.has_pre_release() {
+        version.precedence(partial, Digits::AnySize).is_ge()
+    } else {
+        version.against(partial).is_ge()
+    }
+}
+
+/// By the crate, in one of its modes.
+#[inline(always)]
+pub(crate) fn meets_crate(simple: &Simple<'_>, compat: Compat, version: &Asked<'_>) -> bool {
+    if !simple.partial.states_nothing() {
+        return meets_form(simple, compat, version, Digits::Kept);
+    }
+    match simple.form {
+        Form::Less | Form::Greater => version.precedence(&simple.partial, Digits::Kept).is_lt(),
+        _ => version.precedence(&simple.partial, Digits::Kept).is_ge(),
+    }
+}
+
+/// Some number stated, by the crate, whose identifiers of digits alone are read so.
+#[inline(always)]
+fn meets_form(simple: &Simple<'_>, compat: Compat, version: &Asked<'_>, digits: Digits) -> bool {
+    let partial = &simple.partial;
+    let order = version.precedence(partial, digits);
+    let states_three = partial.states_three();
+    match (simple.form, compat) {
+        (Form::Bare, Compat::Cargo) if states_three => {
+            order.is_ge() && version.agrees_past_zeros(partial)
+        }
+        (Form::Bare | Form::Equal, _) if states_three => order.is_eq(),
+        (Form::Bare | Form::Equal, _) => order.is_ge() && version.agrees(partial),
+        (Form::Less, _) => order.is_lt(),
+        (Form::AtMost, _) if states_three => order.is_le(),
+        (Form::AtMost, _) => version.against(partial).is_le(),
+        (Form::Greater, _) => order.is_gt(),
+        (Form::AtLeast, _) => order.is_ge(),
+        (Form::Tilde, _) => order.is_ge() && version.agrees_on_two(partial),
+        (Form::Caret, _) => order.is_ge() && version.agrees_past_zeros(partial),
+    }
+}
+
+/// Whether npm asks nothing of a version by a term.
+#[inline(always)]
+pub(crate) fn asks_nothing(simple: &Simple<'_>) -> bool {
+    match simple.form {
+        Form::Less | Form::Greater => false,
+        Form::AtLeast => is_zero(&simple.partial),
+        _ => simple.partial.states_nothing(),
+    }
+}

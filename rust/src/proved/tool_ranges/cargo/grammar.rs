@@ -1,0 +1,71 @@
+// Made by tools/erase from crates/tool_ranges/src/cargo/grammar.rt; not edited by hand.
+
+use crate::rattle_std::prelude::*;
+use crate::proved::semver_ranges::grammar::{Form, Simple, after_blanks, read_components, read_operator};
+use crate::proved::semver_ranges::partial::{Component, Components, Partial};
+use crate::proved::semver_texts::dotted::have_no_leading_zeros;
+use crate::proved::semver_texts::grammar::Grammar;
+
+/// The comparator at the front of a text, up to a comma or the end, and what follows the comma. One
+/// without operator is answered as `^`, or with a wildcard as `=`.
+#[inline(always)]
+pub(crate) fn read_comparator(text: &[u8]) -> Option<(Simple<'_>, Option<&[u8]>)> {
+    let text = after_blanks(text, Grammar::Cargo);
+    if begins_with_tilde_greater(text) {
+        return None;
+    }
+    let (form, text) = read_operator(text, Grammar::Cargo);
+    let (written, rest) = read_components(text)?;
+    if !is_read(form, &written) {
+        return None;
+    }
+    let simple = Simple {
+        form: named(form, has_wildcard(&written)),
+        partial: Partial::new(written.major, written.minor, written.patch, written.pre),
+    };
+    match after_blanks(rest, Grammar::Cargo) {
+        [] => Some((simple, None)),
+        [b',', after @ ..] => Some((simple, Some(after))),
+        _ => None,
+    }
+}
+
+/// Whether a text begins with `~>`, which Cargo doesn't know.
+#[inline(always)]
+fn begins_with_tilde_greater(text: &[u8]) -> bool {
+    matches!(text, [b'~', b'>', ..])
+}
+
+/// No operator is `^`, and `=` where there is a wildcard.
+#[inline(always)]
+fn named(form: Form, has_wildcard: bool) -> Form {
+    match form {
+        Form::Bare if has_wildcard => Form::Equal,
+        Form::Bare => Form::Caret,
+        _ => form,
+    }
+}
+
+/// Whether some component is a wildcard.
+#[inline(always)]
+fn has_wildcard(written: &Components<'_>) -> bool {
+    match (written.major, written.minor, written.patch) {
+        (Component::Wildcard, _, _) => true,
+        (_, Component::Wildcard, _) => written.count > 1,
+        (_, _, Component::Wildcard) => written.count > 2,
+        _ => false,
+    }
+}
+
+/// Whether Cargo reads such a comparator: a wildcard alone stands for every release, and else the
+/// first number is stated, nothing but wildcards is after a wildcard, a pre-release or a build
+/// after three numbers alone, and no number in the pre-release has a leading zero.
+#[inline(always)]
+fn is_read(form: Form, written: &Components<'_>) -> bool {
+    match (written.major, written.minor, written.patch) {
+        (Component::Wildcard, _, _) => written.count == 1 && matches!(form, Form::Bare),
+        (_, Component::Wildcard, Component::Number(_)) => false,
+        (_, _, Component::Wildcard) => !written.is_qualified,
+        _ => have_no_leading_zeros(written.pre),
+    }
+}

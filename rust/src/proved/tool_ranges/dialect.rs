@@ -1,0 +1,53 @@
+// Made by tools/erase from crates/tool_ranges/src/dialect.rt; not edited by hand.
+
+use crate::rattle_std::prelude::*;
+use crate::proved::tool_ranges::{cargo, npm};
+use crate::proved::semver_ranges::{Compat, RangeError, RangeSet};
+use crate::proved::semver_texts::grammar::Grammar;
+
+/// A dialect of range texts. `docs/MEANING.md` compares them ("Which dialect?").
+#[derive(Clone, Copy, PartialEq, Eq, Debug)]
+pub enum Dialect {
+    /// Cargo's: `1.2` is `>=1.2.0 <2.0.0`, and commas separate comparators.
+    Cargo,
+    /// npm's: `>1.2` is `>=1.3.0`, and `v1` is a range.
+    Npm,
+    /// That of the crate `semver-parser` in its Cargo mode: `1.2` is `>=1.2.0 <1.3.0`.
+    CrateCargo,
+    /// That of the crate `semver-parser` in its npm mode: `>1.2` is `>1.2.0`.
+    CrateNpm,
+}
+
+impl Dialect {
+    /// Returns the grammar of the versions that are checked by a range text of this dialect: the
+    /// crate's for both of the crate's.
+    pub fn grammar(self) -> Grammar {
+        match self {
+            Dialect::Cargo => Grammar::Cargo,
+            Dialect::Npm => Grammar::Npm,
+            Dialect::CrateCargo | Dialect::CrateNpm => Grammar::Crate,
+        }
+    }
+}
+
+/// Rewrites a range text of a dialect into plain comparators with exact bounds.
+///
+/// It is [`cargo::rewrite`](crate::proved::tool_ranges::cargo::rewrite), [`npm::rewrite`](crate::proved::tool_ranges::npm::rewrite) or
+/// `RangeSet::parse_exact`: `1.2` gives `>=1.2.0 <2.0.0-0` as Cargo reads it, and
+/// `>=1.2.0 <1.3.0-0` by the others. A release meets the answer exactly if the text means it, and
+/// the printed answer is a range text that `RangeSet::parse` rewrites to it again.
+///
+/// # Errors
+///
+/// `NotARange` exactly where the dialect has no such text, and `NumberTooLarge` exactly
+/// where it has, and a number that it states or a bound that is raised by one is above 2^64 - 1, or
+/// as npm reads it above 2^53 - 1. These two do not allocate; `OutOfMemory` comes only in place of
+/// a set.
+pub fn rewrite(dialect: Dialect, range: &str) -> Result<RangeSet, RangeError> {
+    match dialect {
+        Dialect::Cargo => cargo::rewrite(range),
+        Dialect::Npm => npm::rewrite(range),
+        Dialect::CrateCargo => RangeSet::parse_exact(range, Compat::Cargo),
+        Dialect::CrateNpm => RangeSet::parse_exact(range, Compat::Npm),
+    }
+}

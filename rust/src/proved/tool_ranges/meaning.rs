@@ -1,0 +1,159 @@
+// Made by tools/erase from crates/tool_ranges/src/meaning.rt; not edited by hand.
+
+use crate::rattle_std::prelude::*;
+use crate::proved::tool_ranges::asked::Asked;
+use crate::proved::tool_ranges::dialect::Dialect;
+use crate::proved::tool_ranges::{cargo, npm, tally};
+use crate::proved::semver_parser::version::Outline;
+use crate::proved::semver_ranges::{Compat, RangeError};
+use crate::proved::version_sets::{PreReleases, VersionSet};
+
+/// The dialect of a range text, and which pre-releases it means (`docs/MEANING.md`). Each dialect
+/// has the same three rules for pre-releases.
+///
+/// ```text
+/// let npm = Meaning { dialect: Dialect::Npm, pre_releases: PreReleases::Default };
+/// meaning::read(alloc, npm, "^1.2")
+/// ```
+#[derive(Clone, Copy, PartialEq, Eq, Debug)]
+pub struct Meaning {
+    /// Whose rules the text follows.
+    pub dialect: Dialect,
+    /// Which pre-releases count: with `Default` those that Cargo and npm match by default, with
+    /// `Included` each within the bounds, as with node-semver's `includePrerelease`.
+    pub pre_releases: PreReleases,
+}
+
+/// Reads a range text into the set of the versions that it means.
+///
+/// It is [`cargo::read`](crate::proved::tool_ranges::cargo::read), [`npm::read`](crate::proved::tool_ranges::npm::read) or
+/// `VersionSet::of_text`: `^1.2.0, <1.5` has 1.4.0 in Cargo's dialect, and is refused in the
+/// others. With `PreReleases::Included` the set of `^1.2` begins with 1.2.0-0, and `*` is every
+/// version.
+///
+/// # Errors
+///
+/// `NotARange` exactly where the dialect has no such text, and `NumberTooLarge` exactly where it
+/// has, and a number that it states or a bound that is raised by one is above 2^64 - 1, or in npm's
+/// dialect above 2^53 - 1. These two do not allocate; `OutOfMemory` comes only in place of a set.
+pub fn read(meaning: Meaning, range: &str) -> Result<VersionSet, RangeError> {
+    let rule = meaning.pre_releases;
+    match meaning.dialect {
+        Dialect::Cargo => read_cargo(range, rule),
+        Dialect::Npm => read_npm(range, rule),
+        Dialect::CrateCargo => VersionSet::of_text(range, Compat::Cargo, rule),
+        Dialect::CrateNpm => VersionSet::of_text(range, Compat::Npm, rule),
+    }
+}
+
+/// Reads a requirement of Cargo by a rule for pre-releases.
+fn read_cargo(range: &str, rule: PreReleases) -> Result<VersionSet, RangeError> {
+    match rule {
+        PreReleases::Default => cargo::read(range),
+        PreReleases::Included => cargo::read_with_all(range),
+        PreReleases::Excluded => releases_of(cargo::read(range)),
+    }
+}
+
+/// Reads a range text of npm by a rule for pre-releases.
+fn read_npm(range: &str, rule: PreReleases) -> Result<VersionSet, RangeError> {
+    match rule {
+        PreReleases::Default => npm::read(range),
+        PreReleases::Included => npm::read_with_all(range),
+        PreReleases::Excluded => releases_of(npm::read(range)),
+    }
+}
+
+/// The releases of what was read.
+fn releases_of(read: Result<VersionSet, RangeError>,
+) -> Result<VersionSet, RangeError> {
+    match read {
+        Ok(set) => Ok(set.only_releases()),
+        Err(refusal) => Err(refusal),
+    }
+}
+
+/// Returns whether a range text means a version: `^1.2` means 1.9.0 and not 2.0.0 in each dialect,
+/// and `>=1.2.3, <2` is a range in Cargo's alone.
+///
+/// It is for a range that is asked once: the text is read once, from the left to the right, and
+/// nothing is allocated. For many versions, [`read`] the set of the range first. `docs/MEANING.md`
+/// states what each range means.
+///
+/// # Errors
+///
+/// Those of [`read`], without `OutOfMemory`: `NotARange` exactly if the dialect has no such
+/// text, and `NumberTooLarge` exactly if it has, and a number that it states or a bound that
+/// is raised by one is above the dialect's limit.
+#[inline(always)]
+pub fn meets(meaning: Meaning, range: &str, version: &Outline<'_>) -> Result<bool, RangeError> {
+    ask(meaning, range, &Asked::of(version))
+}
+
+/// Returns whether a range text is read at all, with the errors of [`meets`]: `^1.2` is, and `1 ||`
+/// isn't in Cargo's dialect. It does not allocate.
+#[inline(never)]
+pub fn check(meaning: Meaning, range: &str) -> Result<(), RangeError> {
+    match ask(meaning, range, &Asked::zero()) {
+        Ok(_) => Ok(()),
+        Err(refusal) => Err(refusal),
+    }
+}
+
+/// What a range text says of a version.
+#[inline(always)]
+fn ask(meaning: Meaning, range: &str, version: &Asked<'_>) -> Result<bool, RangeError> {
+    let rule = meaning.pre_releases;
+    match meaning.dialect {
+        Dialect::Cargo => ask_cargo(range, rule, version),
+        Dialect::Npm => ask_npm(range, rule, version),
+        Dialect::CrateCargo => ask_crate(range, Compat::Cargo, rule, version),
+        Dialect::CrateNpm => ask_crate(range, Compat::Npm, rule, version),
+    }
+}
+
+/// What a requirement of Cargo says of a version by a rule for pre-releases.
+#[inline(always)]
+fn ask_cargo(range: &str, rule: PreReleases, version: &Asked<'_>) -> Result<bool, RangeError> {
+    match rule {
+        PreReleases::Default => cargo::ask(range, version),
+        PreReleases::Included => cargo::ask_with_all(range, version),
+        PreReleases::Excluded => of_releases(version, cargo::ask(range, version)),
+    }
+}
+
+/// What a range text of npm says of a version by a rule for pre-releases.
+#[inline(always)]
+fn ask_npm(range: &str, rule: PreReleases, version: &Asked<'_>) -> Result<bool, RangeError> {
+    match rule {
+        PreReleases::Default => npm::ask(range, version),
+        PreReleases::Included => npm::ask_with_all(range, version),
+        PreReleases::Excluded => of_releases(version, npm::ask(range, version)),
+    }
+}
+
+/// What a range text of the crate in one of its modes says of a version by a rule for pre-releases.
+#[inline(always)]
+fn ask_crate(
+    range: &str,
+    compat: Compat,
+    rule: PreReleases,
+    version: &Asked<'_>,
+) -> Result<bool, RangeError> {
+    match rule {
+        PreReleases::Excluded => {
+            of_releases(version, tally::ask_crate(range, compat, version, true))
+        }
+        PreReleases::Default => tally::ask_crate(range, compat, version, version.is_release()),
+        PreReleases::Included => tally::ask_crate(range, compat, version, true),
+    }
+}
+
+/// What was answered, of a release.
+#[inline(always)]
+fn of_releases(version: &Asked<'_>, answer: Result<bool, RangeError>) -> Result<bool, RangeError> {
+    match answer {
+        Ok(met) => Ok(version.is_release() && met),
+        Err(refusal) => Err(refusal),
+    }
+}

@@ -1,0 +1,75 @@
+// Made by tools/erase from crates/tool_ranges/src/offset.rt; not edited by hand.
+
+use crate::rattle_std::prelude::*;
+use crate::proved::tool_ranges::dialect::Dialect;
+use crate::proved::tool_ranges::meaning::{self, Meaning};
+use crate::proved::semver_ranges::RangeError;
+use crate::rattle_std::AllocError;
+use crate::proved::text_prefixes::longest::{Language, longest_prefix};
+use crate::proved::version_sets::PreReleases;
+
+/// What completes a prefix. Nothing is missing after a number; a wildcard after a dot, an operator
+/// and a blank; a letter after a hyphen or a plus, and after digits with a leading zero; another
+/// bar after a bar; a blank and a wildcard after the hyphen of a hyphen range; and a number if
+/// Cargo takes no wildcard.
+const COMPLETIONS: [&str; 6] = ["", "*", "a", "|", " *", "0"];
+
+/// The range texts of a dialect.
+#[derive(Clone, Copy)]
+struct RangeTexts {
+    dialect: Dialect,
+}
+
+impl Language for RangeTexts {
+    fn has(&self, text: &str) -> bool {
+        is_range(self.dialect, text)
+    }
+
+    fn all_completions(&self) -> &[&str] {
+        &COMPLETIONS
+    }
+}
+
+/// Returns the offset of the first error of a refused range text, in bytes: no range text of the
+/// dialect begins with a longer prefix of the text. It is 4 in `1.2 || 3` as Cargo reads it, and
+/// the length of the text if something is missing at the end, as in `>=`, or if nothing is wrong
+/// but a number that is too large.
+///
+/// It takes time in n log n for n bytes, and allocates one buffer of n + 8 bytes if the text is no
+/// range text.
+///
+/// # Errors
+///
+/// `AllocError` if the allocation of the buffer fails.
+pub fn error_offset(dialect: Dialect, text: &str) -> Result<usize, AllocError> {
+    if is_range(dialect, text) {
+        return Ok(text.len());
+    }
+    let mut buffer = Vec::fallible_from_elem(0, text.len().saturating_add(8))?;
+    Ok(error_offset_in(dialect, text, buffer.as_mut_slice()))
+}
+
+/// The offset, found in a buffer that has 8 bytes more than the text.
+pub(crate) fn error_offset_in(dialect: Dialect, text: &str, buffer: &mut [u8]) -> usize {
+    longest_prefix(&RangeTexts { dialect }, text, buffer)
+}
+
+/// Returns whether a text is a range text of a dialect: also one with a number that is too large.
+/// `1.2 || 3` is one as npm reads it, and none as Cargo does. It does not allocate.
+pub fn is_range(dialect: Dialect, text: &str) -> bool {
+    match check(dialect, text) {
+        Ok(()) => true,
+        Err(RangeError::NumberTooLarge) => true,
+        Err(RangeError::NotARange) => false,
+        Err(RangeError::OutOfMemory) => false,
+    }
+}
+
+/// What a dialect refuses of a text.
+pub(crate) fn check(dialect: Dialect, text: &str) -> Result<(), RangeError> {
+    let meaning = Meaning {
+        dialect,
+        pre_releases: PreReleases::Default,
+    };
+    meaning::check(meaning, text)
+}

@@ -1,0 +1,168 @@
+// Made by tools/erase from crates/version_sets/src/of_comparators.rt; not edited by hand.
+
+use crate::rattle_std::prelude::*;
+use crate::proved::version_sets::limits::{numbers_of, release_above};
+use crate::proved::version_sets::pre_release::PreRelease;
+use crate::proved::version_sets::pre_release_limits::PreReleaseLimit;
+use crate::proved::version_sets::release::{LOWEST, Release};
+use crate::proved::version_sets::rules::PreReleases;
+use crate::proved::version_sets::set_ranges::is_lowest_pre;
+use crate::proved::version_sets::spans::{Bounds, Span, switches_of};
+use crate::proved::version_sets::version_set::VersionSet;
+use crate::proved::semver_parser::{Comparator, Op, Range, RangeSet};
+use crate::proved::semver_texts::grammar::Digits;
+use crate::rattle_std::AllocError;
+
+impl VersionSet {
+    /// The versions that meet comparators by a rule for pre-releases (docs/MEANING.md).
+    ///
+    /// `>=1.2.0 <2.0.0 || =3.1.4` gives a set with 1.2.0, 1.9.0 and 3.1.4, and without 2.0.0. By
+    /// `PreReleases::Included` 2.0.0-rc is in it, too, since it is below 2.0.0, and by the other
+    /// rules it isn't.
+    ///
+    /// It takes time in n log n for n comparators, and memory for their switches, at most four a
+    /// comparator, and none where there is no range. `Err` means that memory ran out.
+    pub fn of_set(set: &RangeSet,
+        pre_releases: PreReleases,
+    ) -> Result<VersionSet, AllocError> {
+        VersionSet::of_set_by(set, pre_releases, Digits::Kept)
+    }
+
+    /// What [`VersionSet::of_set`] returns, if an identifier of digits alone from 2^64 on is what
+    /// `digits` says: by `Digits::AnySize` it is a number, as to Cargo and npm, so `<1.0.0-10a`
+    /// gives a set with 1.0.0-18446744073709551616.
+    pub fn of_set_by(set: &RangeSet,
+        pre_releases: PreReleases,
+        digits: Digits,
+    ) -> Result<VersionSet, AllocError> {
+        if set.ranges.is_empty() {
+            return Ok(VersionSet::empty());
+        }
+        let releases = releases_of(&set.ranges)?;
+        let pre_releases = pre_releases_of(&set.ranges, pre_releases, digits)?;
+        Ok(VersionSet::of_switches(releases, pre_releases))
+    }
+}
+
+/// The switches of the releases that meet some of the ranges.
+fn releases_of(ranges: &[Range]) -> Result<Vec<Release>, AllocError> {
+    // For speed: most texts are one range.
+    if let [range] = ranges {
+        return met_releases(&range.comparator_set).switches();
+    }
+    let mut spans = Vec::fallible_with_capacity(ranges.len())?;
+    for range in ranges {
+        met_releases(&range.comparator_set).push_to(&mut spans)?;
+    }
+    switches_of(&mut spans)
+}
+
+/// The switches of the pre-releases that meet some of the ranges by a rule.
+fn pre_releases_of(ranges: &[Range],
+    rule: PreReleases,
+    digits: Digits,
+) -> Result<Vec<PreRelease>, AllocError> {
+    let mut spans = Vec::new();
+    for range in ranges {
+        push_pre_releases(range, rule, digits, &mut spans)?;
+    }
+    switches_of(&mut spans)
+}
+
+/// Adds the spans of the pre-releases that meet a range by a rule.
+fn push_pre_releases<'a>(
+    range: &'a Range,
+    rule: PreReleases,
+    digits: Digits,
+    spans: &mut Vec<Span<PreReleaseLimit<'a>>>,
+) -> Result<(), AllocError> {
+    match rule {
+        PreReleases::Excluded => Ok(()),
+        PreReleases::Default => push_stated(&range.comparator_set, digits, spans),
+        PreReleases::Included => met_pre_releases(&range.comparator_set, digits).push_to(spans),
+    }
+}
+
+/// The releases that meet all comparators.
+fn met_releases(comparators: &[Comparator]) -> Bounds<Release> {
+    let mut met = Bounds {
+        from: Some(LOWEST),
+        to: None,
+    };
+    for comparator in comparators {
+        let at = numbers_of(comparator);
+        met = met.narrowed(&comparator.op, Some(at), release_above(comparator));
+    }
+    met
+}
+
+/// The pre-releases that meet all comparators.
+fn met_pre_releases<'a>(
+    comparators: &'a [Comparator],
+    digits: Digits,
+) -> Bounds<PreReleaseLimit<'a>> {
+    let mut met = Bounds {
+        from: Some(PreReleaseLimit::lowest(LOWEST)),
+        to: None,
+    };
+    for comparator in comparators {
+        let at = PreReleaseLimit::at(comparator, digits);
+        met = met.narrowed(
+            &comparator.op,
+            at,
+            PreReleaseLimit::above(comparator, digits),
+        );
+    }
+    met
+}
+
+/// Adds the spans of the pre-releases that meet all comparators and are at numbers that one of them
+/// has with a pre-release.
+fn push_stated<'a>(
+    comparators: &'a [Comparator],
+    digits: Digits,
+    spans: &mut Vec<Span<PreReleaseLimit<'a>>>,
+) -> Result<(), AllocError> {
+    // For speed: that of most texts is none.
+    if !some_states_pre_release(comparators) {
+        return Ok(());
+    }
+    let met = met_pre_releases(comparators, digits);
+    for comparator in comparators {
+        push_at(met, comparator, digits, spans)?;
+    }
+    Ok(())
+}
+
+/// Whether some comparator states a pre-release.
+fn some_states_pre_release(comparators: &[Comparator]) -> bool {
+    comparators
+        .iter()
+        .any(|comparator| states_pre_release(comparator))
+}
+
+/// Whether a comparator has a pre-release, but for `<1.2.3-0`, below which none of 1.2.3 is.
+fn states_pre_release(comparator: &Comparator) -> bool {
+    let is_below_all = matches!(&comparator.op, Op::Lt) && is_lowest_pre(&comparator.pre);
+    !comparator.pre.is_empty() && !is_below_all
+}
+
+/// Adds the span of those of the pre-releases that are at the numbers of a comparator, if it has a
+/// pre-release.
+fn push_at<'a>(
+    met: Bounds<PreReleaseLimit<'a>>,
+    comparator: &Comparator,
+    digits: Digits,
+    spans: &mut Vec<Span<PreReleaseLimit<'a>>>,
+) -> Result<(), AllocError> {
+    let _digits = digits;
+    if comparator.pre.is_empty() {
+        return Ok(());
+    }
+    let numbers = numbers_of(comparator);
+    let stated = Bounds {
+        from: Some(PreReleaseLimit::lowest(numbers)),
+        to: PreReleaseLimit::above_numbers(numbers),
+    };
+    met.and(stated).push_to(spans)
+}

@@ -1,0 +1,53 @@
+// Made by tools/erase from crates/version_sets/src/reading.rt; not edited by hand.
+
+use crate::rattle_std::prelude::*;
+use crate::proved::version_sets::rules::PreReleases;
+use crate::proved::version_sets::version_set::VersionSet;
+use crate::proved::semver_parser::{Compat, RangeError, RangeSet};
+
+impl VersionSet {
+    /// The versions that a range text means by a rule for pre-releases (docs/MEANING.md).
+    ///
+    /// `^1.2.3-beta || 3.x` in Cargo mode and by `PreReleases::Default` gives a set with 1.2.3-rc,
+    /// 1.9.0 and 3.0.0, and without 1.3.0-rc and 2.0.0. No version is above the last release, so
+    /// `>18446744073709551615.18446744073709551615.18446744073709551615` means nothing, and its
+    /// set is empty.
+    ///
+    /// It takes time in n log n for n comparators of the text, and memory for these and for their
+    /// switches, at most four a comparator.
+    ///
+    /// # Errors
+    ///
+    /// Those of `RangeSet::parse`. `NotARange` exactly where the text isn't in the range grammar.
+    /// `NumberTooLarge` exactly where it is, and a stated number or a raised bound is above
+    /// 2^64 - 1, as in `<=18446744073709551615`. These two do not allocate; `OutOfMemory` is in
+    /// place of a set alone.
+    pub fn of_text(range: &str,
+        compat: Compat,
+        pre_releases: PreReleases,
+    ) -> Result<VersionSet, RangeError> {
+        let set = read_set(range, compat, pre_releases)?;
+        match VersionSet::of_set(&set, pre_releases) {
+            Ok(versions) => Ok(versions),
+            Err(_) => Err(RangeError::OutOfMemory),
+        }
+    }
+}
+
+/// Reads a range text into comparators that say, by the rule, what the text means. Only for
+/// pre-releases does it matter how a raised bound is written, so for releases the shorter form is
+/// enough: of `^1.2` `>=1.2.0 <2.0.0`, and by the other rules `>=1.2.0 <2.0.0-0`.
+///
+/// # Errors
+///
+/// Those of `RangeSet::parse`: `NotARange` and `NumberTooLarge` exactly of the texts that it
+/// refuses so, and `OutOfMemory` in place of a set alone.
+fn read_set(range: &str,
+    compat: Compat,
+    pre_releases: PreReleases,
+) -> Result<RangeSet, RangeError> {
+    match pre_releases {
+        PreReleases::Excluded => RangeSet::try_parse(range, compat),
+        PreReleases::Default | PreReleases::Included => RangeSet::parse_exact(range, compat),
+    }
+}

@@ -1,0 +1,83 @@
+// Made by tools/erase from crates/version_sets/src/release.rt; not edited by hand.
+
+use crate::rattle_std::prelude::*;
+use crate::proved::semver_parser::version::Version;
+
+/// A release: the three numbers of a version. Its derived order is that of precedence.
+#[derive(Clone, Copy, PartialEq, Eq, PartialOrd, Ord, Debug)]
+pub struct Release {
+    /// The first number: 1 in 1.2.3.
+    pub major: u64,
+    /// The second number: 2 in 1.2.3.
+    pub minor: u64,
+    /// The third number: 3 in 1.2.3.
+    pub patch: u64,
+}
+
+impl Release {
+    /// The numbers of a version, without its pre-release and its build: 1.2.3 of 1.2.3-rc.1+b5.
+    pub fn of(version: &Version) -> Release {
+        Release {
+            major: version.major,
+            minor: version.minor,
+            patch: version.patch,
+        }
+    }
+
+    /// The release as a version, without a pre-release and without a build. It does not allocate.
+    pub fn version(self) -> Version {
+        Version {
+            major: self.major,
+            minor: self.minor,
+            patch: self.patch,
+            pre: Vec::new(),
+            build: Vec::new(),
+        }
+    }
+
+    /// Whether a release is below another by precedence: by each number, so that the answer takes
+    /// no branch.
+    #[inline(always)]
+    pub(crate) fn is_below(&self, other: &Release) -> bool {
+        (self.major < other.major)
+            | ((self.major == other.major) & (self.after_major() < other.after_major()))
+    }
+
+    /// The second and the third number as one, which two words compare as it.
+    #[inline(always)]
+    fn after_major(&self) -> u128 {
+        u128::from(self.minor) * 0x1_0000_0000_0000_0000 + u128::from(self.patch)
+    }
+}
+
+/// The lowest numbers.
+pub(crate) const LOWEST: Release = Release {
+    major: 0,
+    minor: 0,
+    patch: 0,
+};
+
+/// The numbers right after these. There are none after the last.
+pub(crate) fn next_numbers(numbers: Release) -> Option<Release> {
+    let (major, minor) = (numbers.major, numbers.minor);
+    if let Some(patch) = numbers.patch.checked_add(1) {
+        return Some(Release {
+            major,
+            minor,
+            patch,
+        });
+    }
+    if let Some(minor) = minor.checked_add(1) {
+        return Some(Release {
+            major,
+            minor,
+            patch: 0,
+        });
+    }
+    let major = major.checked_add(1)?;
+    Some(Release {
+        major,
+        minor: 0,
+        patch: 0,
+    })
+}

@@ -1,0 +1,97 @@
+// Made by tools/erase from crates/version_sets/src/set_ranges.rt; not edited by hand.
+
+use crate::rattle_std::prelude::*;
+use crate::proved::version_sets::intervals::ranges_of;
+use crate::proved::version_sets::version_set::VersionSet;
+use crate::proved::semver_parser::{Comparator, Compat, Op, Range, RangeSet};
+use crate::proved::semver_texts::identifiers::AsIdentifier;
+use crate::proved::semver_texts::precedence::IdentifierRef;
+use crate::rattle_std::AllocError;
+use crate::rattle_std::fmt;
+
+/// The releases or the pre-releases of a set as ranges of plain comparators: one range for each
+/// interval, in ascending order.
+///
+/// `Display` writes a range text of npm mode: `=1.2.0 || >=1.9.0 <2.0.0`. It writes `*` if all are
+/// in the set, and `<0.0.0-0`, which no version meets, if none is.
+#[derive(Debug)]
+pub struct SetRanges {
+    /// The ranges, in `Compat::Npm`. Each has one or two comparators.
+    pub range_set: RangeSet,
+}
+
+impl VersionSet {
+    /// The releases of the set as ranges of plain comparators.
+    ///
+    /// The set of `^1.2.0` less that of `>=1.2.1 <1.9.0` gives `=1.2.0 || >=1.9.0 <2.0.0`:
+    ///
+    /// - `=1.2.0` if 1.2.0 is alone in its interval, else `>=1.9.0 <2.0.0`;
+    /// - `>=1.9.0` if the interval has no end, and `<2.0.0` if it begins with 0.0.0;
+    /// - `>=0.0.0` if all releases are in the set, which `Display` writes as `*`;
+    /// - no range if the set has no release.
+    ///
+    /// It takes time in the number of switches, and allocates only if the set has a release. `Err`
+    /// is out of memory.
+    pub fn release_ranges(&self) -> Result<SetRanges, AllocError> {
+        let ranges = ranges_of(&self.releases)?;
+        Ok(in_npm_mode(ranges))
+    }
+
+    /// The pre-releases of the set as ranges of plain comparators, as
+    /// [`VersionSet::release_ranges`] returns the releases. A pre-release meets them by precedence.
+    ///
+    /// Each bound has a pre-release: the set of `>1.2.3 <2.0.0-0` gives `>=1.2.4-0 <2.0.0-0`. The
+    /// version right above 1.2.3-a is 1.2.3-a.0, so 1.2.3-a alone is `=1.2.3-a`. The lowest is
+    /// 0.0.0-0, and all pre-releases are `>=0.0.0-0`.
+    ///
+    /// It takes time in the number of switches, and allocates only if the set has a pre-release.
+    /// `Err` is out of memory.
+    pub fn pre_release_ranges(&self) -> Result<SetRanges, AllocError> {
+        let ranges = ranges_of(&self.pre_releases)?;
+        Ok(in_npm_mode(ranges))
+    }
+}
+
+/// Ranges as a set in npm mode.
+fn in_npm_mode(ranges: Vec<Range>) -> SetRanges {
+    SetRanges {
+        range_set: RangeSet {
+            ranges,
+            compat: Compat::Npm,
+        },
+    }
+}
+
+impl fmt::Display for SetRanges {
+    /// Writes the ranges as a range text of npm mode, separated by ` || `: `*` for `>=0.0.0` and
+    /// `>=0.0.0-0`, and `<0.0.0-0` for no range. It does not allocate, and its only error is the
+    /// writer's.
+    fn fmt(&self, f: &mut fmt::Formatter<'_>) -> fmt::Result {
+        let (set, ranges) = (&self.range_set, self.range_set.ranges.as_slice());
+        match ranges {
+            [] => f.write_str("<0.0.0-0"),
+            [range] if is_from_lowest(&range.comparator_set) => f.write_str("*"),
+            _ => write!(f, "{set}"),
+        }
+    }
+}
+
+/// Whether the comparators are `>=0.0.0` alone, or `>=0.0.0-0`.
+fn is_from_lowest(comparators: &[Comparator]) -> bool {
+    match comparators {
+        [only] => {
+            let is_zero = only.major == 0 && only.minor == 0 && only.patch == 0;
+            matches!(&only.op, Op::Gte) && is_zero && is_lowest_pre(&only.pre)
+        }
+        _ => false,
+    }
+}
+
+/// Whether there is no pre-release, or the lowest, `0`.
+pub(crate) fn is_lowest_pre<T: AsIdentifier>(identifiers: &[T]) -> bool {
+    match identifiers {
+        [] => true,
+        [only] => matches!(only.as_identifier(), IdentifierRef::Numeric(0)),
+        _ => false,
+    }
+}

@@ -1,0 +1,41 @@
+//! Sets of versions: what a range means, read once, and what two ranges share, lose and gain.
+//!
+//! ```
+//! use semver_parser::sets;
+//! use semver_parser::{version, Dialect};
+//!
+//! let old = sets::read(Dialect::Cargo, "^1.2")?;
+//! let new = sets::read(Dialect::Cargo, ">=1.2.1, <1.9")?;
+//! assert!(new.is_within(&old));
+//! assert!(old.has(&version::parse("1.2.0")?));
+//!
+//! let lost = old.difference(&new).unwrap();
+//! let ranges = lost.release_ranges().unwrap().range_set;
+//! assert_eq!(ranges.to_string(), "=1.2.0 || >=1.9.0 <2.0.0");
+//! # Ok::<(), String>(())
+//! ```
+
+use crate::proved::tool_ranges::meaning;
+use crate::{Meaning, RangeError};
+
+pub use crate::proved::version_sets::{Comparison, Release, SetRanges, VersionSet};
+
+/// Reads a range string into the set of the versions that it means in a dialect.
+///
+/// # Errors
+///
+/// [`RangeError::NotARange`] if the dialect has no such range, [`RangeError::NumberTooLarge`] if a
+/// number of it is above the limit of the dialect, [`RangeError::OutOfMemory`] if an allocation
+/// failed.
+///
+/// ```
+/// use semver_parser::{sets, version, Dialect, RangeError};
+///
+/// let set = sets::read(Dialect::Npm, "1.x || >=2.5.0")?;
+/// assert!(set.has(&version::parse("2.6.0").unwrap()));
+/// assert!(matches!(sets::read(Dialect::Cargo, "1 || 2"), Err(RangeError::NotARange)));
+/// # Ok::<(), RangeError>(())
+/// ```
+pub fn read(meaning: impl Into<Meaning>, range: &str) -> Result<VersionSet, RangeError> {
+    meaning::read(meaning.into(), range)
+}
