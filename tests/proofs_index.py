@@ -47,7 +47,7 @@ Below these is `semver_texts`. Programs: `semver_parser_main`, `release_filter_m
   if the writer does; the programs' `main`, other options and hints; reading and writing by
   `release-filter`; the lines of C, Python and shell; derived orders and clones; that the definitions
   say what was meant.
-- **Trusted**: the toolchain, the C library, the kit's `thiserror`, `crates/semver_parser_c/c`, `js/src`,
+- **Trusted**: the toolchain, the C library, for the Rust crate its [erasure](ERASURE.md#what-is-trusted) and rustc, the kit's `thiserror`, `crates/semver_parser_c/c`, `js/src`,
   callers from C and JavaScript, and binaryen, which lowers the WebAssembly module to 32-bit memory.
 '''
 

@@ -1,3 +1,4 @@
+-- serves: release_filter::laws::one_finish
 -- What passes a test of a list and of a permutation of it is one list, if it keeps its order.
 use Rattle.std.proofs.Common.{◌≡◌, ◌∙◌, ◌∷◌, ◌++◌, [], List, ℕ, ◌==◌, ◌<◌, ◌≤◌, Bool, true, cond, refl, sym, ap, ap₂, arith}
 use Rattle.std.proofs.Common.{IsPermutation, filter, get_or, length, suc}

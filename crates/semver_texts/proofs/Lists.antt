@@ -1,4 +1,4 @@
--- serves: semver_versions::identifiers::identifiers, kept
+-- serves: semver_versions::identifiers::identifiers_of_text, kept
 -- Lists, and what holds of each of their elements.
 use Rattle.std.proofs.Common.{◌≡◌, ℕ, ◌<◌, Bool, true, false, List, [], ◌∷◌, ◌++◌, length, take, drop}
 use Rattle.std.proofs.Common.{refl, one-add}

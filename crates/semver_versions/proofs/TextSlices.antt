@@ -1,4 +1,4 @@
--- serves: semver_versions::outlines::identifiers_at
+-- serves: semver_versions::version::read
 -- A part of a version that is in a text ends between two of its characters.
 use Rattle.std.proofs.Common.{◌≡◌, ℕ, ◌+◌, ◌-◌, ◌<◌, ◌≤◌, IsTrue, length, get_or, drop, sym, ap, ◌∙◌, subst, arith}
 use Rattle.std.specs.List.{list_all}
