@@ -149,7 +149,7 @@ impl Lines {
     ///
     /// A kept line is appended as it is, with the line feed that ends it, but for a byte order mark
     /// at the front of the text. What a text appends doesn't depend on how it is cut into pieces
-    /// ([`pieces_do_not_matter`](crate::laws::pieces_do_not_matter)).
+    /// (`laws::pieces_do_not_matter`).
     pub fn push(&mut self, alloc: Global, piece: &[u8], kept: &mut Vec<u8>) -> Result<(), Stopped>
         ensures takes { IfOk result (λ _. (judged : List JudgedLine) × Takes self.old piece.now
             judged self.new kept.old.items kept.new.items

@@ -1,4 +1,5 @@
 // Made by tools/erase from crates/release_filter/src/counts.rt; not edited by hand.
+//! How many lines a text has, how many of these have no version, and the first of those.
 
 use crate::rattle_std::prelude::*;
 use crate::proved::release_filter::judging::Judged;

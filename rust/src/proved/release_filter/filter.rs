@@ -1,4 +1,5 @@
 // Made by tools/erase from crates/release_filter/src/filter.rt; not edited by hand.
+//! A range text read once, as a test on many versions.
 
 use crate::rattle_std::prelude::*;
 use crate::proved::release_filter::precedence;

@@ -1,4 +1,5 @@
 // Made by tools/erase from crates/release_filter/src/judging.rt; not edited by hand.
+//! What a filter says of a version text.
 
 use crate::rattle_std::prelude::*;
 use crate::proved::release_filter::filter::Filter;

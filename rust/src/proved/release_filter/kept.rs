@@ -1,4 +1,5 @@
 // Made by tools/erase from crates/release_filter/src/kept.rt; not edited by hand.
+//! Those of a list of versions that pass a filter.
 
 use crate::rattle_std::prelude::*;
 use crate::proved::release_filter::filter::Filter;

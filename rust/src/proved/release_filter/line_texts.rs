@@ -1,4 +1,5 @@
 // Made by tools/erase from crates/release_filter/src/line_texts.rt; not edited by hand.
+//! The lines of a text, the text of a line, and where a byte order mark is.
 
 use crate::rattle_std::prelude::*;
 /// The byte order mark, which some programs write before a text in UTF-8.

@@ -1,4 +1,5 @@
 // Made by tools/erase from crates/release_filter/src/lines.rt; not edited by hand.
+//! The lines of a text that comes in pieces, and which of them a filter keeps.
 
 use crate::rattle_std::prelude::*;
 use crate::proved::release_filter::counts::{Counts, Noted, is_invalid};
@@ -116,7 +117,7 @@ impl Lines {
     ///
     /// A kept line is appended as it is, with the line feed that ends it, but for a byte order mark
     /// at the front of the text. What a text appends doesn't depend on how it is cut into pieces
-    /// ([`pieces_do_not_matter`](crate::proved::release_filter::laws::pieces_do_not_matter)).
+    /// (`laws::pieces_do_not_matter`).
     pub fn push(&mut self,piece: &[u8], kept: &mut Vec<u8>) -> Result<(), Stopped> {
         let _ = &self.unended;
         let mut taken = 0;

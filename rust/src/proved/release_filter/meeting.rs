@@ -1,4 +1,5 @@
 // Made by tools/erase from crates/release_filter/src/meeting.rt; not edited by hand.
+//! Whether a version meets a range set, by each rule for pre-releases.
 
 use crate::rattle_std::prelude::*;
 use crate::proved::release_filter::precedence;

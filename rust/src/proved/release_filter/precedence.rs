@@ -1,4 +1,6 @@
 // Made by tools/erase from crates/release_filter/src/precedence.rt; not edited by hand.
+//! How a version compares with another, and with the version of a comparator, by precedence
+//! (SemVer 2.0.0, section 11).
 
 use crate::rattle_std::prelude::*;
 use crate::proved::semver_parser::Comparator;

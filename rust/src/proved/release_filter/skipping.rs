@@ -1,4 +1,5 @@
 // Made by tools/erase from crates/release_filter/src/skipping.rt; not edited by hand.
+//! Lines that are skipped: bytes that begin them show that they have no version.
 
 use crate::rattle_std::prelude::*;
 use crate::proved::release_filter::line_filter::LineFilter;

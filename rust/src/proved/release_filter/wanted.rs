@@ -1,4 +1,5 @@
 // Made by tools/erase from crates/release_filter/src/wanted.rt; not edited by hand.
+//! Which of the kept lines are wanted, and those that are held until the end of the text.
 
 use crate::rattle_std::prelude::*;
 use crate::proved::release_filter::judging::Judged;

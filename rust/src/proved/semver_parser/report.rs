@@ -1,4 +1,5 @@
 // Made by tools/erase from crates/semver_parser/src/report.rt; not edited by hand.
+//! The lines of the program, and its status.
 #![cfg(feature = "std")]
 
 use crate::rattle_std::prelude::*;

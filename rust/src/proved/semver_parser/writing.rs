@@ -1,4 +1,5 @@
 // Made by tools/erase from crates/semver_parser/src/writing.rt; not edited by hand.
+//! Writing bytes so that an error leaves a known beginning of them.
 #![cfg(feature = "std")]
 
 use crate::rattle_std::prelude::*;

@@ -1,4 +1,5 @@
 // Made by tools/erase from crates/semver_ranges/src/comparing.rt; not edited by hand.
+//! How the identifiers that a range states are compared, kept or still a text.
 
 use crate::rattle_std::prelude::*;
 use crate::proved::semver_ranges::range::Identifier;

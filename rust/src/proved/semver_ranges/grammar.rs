@@ -1,4 +1,8 @@
 // Made by tools/erase from crates/semver_ranges/src/grammar.rt; not edited by hand.
+//! What is at the front of a range text: a simple, or the right side of a hyphen range.
+//!
+//! Nothing here takes memory, and a call looks at each byte a fixed number of times. What can't be
+//! read is `None`.
 
 use crate::rattle_std::prelude::*;
 use crate::proved::semver_ranges::limits::is_short_word;

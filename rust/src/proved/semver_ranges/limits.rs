@@ -1,4 +1,5 @@
 // Made by tools/erase from crates/semver_ranges/src/limits.rt; not edited by hand.
+//! Which words are too long to npm. Up to 250 bytes none is, so little of this runs.
 
 use crate::rattle_std::prelude::*;
 use crate::proved::semver_ranges::grammar::{Form, Role, after_v, read_components};

@@ -1,4 +1,5 @@
 // Made by tools/erase from crates/semver_ranges/src/range.rt; not edited by hand.
+//! Ranges as plain data: comparators, and their printed text.
 
 use crate::rattle_std::prelude::*;
 use crate::proved::semver_texts::printing::{write_joined, write_part};

@@ -1,4 +1,5 @@
 // Made by tools/erase from crates/semver_ranges/src/range_set.rt; not edited by hand.
+//! Range sets: the ranges of a text in one of two modes, and their printed text.
 
 use crate::rattle_std::prelude::*;
 use crate::proved::semver_ranges::grammar::{Simple, read_simple};

@@ -1,4 +1,9 @@
 // Made by tools/erase from crates/semver_ranges/src/rewriting.rt; not edited by hand.
+//! How simples are rewritten to comparators: which operator compares with which version, and which
+//! number is raised for the bound above.
+//!
+//! The rewriting does not allocate or raise: only building does both, once all is
+//! known to fit.
 
 use crate::rattle_std::prelude::*;
 use crate::proved::semver_ranges::grammar::{Form, Simple};

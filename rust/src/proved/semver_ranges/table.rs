@@ -1,4 +1,5 @@
 // Made by tools/erase from crates/semver_ranges/src/table.rt; not edited by hand.
+//! Range texts read by a table, of the crate or of a tool: which comparators stand for a simple.
 
 use crate::rattle_std::prelude::*;
 use crate::proved::semver_ranges::events::{Event, Events};

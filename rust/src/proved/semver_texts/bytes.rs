@@ -1,4 +1,5 @@
 // Made by tools/erase from crates/semver_texts/src/bytes.rt; not edited by hand.
+//! Tests of bytes, and how many bytes at the front pass one.
 
 use crate::rattle_std::prelude::*;
 /// Whether the byte is a space, a tab, a line feed or a carriage return.

@@ -1,4 +1,5 @@
 // Made by tools/erase from crates/semver_texts/src/grammar.rt; not edited by hand.
+//! The grammars that range texts and version texts are read by.
 
 use crate::rattle_std::prelude::*;
 /// A grammar of version texts and range texts.

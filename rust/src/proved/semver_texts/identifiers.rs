@@ -1,4 +1,6 @@
 // Made by tools/erase from crates/semver_texts/src/identifiers.rt; not edited by hand.
+//! Pre-releases whose identifiers are compared: lists of identifiers, and texts that join them by
+//! dots.
 
 use crate::rattle_std::prelude::*;
 use crate::proved::semver_texts::decimals::number_of_digits;

@@ -1,4 +1,5 @@
 // Made by tools/erase from crates/semver_texts/src/large_number.rt; not edited by hand.
+//! Numbers of 2^64 or more, by their digits.
 
 use crate::rattle_std::prelude::*;
 use crate::rattle_std::cmp::Ordering;

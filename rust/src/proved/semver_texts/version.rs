@@ -1,4 +1,9 @@
 // Made by tools/erase from crates/semver_texts/src/version.rt; not edited by hand.
+//! Versions as plain data, and their printed texts.
+//!
+//! What is printed are three numbers separated by dots, then where there is a pre-release `-` and
+//! its identifiers, then where there is a build `+` and its identifiers, each list separated by
+//! dots: `1.2.3-rc.1+5aedf`.
 
 use crate::rattle_std::prelude::*;
 use crate::proved::semver_texts::printing::write_part;

@@ -1,4 +1,11 @@
 // Made by tools/erase from crates/semver_tokens/src/lexer.rt; not edited by hand.
+//! The tokens of a text: its signs, its white space, and its runs of ASCII letters and digits.
+//!
+//! The text is read by bytes, from the left; a character past ASCII is decoded only to be named in
+//! an error. Nothing here takes memory: each token that has a text borrows it from the input.
+//!
+//! `foo / *` has the tokens `AlphaNumeric("foo")` and `Whitespace(3, 4)`; then comes the error
+//! `UnexpectedChar('/')`, and then nothing.
 
 use crate::rattle_std::prelude::*;
 use crate::proved::semver_texts::bytes::{is_space, run_len, space_len};

@@ -1,4 +1,14 @@
 // Made by tools/erase from crates/semver_tokens/src/parser.rt; not edited by hand.
+//! Numbers, components, identifiers and versions, read from the tokens of a text with one token
+//! ahead.
+//!
+//! The state of a parser is the list of tokens that remain, and a pending character where the text
+//! goes on with one that opens no token. Taking a token reads the next one first: so the last token
+//! before a bad character is never given, and what is refused as `Lexer` or `UnexpectedEnd` leaves
+//! the parser as it stood. An unexpected token is consumed.
+//!
+//! On `.x.01`, `dot_component` answers `(None, true)`; then `dot_numeric` answers
+//! `UnexpectedToken(AlphaNumeric("01"))`, and no token remains.
 
 use crate::rattle_std::prelude::*;
 use crate::proved::semver_tokens::lexer::{self, Lexer, Token, copy, count_tokens, rest};

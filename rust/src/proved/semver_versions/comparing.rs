@@ -1,4 +1,5 @@
 // Made by tools/erase from crates/semver_versions/src/comparing.rt; not edited by hand.
+//! How the identifiers of a version are compared while they are still a text.
 
 use crate::rattle_std::prelude::*;
 use crate::proved::semver_texts::decimals::number_of_digits;

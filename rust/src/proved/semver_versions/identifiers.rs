@@ -1,4 +1,5 @@
 // Made by tools/erase from crates/semver_versions/src/identifiers.rt; not edited by hand.
+//! Identifiers, cut from their text at its dots.
 
 use crate::rattle_std::prelude::*;
 use crate::proved::semver_versions::comparing::InVersions;

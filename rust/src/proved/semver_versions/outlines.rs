@@ -1,4 +1,5 @@
 // Made by tools/erase from crates/semver_versions/src/outlines.rt; not edited by hand.
+//! Versions in outline.
 
 use crate::rattle_std::prelude::*;
 use crate::proved::semver_versions::comparing::InVersions;

@@ -1,4 +1,11 @@
 // Made by tools/erase from crates/semver_versions/src/reader.rt; not edited by hand.
+//! A version text read from its bytes to its outline, by a dialect: three numbers, and the
+//! pre-release and the build as slices. Each byte that is read as a part of a version is ASCII, so
+//! the bytes need no check for UTF-8.
+//!
+//! The dialects differ in what may be before the numbers and after the version, in the hyphens and
+//! zeros of identifiers, and in npm's limits. Three numbers alone are read alike by each, so for
+//! speed they are read without a look at the dialect. What needs one is called, not inlined.
 
 use crate::rattle_std::prelude::*;
 use crate::proved::semver_versions::outlines::{Outline, with_parts};

@@ -1,4 +1,12 @@
 // Made by tools/erase from crates/semver_versions/src/version.rt; not edited by hand.
+//! Version texts read straight from their bytes: as a `Version`, or as an outline without memory.
+//!
+//! A version text is three numbers separated by dots, then optionally `-` and the identifiers of a
+//! pre-release, then optionally `+` and the identifiers of a build, each list separated by dots:
+//! `1.2.3-rc.1+5aedf`. Spaces, tabs, line feeds and carriage returns may come before and after it.
+//! A number is a canonical decimal, `0` or digits that don't begin with `0`, up to
+//! 18446744073709551615. An identifier is one or more runs of ASCII letters and digits joined by
+//! single hyphens; there is no limit on runs, identifiers or the length of a text.
 
 use crate::rattle_std::prelude::*;
 pub use crate::proved::semver_versions::outlines::Outline;

@@ -1,4 +1,5 @@
 // Made by tools/erase from crates/text_prefixes/src/buffers.rt; not edited by hand.
+//! A buffer in which prefixes are completed.
 
 use crate::rattle_std::prelude::*;
 /// Writes the bytes at an offset; those before it stay.

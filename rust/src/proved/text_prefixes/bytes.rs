@@ -1,4 +1,5 @@
 // Made by tools/erase from crates/text_prefixes/src/bytes.rt; not edited by hand.
+//! Whether some version begins with bytes, which may end within a character.
 
 use crate::rattle_std::prelude::*;
 use crate::proved::text_prefixes::buffers::write;

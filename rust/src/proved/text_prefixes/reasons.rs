@@ -1,4 +1,5 @@
 // Made by tools/erase from crates/text_prefixes/src/reasons.rt; not edited by hand.
+//! Where and why a text is no version.
 
 use crate::rattle_std::prelude::*;
 use crate::proved::text_prefixes::buffers::write;

@@ -1,4 +1,5 @@
 // Made by tools/erase from crates/text_prefixes/src/versions.rt; not edited by hand.
+//! The versions of a dialect as a language, and the end of the longest prefix of a text.
 
 use crate::rattle_std::prelude::*;
 use crate::proved::text_prefixes::longest::{Language, longest_prefix_of_bytes};

@@ -1,4 +1,6 @@
 // Made by tools/erase from crates/tool_ranges/src/any_size.rt; not edited by hand.
+//! Sets of comparators as Cargo and npm read them: identifiers of digits alone are numbers of any
+//! size.
 
 use crate::rattle_std::prelude::*;
 use crate::proved::semver_ranges::RangeSet;

@@ -1,4 +1,6 @@
 // Made by tools/erase from crates/tool_ranges/src/asked.rt; not edited by hand.
+//! The version of which a range is asked, and how it compares with what a partial states. Nothing
+//! here allocates.
 
 use crate::rattle_std::prelude::*;
 use crate::proved::semver_parser::version::Outline;

@@ -1,4 +1,6 @@
 // Made by tools/erase from crates/tool_ranges/src/asking.rt; not edited by hand.
+//! Whether a version meets a term of a range, by the definition of what the range means: by
+//! precedence against the zero-filled version of the term, and by the numbers that it states.
 
 use crate::rattle_std::prelude::*;
 use crate::proved::tool_ranges::asked::Asked;

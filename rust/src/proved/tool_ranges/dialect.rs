@@ -1,4 +1,5 @@
 // Made by tools/erase from crates/tool_ranges/src/dialect.rt; not edited by hand.
+//! The dialects of range texts: Cargo's, npm's, and those of the Rust crate in its two modes.
 
 use crate::rattle_std::prelude::*;
 use crate::proved::tool_ranges::{cargo, npm};

@@ -1,4 +1,5 @@
 // Made by tools/erase from crates/tool_ranges/src/hints.rt; not edited by hand.
+//! Hints for who takes one tool's ranges for another's.
 
 use crate::rattle_std::prelude::*;
 use crate::proved::tool_ranges::dialect::Dialect;

@@ -1,4 +1,5 @@
 // Made by tools/erase from crates/tool_ranges/src/limit.rt; not edited by hand.
+//! Where a number of a range text is too large: the end of the first term that does not fit.
 
 use crate::rattle_std::prelude::*;
 use crate::proved::tool_ranges::cargo;

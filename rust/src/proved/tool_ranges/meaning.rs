@@ -1,4 +1,5 @@
 // Made by tools/erase from crates/tool_ranges/src/meaning.rt; not edited by hand.
+//! What a range text means: in which dialect, and with which pre-releases.
 
 use crate::rattle_std::prelude::*;
 use crate::proved::tool_ranges::asked::Asked;

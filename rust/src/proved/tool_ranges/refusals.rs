@@ -1,4 +1,5 @@
 // Made by tools/erase from crates/tool_ranges/src/refusals.rt; not edited by hand.
+//! Where a text stops being a range, and why.
 
 use crate::rattle_std::prelude::*;
 use crate::proved::tool_ranges::dialect::Dialect;

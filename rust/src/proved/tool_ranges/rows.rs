@@ -1,4 +1,6 @@
 // Made by tools/erase from crates/tool_ranges/src/rows.rt; not edited by hand.
+//! The cells of the tables of Cargo and npm that have the comparators of a simple. Nothing here
+//! takes memory but `push`, which comes once all is known to fit.
 
 use crate::rattle_std::prelude::*;
 use crate::proved::semver_ranges::grammar::{Form, Simple};

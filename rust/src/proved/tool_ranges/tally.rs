@@ -1,4 +1,6 @@
 // Made by tools/erase from crates/tool_ranges/src/tally.rt; not edited by hand.
+//! Range texts as npm and the crate read them, asked of one version as they are read. Nothing here
+//! allocates.
 
 use crate::rattle_std::prelude::*;
 use crate::proved::tool_ranges::asked::Asked;

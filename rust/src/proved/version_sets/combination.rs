@@ -1,4 +1,5 @@
 // Made by tools/erase from crates/version_sets/src/combination.rt; not edited by hand.
+//! How two lists of switches are combined.
 
 use crate::rattle_std::prelude::*;
 use crate::proved::version_sets::switch::Switch;

@@ -1,4 +1,5 @@
 // Made by tools/erase from crates/version_sets/src/combining.rt; not edited by hand.
+//! What is in one set or another, in both, or in the first alone.
 
 use crate::rattle_std::prelude::*;
 use crate::proved::version_sets::combination::Combination;

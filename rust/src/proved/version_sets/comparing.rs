@@ -1,4 +1,5 @@
 // Made by tools/erase from crates/version_sets/src/comparing.rt; not edited by hand.
+//! Whether a set has no version, is within another, shares a version with it, or is the same.
 
 use crate::rattle_std::prelude::*;
 use crate::proved::version_sets::combination::Combination;

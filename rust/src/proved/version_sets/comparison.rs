@@ -1,4 +1,5 @@
 // Made by tools/erase from crates/version_sets/src/comparison.rt; not edited by hand.
+//! What a set loses, gains and keeps where a new one takes its place.
 
 use crate::rattle_std::prelude::*;
 use crate::proved::version_sets::combination::Combination;

@@ -1,4 +1,5 @@
 // Made by tools/erase from crates/version_sets/src/each.rt; not edited by hand.
+//! Which of many versions are in a set.
 
 use crate::rattle_std::prelude::*;
 use crate::proved::version_sets::release::Release;

@@ -1,4 +1,5 @@
 // Made by tools/erase from crates/version_sets/src/flat.rt; not edited by hand.
+//! Sets as flat data: numbers and bytes without pointers, which can be copied and stored.
 
 use crate::rattle_std::prelude::*;
 use crate::proved::version_sets::flat_places::{Place, is_among};

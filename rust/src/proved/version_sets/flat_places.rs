@@ -1,4 +1,5 @@
 // Made by tools/erase from crates/version_sets/src/flat_places.rt; not edited by hand.
+//! A version whose pre-release is still a text, and how it compares with flat switches.
 
 use crate::rattle_std::prelude::*;
 use crate::proved::version_sets::flat::FlatSwitch;

@@ -1,4 +1,5 @@
 // Made by tools/erase from crates/version_sets/src/flat_reading.rt; not edited by hand.
+//! Flat data as a set, if it is one in the normal form. Nothing here allocates.
 
 use crate::rattle_std::prelude::*;
 use crate::proved::version_sets::flat::{FlatSet, FlatSwitch};

@@ -1,4 +1,5 @@
 // Made by tools/erase from crates/version_sets/src/flat_sets.rt; not edited by hand.
+//! Flat data made a set that can be combined, compared and printed.
 
 use crate::rattle_std::prelude::*;
 use crate::proved::version_sets::flat::{FlatSet, FlatSwitch};

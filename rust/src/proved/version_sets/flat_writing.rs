@@ -1,4 +1,5 @@
 // Made by tools/erase from crates/version_sets/src/flat_writing.rt; not edited by hand.
+//! Sets written as flat data.
 
 use crate::rattle_std::prelude::*;
 use crate::proved::version_sets::flat::FlatSwitch;

@@ -1,4 +1,5 @@
 // Made by tools/erase from crates/version_sets/src/intervals.rt; not edited by hand.
+//! The intervals of a set's switches as ranges of comparators.
 
 use crate::rattle_std::prelude::*;
 use crate::proved::version_sets::pre_release::PreRelease;

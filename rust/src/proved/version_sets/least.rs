@@ -1,4 +1,5 @@
 // Made by tools/erase from crates/version_sets/src/least.rt; not edited by hand.
+//! The least version of a set.
 
 use crate::rattle_std::prelude::*;
 use crate::proved::version_sets::pre_release::PreRelease;

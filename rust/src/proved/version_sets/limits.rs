@@ -1,4 +1,5 @@
 // Made by tools/erase from crates/version_sets/src/limits.rt; not edited by hand.
+//! Where spans of versions begin and end, and those of releases.
 
 use crate::rattle_std::prelude::*;
 use crate::proved::version_sets::release::{Release, next_numbers};

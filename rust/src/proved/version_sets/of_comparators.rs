@@ -1,4 +1,5 @@
 // Made by tools/erase from crates/version_sets/src/of_comparators.rt; not edited by hand.
+//! Sets of the versions that meet comparators, by a rule for pre-releases.
 
 use crate::rattle_std::prelude::*;
 use crate::proved::version_sets::limits::{numbers_of, release_above};

@@ -1,4 +1,5 @@
 // Made by tools/erase from crates/version_sets/src/pre_release.rt; not edited by hand.
+//! Switches of pre-releases.
 
 use crate::rattle_std::prelude::*;
 use crate::proved::version_sets::switch::{Switch, without_build};

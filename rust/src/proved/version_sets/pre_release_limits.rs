@@ -1,4 +1,5 @@
 // Made by tools/erase from crates/version_sets/src/pre_release_limits.rt; not edited by hand.
+//! Where spans of pre-releases begin and end.
 
 use crate::rattle_std::prelude::*;
 use crate::proved::version_sets::limits::{Limit, numbers_of};

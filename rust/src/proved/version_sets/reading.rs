@@ -1,4 +1,5 @@
 // Made by tools/erase from crates/version_sets/src/reading.rt; not edited by hand.
+//! Range texts as sets of versions, and as comparators for a rule for pre-releases.
 
 use crate::rattle_std::prelude::*;
 use crate::proved::version_sets::rules::PreReleases;

@@ -1,4 +1,5 @@
 // Made by tools/erase from crates/version_sets/src/release.rt; not edited by hand.
+//! Releases: versions without a pre-release and without a build.
 
 use crate::rattle_std::prelude::*;
 use crate::proved::semver_parser::version::Version;

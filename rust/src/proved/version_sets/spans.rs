@@ -1,4 +1,5 @@
 // Made by tools/erase from crates/version_sets/src/spans.rt; not edited by hand.
+//! Spans of one kind of versions, and the switches of what is in some of them.
 
 use crate::rattle_std::prelude::*;
 use crate::proved::version_sets::limits::Limit;

@@ -1,4 +1,5 @@
 // Made by tools/erase from crates/version_sets/src/switch.rt; not edited by hand.
+//! What both kinds of switches have: a place in the order of precedence.
 
 use crate::rattle_std::prelude::*;
 use crate::proved::version_sets::release::Release;

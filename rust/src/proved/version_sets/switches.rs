@@ -1,4 +1,5 @@
 // Made by tools/erase from crates/version_sets/src/switches.rt; not edited by hand.
+//! Lists of switches: whether one has a place, and whether two are the same.
 
 use crate::rattle_std::prelude::*;
 use crate::proved::version_sets::pre_release::PreRelease;

@@ -1,4 +1,5 @@
 // Made by tools/erase from crates/version_sets/src/version_set.rt; not edited by hand.
+//! Sets of versions, and which versions are in them.
 
 use crate::rattle_std::prelude::*;
 use crate::proved::version_sets::pre_release::PreRelease;

@@ -1,4 +1,5 @@
 // Made by tools/erase from crates/version_sets/src/walk.rt; not edited by hand.
+//! Two lists of switches, walked together from the least to the greatest.
 
 use crate::rattle_std::prelude::*;
 use crate::proved::version_sets::switch::Switch;

@@ -1,4 +1,5 @@
 // Made by tools/erase from crates/version_sets/src/with_zero.rt; not edited by hand.
+//! Identifiers with the number 0 after them: the pre-release right above theirs.
 
 use crate::rattle_std::prelude::*;
 use crate::proved::semver_texts::precedence::{IdentifierRef, Identifiers};

@@ -1,5 +1,6 @@
 // Made by tools/erase from crates/library_tests/src/refused/filters.rt; not edited by hand.
 //! The filter.
+#![cfg(feature = "std")]
 
 use crate::rattle_std::prelude::*;
 use super::Ending;

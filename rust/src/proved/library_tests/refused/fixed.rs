@@ -1,4 +1,5 @@
 // Made by tools/erase from crates/library_tests/src/refused/fixed.rt; not edited by hand.
+//! A writer that does not allocate.
 #![cfg(feature = "std")]
 
 use crate::rattle_std::prelude::*;

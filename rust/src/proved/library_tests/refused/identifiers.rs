@@ -1,5 +1,6 @@
 // Made by tools/erase from crates/library_tests/src/refused/identifiers.rt; not edited by hand.
 //! `concat`, and the text of an error.
+#![cfg(feature = "std")]
 
 use crate::rattle_std::prelude::*;
 use super::Ending;

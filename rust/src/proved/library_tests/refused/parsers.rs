@@ -1,5 +1,6 @@
 // Made by tools/erase from crates/library_tests/src/refused/parsers.rt; not edited by hand.
 //! Calls of a parser.
+#![cfg(feature = "std")]
 
 use crate::rattle_std::prelude::*;
 use super::Ending;

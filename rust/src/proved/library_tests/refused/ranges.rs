@@ -1,5 +1,6 @@
 // Made by tools/erase from crates/library_tests/src/refused/ranges.rt; not edited by hand.
 //! Calls that read a range set, and its clone.
+#![cfg(feature = "std")]
 
 use crate::rattle_std::prelude::*;
 use super::Ending;

@@ -1,5 +1,6 @@
 // Made by tools/erase from crates/library_tests/src/refused/sets.rt; not edited by hand.
 //! Sets of versions.
+#![cfg(feature = "std")]
 
 use crate::rattle_std::prelude::*;
 use super::Ending;

@@ -1,5 +1,6 @@
 // Made by tools/erase from crates/library_tests/src/refused/versions.rt; not edited by hand.
 //! Calls that read a version, and its clone.
+#![cfg(feature = "std")]
 
 use crate::rattle_std::prelude::*;
 use super::Ending;

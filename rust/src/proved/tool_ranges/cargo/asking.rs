@@ -1,4 +1,5 @@
 // Made by tools/erase from crates/tool_ranges/src/cargo/asking.rt; not edited by hand.
+//! Requirements asked of one version as they are read. Nothing here allocates.
 
 use crate::rattle_std::prelude::*;
 use super::grammar::read_comparator;

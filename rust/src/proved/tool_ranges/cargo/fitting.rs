@@ -1,4 +1,5 @@
 // Made by tools/erase from crates/tool_ranges/src/cargo/fitting.rt; not edited by hand.
+//! Which comparators of a requirement fit.
 
 use crate::rattle_std::prelude::*;
 use super::MOST_COMPARATORS;

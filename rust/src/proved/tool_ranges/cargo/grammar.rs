@@ -1,4 +1,8 @@
 // Made by tools/erase from crates/tool_ranges/src/cargo/grammar.rt; not edited by hand.
+//! What is at the front of a requirement: a comparator.
+//!
+//! Nothing here takes memory, and a call looks at each byte a fixed number of times. What can't be
+//! read is `None`.
 
 use crate::rattle_std::prelude::*;
 use crate::proved::semver_ranges::grammar::{Form, Simple, after_blanks, read_components, read_operator};

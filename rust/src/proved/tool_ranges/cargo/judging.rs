@@ -1,4 +1,6 @@
 // Made by tools/erase from crates/tool_ranges/src/cargo/judging.rt; not edited by hand.
+//! The comparators that stand for one of a requirement where releases, pre-releases or all versions
+//! are judged.
 
 use crate::rattle_std::prelude::*;
 use crate::proved::tool_ranges::cargo::pre_releases;

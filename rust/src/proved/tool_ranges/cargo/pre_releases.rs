@@ -1,4 +1,6 @@
 // Made by tools/erase from crates/tool_ranges/src/cargo/pre_releases.rt; not edited by hand.
+//! The comparators that judge pre-releases as a requirement does, and the ranges of those that
+//! count.
 
 use crate::rattle_std::prelude::*;
 use crate::proved::tool_ranges::rows;

@@ -1,4 +1,5 @@
 // Made by tools/erase from crates/tool_ranges/src/cargo/reading.rt; not edited by hand.
+//! Requirements as sets of versions: what Cargo takes, with its pre-releases.
 
 use crate::rattle_std::prelude::*;
 use crate::proved::tool_ranges::any_size::set_of;

@@ -1,4 +1,5 @@
 // Made by tools/erase from crates/tool_ranges/src/npm/asking.rt; not edited by hand.
+//! Range texts of npm asked of one version as they are read. Nothing here allocates.
 
 use crate::rattle_std::prelude::*;
 use super::may_stand;

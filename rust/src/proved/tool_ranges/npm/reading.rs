@@ -1,4 +1,5 @@
 // Made by tools/erase from crates/tool_ranges/src/npm/reading.rt; not edited by hand.
+//! Range texts of npm as sets of versions: what npm takes, with its pre-releases.
 
 use crate::rattle_std::prelude::*;
 use crate::proved::tool_ranges::any_size;
