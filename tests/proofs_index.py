@@ -79,7 +79,7 @@ names:
 Eleven calls are free, and two more leave something open if memory ran out: how many tokens `Parser::version` took, and how
 much of a piece `Lines::push` did. What is left then is an end part of the tokens (`out_of_memory`; of
 `Parser::identifier` the law fixes it), and what `Lines::push` appended is what that much ends. The clauses of `Lines`
-don't speak of a reader or a writer: they are functions of the bytes. The sort is `Vec::sort_by` of the kit. In C
+don't speak of a reader or a writer: they are functions of the bytes. The sort is `Vec::sort_unstable_by` of the kit. In C
 a clause lists a function's outcomes: each status, and what it leaves (`Outcomes`).
 '''
 
