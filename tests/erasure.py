@@ -96,7 +96,7 @@ LAST = (
     (7, r'(?<=[;\d] )(?:\w+ :: )*laws :: \w+ \((\d+) .*?\)\1 ; ', ''),
     (12, rf'\b((?:Vec|String) :: )(with_capacity|from_slice|from_elem|from_str) '
          rf'(?=\(\d+ {ALLOCATOR})', r'\1fallible_\2 '),
-    (12, rf'(?<=\. )(to_vec|to_string) (?=\(\d+ {ALLOCATOR}\))', r'fallible_\1 '),
+    (12, rf'(?<=\. )(to_string) (?=\(\d+ {ALLOCATOR}\))', r'fallible_\1 '),
     (12, r'(?<=\. )clone (?=\(\d+ \))', 'fallible_clone '),
     (13, r'\b(vec|format) (?=! [\[(]\d+ in )', r'crate::rattle_std::fallible_\1 '),
     (13, r'\b(e?print|e?println) (?=! \(\d+ \w+ ; )', r'crate::rattle_std::fallible_\1 '),

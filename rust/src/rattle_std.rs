@@ -2,8 +2,8 @@
 //! Rust's own; what returns an error there if an allocation fails is a method of a trait here, with
 //! the prefix `fallible_`, over `try_reserve`.
 
-pub use alloc::{string, vec};
-pub use core::{cmp, fmt, iter, marker, mem, str};
+pub use alloc::vec;
+pub use core::{cmp, fmt, mem, str};
 #[cfg(feature = "std")]
 pub use std::{error::Error, process};
 
@@ -190,17 +190,6 @@ impl<T: fmt::Display + ?Sized> FallibleToString for T {
     }
 }
 
-/// `to_vec` that returns an error if an allocation fails.
-pub trait FallibleToVec<T> {
-    fn fallible_to_vec(&self) -> Made<Vec<T>>;
-}
-
-impl<T: Copy> FallibleToVec<T> for [T] {
-    fn fallible_to_vec(&self) -> Made<Vec<T>> {
-        Vec::fallible_from_slice(self)
-    }
-}
-
 /// `clone` that returns an error if an allocation fails. It is written for each type that derives
 /// `Clone` and isn't `Copy`.
 pub trait FallibleClone: Sized {
@@ -378,7 +367,7 @@ pub mod io {
 /// What each erased file has in scope.
 pub mod prelude {
     pub use super::{
-        FallibleClone, FalliblePush, FallibleString, FallibleToString, FallibleToVec, FallibleVec,
+        FallibleClone, FalliblePush, FallibleString, FallibleToString, FallibleVec,
     };
     #[cfg(feature = "std")]
     pub use super::{

@@ -1,4 +1,4 @@
-//! Version texts as plain data, and back: what [`semver_versions`] reads from bytes, and [`parse`],
+//! Version texts as plain data, and back: what `semver_versions` reads from bytes, and [`parse`],
 //! which also says what is wrong with a text that is no version.
 ghost use Rattle.std.specs.Prelude.{◌≡◌, ◌↔◌, [], Ok, IfOk};
 ghost use Rattle.semver_texts.specs.Versions.{VersionValue};

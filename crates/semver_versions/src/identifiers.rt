@@ -41,7 +41,7 @@ pub fn identifiers(alloc: Global, bytes: &[u8]) -> Result<Vec<Identifier>, Alloc
 }
 
 // Answer: equation.
-/// What [`identifiers`] returns, of a text.
+/// What `identifiers` returns, of a text.
 #[inline(always)]
 pub fn identifiers_of_text(alloc: Global, text: &str) -> Result<Vec<Identifier>, AllocError>
     ensures kept { IfOk result (λ ids.

@@ -1,5 +1,5 @@
 // Made by tools/erase from crates/semver_parser/src/version.rt; not edited by hand.
-//! Version texts as plain data, and back: what [`semver_versions`] reads from bytes, and [`parse`],
+//! Version texts as plain data, and back: what `semver_versions` reads from bytes, and [`parse`],
 //! which also says what is wrong with a text that is no version.
 
 use crate::rattle_std::prelude::*;

@@ -28,7 +28,7 @@ pub(crate) fn identifiers(bytes: &[u8]) -> Result<Vec<Identifier>, AllocError> {
     identifiers_of_text(text_of_parts(bytes))
 }
 
-/// What [`identifiers`] returns, of a text.
+/// What `identifiers` returns, of a text.
 #[inline(always)]
 pub fn identifiers_of_text(text: &str) -> Result<Vec<Identifier>, AllocError> {
     of_parts(text, |part| identifier(part))
