@@ -2,6 +2,7 @@
 //! What is proved, as plain Rust: each crate of `crates/` without its contracts.
 #![allow(clippy::all, dead_code, missing_docs, private_bounds)]
 #![allow(unused_imports, unused_labels, unused_variables)]
+#![warn(clippy::incompatible_msrv)]
 
 pub mod semver_texts;
 pub mod semver_tokens;
