@@ -1,8 +1,13 @@
 //! The calls that are compared. Each answers a number that depends on all that was read, and
 //! `REFUSED` where a text isn't read.
 
+use here::filters::{filter_text, Filter};
+use here::proved::tool_ranges::cargo;
+use here::sets::VersionSet;
+use here::{satisfies, Compat, Dialect, PreReleases};
 use semver::{Version, VersionReq};
-use semver_parser::{version, Compat, RangeSet};
+use semver_parser::{version, RangeSet};
+use std::hint::black_box;
 
 /// The answer where a text isn't read.
 pub const REFUSED: u64 = u64::MAX;
@@ -10,48 +15,12 @@ pub const REFUSED: u64 = u64::MAX;
 /// Reads one text.
 pub type Call = fn(&str) -> u64;
 
-extern "C" {
-    fn speed_version(text: *const u8, len: usize) -> u64;
-    fn speed_is_version(text: *const u8, len: usize) -> u64;
-    fn speed_range(text: *const u8, len: usize) -> u64;
-    fn speed_requirement(text: *const u8, len: usize) -> u64;
-    fn speed_meets(
-        range: *const u8,
-        range_len: usize,
-        version: *const u8,
-        version_len: usize,
-    ) -> u64;
-    fn speed_meets_npm(
-        range: *const u8,
-        range_len: usize,
-        version: *const u8,
-        version_len: usize,
-    ) -> u64;
-    fn speed_set(text: *const u8, len: usize) -> u64;
-    fn speed_within(text: *const u8, len: usize, times: u64) -> u64;
-    fn speed_has(
-        ranges: *const u8,
-        ranges_len: usize,
-        versions: *const u8,
-        versions_len: usize,
-    ) -> u64;
-    fn speed_filter(
-        ranges: *const u8,
-        ranges_len: usize,
-        versions: *const u8,
-        versions_len: usize,
-    ) -> u64;
-    fn speed_read_kept(
-        range: *const u8,
-        range_len: usize,
-        versions: *const u8,
-        versions_len: usize,
-    ) -> u64;
-}
-
 /// A version here: the sum of its numbers and of the counts of its identifiers.
 pub fn here_version(text: &str) -> u64 {
-    unsafe { speed_version(text.as_ptr(), text.len()) }
+    here::version::parse(text).map_or(REFUSED, |version| {
+        let identifiers = (version.pre.len() + version.build.len()) as u64;
+        sum([version.major, version.minor, version.patch, identifiers])
+    })
 }
 
 /// A version of the crate `semver-parser`: the same sum.
@@ -74,7 +43,7 @@ pub fn semver_version(text: &str) -> u64 {
 /// 1 where a text is a version here, by the call that only asks so. A version that was read is
 /// dropped at once.
 pub fn here_is_version(text: &str) -> u64 {
-    is_read(unsafe { speed_is_version(text.as_ptr(), text.len()) } == 1)
+    is_read(matches!(here::version::read(text), Ok(Some(_))))
 }
 
 /// 1 where a text is a version to the crate `semver-parser`.
@@ -89,12 +58,14 @@ pub fn semver_is_version(text: &str) -> u64 {
 
 /// A range set here, in Cargo mode: how many comparators it has.
 pub fn here_range(text: &str) -> u64 {
-    unsafe { speed_range(text.as_ptr(), text.len()) }
+    here::RangeSet::parse(text, Compat::Cargo).map_or(REFUSED, |set| {
+        set.ranges.iter().map(|range| range.comparator_set.len() as u64).sum()
+    })
 }
 
 /// A range set of the crate `semver-parser`, in Cargo mode: the same count.
 pub fn parser_range(text: &str) -> u64 {
-    RangeSet::parse(text, Compat::Cargo).map_or(REFUSED, |set| {
+    RangeSet::parse(text, semver_parser::Compat::Cargo).map_or(REFUSED, |set| {
         set.ranges.iter().map(|range| range.comparator_set.len() as u64).sum()
     })
 }
@@ -106,22 +77,26 @@ pub fn semver_range(text: &str) -> u64 {
 
 /// 1 where a text is a requirement here, as Cargo reads it. Its comparators are made.
 pub fn here_requirement(text: &str) -> u64 {
-    is_read(unsafe { speed_requirement(text.as_ptr(), text.len()) } == 1)
+    is_read(cargo::rewrite(text).is_ok())
 }
 
 /// 1 where a requirement means a version here, as Cargo reads both, and else 0: a text has both,
 /// separated by a tab.
 pub fn here_meets(text: &str) -> u64 {
-    text.split_once('\t').map_or(REFUSED, |(range, version)| unsafe {
-        speed_meets(range.as_ptr(), range.len(), version.as_ptr(), version.len())
-    })
+    satisfies_as(Dialect::Cargo, text)
 }
 
 /// The same as npm reads both.
 pub fn here_meets_npm(text: &str) -> u64 {
-    text.split_once('\t').map_or(REFUSED, |(range, version)| unsafe {
-        speed_meets_npm(range.as_ptr(), range.len(), version.as_ptr(), version.len())
-    })
+    satisfies_as(Dialect::Npm, text)
+}
+
+/// The same in a dialect.
+fn satisfies_as(dialect: Dialect, text: &str) -> u64 {
+    let satisfied = text
+        .split_once('\t')
+        .and_then(|(range, version)| satisfies(version, range, dialect).ok());
+    satisfied.map_or(REFUSED, u64::from)
 }
 
 /// A requirement asked of a version by the crate `semver`, as by `here_meets`.
@@ -134,12 +109,16 @@ pub fn semver_meets(text: &str) -> u64 {
 
 /// 1 where a text has a set of versions here, in Cargo mode and as stated. The set is made.
 pub fn here_set(text: &str) -> u64 {
-    is_read(unsafe { speed_set(text.as_ptr(), text.len()) } == 1)
+    is_read(set_of(text).is_some())
+}
+
+fn set_of(text: &str) -> Option<VersionSet> {
+    VersionSet::of_text(text, Compat::Cargo, PreReleases::Default).ok()
 }
 
 /// 1 where a text is a range set to the crate `semver-parser`, in Cargo mode.
 pub fn parser_is_range(text: &str) -> u64 {
-    is_read(RangeSet::parse(text, Compat::Cargo).is_ok())
+    is_read(RangeSet::parse(text, semver_parser::Compat::Cargo).is_ok())
 }
 
 /// 1 where a text is a requirement to the crate `semver`.
@@ -150,17 +129,43 @@ pub fn semver_is_range(text: &str) -> u64 {
 /// Versions read, and asked of each whether it is in the set of each of the ranges here, a line
 /// each, in Cargo mode and as stated: how often one is.
 pub fn here_has(ranges: &str, versions: &str) -> u64 {
-    unsafe { speed_has(ranges.as_ptr(), ranges.len(), versions.as_ptr(), versions.len()) }
+    read_and_ask(ranges, versions).unwrap_or(REFUSED)
+}
+
+fn read_and_ask(ranges: &str, versions: &str) -> Option<u64> {
+    let versions = read_here(versions)?;
+    let mut count = 0;
+    for range in ranges.lines() {
+        let set = set_of(range)?;
+        count += versions.iter().filter(|version| set.has(version)).count() as u64;
+    }
+    Some(count)
+}
+
+fn read_here(versions: &str) -> Option<Vec<here::version::Version>> {
+    versions.lines().map(|line| here::version::parse(line).ok()).collect()
 }
 
 /// How often of so many times the set of a text is within one of the same text.
 pub fn here_within(text: &str, times: u64) -> u64 {
-    unsafe { speed_within(text.as_ptr(), text.len(), times) }
+    let (Some(set), Some(other)) = (set_of(text), set_of(text)) else {
+        return REFUSED;
+    };
+    (0..times).map(|_| u64::from(black_box(&set).is_within(&other))).sum()
 }
 
 /// Versions read and filtered by each of the ranges here, a line each: how many are kept in all.
 pub fn here_filter(ranges: &str, versions: &str) -> u64 {
-    unsafe { speed_filter(ranges.as_ptr(), ranges.len(), versions.as_ptr(), versions.len()) }
+    read_and_filter_here(ranges, versions).unwrap_or(REFUSED)
+}
+
+fn read_and_filter_here(ranges: &str, versions: &str) -> Option<u64> {
+    let versions = read_here(versions)?;
+    let mut kept = 0;
+    for range in ranges.lines() {
+        kept += filter_text(range, Compat::Cargo, &versions).ok()?.len() as u64;
+    }
+    Some(kept)
 }
 
 /// The same work by the crate `semver`.
@@ -183,7 +188,13 @@ fn read_and_filter(ranges: &str, versions: &str) -> Result<u64, semver::Error> {
 /// Versions, a line each, of which only those are read whole that a range means here: how many
 /// these are.
 pub fn here_read_kept(range: &str, versions: &str) -> u64 {
-    unsafe { speed_read_kept(range.as_ptr(), range.len(), versions.as_ptr(), versions.len()) }
+    read_kept(range, versions).map_or(REFUSED, |kept| kept.len() as u64)
+}
+
+fn read_kept(range: &str, versions: &str) -> Option<Vec<here::version::Version>> {
+    let filter = Filter::new(range, Compat::Cargo, PreReleases::Excluded).ok()?;
+    let read = versions.lines().filter_map(|line| filter.read(line).transpose());
+    read.collect::<Result<_, _>>().ok()
 }
 
 /// The same work by the crate `semver`: each version is let go at once that the range doesn't mean.

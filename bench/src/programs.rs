@@ -1,5 +1,5 @@
-//! The table of whole runs: the program `release-filter` beside the same filter over the crate
-//! `semver`.
+//! The table of whole runs: the program `release-filter`, as cargo builds it and as the kit does,
+//! beside the same filter over the crate `semver`.
 
 use crate::cells::grouped;
 use crate::generation::Make;
@@ -10,8 +10,11 @@ use std::fs::{self, File};
 use std::path::{Path, PathBuf};
 use std::process::{Command, Stdio};
 
-/// The built program, from the folder `bench`.
-const RELEASE_FILTER: &str = "../out/built/release-filter";
+/// The program that cargo built, from the folder `bench`.
+const BY_CARGO: &str = "target/crate/release/release-filter";
+
+/// The one that the kit built, if it did.
+const BY_KIT: &str = "../out/built/release-filter";
 
 /// How many distinct lines a run reads.
 const LINES: usize = 1_000_000;
@@ -34,9 +37,10 @@ const ARGUMENTS: [(&[&str], &str, &[&str], &str); 8] = [
     (&["--greatest"], "^1.2", &["--greatest"], "^1.2"),
 ];
 
-/// Both programs with an argument that means the same to each.
+/// The programs with an argument that means the same to each.
 struct Sides<'a> {
     here: Filter<'a>,
+    by_kit: Option<Filter<'a>>,
     semver: Filter<'a>,
 }
 
@@ -47,17 +51,19 @@ struct Filter<'a> {
     range: &'a str,
 }
 
-/// Checks that both programs write the same, times them, and prints a table.
+/// Checks that the programs write the same, times them, and prints a table.
 pub fn print_table(seed: u64) -> Result<(), String> {
     let folder = folder()?;
     let (lines, semver) = (folder.join("lines.txt"), folder.join("filter-by-semver"));
-    let (here, count) = (Path::new(RELEASE_FILTER), grouped(LINES as u64));
+    let (by_cargo, by_kit) = (Path::new(BY_CARGO), Path::new(BY_KIT));
     let sides = ARGUMENTS.map(|(options, range, options_there, requirement)| Sides {
-        here: Filter { program: here, options, range },
+        here: Filter { program: by_cargo, options, range },
+        by_kit: by_kit.exists().then_some(Filter { program: by_kit, options, range }),
         semver: Filter { program: &semver, options: options_there, range: requirement },
     });
-    println!("| ms a run | `release-filter` | over `semver` | ratio | kept of {count} lines |");
-    println!("|---|---|---|---|---|");
+    print!("| ms a run | `release-filter` | as the kit builds it | over `semver` ");
+    println!("| ratio | kept of {} lines |", grouped(LINES as u64));
+    println!("|---|---|---|---|---|---|");
     for (title, make) in MAKES {
         let versions = make.texts(seed, LINES);
         write(&lines, &versions)?;
@@ -85,21 +91,26 @@ fn tags(versions: &str) -> String {
 
 /// The row of one range over lines, of which some are kept, or none.
 fn print_row(title: &str, sides: &Sides, lines: &Path, is_kept: bool) -> Result<(), String> {
-    let (here, semver) = (&sides.here, &sides.semver);
+    let here = &sides.here;
     let kept = here.output(lines)?;
-    if kept.is_empty() == is_kept || kept != semver.output(lines)? {
-        let range = here.range;
-        return Err(format!("{title}, {range}: the programs write something else than wanted"));
+    let others = [Some(&sides.semver), sides.by_kit.as_ref()];
+    for other in others.into_iter().flatten() {
+        if kept.is_empty() == is_kept || kept != other.output(lines)? {
+            let range = here.range;
+            return Err(format!("{title}, {range}: the programs write something else than wanted"));
+        }
     }
-    let sides: [Side<&Path>; 2] =
-        [Box::new(|lines| here.pass(lines)), Box::new(|lines| semver.pass(lines))];
+    let filters = [Some(here)].into_iter().chain(others).flatten();
+    let passes: Vec<Side<&Path>> = filters.map(|filter| filter.side()).collect();
     let best: Vec<f64> =
-        best(&[lines], &sides).iter().map(|nanoseconds| nanoseconds / 1e6).collect();
+        best(&[lines], &passes).iter().map(|nanoseconds| nanoseconds / 1e6).collect();
     let kept = grouped(kept.iter().filter(|byte| **byte == b'\n').count() as u64);
     let arguments = [here.options, &[here.range]].concat().join(" ");
+    let by_kit = best.get(2).map_or("none".to_string(), |time| format!("{time:.1}"));
     let (here, semver) = (best[0], best[1]);
     let ratio = here / semver;
-    println!("| {title}, `{arguments}` | {here:.1} | {semver:.1} | {ratio:.2} | {kept} |");
+    print!("| {title}, `{arguments}` | {here:.1} | {by_kit} | {semver:.1} ");
+    println!("| {ratio:.2} | {kept} |");
     Ok(())
 }
 
@@ -113,6 +124,10 @@ impl Filter<'_> {
         } else {
             Err(format!("{} {:?}: {}", self.program.display(), self.range, run.status))
         }
+    }
+
+    fn side(&self) -> Side<'_, &Path> {
+        Box::new(|lines| self.pass(lines))
     }
 
     /// One run whose output and report go nowhere. It answers the status.
