@@ -91,7 +91,8 @@ pub fn here_meets_npm(text: &str) -> u64 {
     satisfies_as(Dialect::Npm, text)
 }
 
-/// The same in a dialect.
+/// The same in a dialect. Each call has its own copy, as where a dialect is written out.
+#[inline(always)]
 fn satisfies_as(dialect: Dialect, text: &str) -> u64 {
     let satisfied = text
         .split_once('\t')

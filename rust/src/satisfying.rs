@@ -29,6 +29,7 @@ use core::fmt;
 /// assert_eq!(refused, Err(SatisfiesError::InvalidVersion));
 /// # Ok::<(), SatisfiesError>(())
 /// ```
+#[inline]
 pub fn satisfies(
     version: &str,
     range: &str,
