@@ -11,6 +11,10 @@ use alloc::string::String;
 use alloc::vec::Vec;
 
 /// An allocation failed.
+///
+/// ```
+/// assert_eq!(semver_parser::AllocError.to_string(), "out of memory");
+/// ```
 #[derive(Clone, Copy, Debug, PartialEq, Eq)]
 pub struct AllocError;
 

@@ -17,13 +17,12 @@ pub use semver_versions::version::{
 use std::alloc::Global;
 
 // Answer: law answer_laws::versions::one_version_parse.
-/// The version that the text spells: `" 1.2.3-rc.4\n"` gives the numbers 1, 2 and 3, the
-/// pre-release `"rc"`, 4 and no build. It prints as the text without the white space round it, and
-/// a text that was printed from such a version gives that version.
+/// The version that the text spells. It prints as the text without the white space round it, and a
+/// text that was printed from such a version gives that version.
 ///
 /// Any other text is refused, with what comes first from the left:
 ///
-/// - `UnexpectedEnd`: the text ends where a version can't, as `1.2` and the empty text.
+/// - `UnexpectedEnd`: the text ends where a version can't, as the empty text does.
 /// - `UnexpectedToken`: a token comes that can't come there, as the second hyphen of `1.2.3--1`, or
 ///   `AlphaNumeric("01")` in `01.0.0`.
 /// - `MoreInput`: a version is followed by something else. It holds all tokens after the version
@@ -36,6 +35,18 @@ use std::alloc::Global;
 ///   pre-release and build never runs out of memory.
 ///
 /// Returns the version that [`read`] finds. If there is none, the tokens show the error.
+///
+/// ```
+/// use semver_parser::parser::Error;
+/// use semver_parser::version::{self, Identifier};
+///
+/// let version = version::parse(" 1.2.3-rc.4\n")?;
+/// assert_eq!((version.major, version.minor, version.patch), (1, 2, 3));
+/// assert_eq!(version.pre, [Identifier::AlphaNumeric("rc".to_string()), Identifier::Numeric(4)]);
+/// assert_eq!(version.to_string(), "1.2.3-rc.4");
+/// assert_eq!(version::parse("1.2"), Err(Error::UnexpectedEnd));
+/// # Ok::<(), Error>(())
+/// ```
 #[inline(always)]
 pub fn parse(alloc: Global, input: &str) -> Result<Version, parser::Error<'_>>
     // Unless memory ran out, the answer is a version exactly where the text spells it.
@@ -69,7 +80,15 @@ pub fn parse(alloc: Global, input: &str) -> Result<Version, parser::Error<'_>>
 
 // Answer: law answer_laws::versions::one_parse_by_tokens.
 /// Returns what [`parse`] does, with its errors, from the tokens alone. Of a text that spells no
-/// version, as [`outline`] may have shown, it takes less time: `1.2` gives `UnexpectedEnd`.
+/// version, as [`outline`] may have shown, it takes less time.
+///
+/// ```
+/// use semver_parser::parser::Error;
+/// use semver_parser::version;
+///
+/// assert_eq!(version::parse_by_tokens("1.2"), Err(Error::UnexpectedEnd));
+/// assert_eq!(version::parse_by_tokens("1.2.3"), version::parse("1.2.3"));
+/// ```
 #[inline(never)]
 pub fn parse_by_tokens(alloc: Global, input: &str) -> Result<Version, parser::Error<'_>>
     // Unless memory ran out, the answer is the outcome of the text.

@@ -2,9 +2,6 @@
 //!
 //! The text is read by bytes, from the left; a character past ASCII is decoded only to be named in
 //! an error. Nothing here takes memory: each token that has a text borrows it from the input.
-//!
-//! `foo / *` has the tokens `AlphaNumeric("foo")` and `Whitespace(3, 4)`; then comes the error
-//! `UnexpectedChar('/')`, and then nothing.
 ghost use Rattle.std.specs.Prelude.{◌^◌, [], ◌≡◌, ◌+◌, ◌<◌, length, option_map};
 ghost use Rattle.semver_tokens.specs.Tokens.{is_whitespace};
 ghost use Rattle.semver_texts.specs.Texts.{IsRun};
@@ -16,8 +13,14 @@ use semver_texts::bytes::{is_space, run_len, space_len};
 use semver_texts::decimals::whole_number;
 use std::marker::Model;
 
-/// A token. Those of two characters are taken before those of one: `<=` is `LtEq`, and never `Lt`
-/// and `Eq`.
+/// A token. Those of two characters are taken before those of one.
+///
+/// ```
+/// use semver_parser::lexer::{Lexer, Token};
+///
+/// let tokens: Vec<_> = Lexer::new("<=1.x").map(Result::unwrap).collect();
+/// assert_eq!(tokens, [Token::LtEq, Token::Numeric(1), Token::Dot, Token::AlphaNumeric("x")]);
+/// ```
 #[derive(Debug, PartialEq, Eq, PartialOrd, Ord, Drop)]
 pub enum Token<'input> {
     /// `=`
@@ -63,7 +66,12 @@ impl<'input> Token<'input> {
     // Answer: equation.
     /// Whether the token is white space, of any length.
     ///
-    /// `Whitespace(0, 2)` is; `Dot` isn't.
+    /// ```
+    /// use semver_parser::lexer::Token;
+    ///
+    /// assert!(Token::Whitespace(0, 2).is_whitespace());
+    /// assert!(!Token::Dot.is_whitespace());
+    /// ```
     #[inline(always)]
     pub fn is_whitespace(&self) -> bool
         ensures white_space { result ≡ is_whitespace (token_value self.now) }
@@ -74,7 +82,12 @@ impl<'input> Token<'input> {
     // Answer: equation.
     /// Whether the token is a wildcard: `*`, `x` or `X`.
     ///
-    /// `Star` and `AlphaNumeric("x")` are; `AlphaNumeric("xx")` isn't.
+    /// ```
+    /// use semver_parser::lexer::Token;
+    ///
+    /// assert!(Token::Star.is_wildcard() && Token::AlphaNumeric("x").is_wildcard());
+    /// assert!(!Token::AlphaNumeric("xx").is_wildcard());
+    /// ```
     #[inline(always)]
     pub fn is_wildcard(&self) -> bool
         ensures wildcard { result ≡ is_wildcard (token_value self.now) }
@@ -84,6 +97,12 @@ impl<'input> Token<'input> {
 }
 
 /// Why a text has no further token.
+///
+/// ```
+/// use semver_parser::lexer::{Error, Lexer};
+///
+/// assert_eq!(Lexer::new("|").next(), Some(Err(Error::UnexpectedChar('|'))));
+/// ```
 #[derive(Debug, PartialEq, Eq, PartialOrd, Ord, Drop)]
 pub enum Error {
     /// A character that opens no token; also a `|` that no second `|` follows.
@@ -152,6 +171,16 @@ fn front_token<'input>(rest: &'input str, start: usize) -> Option<(Token<'input>
 /// good.
 ///
 /// It holds the text, the byte where it is, and whether its error was given.
+///
+/// ```
+/// use semver_parser::lexer::{Error, Lexer, Token};
+///
+/// let mut lexer = Lexer::new("foo / *");
+/// assert_eq!(lexer.next(), Some(Ok(Token::AlphaNumeric("foo"))));
+/// assert_eq!(lexer.next(), Some(Ok(Token::Whitespace(3, 4))));
+/// assert_eq!(lexer.next(), Some(Err(Error::UnexpectedChar('/'))));
+/// assert_eq!(lexer.next(), None);
+/// ```
 #[derive(Debug, Drop)]
 pub struct Lexer<'input> {
     input: &'input str,
@@ -176,6 +205,13 @@ impl<'input> Lexer<'input> {
 
     // Answer: law answer_laws::versions::one_lexer.
     /// A lexer at the start of the text. Any text will do.
+    ///
+    /// ```
+    /// use semver_parser::lexer::{Lexer, Token};
+    ///
+    /// assert_eq!(Lexer::new("^1").next(), Some(Ok(Token::Caret)));
+    /// assert_eq!(Lexer::new("").next(), None);
+    /// ```
     #[inline(always)]
     pub fn new(input: &'input str) -> Lexer<'input>
         ensures state { IsStateOf input.now result }

@@ -5,9 +5,6 @@
 //! goes on with one that opens no token. Taking a token reads the next one first: so the last token
 //! before a bad character is never given, and what is refused as `Lexer` or `UnexpectedEnd` leaves
 //! the parser as it stood. An unexpected token is consumed.
-//!
-//! On `.x.01`, `dot_component` answers `(None, true)`; then `dot_numeric` answers
-//! `UnexpectedToken(AlphaNumeric("01"))`, and no token remains.
 ghost use Rattle.std.specs.Prelude.{◌≡◌, true, ◌+◌, ◌↔◌, [], Some, None, IfOk, IfSome};
 ghost use Rattle.std.specs.Prelude.{string_bytes, IfErr, IsErr, ℕ, IsTrue, option_map, map, length};
 ghost use Rattle.std.specs.Prelude.{◌<◌, ◌≤◌, ◌++◌, ◌∷◌, vec_len, vec_capacity};
@@ -37,6 +34,15 @@ use std::fmt;
 use std::marker::Model;
 
 /// Why a call of a parser, or of `version::parse`, gives no value. It borrows the input.
+///
+/// ```
+/// use semver_parser::parser::Error;
+/// use semver_parser::version;
+///
+/// let error = version::parse("1.2").unwrap_err();
+/// assert_eq!(error, Error::UnexpectedEnd);
+/// assert_eq!(error.to_string(), "expected more input");
+/// ```
 #[derive(Debug, PartialEq, Eq, PartialOrd, Ord, Drop)]
 pub enum Error<'input> {
     /// A token was needed, and the text is at its end.
@@ -94,8 +100,14 @@ impl<'input> Error<'input> {
     // Answer: free, debug text inside some sentences: must-fail/text_of_an_error_is_empty.edit.
     /// The text that `Display` writes, for use where the Rust crate turns an error into a `String`.
     ///
-    /// Of `UnexpectedEnd` it is `expected more input`. `Err` is out of memory; the error itself
-    /// stays as it was.
+    /// `Err` is out of memory; the error itself stays as it was.
+    ///
+    /// ```
+    /// use semver_parser::parser::Error;
+    ///
+    /// assert_eq!(Error::UnexpectedEnd.text()?, "expected more input");
+    /// # Ok::<(), semver_parser::AllocError>(())
+    /// ```
     pub fn text(&self, alloc: Global) -> Result<String, AllocError>
         ensures fixed { IfOk result (λ text. IfSome (fixed_text self.now)
             (λ fixed. string_bytes text ≡ fixed)) }
@@ -105,6 +117,17 @@ impl<'input> Error<'input> {
 }
 
 /// Reads a text token by token, one token ahead.
+///
+/// ```
+/// use semver_parser::lexer::Token;
+/// use semver_parser::parser::{Error, Parser};
+///
+/// let mut parser = Parser::new(".x.01")?;
+/// assert_eq!(parser.dot_component()?, (None, true));
+/// assert_eq!(parser.dot_numeric(), Err(Error::UnexpectedToken(Token::AlphaNumeric("01"))));
+/// assert!(parser.is_eof());
+/// # Ok::<(), Error>(())
+/// ```
 #[derive(Drop)]
 pub struct Parser<'input> {
     lexer: Lexer<'input>,
@@ -137,8 +160,16 @@ impl<'input> Parser<'input> {
     /// A parser at the start of the text: all its tokens remain, and where it ends in a character
     /// that opens no token, that character is pending. It does not allocate.
     ///
-    /// `Lexer` exactly where the text begins with such a character, as `/` does; `1 /` and the
-    /// empty text are read.
+    /// `Lexer` exactly where the text begins with such a character.
+    ///
+    /// ```
+    /// use semver_parser::lexer;
+    /// use semver_parser::parser::{Error, Parser};
+    ///
+    /// let refused = Parser::new("/").err();
+    /// assert_eq!(refused, Some(Error::Lexer(lexer::Error::UnexpectedChar('/'))));
+    /// assert!(Parser::new("1 /").is_ok() && Parser::new("").is_ok());
+    /// ```
     pub fn new(input: &'input str) -> Result<Parser<'input>, Error<'input>>
         ensures ok { IfOk result (λ p. IsStateOf input.now p) }
         ensures lexer { IfErr result (λ e. (c : ℕ) × (error_value e ≡ state.Lexer c)
@@ -172,11 +203,21 @@ impl<'input> Parser<'input> {
     }
 
     // Answer: equation.
-    /// Takes a number: on `1.2` it answers 1, and `.` and `2` remain.
+    /// Takes a number.
     ///
     /// `UnexpectedToken` of any other token, which is consumed; `UnexpectedEnd` where no token
     /// remains, and `Lexer` where a character is pending after at most one token: both leave the
     /// parser as it was. It does not allocate.
+    ///
+    /// ```
+    /// use semver_parser::lexer::Token;
+    /// use semver_parser::parser::Parser;
+    ///
+    /// let mut parser = Parser::new("1.2")?;
+    /// assert_eq!(parser.numeric()?, 1);
+    /// assert_eq!(parser.tail()?, [Token::Dot, Token::Numeric(2)]);
+    /// # Ok::<(), semver_parser::parser::Error>(())
+    /// ```
     #[inline(always)]
     pub fn numeric(&mut self) -> Result<u64, Error<'input>>
         ensures step { step_of (λ n. n) result self.new ≡ spec.numeric self.old }
@@ -195,9 +236,19 @@ impl<'input> Parser<'input> {
     }
 
     // Answer: equation.
-    /// Takes a number, or a wildcard as `None`: on `X.1` it answers `None`, and `.` and `1` remain.
+    /// Takes a number, or a wildcard as `None`.
     ///
     /// It refuses as `numeric` does, and does not allocate.
+    ///
+    /// ```
+    /// use semver_parser::lexer::Token;
+    /// use semver_parser::parser::Parser;
+    ///
+    /// let mut parser = Parser::new("X.1")?;
+    /// assert_eq!(parser.component()?, None);
+    /// assert_eq!(parser.tail()?, [Token::Dot, Token::Numeric(1)]);
+    /// # Ok::<(), semver_parser::parser::Error>(())
+    /// ```
     #[inline(always)]
     pub fn component(&mut self) -> Result<Option<u64>, Error<'input>>
         ensures step { step_of (λ n. n) result self.new ≡ spec.component self.old }
@@ -219,8 +270,17 @@ impl<'input> Parser<'input> {
     /// true)` for a wildcard. Where none comes next, it answers `(None, false)` and takes nothing.
     ///
     /// It refuses as `component` does; the dot is then consumed, but where it is itself the last
-    /// token before a pending character. It does not allocate. On `.1.x` two calls return
-    /// `(Some(1), false)` and `(None, true)`.
+    /// token before a pending character. It does not allocate.
+    ///
+    /// ```
+    /// use semver_parser::parser::Parser;
+    ///
+    /// let mut parser = Parser::new(".1.x")?;
+    /// assert_eq!(parser.dot_component()?, (Some(1), false));
+    /// assert_eq!(parser.dot_component()?, (None, true));
+    /// assert_eq!(parser.dot_component()?, (None, false));
+    /// # Ok::<(), semver_parser::parser::Error>(())
+    /// ```
     #[inline(always)]
     pub fn dot_component(&mut self) -> Result<(Option<u64>, bool), Error<'input>>
         ensures step { step_of (λ n. n) result self.new ≡ spec.dot_component self.old }
@@ -234,10 +294,17 @@ impl<'input> Parser<'input> {
     }
 
     // Answer: equation.
-    /// Takes a dot and a number: on `.7` it answers 7.
+    /// Takes a dot and a number.
     ///
     /// It refuses as `numeric` does, of either token; what it took before the refusal stays
     /// consumed. It does not allocate.
+    ///
+    /// ```
+    /// use semver_parser::parser::Parser;
+    ///
+    /// assert_eq!(Parser::new(".7")?.dot_numeric()?, 7);
+    /// # Ok::<(), semver_parser::parser::Error>(())
+    /// ```
     #[inline(always)]
     pub fn dot_numeric(&mut self) -> Result<u64, Error<'input>>
         ensures step { step_of (λ n. n) result self.new ≡ spec.dot_numeric self.old }
@@ -251,7 +318,16 @@ impl<'input> Parser<'input> {
     // Answer: equation.
     /// Whether no token remains. A character may still be pending. It changes nothing.
     ///
-    /// On the empty text it is true; on `1` it is false until `numeric` took the number.
+    /// ```
+    /// use semver_parser::parser::Parser;
+    ///
+    /// assert!(Parser::new("")?.is_eof());
+    /// let mut parser = Parser::new("1")?;
+    /// assert!(!parser.is_eof());
+    /// parser.numeric()?;
+    /// assert!(parser.is_eof());
+    /// # Ok::<(), semver_parser::parser::Error>(())
+    /// ```
     #[inline(always)]
     pub fn is_eof(&mut self) -> bool
         ensures answer { IsTrue result ↔ (self.old.remaining ≡ []) }
@@ -313,8 +389,8 @@ impl<'input> Parser<'input> {
     // Answer: law answer_laws::versions::one_identifier.
     /// An identifier of a version: one or more runs of ASCII letters and digits, joined by single
     /// hyphens. A lone run that is the canonical decimal of a number up to 18446744073709551615 is
-    /// given as `Numeric`, anything else as `AlphaNumeric` with its text: `7` is `Numeric(7)`, `07`
-    /// is `AlphaNumeric("07")`, `1-2` is `AlphaNumeric("1-2")`. Its tokens are taken, and no more.
+    /// given as `Numeric`, anything else as `AlphaNumeric` with its text. Its tokens are taken, and
+    /// no more.
     ///
     /// Refusals, and the tokens that remain then:
     ///
@@ -325,6 +401,18 @@ impl<'input> Parser<'input> {
     ///   it can't be told whether the identifier ends with it.
     /// - `OutOfMemory`: there is no memory for the text, which is taken at once. Its tokens stay
     ///   taken, and no more. A number does not allocate.
+    ///
+    /// ```
+    /// use semver_parser::parser::Parser;
+    /// use semver_parser::version::Identifier;
+    ///
+    /// assert_eq!(Parser::new("7")?.identifier()?, Identifier::Numeric(7));
+    /// for text in ["07", "1-2"] {
+    ///     let identifier = Parser::new(text)?.identifier()?;
+    ///     assert_eq!(identifier, Identifier::AlphaNumeric(text.to_string()));
+    /// }
+    /// # Ok::<(), semver_parser::parser::Error>(())
+    /// ```
     pub fn identifier(&mut self, alloc: Global) -> Result<Identifier, Error<'input>>
         ensures answer { UnlessOutOfMemory result
             (ReadsIdentifier self.old (step_of identifier_value result self.new).0 self.new) }
@@ -403,9 +491,8 @@ impl<'input> Parser<'input> {
     }
 
     // Answer: law answer_laws::versions::one_version_of_parser.
-    /// A version and the white space round it: `1.2.3-rc.4+5aedf` gives the numbers 1, 2 and 3, the
-    /// pre-release `"rc"`, 4 and the build `"5aedf"`. It ends where no further token fits, and the
-    /// tokens after it remain: of `1.2.3 a` the token `AlphaNumeric("a")`.
+    /// A version and the white space round it. It ends where no further token fits, and the tokens
+    /// after it remain.
     ///
     /// Refusals, and the tokens that remain then:
     ///
@@ -415,6 +502,16 @@ impl<'input> Parser<'input> {
     /// - `Lexer`: a bad character is pending and at most one token remains. That token stays.
     /// - `OutOfMemory`: an allocation failed for an identifier's text or for a list of identifiers.
     ///   What was taken stays taken. A version without pre-release and build does not allocate.
+    ///
+    /// ```
+    /// use semver_parser::lexer::Token;
+    /// use semver_parser::parser::Parser;
+    ///
+    /// let mut parser = Parser::new(" 1.2.3-rc.4+5aedf a")?;
+    /// assert_eq!(parser.version()?.to_string(), "1.2.3-rc.4+5aedf");
+    /// assert_eq!(parser.tail()?, [Token::AlphaNumeric("a")]);
+    /// # Ok::<(), semver_parser::parser::Error>(())
+    /// ```
     pub fn version(&mut self, alloc: Global) -> Result<Version, Error<'input>>
         ensures answer { UnlessOutOfMemory result
             (ReadsVersion self.old (step_of version_value result self.new).0 self.new) }
@@ -438,13 +535,21 @@ impl<'input> Parser<'input> {
     }
 
     // Answer: equation.
-    /// All tokens that remain, in order; then none remains. On `a.b` it answers
-    /// `AlphaNumeric("a")`, `Dot` and `AlphaNumeric("b")`.
+    /// All tokens that remain, in order; then none remains.
     ///
     /// With a character pending it answers `Lexer` of it: no token remains then, and the character
     /// stays pending. `OutOfMemory` if its one allocation failed: nothing is changed then. It
     /// asks for memory only where tokens remain and no character is pending, once, for exactly
     /// their number.
+    ///
+    /// ```
+    /// use semver_parser::lexer::Token;
+    /// use semver_parser::parser::Parser;
+    ///
+    /// let tokens = Parser::new("a.b")?.tail()?;
+    /// assert_eq!(tokens, [Token::AlphaNumeric("a"), Token::Dot, Token::AlphaNumeric("b")]);
+    /// # Ok::<(), semver_parser::parser::Error>(())
+    /// ```
     pub fn tail(&mut self, alloc: Global) -> Result<Vec<Token<'input>>, Error<'input>>
         ensures answer { UnlessOutOfMemory result
             (step_of (λ tokens. map token_value tokens.items) result self.new

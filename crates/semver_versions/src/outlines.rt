@@ -25,6 +25,14 @@ use std::marker::Model;
 
 /// A version text in outline: the three numbers, and the texts of the pre-release and of the build
 /// with where they are. `version::outline` answers it, and the version can be made of it.
+///
+/// ```
+/// use semver_parser::version;
+///
+/// let outline = version::outline("1.2.3-rc.4+5aedf").unwrap();
+/// assert_eq!((outline.major(), outline.minor(), outline.patch()), (1, 2, 3));
+/// assert_eq!((outline.pre(), outline.build()), ("rc.4", "5aedf"));
+/// ```
 #[derive(Debug, Drop)]
 pub struct Outline<'t> {
     pub(crate) major: u64,
@@ -59,7 +67,13 @@ impl<'t> Model for Outline<'t> {
 
 impl<'t> Outline<'t> {
     // Answer: equation.
-    /// The first number: 1 in `1.2.3-rc.4+5aedf`.
+    /// The first number.
+    ///
+    /// ```
+    /// use semver_parser::version;
+    ///
+    /// assert_eq!(version::outline("1.2.3-rc.4+5aedf").unwrap().major(), 1);
+    /// ```
     #[inline(always)]
     pub fn major(&self) -> u64
         ensures { result ≡ self.now.major }
@@ -68,7 +82,13 @@ impl<'t> Outline<'t> {
     }
 
     // Answer: equation.
-    /// The second number: 2 in `1.2.3-rc.4+5aedf`.
+    /// The second number.
+    ///
+    /// ```
+    /// use semver_parser::version;
+    ///
+    /// assert_eq!(version::outline("1.2.3-rc.4+5aedf").unwrap().minor(), 2);
+    /// ```
     #[inline(always)]
     pub fn minor(&self) -> u64
         ensures { result ≡ self.now.minor }
@@ -77,7 +97,13 @@ impl<'t> Outline<'t> {
     }
 
     // Answer: equation.
-    /// The third number: 3 in `1.2.3-rc.4+5aedf`.
+    /// The third number.
+    ///
+    /// ```
+    /// use semver_parser::version;
+    ///
+    /// assert_eq!(version::outline("1.2.3-rc.4+5aedf").unwrap().patch(), 3);
+    /// ```
     #[inline(always)]
     pub fn patch(&self) -> u64
         ensures { result ≡ self.now.patch }
@@ -86,8 +112,15 @@ impl<'t> Outline<'t> {
     }
 
     // Answer: equation.
-    /// The identifiers of the pre-release joined by dots, without the `-` before them; empty
-    /// where there is no pre-release: `rc.4` in `1.2.3-rc.4+5aedf`.
+    /// The identifiers of the pre-release joined by dots, without the `-` before them; empty where
+    /// there is no pre-release.
+    ///
+    /// ```
+    /// use semver_parser::version;
+    ///
+    /// assert_eq!(version::outline("1.2.3-rc.4+5aedf").unwrap().pre(), "rc.4");
+    /// assert_eq!(version::outline("1.2.3+5aedf").unwrap().pre(), "");
+    /// ```
     #[tactic(auto, using(semver_texts::proofs::PartRuns::parts_pass))]
     pub fn pre(&self) -> &'t str
         ensures { result.now ≡ self.now.pre }
@@ -105,8 +138,15 @@ impl<'t> Outline<'t> {
     }
 
     // Answer: equation.
-    /// The identifiers of the build joined by dots, without the `+` before them; empty where
-    /// there is no build: `5aedf` in `1.2.3-rc.4+5aedf`.
+    /// The identifiers of the build joined by dots, without the `+` before them; empty where there
+    /// is no build.
+    ///
+    /// ```
+    /// use semver_parser::version;
+    ///
+    /// assert_eq!(version::outline("1.2.3-rc.4+5aedf").unwrap().build(), "5aedf");
+    /// assert_eq!(version::outline("1.2.3-rc.4").unwrap().build(), "");
+    /// ```
     #[tactic(auto, using(semver_texts::proofs::PartRuns::parts_pass))]
     pub fn build(&self) -> &'t str
         ensures { result.now ≡ self.now.build }
@@ -115,8 +155,14 @@ impl<'t> Outline<'t> {
     }
 
     // Answer: equation.
-    /// Whether it has a pre-release: that of `1.2.3-rc.4+5aedf` has one, and that of `1.2.3+5aedf`
-    /// hasn't.
+    /// Whether it has a pre-release.
+    ///
+    /// ```
+    /// use semver_parser::version;
+    ///
+    /// assert!(version::outline("1.2.3-rc.4+5aedf").unwrap().is_pre_release());
+    /// assert!(!version::outline("1.2.3+5aedf").unwrap().is_pre_release());
+    /// ```
     #[inline(always)]
     pub fn is_pre_release(&self) -> bool
         // It is so of the version of each text that has this outline.
@@ -129,8 +175,15 @@ impl<'t> Outline<'t> {
     }
 
     // Answer: equation.
-    /// How many bytes of the text that was read are before the identifiers of the
-    /// pre-release: 7 of ` 1.2.3-rc.4`. It is 0 where there is no pre-release.
+    /// How many bytes of the text that was read are before the identifiers of the pre-release. It
+    /// is 0 where there is no pre-release.
+    ///
+    /// ```
+    /// use semver_parser::version;
+    ///
+    /// assert_eq!(version::outline(" 1.2.3-rc.4").unwrap().pre_offset(), 7);
+    /// assert_eq!(version::outline(" 1.2.3").unwrap().pre_offset(), 0);
+    /// ```
     #[inline(always)]
     pub fn pre_offset(&self) -> usize
         ensures { result ≡ self.now.pre_offset }
@@ -139,8 +192,15 @@ impl<'t> Outline<'t> {
     }
 
     // Answer: equation.
-    /// How many bytes of the text that was read are before the identifiers of the build: 11
-    /// of `1.2.3-rc.4+5aedf`. It is 0 where there is no build.
+    /// How many bytes of the text that was read are before the identifiers of the build. It is 0
+    /// where there is no build.
+    ///
+    /// ```
+    /// use semver_parser::version;
+    ///
+    /// assert_eq!(version::outline("1.2.3-rc.4+5aedf").unwrap().build_offset(), 11);
+    /// assert_eq!(version::outline("1.2.3-rc.4").unwrap().build_offset(), 0);
+    /// ```
     #[inline(always)]
     pub fn build_offset(&self) -> usize
         ensures { result ≡ self.now.build_offset }
@@ -151,6 +211,13 @@ impl<'t> Outline<'t> {
     // Answer: equation.
     /// What an identifier of digits alone is from 2^64 on, by the dialect that the text was read
     /// by: a text as `semver-parser` keeps it, or a number.
+    ///
+    /// ```
+    /// use semver_parser::version::{self, Grammar};
+    ///
+    /// let outline = version::outline_in(b"1.2.3", Grammar::Npm).unwrap();
+    /// assert_eq!(outline.digits(), Grammar::Npm.digits());
+    /// ```
     #[inline(always)]
     pub fn digits(&self) -> Digits
         ensures { result ≡ self.now.digits }
@@ -170,11 +237,19 @@ impl<'t> Outline<'t> {
     }
 
     // Answer: equation.
-    /// The identifiers of the pre-release: `"rc"` and 4 of `1.2.3-rc.4+5aedf`. Digits from 2^64 on
-    /// are kept as a text.
+    /// The identifiers of the pre-release. Digits from 2^64 on are kept as a text.
     ///
     /// Memory is asked for where there are some: for their list, and for each that isn't a number.
     /// `Err` is out of memory.
+    ///
+    /// ```
+    /// use semver_parser::version::{self, Identifier};
+    ///
+    /// let outline = version::outline("1.2.3-rc.4+5aedf").unwrap();
+    /// let wanted = [Identifier::AlphaNumeric("rc".to_string()), Identifier::Numeric(4)];
+    /// assert_eq!(outline.pre_identifiers()?, wanted);
+    /// # Ok::<(), semver_parser::AllocError>(())
+    /// ```
     #[inline(always)]
     pub fn pre_identifiers(&self, alloc: Global) -> Result<Vec<Identifier>, AllocError>
         // They are those of each version text that has this outline.
@@ -193,8 +268,15 @@ impl<'t> Outline<'t> {
     }
 
     // Answer: equation.
-    /// The identifiers of the build: `"5aedf"` of `1.2.3-rc.4+5aedf`. Memory is asked for as by
-    /// [`Outline::pre_identifiers`].
+    /// The identifiers of the build. Memory is asked for as by [`Outline::pre_identifiers`].
+    ///
+    /// ```
+    /// use semver_parser::version::{self, Identifier};
+    ///
+    /// let outline = version::outline("1.2.3-rc.4+5aedf").unwrap();
+    /// assert_eq!(outline.build_identifiers()?, [Identifier::AlphaNumeric("5aedf".to_string())]);
+    /// # Ok::<(), semver_parser::AllocError>(())
+    /// ```
     #[inline(always)]
     pub fn build_identifiers(&self, alloc: Global) -> Result<Vec<Identifier>, AllocError>
         // They are those of each version text that has this outline.
@@ -213,11 +295,18 @@ impl<'t> Outline<'t> {
     }
 
     // Answer: equation.
-    /// The version: of the outline of `1.2.3-rc.4+5aedf` the numbers 1, 2 and 3, the pre-release
-    /// `"rc"`, 4 and the build `"5aedf"`.
+    /// The version that the outline is of.
     ///
     /// Memory is asked for where there is a pre-release or a build: for the lists of identifiers,
     /// and for each identifier that isn't a number. `Err` is out of memory.
+    ///
+    /// ```
+    /// use semver_parser::version;
+    ///
+    /// let version = version::outline(" 1.2.3-rc.4+5aedf").unwrap().version()?;
+    /// assert_eq!(version, version::parse("1.2.3-rc.4+5aedf").unwrap());
+    /// # Ok::<(), semver_parser::AllocError>(())
+    /// ```
     #[inline(always)]
     pub fn version(&self, alloc: Global) -> Result<Version, AllocError>
         // Each text that has this outline spells the version.
@@ -262,9 +351,17 @@ impl<'t> Outline<'t> {
 
     // Answer: equation.
     /// How the version of this outline compares with another by precedence (SemVer 2.0.0, section
-    /// 11), as `version::cmp_precedence` says of two versions: the outline of
-    /// `1.2.3-rc.4+5aedf` is `Less` than 1.2.3-rc.11. Builds don't count. Identifiers of digits
-    /// alone are read by the outline's dialect, on both sides. It does not allocate.
+    /// 11), as `version::cmp_precedence` says of two versions. Builds don't count. Identifiers of
+    /// digits alone are read by the outline's dialect, on both sides. It does not allocate.
+    ///
+    /// ```
+    /// use semver_parser::version;
+    ///
+    /// let outline = version::outline("1.2.3-rc.4+5aedf").unwrap();
+    /// assert!(outline.cmp_precedence(&version::parse("1.2.3-rc.11")?).is_lt());
+    /// assert!(outline.cmp_precedence(&version::parse("1.2.3-rc.4")?).is_eq());
+    /// # Ok::<(), semver_parser::parser::Error>(())
+    /// ```
     #[inline(always)]
     pub fn cmp_precedence(&self, version: &Version) -> Ordering
         // It is that of the version of each text that has this outline.

@@ -25,14 +25,23 @@ pub use semver_texts::version::{Identifier, Version};
 use std::alloc::{AllocError, Global};
 
 // Answer: law answer_laws::versions::one_read.
-/// The version that the text spells, if it spells one: `" 1.2.3-rc.4\n"` gives the numbers 1, 2
-/// and 3, the pre-release `"rc"`, 4 and no build, and `1.2` and `1.2.3 a` give `None`. What is
-/// wrong with a text that spells none, `semver_parser::version::parse` reports.
+/// The version that the text spells, if it spells one. What is wrong with a text that spells none,
+/// `semver_parser::version::parse` reports.
 ///
 /// `Err` is out of memory, and comes only if the text spells a version with a pre-release or a
 /// build: nothing is allocated before the whole text is known to spell one. Then each identifier
 /// that isn't a number allocates, and so do the lists of identifiers. A text that spells no version
 /// allocates nothing, however long it is.
+///
+/// ```
+/// use semver_parser::version;
+///
+/// let version = version::read(" 1.2.3-rc.4\n")?.unwrap();
+/// assert_eq!(version.to_string(), "1.2.3-rc.4");
+/// assert_eq!(version::read("1.2")?, None);
+/// assert_eq!(version::read("1.2.3 a")?, None);
+/// # Ok::<(), semver_parser::AllocError>(())
+/// ```
 #[inline(always)]
 pub fn read(alloc: Global, input: &str) -> Result<Option<Version>, AllocError>
     // Unless memory ran out, a version is answered exactly where the text spells it.
@@ -51,11 +60,19 @@ pub fn read(alloc: Global, input: &str) -> Result<Option<Version>, AllocError>
 }
 
 // Answer: law answer_laws::versions::one_read_bytes.
-/// What [`read`] answers of a text, of bytes that needn't be UTF-8: `1.2.3-rc.4` gives that
-/// version, and `1.2.3` with a byte 255 after it gives `None`, as all bytes that are no UTF-8.
+/// What [`read`] answers of a text, of bytes that needn't be UTF-8. Bytes that are no UTF-8 give
+/// `None`.
 ///
 /// The bytes aren't checked for UTF-8, since each byte of a version is ASCII. So for lines of a
 /// file this is quicker than such a check and [`read`].
+///
+/// ```
+/// use semver_parser::version;
+///
+/// assert_eq!(version::read_bytes(b"1.2.3-rc.4")?, version::read("1.2.3-rc.4")?);
+/// assert_eq!(version::read_bytes(b"1.2.3\xff")?, None);
+/// # Ok::<(), semver_parser::AllocError>(())
+/// ```
 #[inline(always)]
 pub fn read_bytes(alloc: Global, input: &[u8]) -> Result<Option<Version>, AllocError>
     // Unless memory ran out, a version is answered exactly where the bytes spell it.
@@ -74,11 +91,18 @@ pub fn read_bytes(alloc: Global, input: &[u8]) -> Result<Option<Version>, AllocE
 }
 
 // Answer: law answer_laws::versions::one_outline.
-/// The version that the text spells in outline, if it spells one: `" 1.2.3-rc.4+b5\n"` gives the
-/// numbers 1, 2 and 3, the pre-release `rc.4` after 7 bytes and the build `b5` after 12, and
-/// `1.2` and `1.2.3 a` give `None`.
+/// The version that the text spells in outline, if it spells one.
 ///
 /// It does not allocate: the texts are slices of the input.
+///
+/// ```
+/// use semver_parser::version;
+///
+/// let outline = version::outline(" 1.2.3-rc.4+b5\n").unwrap();
+/// assert_eq!((outline.pre(), outline.pre_offset()), ("rc.4", 7));
+/// assert_eq!((outline.build(), outline.build_offset()), ("b5", 12));
+/// assert!(version::outline("1.2").is_none() && version::outline("1.2.3 a").is_none());
+/// ```
 #[inline(always)]
 pub fn outline(input: &str) -> Option<Outline<'_>>
     // An outline is answered exactly where it is that of a version that the text spells.
@@ -100,9 +124,15 @@ pub fn outline(input: &str) -> Option<Outline<'_>>
 }
 
 // Answer: law answer_laws::versions::one_outline_bytes.
-/// What [`outline`] answers of a text, of bytes that needn't be UTF-8: `1.2.3-rc.4` gives the
-/// numbers 1, 2 and 3 and the pre-release `rc.4`, and `1.2.3` with a byte 255 after it gives
-/// `None`, as all bytes that are no UTF-8. They aren't checked for it. It does not allocate.
+/// What [`outline`] answers of a text, of bytes that needn't be UTF-8. Bytes that are no UTF-8 give
+/// `None`. They aren't checked for it. It does not allocate.
+///
+/// ```
+/// use semver_parser::version;
+///
+/// assert_eq!(version::outline_bytes(b"1.2.3-rc.4").unwrap().pre(), "rc.4");
+/// assert!(version::outline_bytes(b"1.2.3\xff").is_none());
+/// ```
 #[inline(always)]
 pub fn outline_bytes(input: &[u8]) -> Option<Outline<'_>>
     // An outline is answered exactly where it is that of a version that the bytes spell.
@@ -124,10 +154,20 @@ pub fn outline_bytes(input: &[u8]) -> Option<Outline<'_>>
 }
 
 // Answer: law answer_laws::versions::one_outline_in.
-/// Returns what [`outline_bytes`] does, by a dialect: by Cargo's and npm's, `1.0.0-a--b` has an
-/// outline and `1.0.0-01` has none; by npm's alone, ` v1.2.3` has one.
+/// Returns what [`outline_bytes`] does, by a dialect.
 ///
 /// The bytes need not be UTF-8, and it does not allocate. `docs/GRAMMAR.md` has the grammars.
+///
+/// ```
+/// use semver_parser::version::{self, Grammar};
+///
+/// for grammar in [Grammar::Cargo, Grammar::Npm] {
+///     assert!(version::outline_in(b"1.0.0-a--b", grammar).is_some());
+///     assert!(version::outline_in(b"1.0.0-01", grammar).is_none());
+/// }
+/// assert!(version::outline_in(b" v1.2.3", Grammar::Npm).is_some());
+/// assert!(version::outline_in(b" v1.2.3", Grammar::Cargo).is_none());
+/// ```
 #[inline(always)]
 pub fn outline_in(input: &[u8], grammar: Grammar) -> Option<Outline<'_>>
     // An outline is returned exactly if it is that of a version that the bytes spell.

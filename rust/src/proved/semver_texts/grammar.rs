@@ -3,6 +3,13 @@
 
 use crate::rattle_std::prelude::*;
 /// A grammar of version texts and range texts.
+///
+/// ```
+/// use semver_parser::version::{self, Grammar};
+///
+/// assert!(version::outline_in(b"v1.2.3", Grammar::Npm).is_some());
+/// assert!(version::outline_in(b"v1.2.3", Grammar::Cargo).is_none());
+/// ```
 #[derive(Clone, Copy, PartialEq, Eq)]
 pub enum Grammar {
     /// That of the crate `semver-parser`.
@@ -25,6 +32,13 @@ pub enum Digits {
 impl Grammar {
     /// How identifiers of digits alone are read: `Kept` by the crate's grammar, and `AnySize` by
     /// the others.
+    ///
+    /// ```
+    /// use semver_parser::version::Grammar;
+    ///
+    /// assert_eq!(Grammar::Npm.digits(), Grammar::Cargo.digits());
+    /// assert_ne!(Grammar::Crate.digits(), Grammar::Cargo.digits());
+    /// ```
     #[inline(always)]
     pub fn digits(self) -> Digits {
         match self {

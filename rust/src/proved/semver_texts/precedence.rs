@@ -34,8 +34,17 @@ pub trait Identifiers<'a>: Copy {
 /// numbers, texts by their bytes, and a number is below any text. Where there are none, the longer
 /// pre-release is above.
 ///
-/// 1.0.0-alpha, 1.0.0-alpha.1, 1.0.0-alpha.beta, 1.0.0-beta.2, 1.0.0-beta.11, 1.0.0 and 1.0.1 are
-/// each below the next, and 1.0.0+a and 1.0.0+b are `Equal`.
+/// ```
+/// use semver_parser::version;
+///
+/// let read = |text| version::parse(text).unwrap();
+/// let compare = |a, b| version::cmp_precedence(&read(a), &read(b));
+/// let pre_releases = ["1.0.0-alpha", "1.0.0-alpha.1", "1.0.0-alpha.beta", "1.0.0-beta.2"];
+/// assert!(pre_releases.windows(2).all(|pair| compare(pair[0], pair[1]).is_lt()));
+/// assert!(compare("1.0.0-beta.2", "1.0.0-beta.11").is_lt());
+/// assert!(compare("1.0.0-beta.11", "1.0.0").is_lt() && compare("1.0.0", "1.0.1").is_lt());
+/// assert!(compare("1.0.0+a", "1.0.0+b").is_eq());
+/// ```
 pub fn cmp_precedence(version: &Version, other: &Version) -> Ordering {
     compare(
         (version.major, version.minor, version.patch),

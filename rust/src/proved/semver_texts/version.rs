@@ -13,7 +13,17 @@ use crate::rattle_std::fmt;
 /// A version: three numbers, a pre-release and a build.
 ///
 /// The derived order goes by the fields in the order written. It isn't the precedence of the
-/// standard, which `cmp_precedence` returns: it reads the build, and puts `1.0.0` below `1.0.0-rc`.
+/// standard, which `cmp_precedence` returns: it reads the build, and puts a release below its
+/// pre-releases.
+///
+/// ```
+/// use semver_parser::version;
+///
+/// let (version, rc) = (version::parse("1.0.0")?, version::parse("1.0.0-rc")?);
+/// assert!(version < rc);
+/// assert!(version::cmp_precedence(&version, &rc).is_gt());
+/// # Ok::<(), semver_parser::parser::Error>(())
+/// ```
 #[derive(Clone, PartialOrd, Ord, Hash, Debug, PartialEq, Eq)]
 pub struct Version {
     /// The first number: 1 in `1.2.3-rc.4+5aedf`.
@@ -40,8 +50,17 @@ impl crate::rattle_std::FallibleClone for Version {
 /// An identifier of a pre-release or a build.
 ///
 /// A text is read as `Numeric` only where it is the canonical decimal of a number up to
-/// 18446744073709551615, so each identifier prints as it was read: `7` is `Numeric(7)`, and `07`,
-/// `18446744073709551616`, `1-2` and `rc` are kept as their texts.
+/// 18446744073709551615, so each identifier prints as it was read.
+///
+/// ```
+/// use semver_parser::version::{self, Identifier};
+///
+/// let texts = ["07", "18446744073709551616", "1-2", "rc"];
+/// let version = version::parse("1.0.0-7.07.18446744073709551616.1-2.rc")?;
+/// assert_eq!(version.pre[0], Identifier::Numeric(7));
+/// assert_eq!(version.pre[1..], texts.map(|text| Identifier::AlphaNumeric(text.to_string())));
+/// # Ok::<(), semver_parser::parser::Error>(())
+/// ```
 #[derive(Clone, PartialOrd, Ord, Hash, Debug, PartialEq, Eq)]
 pub enum Identifier {
     /// A number, as `7`.
@@ -60,12 +79,19 @@ impl crate::rattle_std::FallibleClone for Identifier {
 }
 
 impl Identifier {
-    /// The text of the identifier followed by `add_str`, as `AlphaNumeric` whatever the texts are:
-    /// `Numeric(7)` and `"a"` give `AlphaNumeric("7a")`, and `Numeric(7)` and `""` give
-    /// `AlphaNumeric("7")`.
+    /// The text of the identifier followed by `add_str`, as `AlphaNumeric` whatever the texts are.
     ///
     /// It allocates once, for all of the new text, and not at all if an empty text is added to an
     /// `AlphaNumeric`. `Err` is out of memory, and gives the unchanged identifier back.
+    ///
+    /// ```
+    /// use semver_parser::version::Identifier;
+    ///
+    /// let joined = Identifier::Numeric(7).try_concat("a");
+    /// assert_eq!(joined, Ok(Identifier::AlphaNumeric("7a".to_string())));
+    /// let same = Identifier::Numeric(7).try_concat("");
+    /// assert_eq!(same, Ok(Identifier::AlphaNumeric("7".to_string())));
+    /// ```
     pub fn try_concat(self,add_str: &str) -> Result<Identifier, Identifier> {
         match self {
             Identifier::Numeric(number) => match number_and(number, add_str) {

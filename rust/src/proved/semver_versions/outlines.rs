@@ -14,6 +14,14 @@ use crate::rattle_std::cmp::Ordering;
 
 /// A version text in outline: the three numbers, and the texts of the pre-release and of the build
 /// with where they are. `version::outline` answers it, and the version can be made of it.
+///
+/// ```
+/// use semver_parser::version;
+///
+/// let outline = version::outline("1.2.3-rc.4+5aedf").unwrap();
+/// assert_eq!((outline.major(), outline.minor(), outline.patch()), (1, 2, 3));
+/// assert_eq!((outline.pre(), outline.build()), ("rc.4", "5aedf"));
+/// ```
 #[derive(Debug)]
 pub struct Outline<'t> {
     pub(crate) major: u64,
@@ -27,26 +35,51 @@ pub struct Outline<'t> {
 }
 
 impl<'t> Outline<'t> {
-    /// The first number: 1 in `1.2.3-rc.4+5aedf`.
+    /// The first number.
+    ///
+    /// ```
+    /// use semver_parser::version;
+    ///
+    /// assert_eq!(version::outline("1.2.3-rc.4+5aedf").unwrap().major(), 1);
+    /// ```
     #[inline(always)]
     pub fn major(&self) -> u64 {
         self.major
     }
 
-    /// The second number: 2 in `1.2.3-rc.4+5aedf`.
+    /// The second number.
+    ///
+    /// ```
+    /// use semver_parser::version;
+    ///
+    /// assert_eq!(version::outline("1.2.3-rc.4+5aedf").unwrap().minor(), 2);
+    /// ```
     #[inline(always)]
     pub fn minor(&self) -> u64 {
         self.minor
     }
 
-    /// The third number: 3 in `1.2.3-rc.4+5aedf`.
+    /// The third number.
+    ///
+    /// ```
+    /// use semver_parser::version;
+    ///
+    /// assert_eq!(version::outline("1.2.3-rc.4+5aedf").unwrap().patch(), 3);
+    /// ```
     #[inline(always)]
     pub fn patch(&self) -> u64 {
         self.patch
     }
 
-    /// The identifiers of the pre-release joined by dots, without the `-` before them; empty
-    /// where there is no pre-release: `rc.4` in `1.2.3-rc.4+5aedf`.
+    /// The identifiers of the pre-release joined by dots, without the `-` before them; empty where
+    /// there is no pre-release.
+    ///
+    /// ```
+    /// use semver_parser::version;
+    ///
+    /// assert_eq!(version::outline("1.2.3-rc.4+5aedf").unwrap().pre(), "rc.4");
+    /// assert_eq!(version::outline("1.2.3+5aedf").unwrap().pre(), "");
+    /// ```
     pub fn pre(&self) -> &'t str {
         text_of_parts(self.pre)
     }
@@ -57,28 +90,55 @@ impl<'t> Outline<'t> {
         self.pre
     }
 
-    /// The identifiers of the build joined by dots, without the `+` before them; empty where
-    /// there is no build: `5aedf` in `1.2.3-rc.4+5aedf`.
+    /// The identifiers of the build joined by dots, without the `+` before them; empty where there
+    /// is no build.
+    ///
+    /// ```
+    /// use semver_parser::version;
+    ///
+    /// assert_eq!(version::outline("1.2.3-rc.4+5aedf").unwrap().build(), "5aedf");
+    /// assert_eq!(version::outline("1.2.3-rc.4").unwrap().build(), "");
+    /// ```
     pub fn build(&self) -> &'t str {
         text_of_parts(self.build)
     }
 
-    /// Whether it has a pre-release: that of `1.2.3-rc.4+5aedf` has one, and that of `1.2.3+5aedf`
-    /// hasn't.
+    /// Whether it has a pre-release.
+    ///
+    /// ```
+    /// use semver_parser::version;
+    ///
+    /// assert!(version::outline("1.2.3-rc.4+5aedf").unwrap().is_pre_release());
+    /// assert!(!version::outline("1.2.3+5aedf").unwrap().is_pre_release());
+    /// ```
     #[inline(always)]
     pub fn is_pre_release(&self) -> bool {
         !self.pre.is_empty()
     }
 
-    /// How many bytes of the text that was read are before the identifiers of the
-    /// pre-release: 7 of ` 1.2.3-rc.4`. It is 0 where there is no pre-release.
+    /// How many bytes of the text that was read are before the identifiers of the pre-release. It
+    /// is 0 where there is no pre-release.
+    ///
+    /// ```
+    /// use semver_parser::version;
+    ///
+    /// assert_eq!(version::outline(" 1.2.3-rc.4").unwrap().pre_offset(), 7);
+    /// assert_eq!(version::outline(" 1.2.3").unwrap().pre_offset(), 0);
+    /// ```
     #[inline(always)]
     pub fn pre_offset(&self) -> usize {
         self.before_pre
     }
 
-    /// How many bytes of the text that was read are before the identifiers of the build: 11
-    /// of `1.2.3-rc.4+5aedf`. It is 0 where there is no build.
+    /// How many bytes of the text that was read are before the identifiers of the build. It is 0
+    /// where there is no build.
+    ///
+    /// ```
+    /// use semver_parser::version;
+    ///
+    /// assert_eq!(version::outline("1.2.3-rc.4+5aedf").unwrap().build_offset(), 11);
+    /// assert_eq!(version::outline("1.2.3-rc.4").unwrap().build_offset(), 0);
+    /// ```
     #[inline(always)]
     pub fn build_offset(&self) -> usize {
         self.before_build
@@ -86,6 +146,13 @@ impl<'t> Outline<'t> {
 
     /// What an identifier of digits alone is from 2^64 on, by the dialect that the text was read
     /// by: a text as `semver-parser` keeps it, or a number.
+    ///
+    /// ```
+    /// use semver_parser::version::{self, Grammar};
+    ///
+    /// let outline = version::outline_in(b"1.2.3", Grammar::Npm).unwrap();
+    /// assert_eq!(outline.digits(), Grammar::Npm.digits());
+    /// ```
     #[inline(always)]
     pub fn digits(&self) -> Digits {
         self.digits
@@ -98,28 +165,50 @@ impl<'t> Outline<'t> {
         ByDigits::of(Joined::of(self.pre, InVersions), self.digits)
     }
 
-    /// The identifiers of the pre-release: `"rc"` and 4 of `1.2.3-rc.4+5aedf`. Digits from 2^64 on
-    /// are kept as a text.
+    /// The identifiers of the pre-release. Digits from 2^64 on are kept as a text.
     ///
     /// Memory is asked for where there are some: for their list, and for each that isn't a number.
     /// `Err` is out of memory.
+    ///
+    /// ```
+    /// use semver_parser::version::{self, Identifier};
+    ///
+    /// let outline = version::outline("1.2.3-rc.4+5aedf").unwrap();
+    /// let wanted = [Identifier::AlphaNumeric("rc".to_string()), Identifier::Numeric(4)];
+    /// assert_eq!(outline.pre_identifiers()?, wanted);
+    /// # Ok::<(), semver_parser::AllocError>(())
+    /// ```
     #[inline(always)]
     pub fn pre_identifiers(&self) -> Result<Vec<Identifier>, AllocError> {
         identifiers(self.pre)
     }
 
-    /// The identifiers of the build: `"5aedf"` of `1.2.3-rc.4+5aedf`. Memory is asked for as by
-    /// [`Outline::pre_identifiers`].
+    /// The identifiers of the build. Memory is asked for as by [`Outline::pre_identifiers`].
+    ///
+    /// ```
+    /// use semver_parser::version::{self, Identifier};
+    ///
+    /// let outline = version::outline("1.2.3-rc.4+5aedf").unwrap();
+    /// assert_eq!(outline.build_identifiers()?, [Identifier::AlphaNumeric("5aedf".to_string())]);
+    /// # Ok::<(), semver_parser::AllocError>(())
+    /// ```
     #[inline(always)]
     pub fn build_identifiers(&self) -> Result<Vec<Identifier>, AllocError> {
         identifiers(self.build)
     }
 
-    /// The version: of the outline of `1.2.3-rc.4+5aedf` the numbers 1, 2 and 3, the pre-release
-    /// `"rc"`, 4 and the build `"5aedf"`.
+    /// The version that the outline is of.
     ///
     /// Memory is asked for where there is a pre-release or a build: for the lists of identifiers,
     /// and for each identifier that isn't a number. `Err` is out of memory.
+    ///
+    /// ```
+    /// use semver_parser::version;
+    ///
+    /// let version = version::outline(" 1.2.3-rc.4+5aedf").unwrap().version()?;
+    /// assert_eq!(version, version::parse("1.2.3-rc.4+5aedf").unwrap());
+    /// # Ok::<(), semver_parser::AllocError>(())
+    /// ```
     #[inline(always)]
     pub fn version(&self) -> Result<Version, AllocError> {
         Ok(Version {
@@ -145,9 +234,17 @@ impl<'t> Outline<'t> {
     }
 
     /// How the version of this outline compares with another by precedence (SemVer 2.0.0, section
-    /// 11), as `version::cmp_precedence` says of two versions: the outline of
-    /// `1.2.3-rc.4+5aedf` is `Less` than 1.2.3-rc.11. Builds don't count. Identifiers of digits
-    /// alone are read by the outline's dialect, on both sides. It does not allocate.
+    /// 11), as `version::cmp_precedence` says of two versions. Builds don't count. Identifiers of
+    /// digits alone are read by the outline's dialect, on both sides. It does not allocate.
+    ///
+    /// ```
+    /// use semver_parser::version;
+    ///
+    /// let outline = version::outline("1.2.3-rc.4+5aedf").unwrap();
+    /// assert!(outline.cmp_precedence(&version::parse("1.2.3-rc.11")?).is_lt());
+    /// assert!(outline.cmp_precedence(&version::parse("1.2.3-rc.4")?).is_eq());
+    /// # Ok::<(), semver_parser::parser::Error>(())
+    /// ```
     #[inline(always)]
     pub fn cmp_precedence(&self, version: &Version) -> Ordering {
         compare(
