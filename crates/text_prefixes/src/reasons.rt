@@ -20,6 +20,16 @@ use std::alloc::{AllocError, Global};
 const CHARACTERS: usize = 256;
 
 /// Why a text is no version.
+///
+/// ```
+/// use semver_parser::refusals::{self, Reason};
+/// use semver_parser::Dialect;
+///
+/// let reason = |text| refusals::of_version(text, Dialect::Cargo).unwrap().reason;
+/// assert_eq!(reason("1.2"), Reason::NotThreeNumbers);
+/// assert_eq!(reason("1.2.3-01"), Reason::LeadingZero);
+/// assert_eq!(reason("1.2.3 x"), Reason::TextAfter);
+/// ```
 #[derive(Clone, Copy, PartialEq, Eq, Debug)]
 pub enum Reason {
     /// The text is empty, or only white space that the dialect takes before a version.
@@ -44,6 +54,14 @@ pub enum Reason {
 }
 
 /// Where and why a text is no version.
+///
+/// ```
+/// use semver_parser::refusals::{self, Reason, VersionRefusal};
+/// use semver_parser::Dialect;
+///
+/// let refusal = refusals::of_version("1.2.3-01", Dialect::Npm);
+/// assert_eq!(refusal, Some(VersionRefusal { offset: 8, reason: Reason::LeadingZero }));
+/// ```
 #[derive(Clone, Copy, PartialEq, Eq, Debug)]
 pub struct Refusal {
     /// The byte offset of the first character that no version has there, or the length of the text

@@ -16,6 +16,14 @@ use semver_texts::grammar::Grammar;
 use std::alloc::Global;
 
 /// A dialect of range texts. `docs/MEANING.md` compares them ("Which dialect?").
+///
+/// ```
+/// use semver_parser::{satisfies, Dialect};
+///
+/// assert!(satisfies("1.9.0", "1.2", Dialect::Cargo)?);
+/// assert!(!satisfies("1.9.0", "1.2", Dialect::Npm)?);
+/// # Ok::<(), semver_parser::SatisfiesError>(())
+/// ```
 #[derive(Clone, Copy, PartialEq, Eq, Debug)]
 pub enum Dialect {
     /// Cargo's: `1.2` is `>=1.2.0 <2.0.0`, and commas separate comparators.
@@ -32,6 +40,14 @@ impl Dialect {
     // Answer: equation.
     /// Returns the grammar of the versions that are checked by a range text of this dialect: the
     /// crate's for both of the crate's.
+    ///
+    /// ```
+    /// use semver_parser::version::Grammar;
+    /// use semver_parser::Dialect;
+    ///
+    /// assert!(Dialect::Npm.grammar() == Grammar::Npm);
+    /// assert!(Dialect::CrateNpm.grammar() == Grammar::Crate);
+    /// ```
     pub fn grammar(self) -> Grammar
         ensures grammar { result ≡ grammar_of self }
     {

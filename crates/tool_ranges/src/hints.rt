@@ -8,6 +8,15 @@ use crate::ending::Ending;
 
 /// What may have been meant where a text stops being a range: what another dialect takes there, or
 /// which rule of the dialect is broken.
+///
+/// ```
+/// use semver_parser::refusals::{self, Hint};
+/// use semver_parser::Dialect;
+///
+/// let hint = |range| refusals::of_range(range, Dialect::Cargo).unwrap().hint;
+/// assert_eq!(hint(">=1 <2"), Some(Hint::CargoCommas));
+/// assert_eq!(hint("v1.2.3"), Some(Hint::CargoV));
+/// ```
 #[derive(Clone, Copy, PartialEq, Eq, Debug)]
 pub enum Hint {
     /// A number has no leading zero.

@@ -6,6 +6,15 @@ use crate::proved::semver_texts::printing::{write_joined, write_part};
 use crate::rattle_std::fmt;
 
 /// A range: comparators that a version meets all together.
+///
+/// ```
+/// use semver_parser::{Compat, RangeSet};
+///
+/// let set = RangeSet::parse("^1.2.3 || 3.x", Compat::Npm)?;
+/// assert_eq!(set.ranges[0].comparator_set.len(), 2);
+/// assert_eq!(set.ranges[0].to_string(), ">=1.2.3 <2.0.0");
+/// # Ok::<(), String>(())
+/// ```
 #[derive(Clone, PartialEq, Eq, PartialOrd, Ord, Hash, Debug)]
 pub struct Range {
     /// The comparators, in the order of the text.
@@ -23,6 +32,16 @@ impl crate::rattle_std::FallibleClone for Range {
 }
 
 /// A comparator: an operator and the version that it compares with.
+///
+/// ```
+/// use semver_parser::{Compat, Op, RangeSet};
+///
+/// let set = RangeSet::parse(">=1.2.3-beta.4", Compat::Npm)?;
+/// let comparator = &set.ranges[0].comparator_set[0];
+/// assert_eq!((&comparator.op, comparator.major), (&Op::Gte, 1));
+/// assert_eq!(comparator.to_string(), ">=1.2.3-beta.4");
+/// # Ok::<(), String>(())
+/// ```
 #[derive(Clone, PartialEq, Eq, PartialOrd, Ord, Hash, Debug)]
 pub struct Comparator {
     /// How a version compares that meets it.
@@ -46,6 +65,12 @@ impl crate::rattle_std::FallibleClone for Comparator {
 }
 
 /// How a comparator compares.
+///
+/// ```
+/// use semver_parser::Op;
+///
+/// assert_eq!(Op::Gte.to_string(), ">=");
+/// ```
 #[derive(Clone, PartialEq, Eq, PartialOrd, Ord, Hash, Debug)]
 pub enum Op {
     /// `<`: below.
@@ -74,6 +99,15 @@ impl crate::rattle_std::FallibleClone for Op {
 
 /// An identifier of a comparator's pre-release. It is another type than that of versions, as in the
 /// Rust crate.
+///
+/// ```
+/// use semver_parser::{Compat, Identifier, RangeSet};
+///
+/// let set = RangeSet::parse("=1.2.3-beta.04", Compat::Npm)?;
+/// let pre = &set.ranges[0].comparator_set[0].pre;
+/// assert_eq!(pre, &[Identifier::AlphaNumeric("beta".to_string()), Identifier::Numeric(4)]);
+/// # Ok::<(), String>(())
+/// ```
 #[derive(Clone, PartialEq, Eq, PartialOrd, Ord, Hash, Debug)]
 pub enum Identifier {
     /// A part made only of digits, of a value up to 2^64 - 1. Leading zeros aren't kept.
@@ -92,6 +126,14 @@ impl crate::rattle_std::FallibleClone for Identifier {
 }
 
 /// How a bare version of three numbers is read.
+///
+/// ```
+/// use semver_parser::{Compat, RangeSet};
+///
+/// assert_eq!(RangeSet::parse("1.2.3", Compat::Cargo)?.to_string(), ">=1.2.3 <2.0.0");
+/// assert_eq!(RangeSet::parse("1.2.3", Compat::Npm)?.to_string(), "=1.2.3");
+/// # Ok::<(), String>(())
+/// ```
 #[derive(Clone, Copy, PartialEq, Eq, PartialOrd, Ord, Hash, Debug)]
 pub enum Compat {
     /// As with a caret: `1.2.3` is `>=1.2.3 <2.0.0`.

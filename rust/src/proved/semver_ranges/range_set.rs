@@ -13,6 +13,15 @@ use crate::rattle_std::AllocError;
 use crate::rattle_std::fmt;
 
 /// A range set: ranges of which a version meets at least one.
+///
+/// ```
+/// use semver_parser::{Compat, RangeSet};
+///
+/// let set = RangeSet::parse("^1.2.3 || 3.x", Compat::Npm)?;
+/// assert_eq!(set.ranges.len(), 2);
+/// assert_eq!(set.to_string(), ">=1.2.3 <2.0.0 || >=3.0.0 <4.0.0");
+/// # Ok::<(), String>(())
+/// ```
 #[derive(Clone, PartialEq, Eq, PartialOrd, Ord, Hash, Debug)]
 pub struct RangeSet {
     /// The ranges, in the order of the text.
@@ -30,6 +39,14 @@ impl crate::rattle_std::FallibleClone for RangeSet {
 }
 
 /// Why a text gives no range set.
+///
+/// ```
+/// use semver_parser::{Compat, RangeError, RangeSet};
+///
+/// let refused = |range| RangeSet::try_parse(range, Compat::Npm).unwrap_err();
+/// assert_eq!(refused("v1.2.3"), RangeError::NotARange);
+/// assert_eq!(refused("99999999999999999999"), RangeError::NumberTooLarge);
+/// ```
 #[derive(Debug, PartialEq, Eq)]
 pub enum RangeError {
     /// The text isn't in the range grammar.
@@ -68,9 +85,6 @@ impl RangeSet {
     /// one comparator. The mode decides how a bare version of three numbers is read, and nothing
     /// else. Builds are dropped.
     ///
-    /// In Cargo mode `1.2.3 || ~2.0.0-rc` gives `>=1.2.3 <2.0.0 || >=2.0.0-rc <2.1.0`, and in Npm
-    /// mode `=1.2.3 || >=2.0.0-rc <2.1.0`. The empty text gives `>=0.0.0`.
-    ///
     /// A version meets the comparators where the text means it, or where it is a pre-release of a
     /// raised bound: `2.0.0-alpha` is below the `<2.0.0` of `^1.2.3`. `RangeSet::parse_exact` has
     /// no such exception.
@@ -84,6 +98,17 @@ impl RangeSet {
     ///   `<=18446744073709551615`.
     /// - `OutOfMemory` if an allocation failed. The first two answers do not allocate, so this
     ///   one comes only in place of a set.
+    ///
+    /// ```
+    /// use semver_parser::{Compat, RangeSet};
+    ///
+    /// let set = RangeSet::try_parse("1.2.3 || ~2.0.0-rc", Compat::Cargo)?;
+    /// assert_eq!(set.to_string(), ">=1.2.3 <2.0.0 || >=2.0.0-rc <2.1.0");
+    /// let set = RangeSet::try_parse("1.2.3 || ~2.0.0-rc", Compat::Npm)?;
+    /// assert_eq!(set.to_string(), "=1.2.3 || >=2.0.0-rc <2.1.0");
+    /// assert_eq!(RangeSet::try_parse("", Compat::Npm)?.to_string(), ">=0.0.0");
+    /// # Ok::<(), semver_parser::RangeError>(())
+    /// ```
     pub fn try_parse(input: &str, compat: Compat) -> Result<RangeSet, RangeError> {
         parse_with(input, compat, RaisedBounds::Plain)
     }
@@ -92,9 +117,7 @@ impl RangeSet {
     /// is raised by one has the pre-release `0`, the lowest there is. The Rust crate has no such
     /// call; npm writes its bounds so.
     ///
-    /// `^1.2.3-beta.4` gives `>=1.2.3-beta.4 <2.0.0-0`, `<=1.2` gives `<1.3.0-0`, and `1.x - 2`
-    /// gives `>=1.0.0 <3.0.0-0`. A bound that the text states stays as it is: `<2.0.0` and `<2`
-    /// give `<2.0.0`, and `>1` gives `>1.0.0`.
+    /// A bound that the text states stays as it is.
     ///
     /// Nothing of 2.0.0 is below `2.0.0-0`. So a version, a pre-release too, meets the answer
     /// exactly if it meets what the text means by itself, without the exception of
@@ -104,6 +127,17 @@ impl RangeSet {
     ///
     /// Those of `RangeSet::parse`, for the same texts. `OutOfMemory` comes in place of a set
     /// alone.
+    ///
+    /// ```
+    /// use semver_parser::{Compat, RangeSet};
+    ///
+    /// let exact = |range| RangeSet::parse_exact(range, Compat::Npm).unwrap().to_string();
+    /// assert_eq!(exact("^1.2.3-beta.4"), ">=1.2.3-beta.4 <2.0.0-0");
+    /// assert_eq!(exact("<=1.2"), "<1.3.0-0");
+    /// assert_eq!(exact("1.x - 2"), ">=1.0.0 <3.0.0-0");
+    /// assert_eq!(exact("<2"), "<2.0.0");
+    /// assert_eq!(exact(">1"), ">1.0.0");
+    /// ```
     pub fn parse_exact(input: &str, compat: Compat) -> Result<RangeSet, RangeError> {
         parse_with(input, compat, RaisedBounds::Exact)
     }
@@ -111,7 +145,13 @@ impl RangeSet {
     /// Reads a range text in Cargo mode: what `RangeSet::parse` answers with `Compat::Cargo`, with
     /// its errors.
     ///
-    /// `1.2.3` gives `>=1.2.3 <2.0.0`, and `1.2` gives `>=1.2.0 <1.3.0`.
+    /// ```
+    /// use semver_parser::RangeSet;
+    ///
+    /// assert_eq!(RangeSet::try_from_str("1.2.3")?.to_string(), ">=1.2.3 <2.0.0");
+    /// assert_eq!(RangeSet::try_from_str("1.2")?.to_string(), ">=1.2.0 <1.3.0");
+    /// # Ok::<(), semver_parser::RangeError>(())
+    /// ```
     pub fn try_from_str(input: &str) -> Result<RangeSet, RangeError> {
         RangeSet::try_parse(input, Compat::Cargo)
     }

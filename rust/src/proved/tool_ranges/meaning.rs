@@ -12,9 +12,13 @@ use crate::proved::version_sets::{PreReleases, VersionSet};
 /// The dialect of a range text, and which pre-releases it means (`docs/MEANING.md`). Each dialect
 /// has the same three rules for pre-releases.
 ///
-/// ```text
-/// let npm = Meaning { dialect: Dialect::Npm, pre_releases: PreReleases::Default };
-/// meaning::read(alloc, npm, "^1.2")
+/// ```
+/// use semver_parser::{sets, Dialect, Meaning, PreReleases};
+///
+/// let npm = Meaning { dialect: Dialect::Npm, pre_releases: PreReleases::Included };
+/// let lowest = sets::read(npm, "^1.2")?.least().unwrap();
+/// assert_eq!(lowest.unwrap().to_string(), "1.2.0-0");
+/// # Ok::<(), semver_parser::RangeError>(())
 /// ```
 #[derive(Clone, Copy, PartialEq, Eq, Debug)]
 pub struct Meaning {

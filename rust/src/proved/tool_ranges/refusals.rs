@@ -10,6 +10,15 @@ use crate::proved::semver_ranges::RangeError;
 use crate::rattle_std::AllocError;
 
 /// Where and why a text gives no range.
+///
+/// ```
+/// use semver_parser::refusals::{self, Hint, RangeRefusal};
+/// use semver_parser::{Dialect, RangeError};
+///
+/// let (error, hint) = (RangeError::NotARange, Some(Hint::CargoBars));
+/// let refusal = refusals::of_range("1.2 || 3", Dialect::Cargo);
+/// assert_eq!(refusal, Some(RangeRefusal { error, offset: 4, hint }));
+/// ```
 #[derive(Debug, PartialEq, Eq)]
 pub struct Refusal {
     /// `NotARange` or `NumberTooLarge`.
