@@ -13,7 +13,12 @@ impl VersionSet {
     // Answer: equation.
     /// Whether no version is in the set. It does not allocate.
     ///
-    /// That of `>2.0.0 <1.0.0` is empty.
+    /// ```
+    /// use semver_parser::{sets, Dialect};
+    ///
+    /// assert!(sets::read(Dialect::Npm, ">2.0.0 <1.0.0")?.is_empty());
+    /// # Ok::<(), semver_parser::RangeError>(())
+    /// ```
     pub fn is_empty(&self) -> bool
         ensures { (result ≡ true) ↔ ((v : PlainVersion) → ¬ IsIn v self.now) }
     {
@@ -24,7 +29,14 @@ impl VersionSet {
     /// Whether each version that is in the set is in the other, too. It takes time in the number of
     /// their switches, and no memory.
     ///
-    /// That of `~1.2.0` is within that of `^1.0.0`.
+    /// ```
+    /// use semver_parser::{sets, Dialect};
+    ///
+    /// let (narrow, wide) = (sets::read(Dialect::Npm, "~1.2")?, sets::read(Dialect::Npm, "^1")?);
+    /// assert!(narrow.is_within(&wide));
+    /// assert!(!wide.is_within(&narrow));
+    /// # Ok::<(), semver_parser::RangeError>(())
+    /// ```
     pub fn is_within(&self, other: &VersionSet) -> bool
         ensures { (result ≡ true)
             ↔ ((v : PlainVersion) → IsIn v self.now → IsIn v other.now) }
@@ -36,7 +48,14 @@ impl VersionSet {
     /// Whether some version is in both sets. It takes time in the number of their switches, and no
     /// memory.
     ///
-    /// Those of `^1.2.0` and `<=1.2.0` overlap: 1.2.0 is in both.
+    /// ```
+    /// use semver_parser::{sets, Dialect};
+    ///
+    /// let set = sets::read(Dialect::Npm, "^1.2.0")?;
+    /// assert!(set.overlaps(&sets::read(Dialect::Npm, "<=1.2.0")?)); // 1.2.0 is in both
+    /// assert!(!set.overlaps(&sets::read(Dialect::Npm, "<1.2.0")?));
+    /// # Ok::<(), semver_parser::RangeError>(())
+    /// ```
     pub fn overlaps(&self, other: &VersionSet) -> bool
         ensures { (result ≡ true)
             ↔ ((v : PlainVersion) × IsIn v self.now × IsIn v other.now) }

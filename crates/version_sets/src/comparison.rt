@@ -13,6 +13,16 @@ use std::alloc::{AllocError, Global};
 
 /// How two sets differ, and what they share, each by the least version by precedence. None of these
 /// has a build.
+///
+/// ```
+/// use semver_parser::{sets, Dialect};
+///
+/// let old = sets::read(Dialect::Npm, "^1.2.3-b")?;
+/// let comparison = old.compare(&sets::read(Dialect::Npm, "^1.2.3")?).unwrap();
+/// assert_eq!(comparison.lost.unwrap().to_string(), "1.2.3-b");
+/// assert_eq!(comparison.gained, None);
+/// # Ok::<(), semver_parser::RangeError>(())
+/// ```
 #[derive(Debug, Drop)]
 pub struct Comparison {
     /// The least version that is in the old set and not in the new one; `None` where there is none.
@@ -28,12 +38,21 @@ impl VersionSet {
     /// Compares the set with a new one that is to take its place. It takes time in the number of
     /// their switches.
     ///
-    /// Where the set of `^1.2.0` is followed by that of `>=1.4.0`, 1.2.0 is lost, 2.0.0 is gained,
-    /// and 1.4.0 is shared. Both sets have the same versions exactly where nothing is lost or
-    /// gained.
+    /// Both sets have the same versions exactly where nothing is lost or gained.
     ///
     /// It allocates only for the identifiers of a pre-release that is answered. `Err` is out of
     /// memory.
+    ///
+    /// ```
+    /// use semver_parser::{sets, Dialect};
+    ///
+    /// let old = sets::read(Dialect::Npm, "^1.2.0")?;
+    /// let comparison = old.compare(&sets::read(Dialect::Npm, ">=1.4.0")?).unwrap();
+    /// assert_eq!(comparison.lost.unwrap().to_string(), "1.2.0");
+    /// assert_eq!(comparison.gained.unwrap().to_string(), "2.0.0");
+    /// assert_eq!(comparison.shared.unwrap().to_string(), "1.4.0");
+    /// # Ok::<(), semver_parser::RangeError>(())
+    /// ```
     pub fn compare(&self, alloc: Global, new: &VersionSet) -> Result<Comparison, AllocError>
         ensures lost { IfOk result (λ answer.
             TellsLeast (IsInFirstAlone self.now new.now) answer.lost) }

@@ -19,9 +19,17 @@ use std::alloc::{AllocError, Global};
 impl VersionSet {
     // Answer: law answer_laws::sets::one_least.
     /// The least version in the set by precedence, without a build; `None` exactly where the set is
-    /// empty. That of `>1.0.0-rc.1 || >=2.0.0` has 1.0.0-rc.1.0, where pre-releases count.
+    /// empty.
     ///
     /// Memory is asked for only where a pre-release is answered. `Err` is out of memory.
+    ///
+    /// ```
+    /// use semver_parser::{sets, Dialect};
+    ///
+    /// let set = sets::read(Dialect::Npm, ">1.0.0-rc.1 || >=2.0.0")?;
+    /// assert_eq!(set.least().unwrap().unwrap().to_string(), "1.0.0-rc.1.0");
+    /// # Ok::<(), semver_parser::RangeError>(())
+    /// ```
     pub fn least(&self, alloc: Global) -> Result<Option<Version>, AllocError>
         // It is as it is kept: a number of 2^64 or more as its text.
         ensures least { IfOk result (λ least. IfSome least (λ version. (v : PlainVersion)
@@ -37,8 +45,17 @@ impl VersionSet {
     }
 
     // Answer: law answer_laws::sets::one_least_release.
-    /// The least release in the set by precedence; `None` exactly where it has no release. That of
-    /// `>1.0.0-rc.1 <1.0.0 || >=2.0.0` has 2.0.0. It does not allocate.
+    /// The least release in the set by precedence; `None` exactly where it has no release. It does
+    /// not allocate.
+    ///
+    /// ```
+    /// use semver_parser::sets::{self, Release};
+    /// use semver_parser::Dialect;
+    ///
+    /// let set = sets::read(Dialect::Npm, ">1.0.0-rc.1 <1.0.0 || >=2.0.0")?;
+    /// assert_eq!(set.least_release(), Some(Release { major: 2, minor: 0, patch: 0 }));
+    /// # Ok::<(), semver_parser::RangeError>(())
+    /// ```
     pub fn least_release(&self) -> Option<Release>
         ensures least { IfSome result (λ release.
             IsLeast IsRelease self.now (release_value release)) }

@@ -14,6 +14,13 @@ use semver_parser::version::Version;
 use std::alloc::Global;
 
 /// A release: the three numbers of a version. Its derived order is that of precedence.
+///
+/// ```
+/// use semver_parser::sets::Release;
+///
+/// let [low, high] = [2, 10].map(|minor| Release { major: 1, minor, patch: 0 });
+/// assert!(low < high);
+/// ```
 #[derive(Clone, Copy, PartialEq, Eq, PartialOrd, Ord, Debug)]
 pub struct Release {
     /// The first number: 1 in 1.2.3.
@@ -26,7 +33,16 @@ pub struct Release {
 
 impl Release {
     // Answer: equation.
-    /// The numbers of a version, without its pre-release and its build: 1.2.3 of 1.2.3-rc.1+b5.
+    /// The numbers of a version, without its pre-release and its build.
+    ///
+    /// ```
+    /// use semver_parser::sets::Release;
+    /// use semver_parser::version;
+    ///
+    /// let release = Release::of(&version::parse("1.2.3-rc.1+b5")?);
+    /// assert_eq!(release, Release { major: 1, minor: 2, patch: 3 });
+    /// # Ok::<(), semver_parser::parser::Error>(())
+    /// ```
     pub fn of(version: &Version) -> Release
         ensures { release_value result
             ≡ record (version_value version.now).plain { pre = [] } }
@@ -40,6 +56,13 @@ impl Release {
 
     // Answer: equation.
     /// The release as a version, without a pre-release and without a build. It does not allocate.
+    ///
+    /// ```
+    /// use semver_parser::sets::Release;
+    ///
+    /// let release = Release { major: 1, minor: 2, patch: 3 };
+    /// assert_eq!(release.version().to_string(), "1.2.3");
+    /// ```
     pub fn version(self, alloc: Global) -> Version
         ensures { version_value result ≡ record { plain = release_value self; build = [] } }
     {

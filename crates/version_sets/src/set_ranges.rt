@@ -25,8 +25,19 @@ use std::fmt;
 /// The releases or the pre-releases of a set as ranges of plain comparators: one range for each
 /// interval, in ascending order.
 ///
-/// `Display` writes a range text of npm mode: `=1.2.0 || >=1.9.0 <2.0.0`. It writes `*` if all are
-/// in the set, and `<0.0.0-0`, which no version meets, if none is.
+/// `Display` writes a range text of npm mode: `*` if all are in the set, and `<0.0.0-0`, which no
+/// version meets, if none is.
+///
+/// ```
+/// use semver_parser::sets::{self, VersionSet};
+/// use semver_parser::Dialect;
+///
+/// let text = |set: VersionSet| set.release_ranges().unwrap().to_string();
+/// assert_eq!(text(sets::read(Dialect::Npm, "1.2.0 || ~1.9")?), "=1.2.0 || >=1.9.0 <1.10.0");
+/// assert_eq!(text(sets::read(Dialect::Npm, "x")?), "*");
+/// assert_eq!(text(VersionSet::empty()), "<0.0.0-0");
+/// # Ok::<(), semver_parser::RangeError>(())
+/// ```
 #[derive(Debug, Drop)]
 pub struct SetRanges {
     /// The ranges, in `Compat::Npm`. Each has one or two comparators.
@@ -37,7 +48,7 @@ impl VersionSet {
     // Answer: equation.
     /// The releases of the set as ranges of plain comparators.
     ///
-    /// The set of `^1.2.0` less that of `>=1.2.1 <1.9.0` gives `=1.2.0 || >=1.9.0 <2.0.0`:
+    /// The ranges are:
     ///
     /// - `=1.2.0` if 1.2.0 is alone in its interval, else `>=1.9.0 <2.0.0`;
     /// - `>=1.9.0` if the interval has no end, and `<2.0.0` if it begins with 0.0.0;
@@ -46,6 +57,15 @@ impl VersionSet {
     ///
     /// It takes time in the number of switches, and allocates only if the set has a release. `Err`
     /// is out of memory.
+    ///
+    /// ```
+    /// use semver_parser::{sets, Dialect};
+    ///
+    /// let set = sets::read(Dialect::Npm, "^1.2.0")?;
+    /// let lost = set.difference(&sets::read(Dialect::Npm, ">=1.2.1 <1.9.0")?).unwrap();
+    /// assert_eq!(lost.release_ranges().unwrap().to_string(), "=1.2.0 || >=1.9.0 <2.0.0");
+    /// # Ok::<(), semver_parser::RangeError>(())
+    /// ```
     pub fn release_ranges(&self, alloc: Global) -> Result<SetRanges, AllocError>
         ensures ranges { IfOk result (λ ranges.
             set_of ranges.range_set ≡ release_ranges self.now) }
@@ -68,12 +88,20 @@ impl VersionSet {
     /// The pre-releases of the set as ranges of plain comparators, as
     /// [`VersionSet::release_ranges`] returns the releases. A pre-release meets them by precedence.
     ///
-    /// Each bound has a pre-release: the set of `>1.2.3 <2.0.0-0` gives `>=1.2.4-0 <2.0.0-0`. The
-    /// version right above 1.2.3-a is 1.2.3-a.0, so 1.2.3-a alone is `=1.2.3-a`. The lowest is
-    /// 0.0.0-0, and all pre-releases are `>=0.0.0-0`.
+    /// Each bound has a pre-release. The version right above 1.2.3-a is 1.2.3-a.0, so 1.2.3-a alone
+    /// is `=1.2.3-a`. The lowest is 0.0.0-0, and all pre-releases are `>=0.0.0-0`.
     ///
     /// It takes time in the number of switches, and allocates only if the set has a pre-release.
     /// `Err` is out of memory.
+    ///
+    /// ```
+    /// use semver_parser::{sets, Dialect, Meaning, PreReleases};
+    ///
+    /// let npm = Meaning { dialect: Dialect::Npm, pre_releases: PreReleases::Included };
+    /// let ranges = sets::read(npm, ">1.2.3 <2.0.0-0")?.pre_release_ranges().unwrap();
+    /// assert_eq!(ranges.to_string(), ">=1.2.4-0 <2.0.0-0");
+    /// # Ok::<(), semver_parser::RangeError>(())
+    /// ```
     pub fn pre_release_ranges(&self, alloc: Global) -> Result<SetRanges, AllocError>
         ensures ranges { IfOk result (λ ranges.
             set_of ranges.range_set ≡ set_kept (pre_release_ranges self.now)) }

@@ -27,6 +27,15 @@ use std::marker::Model;
 /// an odd number of its kind's switches are at or below it; its build doesn't count.
 ///
 /// The releases of `>=1.2.0 <2.0.0 || 3.1.4` have the switches 1.2.0, 2.0.0, 3.1.4 and 3.1.5.
+///
+/// ```
+/// use semver_parser::{sets, version, Dialect};
+///
+/// let set = sets::read(Dialect::Npm, ">=1.2.0 <2.0.0 || 3.1.4")?;
+/// assert!(set.has(&version::parse("1.9.0")?) && set.has(&version::parse("3.1.4+b5")?));
+/// assert!(!set.has(&version::parse("2.0.0")?) && !set.has(&version::parse("3.1.5")?));
+/// # Ok::<(), String>(())
+/// ```
 #[derive(Debug, Drop)]
 pub struct VersionSet {
     /// The switches of the releases.
@@ -49,6 +58,12 @@ impl Model for VersionSet {
 impl VersionSet {
     // Answer: law answer_laws::sets::one_empty.
     /// The set without versions. It does not allocate.
+    ///
+    /// ```
+    /// use semver_parser::sets::VersionSet;
+    ///
+    /// assert!(VersionSet::empty().is_empty());
+    /// ```
     pub fn empty(alloc: Global) -> VersionSet
         ensures empty { (v : PlainVersion) → has result v ≡ false }
         ensures printable { IsPrintable result }
@@ -68,8 +83,17 @@ impl VersionSet {
     }
 
     // Answer: law answer_laws::sets::one_only_releases.
-    /// The releases of the set: of `>=1.2.0-rc` by `PreReleases::Included` 1.2.0 is left, and
-    /// 1.2.0-rc.2 isn't. It does not allocate.
+    /// The releases of the set. It does not allocate.
+    ///
+    /// ```
+    /// use semver_parser::{sets, version, Dialect, Meaning, PreReleases};
+    ///
+    /// let npm = Meaning { dialect: Dialect::Npm, pre_releases: PreReleases::Included };
+    /// let releases = sets::read(npm, ">=1.2.0-rc")?.only_releases();
+    /// assert!(releases.has(&version::parse("1.2.0")?));
+    /// assert!(!releases.has(&version::parse("1.2.0-rc.2")?));
+    /// # Ok::<(), String>(())
+    /// ```
     pub fn only_releases(self, alloc: Global) -> VersionSet
         ensures releases { (v : PlainVersion) → has result v
             ≡ (is_empty v.pre && has self v) }
@@ -79,11 +103,20 @@ impl VersionSet {
     }
 
     // Answer: equation.
-    /// Whether a version is in the set: 1.9.0+b5 is in that of `^1.2.0`, and 2.0.0 isn't. It takes
-    /// time in the logarithm of the number of switches, and no memory.
+    /// Whether a version is in the set; its build doesn't count. It takes time in the logarithm of
+    /// the number of switches, and no memory.
     ///
     /// An identifier of digits from 2^64 on is a text here, as the version keeps it. By Cargo and
     /// npm it is a number, as [`VersionSet::has_by`] and [`VersionSet::has_outline`] read it.
+    ///
+    /// ```
+    /// use semver_parser::{sets, version, Dialect};
+    ///
+    /// let set = sets::read(Dialect::Cargo, "^1.2.0")?;
+    /// assert!(set.has(&version::parse("1.9.0+b5")?));
+    /// assert!(!set.has(&version::parse("2.0.0")?));
+    /// # Ok::<(), String>(())
+    /// ```
     pub fn has(&self, version: &Version) -> bool
         ensures has { result ≡ has self.now (version_value version.now).plain }
         // The numbers of a version fit 64 bits.
@@ -103,8 +136,18 @@ impl VersionSet {
 
     // Answer: equation.
     /// Whether a version is in the set, as [`VersionSet::has`] says, if an identifier of digits
-    /// alone from 2^64 on is what `digits` says. By `Digits::AnySize`, the set of Cargo's
-    /// `<1.0.0-10a` has 1.0.0-18446744073709551616.
+    /// alone from 2^64 on is what `digits` says.
+    ///
+    /// ```
+    /// use semver_parser::version::{self, Grammar};
+    /// use semver_parser::{sets, Dialect};
+    ///
+    /// let set = sets::read(Dialect::Cargo, "<1.0.0-10a")?;
+    /// let version = version::parse("1.0.0-18446744073709551616")?;
+    /// assert!(set.has_by(&version, Grammar::Cargo.digits()));
+    /// assert!(!set.has(&version));
+    /// # Ok::<(), String>(())
+    /// ```
     pub fn has_by(&self, version: &Version, digits: Digits) -> bool
         ensures has { result
             ≡ has self.now (plain_by digits (version_value version.now).plain) }
@@ -166,6 +209,15 @@ impl VersionSet {
 
     // Answer: equation.
     /// Whether a release is in the set, as [`VersionSet::has`] says of a version.
+    ///
+    /// ```
+    /// use semver_parser::sets::{self, Release};
+    /// use semver_parser::Dialect;
+    ///
+    /// let set = sets::read(Dialect::Cargo, "^1.2.0")?;
+    /// assert!(set.has_release(Release { major: 1, minor: 9, patch: 0 }));
+    /// # Ok::<(), semver_parser::RangeError>(())
+    /// ```
     #[inline(always)]
     pub fn has_release(&self, release: Release) -> bool
         ensures has { result ≡ has self.now (release_value release) }
@@ -176,6 +228,16 @@ impl VersionSet {
     // Answer: equation.
     /// Whether the version of an outline is in the set, as [`VersionSet::has`] says of a version.
     /// Its identifiers are compared as they are in the text. It does not allocate.
+    ///
+    /// ```
+    /// use semver_parser::{sets, version, Dialect};
+    ///
+    /// let dialect = Dialect::Npm;
+    /// let set = sets::read(dialect, "^1.2.0")?;
+    /// let outline = version::outline_in(b"v1.9.0", dialect.grammar()).unwrap();
+    /// assert!(set.has_outline(&outline));
+    /// # Ok::<(), semver_parser::RangeError>(())
+    /// ```
     #[inline(always)]
     pub fn has_outline(&self, outline: &Outline<'_>) -> bool
         // It is that of the version of each text that has this outline.

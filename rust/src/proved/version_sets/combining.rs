@@ -9,20 +9,34 @@ use crate::rattle_std::AllocError;
 impl VersionSet {
     /// The versions of one set or the other. It takes time in the number of their switches.
     ///
-    /// Those of `>=1.0.0 <1.5.0` and `>=1.2.0 <2.0.0` give that of `>=1.0.0 <2.0.0`.
-    ///
     /// Memory is asked for as the answer grows, and not at all where it is empty. `Err` is out of
     /// memory.
+    ///
+    /// ```
+    /// use semver_parser::{sets, Dialect};
+    ///
+    /// let set = |range| sets::read(Dialect::Npm, range).unwrap();
+    /// let union = set(">=1.0.0 <1.5.0").union(&set(">=1.2.0 <2.0.0"))?;
+    /// assert_eq!(union, set(">=1.0.0 <2.0.0"));
+    /// # Ok::<(), semver_parser::AllocError>(())
+    /// ```
     pub fn union(&self,other: &VersionSet) -> Result<VersionSet, AllocError> {
         self.combined(Combination::Union, other)
     }
 
     /// The versions of both sets. It takes time in the number of their switches.
     ///
-    /// Those of `>=1.0.0 <1.5.0` and `>=1.2.0 <2.0.0` give that of `>=1.2.0 <1.5.0`.
-    ///
     /// Memory is asked for as the answer grows, and not at all where it is empty. `Err` is out of
     /// memory.
+    ///
+    /// ```
+    /// use semver_parser::{sets, Dialect};
+    ///
+    /// let set = |range| sets::read(Dialect::Npm, range).unwrap();
+    /// let intersection = set(">=1.0.0 <1.5.0").intersection(&set(">=1.2.0 <2.0.0"))?;
+    /// assert_eq!(intersection, set(">=1.2.0 <1.5.0"));
+    /// # Ok::<(), semver_parser::AllocError>(())
+    /// ```
     pub fn intersection(&self,other: &VersionSet) -> Result<VersionSet, AllocError> {
         self.combined(Combination::Intersection, other)
     }
@@ -30,10 +44,17 @@ impl VersionSet {
     /// The versions of the first set that the other doesn't have. It takes time in the number of
     /// their switches.
     ///
-    /// Of those of `>=1.0.0 <1.5.0` and `>=1.2.0 <2.0.0` it is that of `>=1.0.0 <1.2.0`.
-    ///
     /// Memory is asked for as the answer grows, and not at all where it is empty. `Err` is out of
     /// memory.
+    ///
+    /// ```
+    /// use semver_parser::{sets, Dialect};
+    ///
+    /// let set = |range| sets::read(Dialect::Npm, range).unwrap();
+    /// let difference = set(">=1.0.0 <1.5.0").difference(&set(">=1.2.0 <2.0.0"))?;
+    /// assert_eq!(difference, set(">=1.0.0 <1.2.0"));
+    /// # Ok::<(), semver_parser::AllocError>(())
+    /// ```
     pub fn difference(&self,other: &VersionSet) -> Result<VersionSet, AllocError> {
         self.combined(Combination::Difference, other)
     }

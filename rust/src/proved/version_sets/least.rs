@@ -10,15 +10,32 @@ use crate::rattle_std::AllocError;
 
 impl VersionSet {
     /// The least version in the set by precedence, without a build; `None` exactly where the set is
-    /// empty. That of `>1.0.0-rc.1 || >=2.0.0` has 1.0.0-rc.1.0, where pre-releases count.
+    /// empty.
     ///
     /// Memory is asked for only where a pre-release is answered. `Err` is out of memory.
+    ///
+    /// ```
+    /// use semver_parser::{sets, Dialect};
+    ///
+    /// let set = sets::read(Dialect::Npm, ">1.0.0-rc.1 || >=2.0.0")?;
+    /// assert_eq!(set.least().unwrap().unwrap().to_string(), "1.0.0-rc.1.0");
+    /// # Ok::<(), semver_parser::RangeError>(())
+    /// ```
     pub fn least(&self) -> Result<Option<Version>, AllocError> {
         least_of(self.releases.first(), self.pre_releases.first())
     }
 
-    /// The least release in the set by precedence; `None` exactly where it has no release. That of
-    /// `>1.0.0-rc.1 <1.0.0 || >=2.0.0` has 2.0.0. It does not allocate.
+    /// The least release in the set by precedence; `None` exactly where it has no release. It does
+    /// not allocate.
+    ///
+    /// ```
+    /// use semver_parser::sets::{self, Release};
+    /// use semver_parser::Dialect;
+    ///
+    /// let set = sets::read(Dialect::Npm, ">1.0.0-rc.1 <1.0.0 || >=2.0.0")?;
+    /// assert_eq!(set.least_release(), Some(Release { major: 2, minor: 0, patch: 0 }));
+    /// # Ok::<(), semver_parser::RangeError>(())
+    /// ```
     pub fn least_release(&self) -> Option<Release> {
         self.releases.first().copied()
     }

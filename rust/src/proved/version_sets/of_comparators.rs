@@ -17,12 +17,21 @@ use crate::rattle_std::AllocError;
 impl VersionSet {
     /// The versions that meet comparators by a rule for pre-releases (docs/MEANING.md).
     ///
-    /// `>=1.2.0 <2.0.0 || =3.1.4` gives a set with 1.2.0, 1.9.0 and 3.1.4, and without 2.0.0. By
-    /// `PreReleases::Included` 2.0.0-rc is in it, too, since it is below 2.0.0, and by the other
-    /// rules it isn't.
-    ///
     /// It takes time in n log n for n comparators, and memory for their switches, at most four a
     /// comparator, and none where there is no range. `Err` means that memory ran out.
+    ///
+    /// ```
+    /// use semver_parser::sets::VersionSet;
+    /// use semver_parser::{version, Compat, PreReleases, RangeSet};
+    ///
+    /// let ranges = RangeSet::parse(">=1.2.0 <2.0.0 || =3.1.4", Compat::Npm)?;
+    /// let set = VersionSet::of_set(&ranges, PreReleases::Default).unwrap();
+    /// assert!(set.has(&version::parse("1.9.0")?) && set.has(&version::parse("3.1.4")?));
+    /// assert!(!set.has(&version::parse("2.0.0-rc")?));
+    /// let set = VersionSet::of_set(&ranges, PreReleases::Included).unwrap();
+    /// assert!(set.has(&version::parse("2.0.0-rc")?)); // below 2.0.0
+    /// # Ok::<(), String>(())
+    /// ```
     pub fn of_set(set: &RangeSet,
         pre_releases: PreReleases,
     ) -> Result<VersionSet, AllocError> {

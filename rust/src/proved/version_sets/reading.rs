@@ -9,10 +9,9 @@ use crate::proved::semver_parser::{Compat, RangeError, RangeSet};
 impl VersionSet {
     /// The versions that a range text means by a rule for pre-releases (docs/MEANING.md).
     ///
-    /// `^1.2.3-beta || 3.x` in Cargo mode and by `PreReleases::Default` gives a set with 1.2.3-rc,
-    /// 1.9.0 and 3.0.0, and without 1.3.0-rc and 2.0.0. No version is above the last release, so
-    /// `>18446744073709551615.18446744073709551615.18446744073709551615` means nothing, and its
-    /// set is empty.
+    /// No version is above the last release, so
+    /// `>18446744073709551615.18446744073709551615.18446744073709551615` means nothing, and its set
+    /// is empty.
     ///
     /// It takes time in n log n for n comparators of the text, and memory for these and for their
     /// switches, at most four a comparator.
@@ -23,6 +22,17 @@ impl VersionSet {
     /// `NumberTooLarge` exactly where it is, and a stated number or a raised bound is above
     /// 2^64 - 1, as in `<=18446744073709551615`. These two do not allocate; `OutOfMemory` is in
     /// place of a set alone.
+    ///
+    /// ```
+    /// use semver_parser::sets::VersionSet;
+    /// use semver_parser::{version, Compat, PreReleases};
+    ///
+    /// let set = VersionSet::of_text("^1.2.3-beta || 3.x", Compat::Cargo, PreReleases::Default)?;
+    /// let has = |text: &&str| set.has(&version::parse(text).unwrap());
+    /// assert!(["1.2.3-rc", "1.9.0", "3.0.0"].iter().all(has));
+    /// assert!(!["1.3.0-rc", "2.0.0"].iter().any(has));
+    /// # Ok::<(), semver_parser::RangeError>(())
+    /// ```
     pub fn of_text(range: &str,
         compat: Compat,
         pre_releases: PreReleases,

@@ -4,6 +4,17 @@
 use crate::rattle_std::prelude::*;
 /// Which pre-releases a range text means: docs/MEANING.md, "Three rules for pre-releases". Releases
 /// count by each of them.
+///
+/// ```
+/// use semver_parser::{satisfies, Dialect, Meaning, PreReleases};
+///
+/// let npm = |pre_releases| Meaning { dialect: Dialect::Npm, pre_releases };
+/// assert!(satisfies("1.3.0-rc", "^1.2.0", npm(PreReleases::Included))?);
+/// assert!(!satisfies("1.3.0-rc", "^1.2.0", npm(PreReleases::Default))?);
+/// assert!(satisfies("1.2.3-rc", "^1.2.3-beta", npm(PreReleases::Default))?);
+/// assert!(!satisfies("1.2.3-rc", "^1.2.3-beta", npm(PreReleases::Excluded))?);
+/// # Ok::<(), semver_parser::SatisfiesError>(())
+/// ```
 #[derive(Clone, Copy, PartialEq, Eq, Debug)]
 pub enum PreReleases {
     /// None.
