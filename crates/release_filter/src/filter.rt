@@ -21,6 +21,16 @@ use version_sets::{PreReleases, VersionSet};
 /// by which version texts are read.
 ///
 /// [`Filter::new`] reads the range once; the filter then judges any number of versions.
+///
+/// ```
+/// use semver_parser::filters::Filter;
+/// use semver_parser::{version, Compat, PreReleases};
+///
+/// let filter = Filter::new("^1.2", Compat::Npm, PreReleases::Default)?;
+/// assert!(filter.meets(&version::parse("1.9.0")?));
+/// assert!(!filter.meets(&version::parse("2.0.0")?));
+/// # Ok::<(), String>(())
+/// ```
 #[derive(Drop)]
 pub struct Filter {
     /// The versions that the text means.
@@ -48,15 +58,24 @@ impl Model for Filter {
 
 impl Filter {
     // Answer: law answer_laws::filters::one_new.
-    /// Reads a range text: `^1.2.3-beta || 3.x` in Cargo mode and with `PreReleases::Default` gives
-    /// a filter that 1.2.3-rc, 1.9.0 and 3.0.0 pass, and 1.3.0-rc and 2.0.0 don't. Its version
-    /// texts are the crate's.
+    /// Reads a range text into a filter. Its version texts are the crate's.
     ///
     /// # Errors
     ///
     /// Those of `RangeSet::parse`. `NotARange` exactly where the text isn't in the range grammar.
     /// `NumberTooLarge` exactly where it is, and a stated number or a raised bound is above
     /// 2^64 - 1. These two do not allocate; `OutOfMemory` comes only in place of a filter.
+    ///
+    /// ```
+    /// use semver_parser::filters::Filter;
+    /// use semver_parser::{version, Compat, PreReleases};
+    ///
+    /// let filter = Filter::new("^1.2.3-beta || 3.x", Compat::Cargo, PreReleases::Default)?;
+    /// let passes = |text: &&str| filter.meets(&version::parse(text).unwrap());
+    /// assert!(["1.2.3-rc", "1.9.0", "3.0.0"].iter().all(passes));
+    /// assert!(!["1.3.0-rc", "2.0.0"].iter().any(passes));
+    /// # Ok::<(), semver_parser::RangeError>(())
+    /// ```
     pub fn new(
         alloc: Global,
         range: &str,
@@ -81,6 +100,16 @@ impl Filter {
     // Answer: equation.
     /// A filter that the versions of a set pass, as the set that `tool_ranges::meaning::read`
     /// returns, and that reads version texts by a dialect. It does not allocate.
+    ///
+    /// ```
+    /// use semver_parser::filters::Filter;
+    /// use semver_parser::{sets, version, Dialect};
+    ///
+    /// let versions = sets::read(Dialect::Cargo, "^1.2.0, <1.5")?;
+    /// let filter = Filter::of_versions(versions, Dialect::Cargo.grammar());
+    /// assert!(filter.meets(&version::parse("1.4.0")?));
+    /// # Ok::<(), String>(())
+    /// ```
     pub fn of_versions(versions: VersionSet, grammar: Grammar) -> Filter
         ensures set { result.set ≡ versions }
         // Which pre-releases count, the set says by itself.
@@ -96,6 +125,16 @@ impl Filter {
 
     // Answer: equation.
     /// Returns the dialect by which it reads version texts: that of [`Filter::new`] is the crate's.
+    ///
+    /// ```
+    /// use semver_parser::filters::Filter;
+    /// use semver_parser::version::Grammar;
+    /// use semver_parser::{Compat, PreReleases};
+    ///
+    /// let filter = Filter::new("^1.2", Compat::Npm, PreReleases::Default)?;
+    /// assert!(filter.grammar() == Grammar::Crate);
+    /// # Ok::<(), semver_parser::RangeError>(())
+    /// ```
     #[inline(always)]
     pub fn grammar(&self) -> Grammar
         ensures { result ≡ self.now.grammar }
@@ -107,6 +146,18 @@ impl Filter {
     /// Whether a version passes. Its build doesn't count, and an identifier of digits alone from
     /// 2^64 on, which it keeps as a text, is what the filter's dialect says: a number to Cargo and
     /// npm. It does not allocate.
+    ///
+    /// ```
+    /// use semver_parser::filters::Filter;
+    /// use semver_parser::{sets, version, Dialect};
+    ///
+    /// let dialect = Dialect::Cargo;
+    /// let filter = Filter::of_versions(sets::read(dialect, "<1.0.0-10a")?, dialect.grammar());
+    /// assert!(filter.meets(&version::parse("0.9.0+b5")?));
+    /// let large = version::parse("1.0.0-18446744073709551616")?;
+    /// assert!(filter.meets(&large)); // a number is below `10a`
+    /// # Ok::<(), String>(())
+    /// ```
     pub fn meets(&self, version: &Version) -> bool
         ensures meets { result ≡ passes self.now (read_by self.now version.now) }
     {
@@ -116,8 +167,18 @@ impl Filter {
     // Answer: law answer_laws::filters::one_greatest.
     /// Of the versions that pass, the greatest by precedence (SemVer 2.0.0, section 11), and the
     /// first of those that are equal to it; builds don't count. `None` exactly where none passes.
-    /// Of 1.2.0, 2.0.0, 1.9.0+a and 1.9.0+b, a filter of `^1.2` returns 1.9.0+a. It does not
-    /// allocate.
+    /// It does not allocate.
+    ///
+    /// ```
+    /// use semver_parser::filters::Filter;
+    /// use semver_parser::{version, Compat, PreReleases};
+    ///
+    /// let filter = Filter::new("^1.2", Compat::Npm, PreReleases::Default)?;
+    /// let versions = ["1.2.0", "2.0.0", "1.9.0+a", "1.9.0+b"];
+    /// let versions = versions.map(|text| version::parse(text).unwrap());
+    /// assert_eq!(filter.greatest(&versions), Some(&versions[2]));
+    /// # Ok::<(), semver_parser::RangeError>(())
+    /// ```
     pub fn greatest<'v>(&self, versions: &'v [Version]) -> Option<&'v Version>
         ensures greatest { IfSome result (λ version.
             IsGreatest (IsOneThat (digits_of self.now) (passes self.now)) versions.now
@@ -147,9 +208,7 @@ impl Filter {
 
 // Answer: law answer_laws::filters::one_filter_text.
 /// The releases among the versions that a range text means, in the given order and with repeats
-/// kept: each version without pre-release that meets the text's own meaning. Of `^0.2 || 2.x` in
-/// Cargo mode, and of 0.2.0, 0.3.0, 2.0.0-rc, 2.5.0 and 2.5.0 again, these are 0.2.0, 2.5.0 and
-/// 2.5.0.
+/// kept: each version without pre-release that meets the text's own meaning.
 ///
 /// The text is read first, so its refusal doesn't depend on the versions: `NotARange` where it
 /// isn't in the range grammar, `NumberTooLarge` where it is and a stated number or a raised bound
@@ -158,6 +217,17 @@ impl Filter {
 ///
 /// Each version is judged once. Memory for the answer is asked for as it grows, and not at all
 /// where no version is kept.
+///
+/// ```
+/// use semver_parser::filters::filter_text;
+/// use semver_parser::{version, Compat};
+///
+/// let versions = ["0.2.0", "0.3.0", "2.0.0-rc", "2.5.0", "2.5.0"];
+/// let versions = versions.map(|text| version::parse(text).unwrap());
+/// let kept = filter_text("^0.2 || 2.x", Compat::Cargo, &versions)?;
+/// assert_eq!(kept, [&versions[0], &versions[3], &versions[4]]);
+/// # Ok::<(), semver_parser::RangeError>(())
+/// ```
 pub fn filter_text<'v>(
     alloc: Global,
     text: &str,

@@ -18,6 +18,16 @@ use std::alloc::{AllocError, Global};
 use version_sets::PreReleases;
 
 /// What a filter says of a text.
+///
+/// ```
+/// use semver_parser::filters::{Filter, Judged};
+/// use semver_parser::{Compat, PreReleases};
+///
+/// let filter = Filter::new("^1.2", Compat::Npm, PreReleases::Excluded)?;
+/// let Judged::Passes(outline) = filter.judge(b"1.9.0+b5") else { unreachable!() };
+/// assert_eq!(outline.build(), "b5");
+/// # Ok::<(), semver_parser::RangeError>(())
+/// ```
 #[derive(Debug, Drop)]
 pub enum Judged<'t> {
     /// The text spells no version.
@@ -30,12 +40,22 @@ pub enum Judged<'t> {
 
 impl Filter {
     // Answer: law answer_laws::filters::one_judge.
-    /// What the filter says of a text: one of `^1.2`, releases only, says of `1.2` that it is no
-    /// version, of `2.0.0` and of `1.3.0-rc` that they don't pass, and of `1.9.0+b5` that 1.9.0+b5
-    /// passes.
+    /// What the filter says of a text.
     ///
     /// The text is read as by `version::outline_in`, by the dialect of the filter, and needn't be
     /// UTF-8. It does not allocate.
+    ///
+    /// ```
+    /// use semver_parser::filters::{Filter, Judged};
+    /// use semver_parser::{Compat, PreReleases};
+    ///
+    /// let filter = Filter::new("^1.2", Compat::Npm, PreReleases::Excluded)?;
+    /// assert!(matches!(filter.judge(b"1.2"), Judged::NoVersion));
+    /// assert!(matches!(filter.judge(b"2.0.0"), Judged::DoesNotPass));
+    /// assert!(matches!(filter.judge(b"1.3.0-rc"), Judged::DoesNotPass));
+    /// assert!(matches!(filter.judge(b"1.9.0+b5"), Judged::Passes(_)));
+    /// # Ok::<(), semver_parser::RangeError>(())
+    /// ```
     #[inline(always)]
     pub fn judge<'t>(&self, text: &'t [u8]) -> Judged<'t>
         ensures judged { IsJudged self.now.grammar (passes self.now) text.now result }
@@ -70,13 +90,24 @@ impl Filter {
     }
 
     // Answer: law answer_laws::filters::one_read.
-    /// The version that a text spells, if it spells one that passes: with a filter of `^1.2`,
-    /// releases only, `1.9.0+b5` gives that version, and `2.0.0`, `1.3.0-rc` and `1.2` give
-    /// `None`. Which of the two it is that these are, [`Filter::judge`] says.
+    /// The version that a text spells, if it spells one that passes. Whether `None` means no
+    /// version or one that doesn't pass, [`Filter::judge`] says.
     ///
     /// The text is read by the dialect of the filter, but only as far as is needed. Memory is taken
     /// only where it spells a version that passes, and that has a pre-release or a build. `Err`
     /// means that memory ran out.
+    ///
+    /// ```
+    /// use semver_parser::filters::Filter;
+    /// use semver_parser::{Compat, PreReleases};
+    ///
+    /// let filter = Filter::new("^1.2", Compat::Npm, PreReleases::Excluded).unwrap();
+    /// assert_eq!(filter.read("1.9.0+b5")?.unwrap().to_string(), "1.9.0+b5");
+    /// for text in ["2.0.0", "1.3.0-rc", "1.2"] {
+    ///     assert_eq!(filter.read(text)?, None);
+    /// }
+    /// # Ok::<(), semver_parser::AllocError>(())
+    /// ```
     pub fn read(&self, alloc: Global, text: &str) -> Result<Option<Version>, AllocError>
         // Unless memory ran out, a version is answered exactly where the text spells it, and it
         // passes.

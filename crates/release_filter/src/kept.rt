@@ -12,11 +12,21 @@ const AT_ONCE: usize = 64;
 
 impl Filter {
     // Answer: law answer_laws::filters::one_kept.
-    /// Those of the versions that pass, in their order and with repeats. Of 0.2.0, 0.3.0, 2.0.0-rc,
-    /// 2.5.0 and 2.5.0 again, a filter of `^0.2 || 2.x` keeps 0.2.0, 2.5.0 and 2.5.0.
+    /// Those of the versions that pass, in their order and with repeats.
     ///
     /// Each version is judged once. Memory is asked for as the answer grows, and not at all where
     /// no version passes. `Err` is out of memory.
+    ///
+    /// ```
+    /// use semver_parser::filters::Filter;
+    /// use semver_parser::{version, Compat, PreReleases};
+    ///
+    /// let filter = Filter::new("^0.2 || 2.x", Compat::Npm, PreReleases::Default).unwrap();
+    /// let versions = ["0.2.0", "0.3.0", "2.0.0-rc", "2.5.0", "2.5.0"];
+    /// let versions = versions.map(|text| version::parse(text).unwrap());
+    /// assert_eq!(filter.kept(&versions)?, [&versions[0], &versions[3], &versions[4]]);
+    /// # Ok::<(), semver_parser::AllocError>(())
+    /// ```
     pub fn kept<'v>(
         &self,
         alloc: Global,

@@ -29,6 +29,19 @@ use thiserror::Error;
 const LINE_FEED: &[u8] = b"\n";
 
 /// Why lines were not taken to the end.
+///
+/// ```
+/// use semver_parser::filters::{Filter, Lines, LinesError, Wanted};
+/// use semver_parser::{Compat, PreReleases};
+///
+/// let filter = Filter::new("^1", Compat::Npm, PreReleases::Excluded)?;
+/// let mut lines = Lines::new(filter, vec![], Wanted::Each, true);
+/// lines.push(b"1.4.0\n1.2", &mut Vec::new()).unwrap();
+/// let error = lines.finish(&mut Vec::new()).unwrap_err();
+/// assert!(matches!(error, LinesError::NoVersion(2)));
+/// assert_eq!(error.to_string(), "line 2 is no version");
+/// # Ok::<(), semver_parser::RangeError>(())
+/// ```
 #[derive(Debug, Error, Drop)]
 pub enum LinesError {
     /// An allocation failed.
@@ -40,6 +53,18 @@ pub enum LinesError {
 }
 
 /// A piece was not taken to its end.
+///
+/// ```
+/// use semver_parser::filters::{Filter, Lines, LinesError, Wanted};
+/// use semver_parser::{Compat, PreReleases};
+///
+/// let filter = Filter::new("^1", Compat::Npm, PreReleases::Excluded)?;
+/// let mut lines = Lines::new(filter, vec![], Wanted::Each, true);
+/// let stopped = lines.push(b"1.4.0\n1.2\n1.5.0\n", &mut Vec::new()).unwrap_err();
+/// assert_eq!(stopped.taken, 10);
+/// assert!(matches!(stopped.error, LinesError::NoVersion(2)));
+/// # Ok::<(), semver_parser::RangeError>(())
+/// ```
 #[derive(Debug, Error, Drop)]
 #[error("{error}")]
 pub struct Stopped {
@@ -63,6 +88,19 @@ pub struct Stopped {
 /// Of a line that goes on into the next piece its bytes are held. At 4,096 of them, at twice as
 /// many, and so on, they are checked: if no line with a version begins with them, no more than
 /// these are held, and the rest of the line is skipped.
+///
+/// ```
+/// use semver_parser::filters::{Filter, Lines, Wanted};
+/// use semver_parser::{Compat, PreReleases};
+///
+/// let filter = Filter::new("^1", Compat::Npm, PreReleases::Excluded)?;
+/// let mut lines = Lines::new(filter, vec![], Wanted::Each, false);
+/// let mut kept = Vec::new();
+/// lines.push(b"2.0.0\n1.4.0", &mut kept).unwrap();
+/// lines.finish(&mut kept).unwrap();
+/// assert_eq!(kept, b"1.4.0");
+/// # Ok::<(), semver_parser::RangeError>(())
+/// ```
 #[derive(Drop)]
 pub struct Lines {
     chosen: LineFilter,
@@ -99,11 +137,21 @@ impl Model for Lines {
 
 impl Lines {
     // Answer: equation.
-    /// Returns the lines of a text of which no byte was taken yet. With a filter of `^1`, the
-    /// prefix `v` and `Wanted::Each`, those that are kept are `v1.4.0` and `v1.9.2`, and not
-    /// `v2.0.0` or `1.4.0`.
+    /// Returns the lines of a text of which no byte was taken yet.
     ///
     /// Where `is_strict` is true, a line that isn't empty and has no version is an error.
+    ///
+    /// ```
+    /// use semver_parser::filters::{Filter, Lines, Wanted};
+    /// use semver_parser::{Compat, PreReleases};
+    ///
+    /// let filter = Filter::new("^1", Compat::Npm, PreReleases::Excluded)?;
+    /// let mut lines = Lines::new(filter, vec!["v".to_string()], Wanted::Each, false);
+    /// let mut kept = Vec::new();
+    /// lines.push(b"v1.4.0\nv2.0.0\n1.4.0\nv1.9.2\n", &mut kept).unwrap();
+    /// assert_eq!(kept, b"v1.4.0\nv1.9.2\n");
+    /// # Ok::<(), semver_parser::RangeError>(())
+    /// ```
     pub fn new(
         alloc: Global,
         filter: Filter,
@@ -134,8 +182,7 @@ impl Lines {
 
     // Answer: law release_filter::laws::one_push.
     /// Takes the next bytes of the text, and appends of the lines that these end the kept ones that
-    /// are wanted at once: with a filter of `^1` and `Wanted::Each`, `1.4.0\n2.0.0\n1.` appends
-    /// `1.4.0\n`, and then `9.2\n` appends `1.9.2\n`.
+    /// are wanted at once.
     ///
     /// # Errors
     ///
@@ -150,6 +197,20 @@ impl Lines {
     /// A kept line is appended as it is, with the line feed that ends it, but for a byte order mark
     /// at the front of the text. What a text appends doesn't depend on how it is cut into pieces
     /// (`laws::pieces_do_not_matter`).
+    ///
+    /// ```
+    /// use semver_parser::filters::{Filter, Lines, Wanted};
+    /// use semver_parser::{Compat, PreReleases};
+    ///
+    /// let filter = Filter::new("^1", Compat::Npm, PreReleases::Excluded)?;
+    /// let mut lines = Lines::new(filter, vec![], Wanted::Each, false);
+    /// let mut kept = Vec::new();
+    /// lines.push(b"1.4.0\n2.0.0\n1.", &mut kept).unwrap();
+    /// assert_eq!(kept, b"1.4.0\n");
+    /// lines.push(b"9.2\n", &mut kept).unwrap();
+    /// assert_eq!(kept, b"1.4.0\n1.9.2\n");
+    /// # Ok::<(), semver_parser::RangeError>(())
+    /// ```
     pub fn push(&mut self, alloc: Global, piece: &[u8], kept: &mut Vec<u8>) -> Result<(), Stopped>
         ensures takes { IfOk result (λ _. (judged : List JudgedLine) × Takes self.old piece.now
             judged self.new kept.old.items kept.new.items
@@ -189,8 +250,7 @@ impl Lines {
 
     // Answer: law release_filter::laws::one_finish.
     /// Takes the end of the text, with the last line if no line feed ends it, and appends the rest
-    /// of the answer: with a filter of `^1`, after `2.0.0\n1.4.0` it appends `1.4.0`, and with
-    /// `Wanted::Sorted`, after `1.9.0\n1.4.0`, `1.4.0\n1.9.0\n`.
+    /// of the answer.
     ///
     /// # Errors
     ///
@@ -204,6 +264,19 @@ impl Lines {
     /// But for `Wanted::Sorted` a line is appended as it is, with no line feed added. Then no byte
     /// of a text was taken, as after [`Lines::new`], so that another text can be pushed; the lines
     /// of both are counted.
+    ///
+    /// ```
+    /// use semver_parser::filters::{Filter, Lines, Wanted};
+    /// use semver_parser::{Compat, PreReleases};
+    ///
+    /// let filter = Filter::new("^1", Compat::Npm, PreReleases::Excluded)?;
+    /// let mut lines = Lines::new(filter, vec![], Wanted::Sorted, false);
+    /// let mut kept = Vec::new();
+    /// lines.push(b"1.9.0\n1.4.0", &mut kept).unwrap();
+    /// lines.finish(&mut kept).unwrap();
+    /// assert_eq!(kept, b"1.4.0\n1.9.0\n");
+    /// # Ok::<(), semver_parser::RangeError>(())
+    /// ```
     pub fn finish(&mut self, alloc: Global, kept: &mut Vec<u8>) -> Result<(), LinesError>
         ensures finishes { IfOk result (λ _. (judged : List JudgedLine) × Finishes self.old judged
             self.new kept.old.items kept.new.items
@@ -241,8 +314,19 @@ impl Lines {
     }
 
     // Answer: equation.
-    /// Returns the counts of the lines so far: after `v1.2.0\n\n1.4.0\n` three lines, of which one
-    /// is empty and one is invalid, the first, `v1.2.0`. It does not allocate.
+    /// Returns the counts of the lines so far. It does not allocate.
+    ///
+    /// ```
+    /// use semver_parser::filters::{Filter, Lines, Wanted};
+    /// use semver_parser::{Compat, PreReleases};
+    ///
+    /// let filter = Filter::new("^1", Compat::Npm, PreReleases::Excluded)?;
+    /// let mut lines = Lines::new(filter, vec![], Wanted::Each, false);
+    /// lines.push(b"v1.2.0\n\n1.4.0\n", &mut Vec::new()).unwrap();
+    /// assert_eq!((lines.counts().lines, lines.counts().empty), (3, 1));
+    /// assert_eq!(lines.counts().first_invalid.as_ref().unwrap().front, b"v1.2.0");
+    /// # Ok::<(), semver_parser::RangeError>(())
+    /// ```
     pub fn counts(&self) -> &Counts
         ensures { counts_value result.now ≡ self.now.counts }
     {

@@ -18,9 +18,19 @@ use semver_parser::{Comparator, Op, Range, RangeSet};
 /// Whether a version is a release that meets a range set: it has no pre-release, and some range of
 /// the set has all its comparators met, by precedence (SemVer 2.0.0, section 11).
 ///
-/// `2.5.0` meets the set of `^0.2 || 2.x`; `2.0.0-rc` doesn't, and neither does `0.3.0`. No version
-/// meets a set without ranges, and each release meets a range without comparators. It takes no
-/// memory.
+/// No version meets a set without ranges, and each release meets a range without comparators. It
+/// takes no memory.
+///
+/// ```
+/// use semver_parser::filters::release_meets;
+/// use semver_parser::{version, Compat, RangeSet};
+///
+/// let set = RangeSet::parse("^0.2 || 2.x", Compat::Npm)?;
+/// assert!(release_meets(&set, &version::parse("2.5.0")?));
+/// assert!(!release_meets(&set, &version::parse("2.0.0-rc")?));
+/// assert!(!release_meets(&set, &version::parse("0.3.0")?));
+/// # Ok::<(), String>(())
+/// ```
 pub fn release_meets(set: &RangeSet, version: &Version) -> bool
     ensures meets { result ≡ (is_release (version_value version.now)
         && meets_set (version_value version.now).plain (set_of set.now)) }
@@ -33,10 +43,20 @@ pub fn release_meets(set: &RangeSet, version: &Version) -> bool
 /// comparators met, by precedence (SemVer 2.0.0, section 11). The build of the version doesn't
 /// count.
 ///
-/// `1.0.0-beta.11` meets the set of `>=1.0.0-beta.2 <1.0.0`; `1.0.0-alpha` doesn't, and neither
-/// does `1.0.0`. A pre-release needs no comparator with its own numbers: `2.0.0-alpha` meets
-/// `>=1.0.0`, and `<2.0.0` too. No version meets a set without ranges, and each meets a range
-/// without comparators. It does not allocate.
+/// A pre-release needs no comparator with its own numbers: `2.0.0-alpha` meets `>=1.0.0`, and
+/// `<2.0.0` too. No version meets a set without ranges, and each meets a range without comparators.
+/// It does not allocate.
+///
+/// ```
+/// use semver_parser::filters::version_meets;
+/// use semver_parser::{version, Compat, RangeSet};
+///
+/// let set = RangeSet::parse(">=1.0.0-beta.2 <1.0.0", Compat::Npm)?;
+/// assert!(version_meets(&set, &version::parse("1.0.0-beta.11")?));
+/// assert!(!version_meets(&set, &version::parse("1.0.0-alpha")?));
+/// assert!(!version_meets(&set, &version::parse("1.0.0")?));
+/// # Ok::<(), String>(())
+/// ```
 pub fn version_meets(set: &RangeSet, version: &Version) -> bool
     ensures meets { result ≡ meets_set (version_value version.now).plain (set_of set.now) }
 {
@@ -49,9 +69,19 @@ pub fn version_meets(set: &RangeSet, version: &Version) -> bool
 /// section 11), and where the version has a pre-release, a comparator of that range has the same
 /// three numbers and a pre-release, too.
 ///
-/// `1.0.0-beta.11` meets the set of `>=1.0.0-beta.2 <1.0.0`, and not that of `<1.0.0`. With the
-/// sets that `RangeSet::parse_exact` answers this is what the text means as stated
+/// With the sets that `RangeSet::parse_exact` answers this is what the text means as stated
 /// (docs/MEANING.md). It does not allocate.
+///
+/// ```
+/// use semver_parser::filters::version_meets_as_stated;
+/// use semver_parser::{version, Compat, RangeSet};
+///
+/// let version = version::parse("1.0.0-beta.11")?;
+/// let stated = RangeSet::parse(">=1.0.0-beta.2 <1.0.0", Compat::Npm)?;
+/// assert!(version_meets_as_stated(&stated, &version));
+/// assert!(!version_meets_as_stated(&RangeSet::parse("<1.0.0", Compat::Npm)?, &version));
+/// # Ok::<(), String>(())
+/// ```
 pub fn version_meets_as_stated(set: &RangeSet, version: &Version) -> bool
     ensures meets { result
         ≡ meets_set_as_stated (version_value version.now).plain (set_of set.now) }

@@ -24,6 +24,19 @@ use std::cmp::Ordering;
 use std::mem;
 
 /// Which of the kept lines are wanted.
+///
+/// ```
+/// use semver_parser::filters::{Filter, Lines, Wanted};
+/// use semver_parser::{Compat, PreReleases};
+///
+/// let filter = Filter::new("^1", Compat::Npm, PreReleases::Excluded)?;
+/// let mut lines = Lines::new(filter, vec![], Wanted::Greatest, false);
+/// let mut kept = Vec::new();
+/// lines.push(b"1.4.0\n1.9.2\n2.0.0\n1.5.0\n", &mut kept).unwrap();
+/// lines.finish(&mut kept).unwrap();
+/// assert_eq!(kept, b"1.9.2\n");
+/// # Ok::<(), semver_parser::RangeError>(())
+/// ```
 #[derive(Clone, Copy, Debug, PartialEq, Eq)]
 pub enum Wanted {
     /// Each, as soon as it has ended.

@@ -10,6 +10,18 @@ use crate::rattle_std::AllocError;
 const FRONT: usize = 81;
 
 /// How many lines a text has, and how many of these have no version. Each count stops at 2^64 - 1.
+///
+/// ```
+/// use semver_parser::filters::{Filter, Lines, Wanted};
+/// use semver_parser::{Compat, PreReleases};
+///
+/// let filter = Filter::new("^1", Compat::Npm, PreReleases::Excluded)?;
+/// let mut lines = Lines::new(filter, vec![], Wanted::Each, false);
+/// lines.push(b"1.4.0\n2.0.0\n\n1.2\n", &mut Vec::new()).unwrap();
+/// let counts = lines.counts();
+/// assert_eq!((counts.lines, counts.empty, counts.invalid), (4, 1, 1));
+/// # Ok::<(), semver_parser::RangeError>(())
+/// ```
 #[derive(Debug)]
 pub struct Counts {
     /// The lines that have ended, and the last one, once the end of the text was taken.
@@ -23,6 +35,18 @@ pub struct Counts {
 }
 
 /// A line that is not empty and has no version.
+///
+/// ```
+/// use semver_parser::filters::{Filter, Lines, Wanted};
+/// use semver_parser::{Compat, PreReleases};
+///
+/// let filter = Filter::new("^1", Compat::Npm, PreReleases::Excluded)?;
+/// let mut lines = Lines::new(filter, vec![], Wanted::Each, false);
+/// lines.push(b"1.4.0\n1.2\n", &mut Vec::new()).unwrap();
+/// let invalid = lines.counts().first_invalid.as_ref().unwrap();
+/// assert_eq!((invalid.number, invalid.front.as_slice()), (2, b"1.2".as_slice()));
+/// # Ok::<(), semver_parser::RangeError>(())
+/// ```
 #[derive(Debug)]
 pub struct InvalidLine {
     /// Its number: that of the first line is 1.

@@ -15,6 +15,19 @@ use crate::rattle_std::mem;
 const LINE_FEED: &[u8] = b"\n";
 
 /// Why lines were not taken to the end.
+///
+/// ```
+/// use semver_parser::filters::{Filter, Lines, LinesError, Wanted};
+/// use semver_parser::{Compat, PreReleases};
+///
+/// let filter = Filter::new("^1", Compat::Npm, PreReleases::Excluded)?;
+/// let mut lines = Lines::new(filter, vec![], Wanted::Each, true);
+/// lines.push(b"1.4.0\n1.2", &mut Vec::new()).unwrap();
+/// let error = lines.finish(&mut Vec::new()).unwrap_err();
+/// assert!(matches!(error, LinesError::NoVersion(2)));
+/// assert_eq!(error.to_string(), "line 2 is no version");
+/// # Ok::<(), semver_parser::RangeError>(())
+/// ```
 #[derive(Debug)]
 pub enum LinesError {
     /// An allocation failed.
@@ -36,6 +49,18 @@ impl crate::rattle_std::fmt::Display for LinesError {
 impl crate::rattle_std::Error for LinesError {}
 
 /// A piece was not taken to its end.
+///
+/// ```
+/// use semver_parser::filters::{Filter, Lines, LinesError, Wanted};
+/// use semver_parser::{Compat, PreReleases};
+///
+/// let filter = Filter::new("^1", Compat::Npm, PreReleases::Excluded)?;
+/// let mut lines = Lines::new(filter, vec![], Wanted::Each, true);
+/// let stopped = lines.push(b"1.4.0\n1.2\n1.5.0\n", &mut Vec::new()).unwrap_err();
+/// assert_eq!(stopped.taken, 10);
+/// assert!(matches!(stopped.error, LinesError::NoVersion(2)));
+/// # Ok::<(), semver_parser::RangeError>(())
+/// ```
 #[derive(Debug)]
 pub struct Stopped {
     /// How many bytes of the piece were taken. The rest can be pushed again.
@@ -69,6 +94,19 @@ impl crate::rattle_std::Error for Stopped {}
 /// Of a line that goes on into the next piece its bytes are held. At 4,096 of them, at twice as
 /// many, and so on, they are checked: if no line with a version begins with them, no more than
 /// these are held, and the rest of the line is skipped.
+///
+/// ```
+/// use semver_parser::filters::{Filter, Lines, Wanted};
+/// use semver_parser::{Compat, PreReleases};
+///
+/// let filter = Filter::new("^1", Compat::Npm, PreReleases::Excluded)?;
+/// let mut lines = Lines::new(filter, vec![], Wanted::Each, false);
+/// let mut kept = Vec::new();
+/// lines.push(b"2.0.0\n1.4.0", &mut kept).unwrap();
+/// lines.finish(&mut kept).unwrap();
+/// assert_eq!(kept, b"1.4.0");
+/// # Ok::<(), semver_parser::RangeError>(())
+/// ```
 pub struct Lines {
     chosen: LineFilter,
     is_strict: bool,
@@ -80,11 +118,21 @@ pub struct Lines {
 }
 
 impl Lines {
-    /// Returns the lines of a text of which no byte was taken yet. With a filter of `^1`, the
-    /// prefix `v` and `Wanted::Each`, those that are kept are `v1.4.0` and `v1.9.2`, and not
-    /// `v2.0.0` or `1.4.0`.
+    /// Returns the lines of a text of which no byte was taken yet.
     ///
     /// Where `is_strict` is true, a line that isn't empty and has no version is an error.
+    ///
+    /// ```
+    /// use semver_parser::filters::{Filter, Lines, Wanted};
+    /// use semver_parser::{Compat, PreReleases};
+    ///
+    /// let filter = Filter::new("^1", Compat::Npm, PreReleases::Excluded)?;
+    /// let mut lines = Lines::new(filter, vec!["v".to_string()], Wanted::Each, false);
+    /// let mut kept = Vec::new();
+    /// lines.push(b"v1.4.0\nv2.0.0\n1.4.0\nv1.9.2\n", &mut kept).unwrap();
+    /// assert_eq!(kept, b"v1.4.0\nv1.9.2\n");
+    /// # Ok::<(), semver_parser::RangeError>(())
+    /// ```
     pub fn new(filter: Filter,
         prefixes: Vec<String>,
         wanted: Wanted,
@@ -102,8 +150,7 @@ impl Lines {
     }
 
     /// Takes the next bytes of the text, and appends of the lines that these end the kept ones that
-    /// are wanted at once: with a filter of `^1` and `Wanted::Each`, `1.4.0\n2.0.0\n1.` appends
-    /// `1.4.0\n`, and then `9.2\n` appends `1.9.2\n`.
+    /// are wanted at once.
     ///
     /// # Errors
     ///
@@ -118,6 +165,20 @@ impl Lines {
     /// A kept line is appended as it is, with the line feed that ends it, but for a byte order mark
     /// at the front of the text. What a text appends doesn't depend on how it is cut into pieces
     /// (`laws::pieces_do_not_matter`).
+    ///
+    /// ```
+    /// use semver_parser::filters::{Filter, Lines, Wanted};
+    /// use semver_parser::{Compat, PreReleases};
+    ///
+    /// let filter = Filter::new("^1", Compat::Npm, PreReleases::Excluded)?;
+    /// let mut lines = Lines::new(filter, vec![], Wanted::Each, false);
+    /// let mut kept = Vec::new();
+    /// lines.push(b"1.4.0\n2.0.0\n1.", &mut kept).unwrap();
+    /// assert_eq!(kept, b"1.4.0\n");
+    /// lines.push(b"9.2\n", &mut kept).unwrap();
+    /// assert_eq!(kept, b"1.4.0\n1.9.2\n");
+    /// # Ok::<(), semver_parser::RangeError>(())
+    /// ```
     pub fn push(&mut self,piece: &[u8], kept: &mut Vec<u8>) -> Result<(), Stopped> {
         let _ = &self.unended;
         let mut taken = 0;
@@ -141,8 +202,7 @@ impl Lines {
     }
 
     /// Takes the end of the text, with the last line if no line feed ends it, and appends the rest
-    /// of the answer: with a filter of `^1`, after `2.0.0\n1.4.0` it appends `1.4.0`, and with
-    /// `Wanted::Sorted`, after `1.9.0\n1.4.0`, `1.4.0\n1.9.0\n`.
+    /// of the answer.
     ///
     /// # Errors
     ///
@@ -156,6 +216,19 @@ impl Lines {
     /// But for `Wanted::Sorted` a line is appended as it is, with no line feed added. Then no byte
     /// of a text was taken, as after [`Lines::new`], so that another text can be pushed; the lines
     /// of both are counted.
+    ///
+    /// ```
+    /// use semver_parser::filters::{Filter, Lines, Wanted};
+    /// use semver_parser::{Compat, PreReleases};
+    ///
+    /// let filter = Filter::new("^1", Compat::Npm, PreReleases::Excluded)?;
+    /// let mut lines = Lines::new(filter, vec![], Wanted::Sorted, false);
+    /// let mut kept = Vec::new();
+    /// lines.push(b"1.9.0\n1.4.0", &mut kept).unwrap();
+    /// lines.finish(&mut kept).unwrap();
+    /// assert_eq!(kept, b"1.4.0\n1.9.0\n");
+    /// # Ok::<(), semver_parser::RangeError>(())
+    /// ```
     pub fn finish(&mut self,kept: &mut Vec<u8>) -> Result<(), LinesError> {
         let line = after_mark(self.at_front, self.unended.as_slice());
         if line.is_empty() {
@@ -181,8 +254,19 @@ impl Lines {
         Ok(())
     }
 
-    /// Returns the counts of the lines so far: after `v1.2.0\n\n1.4.0\n` three lines, of which one
-    /// is empty and one is invalid, the first, `v1.2.0`. It does not allocate.
+    /// Returns the counts of the lines so far. It does not allocate.
+    ///
+    /// ```
+    /// use semver_parser::filters::{Filter, Lines, Wanted};
+    /// use semver_parser::{Compat, PreReleases};
+    ///
+    /// let filter = Filter::new("^1", Compat::Npm, PreReleases::Excluded)?;
+    /// let mut lines = Lines::new(filter, vec![], Wanted::Each, false);
+    /// lines.push(b"v1.2.0\n\n1.4.0\n", &mut Vec::new()).unwrap();
+    /// assert_eq!((lines.counts().lines, lines.counts().empty), (3, 1));
+    /// assert_eq!(lines.counts().first_invalid.as_ref().unwrap().front, b"v1.2.0");
+    /// # Ok::<(), semver_parser::RangeError>(())
+    /// ```
     pub fn counts(&self) -> &Counts {
         &self.counts
     }
