@@ -59,10 +59,20 @@ pub trait FalliblePush<T> {
 impl<T> FalliblePush<T> for Vec<T> {
     #[inline(always)]
     fn fallible_push(&mut self, item: T) -> Made<()> {
-        self.try_reserve(1)?;
+        if self.len() == self.capacity() && self.try_reserve(1).is_err() {
+            return Err(refused(item));
+        }
         self.push_reserved(item);
         Ok(())
     }
+}
+
+/// Drops an item that wasn't pushed.
+#[cold]
+#[inline(never)]
+fn refused<T>(item: T) -> AllocError {
+    drop(item);
+    AllocError
 }
 
 impl FalliblePush<char> for String {
