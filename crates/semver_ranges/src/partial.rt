@@ -405,7 +405,11 @@ fn kept_parts(alloc: Global, pre: &[u8]) -> Result<Vec<Identifier>, AllocError>
     ensures { IfOk result (λ parts. map identifier_of parts.items
         ≡ map kept (cut_at_dots pre.now)) }
 {
-    of_parts(alloc, text_of_parts(pre), |part| read_identifier(alloc, part))
+    of_parts(
+        alloc,
+        text_of_parts(pre),
+        |part| read_identifier(alloc, part),
+    )
 }
 
 /// A part as it is kept.

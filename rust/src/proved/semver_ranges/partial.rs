@@ -308,7 +308,9 @@ fn raised_pre(raised: RaisedBounds) -> Result<Vec<Identifier>, AllocError> {
 /// partials have none, and then nothing is called.
 #[inline(never)]
 fn kept_parts(pre: &[u8]) -> Result<Vec<Identifier>, AllocError> {
-    of_parts(text_of_parts(pre), |part| read_identifier(part))
+    of_parts(text_of_parts(pre),
+        |part| read_identifier(part),
+    )
 }
 
 /// A part as it is kept.

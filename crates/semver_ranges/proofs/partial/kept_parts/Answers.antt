@@ -13,6 +13,6 @@ text_of_parts-requires c = parts_pass c.args.pre.now c.requires
 pub returns : goal.returns
 returns c =
     let cut = IfOk-weaker c.of_parts.result _ _
-        (λ parts made. zip_same identifier_of kept (λ id part is. search rules) parts.items (cut_at_dots c.text_of_parts.result.now) made)
-        c.of_parts.ensures.made in
+    (λ parts made. zip_same identifier_of kept (λ id part is. search rules) parts.items (cut_at_dots c.text_of_parts.result.now) made)
+    c.of_parts.ensures.made in
     rw c.text_of_parts.ensures at cut
