@@ -219,13 +219,19 @@ page: $(module)
 	mkdir -p "$$OUT" && to=$$OUT put "$$work" ./semver-ranges.html
 	echo "made $$OUT/semver-ranges.html"
 
-# The files of rust/ as they are there; a link becomes the file that it leads to.
+# The files of rust/, the licences, and what its tests read of crates/.
 crate:
 	$(begin)
 	may_write "$$OUT"
 	command -v cargo > /dev/null || refuse 'needs the command cargo'
-	cargo package --quiet --offline --allow-dirty --no-verify --manifest-path rust/Cargo.toml \
-		--target-dir "$$work/target" 2> "$$work/notes" || { cat "$$work/notes" >&2; exit 2; }
+	data=$$work/crate/tests/data
+	cp -R rust "$$work/crate" && cp LICENSE-APACHE LICENSE-MIT "$$work/crate"
+	mkdir -p "$$data/replayed_cases" "$$data/library_tests"
+	cp crates/replayed_cases/stdin crates/replayed_cases/stdout "$$data/replayed_cases"
+	cp crates/library_tests/stdout crates/library_tests/requests "$$data/library_tests"
+	cargo package --quiet --offline --allow-dirty --no-verify --target-dir "$$work/target" \
+		--manifest-path "$$work/crate/Cargo.toml" 2> "$$work/notes" ||
+		{ cat "$$work/notes" >&2; exit 2; }
 	name=semver-parser-proved-$(version).crate
 	mkdir -p "$$OUT" && to=$$OUT put "$$work/target/package" "./$$name"
 	echo "made $$OUT/$$name"

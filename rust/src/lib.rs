@@ -51,6 +51,7 @@ pub mod sets;
 
 pub use proved::semver_parser::{lexer, parser, version};
 pub use proved::semver_ranges::{Comparator, Compat, Identifier, Op, Range, RangeError, RangeSet};
+pub use proved::semver_versions::version::Digits;
 pub use proved::tool_ranges::dialect::Dialect;
 pub use proved::tool_ranges::meaning::Meaning;
 pub use proved::version_sets::PreReleases;

@@ -391,14 +391,12 @@ pub mod io {
 
 /// What each erased file has in scope.
 pub mod prelude {
-    pub use super::{
-        FallibleClone, FalliblePush, FallibleString, FallibleToString, FallibleVec,
-    };
     #[cfg(feature = "std")]
     pub use super::{
         rt::{AllocGlobal, Eprint, Print},
         HostRuntime,
     };
+    pub use super::{FallibleClone, FalliblePush, FallibleString, FallibleToString, FallibleVec};
     pub use alloc::string::String;
     pub use alloc::vec::Vec;
 }

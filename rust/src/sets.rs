@@ -7,16 +7,15 @@
 //! let old = sets::read(Dialect::Cargo, "^1.2")?;
 //! let new = sets::read(Dialect::Cargo, ">=1.2.1, <1.9")?;
 //! assert!(new.is_within(&old));
-//! assert!(old.has(&version::parse("1.2.0")?));
+//! assert!(old.has(&version::parse("1.2.0").unwrap()));
 //!
-//! let lost = old.difference(&new).unwrap();
-//! let ranges = lost.release_ranges().unwrap().range_set;
-//! assert_eq!(ranges.to_string(), "=1.2.0 || >=1.9.0 <2.0.0");
-//! # Ok::<(), String>(())
+//! let lost = old.difference(&new)?.release_ranges()?.range_set;
+//! assert_eq!(lost.to_string(), "=1.2.0 || >=1.9.0 <2.0.0");
+//! # Ok::<(), semver_parser::RangeError>(())
 //! ```
 
 use crate::proved::tool_ranges::meaning;
-use crate::{Meaning, RangeError};
+use crate::{AllocError, Meaning, RangeError};
 
 pub use crate::proved::version_sets::{Comparison, Release, SetRanges, VersionSet};
 
@@ -38,4 +37,11 @@ pub use crate::proved::version_sets::{Comparison, Release, SetRanges, VersionSet
 /// ```
 pub fn read(meaning: impl Into<Meaning>, range: &str) -> Result<VersionSet, RangeError> {
     meaning::read(meaning.into(), range)
+}
+
+impl From<AllocError> for RangeError {
+    /// [`RangeError::OutOfMemory`], so that `?` serves a range and the sets of it alike.
+    fn from(_: AllocError) -> RangeError {
+        RangeError::OutOfMemory
+    }
 }

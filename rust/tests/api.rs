@@ -65,7 +65,8 @@ fn a_parser_reads_token_by_token() -> Result<(), String> {
 fn errors_are_sentences() {
     let error = version::parse("1.2").unwrap_err();
     assert_eq!(String::from(error), "expected more input");
-    let boxed: Box<dyn std::error::Error> = Box::from(RangeSet::parse("a", Compat::Npm).unwrap_err());
+    let boxed: Box<dyn std::error::Error> =
+        Box::from(RangeSet::parse("a", Compat::Npm).unwrap_err());
     assert_eq!(boxed.to_string(), "not a range");
 }
 

@@ -11,7 +11,6 @@ use std::sync::atomic::{AtomicI64, Ordering::SeqCst};
 use std::{env, fs, io, process, thread};
 
 #[path = "../src/proved/mod.rs"]
-#[allow(dead_code)]
 mod proved;
 #[path = "../src/rattle_std.rs"]
 #[allow(dead_code)]
@@ -66,19 +65,22 @@ fn main() {
 }
 
 fn compare_all() {
-    let rows = run("run-rows", data("rows.in"));
-    compare("rows", &data("rows.out"), &rows);
-    compare("library", &data("library.out"), &run("run-library", Vec::new()));
+    let rows = run("run-rows", data("replayed_cases/stdin"));
+    compare("rows", &data("replayed_cases/stdout"), &rows);
+    compare("library", &data("library_tests/stdout"), &run("run-library", Vec::new()));
     // An optimized program doesn't make the requests that only count.
     if cfg!(debug_assertions) {
         refuse_each_request();
     }
 }
 
-/// A file beside this test.
+/// A file of a program: in the repository it is beside its source, and `make crate` packs it.
 fn data(name: &str) -> Vec<u8> {
-    let path = format!("{}/tests/data/{name}", env!("CARGO_MANIFEST_DIR"));
-    fs::read(&path).unwrap_or_else(|error| panic!("{path}: {error}"))
+    let root = env!("CARGO_MANIFEST_DIR");
+    let packed = fs::read(format!("{root}/tests/data/{name}"));
+    packed
+        .or_else(|_| fs::read(format!("{root}/../crates/{name}")))
+        .unwrap_or_else(|error| panic!("{name}: {error}"))
 }
 
 /// This test as a command, for another processor after the words of the variable RUNNER.
@@ -124,7 +126,7 @@ fn compare(what: &str, wanted: &[u8], found: &[u8]) {
 /// `requests` has each call and how many requests it makes. The program makes so many others first
 /// that the one that is refused is the first of the first call, then its second, and so on.
 fn refuse_each_request() {
-    let requests = String::from_utf8(data("requests")).expect("a text");
+    let requests = String::from_utf8(data("library_tests/requests")).expect("a text");
     let mut count = 0;
     for line in requests.lines() {
         let (call, of_call) = line.split_once(' ').expect("a call and a number");

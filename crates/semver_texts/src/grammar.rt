@@ -22,6 +22,14 @@ pub enum Grammar {
 }
 
 /// What an identifier of digits alone is from 2^64 on. Below, it is a number.
+///
+/// ```
+/// use semver_parser::Digits;
+/// use semver_parser::version::Grammar;
+///
+/// assert_eq!(Grammar::Crate.digits(), Digits::Kept);
+/// assert_eq!(Grammar::Npm.digits(), Digits::AnySize);
+/// ```
 #[derive(Clone, Copy, Debug, PartialEq, Eq)]
 pub enum Digits {
     /// A text, as `semver-parser` keeps it.

@@ -6,7 +6,7 @@ use semver_parser::rattle_std::{self, HostRuntime};
 mod proved {
     pub use ::semver_parser::proved::*;
 
-    #[allow(clippy::all, unused_imports, unused_variables)]
+    #[allow(clippy::complexity, clippy::style, unused)]
     pub mod semver_parser_main;
 }
 

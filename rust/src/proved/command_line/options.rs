@@ -36,7 +36,7 @@ impl MeaningOptions {
     /// `UnknownDialect` of a name that no dialect has, and `Unreadable` in its place only.
     /// `GivenTwice` and `Contradiction` if an earlier option says the same or otherwise; they name
     /// the long forms. After an error the options are those before it, and no name is wanted.
-    pub fn take(&mut self,argument: &str) -> Result<bool, ArgumentError> {
+    pub fn take(&mut self, argument: &str) -> Result<bool, ArgumentError> {
         if self.wants_name {
             self.wants_name = false;
             self.ask_by_name(argument)?;
@@ -83,7 +83,7 @@ impl MeaningOptions {
     }
 
     /// Takes the dialect of a name.
-    fn ask_by_name(&mut self,name: &str) -> Result<(), ArgumentError> {
+    fn ask_by_name(&mut self, name: &str) -> Result<(), ArgumentError> {
         match name {
             "cargo" => self.ask(Dialect::Cargo, "--dialect cargo"),
             "npm" => self.ask(Dialect::Npm, "--dialect npm"),

@@ -20,7 +20,8 @@ use crate::proved::tool_ranges::refusals::{Refusal, refused};
 ///     1.2 || 3
 ///         ^ at byte 4: Cargo takes no ||; --dialect npm does
 /// ```
-pub fn refused_text(dialect: Dialect,
+pub fn refused_text(
+    dialect: Dialect,
     error: &RangeError,
     text: &str,
 ) -> Result<String, AllocError> {
@@ -34,7 +35,8 @@ pub fn refused_text(dialect: Dialect,
 
 /// The text of an error in one line, without the range text:
 /// `not a range (at byte 4: Cargo takes no ||; --dialect npm does)`. `Err` is out of memory.
-pub fn refused_line(dialect: Dialect,
+pub fn refused_line(
+    dialect: Dialect,
     error: &RangeError,
     text: &str,
 ) -> Result<String, AllocError> {

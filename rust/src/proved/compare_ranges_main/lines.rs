@@ -37,7 +37,8 @@ impl Output {
 
     /// Appends what two ranges lose, gain and share.
     pub fn push_two(
-        &mut self,old: &VersionSet,
+        &mut self,
+        old: &VersionSet,
         new: &VersionSet,
     ) -> Result<(), AllocError> {
         match self.options.extent {
@@ -63,7 +64,8 @@ impl Output {
 
     /// Appends the versions of one range under a word.
     pub fn push_one(
-        &mut self,word: &str,
+        &mut self,
+        word: &str,
         range: &VersionSet,
     ) -> Result<(), AllocError> {
         match self.options.extent {
@@ -89,7 +91,8 @@ impl Output {
 
     /// Appends the releases of a set, and its pre-releases.
     fn push_whole(
-        &mut self,word: &str,
+        &mut self,
+        word: &str,
         set: &VersionSet,
     ) -> Result<(), AllocError> {
         self.push_ranges(word, "", &set.release_ranges()?)?;

@@ -170,7 +170,8 @@ pub fn write_prefixes(rt: &impl Print) -> io::Result<()> {
 }
 
 /// Whether pieces append this, the kept lines that they end as soon as these end.
-fn appends(wanted: Wanted,
+fn appends(
+    wanted: Wanted,
     pieces: &[&[u8]],
     appended: &str,
 ) -> Result<bool, AllocError> {
@@ -203,7 +204,8 @@ fn are_counted(lines: &Lines) -> bool {
 }
 
 /// Whether pieces of this length append this.
-fn appends_in_pieces(wanted: Wanted,
+fn appends_in_pieces(
+    wanted: Wanted,
     length: usize,
     appended: &str,
 ) -> Result<bool, AllocError> {
@@ -222,7 +224,8 @@ fn appends_in_pieces(wanted: Wanted,
 
 /// Whether strict lines stop once, after the second line, and append all else if the rest is
 /// pushed.
-fn stops_and_goes_on(wanted: Wanted,
+fn stops_and_goes_on(
+    wanted: Wanted,
     length: usize,
     appended: &str,
 ) -> Result<bool, AllocError> {
@@ -327,7 +330,8 @@ fn takes_long(line: &[u8], place: usize, is_kept: bool) -> Result<bool, AllocErr
 }
 
 /// The lines of a text that a filter of a range keeps, releases only, without a prefix.
-fn lines_of(range: &str,
+fn lines_of(
+    range: &str,
     wanted: Wanted,
     is_strict: bool,
 ) -> Result<Lines, AllocError> {

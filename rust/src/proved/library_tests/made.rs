@@ -35,10 +35,11 @@ fn version_of(text: &str) -> Result<Version, AllocError> {
 /// of one comparator, and one whose range is in another mode.
 pub fn write_sets(rt: &impl Print) -> io::Result<()> {
     let (ranges, compat) = (Vec::new(), Compat::Cargo);
-    write_read_back(rt,&RangeSet { ranges, compat })?;
+    write_read_back(rt, &RangeSet { ranges, compat })?;
     let no_comparators = Vec::new();
     write_read_back(
-        rt,&of_one_range(no_comparators, Compat::Cargo)?,
+        rt,
+        &of_one_range(no_comparators, Compat::Cargo)?,
     )?;
     for (op, numbers, text) in [
         (Op::Eq, (1, 2, 3), "007"),
@@ -49,17 +50,20 @@ pub fn write_sets(rt: &impl Print) -> io::Result<()> {
         let kept = Identifier::AlphaNumeric(text.fallible_to_string()?);
         let comparator_set = comparators(op, numbers, crate::rattle_std::fallible_vec![kept]?)?;
         write_read_back(
-            rt,&of_one_range(comparator_set, Compat::Cargo)?,
+            rt,
+            &of_one_range(comparator_set, Compat::Cargo)?,
         )?;
     }
     let comparator_set = comparators(Op::Gt, (1, 0, 0), Vec::new())?;
     write_read_back(
-        rt,&of_one_range(comparator_set, Compat::Npm)?,
+        rt,
+        &of_one_range(comparator_set, Compat::Npm)?,
     )
 }
 
 /// The one comparator of an operator, three numbers and a pre-release.
-fn comparators(op: Op,
+fn comparators(
+    op: Op,
     (major, minor, patch): (u64, u64, u64),
     pre: Vec<Identifier>,
 ) -> Result<Vec<Comparator>, AllocError> {
@@ -74,7 +78,8 @@ fn comparators(op: Op,
 }
 
 /// A set in Cargo mode, of one range in a mode of its own.
-fn of_one_range(comparator_set: Vec<Comparator>,
+fn of_one_range(
+    comparator_set: Vec<Comparator>,
     compat: Compat,
 ) -> Result<RangeSet, AllocError> {
     let range = Range {
@@ -89,7 +94,7 @@ fn of_one_range(comparator_set: Vec<Comparator>,
 
 /// Writes what a set prints as, what that reads back as in the set's own mode, and whether that is
 /// the set.
-fn write_read_back(rt: &impl Print,set: &RangeSet) -> io::Result<()> {
+fn write_read_back(rt: &impl Print, set: &RangeSet) -> io::Result<()> {
     let printed = set.fallible_to_string()?;
     let again = RangeSet::try_parse(printed.as_str(), set.compat);
     let is_itself = again.as_ref().is_ok_and(|again| again == set);

@@ -16,7 +16,7 @@ pub fn write_versions(rt: &impl Print) -> io::Result<()> {
             continue;
         };
         if let Ok(identifier) = parser.identifier() {
-            write_printed(rt,&identifier, text)?;
+            write_printed(rt, &identifier, text)?;
         }
     }
     for text in [
@@ -28,7 +28,7 @@ pub fn write_versions(rt: &impl Print) -> io::Result<()> {
         "10.0.18446744073709551615-7.beta+01.a-b",
     ] {
         match version::parse(text) {
-            Ok(version) => write_printed(rt,&version, text)?,
+            Ok(version) => write_printed(rt, &version, text)?,
             Err(error) => crate::rattle_std::fallible_println!(rt; "{error}")?,
         }
     }
@@ -39,13 +39,13 @@ pub fn write_versions(rt: &impl Print) -> io::Result<()> {
 pub fn write_sets(rt: &impl Print) -> io::Result<()> {
     let ranges = Vec::new();
     let compat = Compat::Npm;
-    write_printed(rt,&RangeSet { ranges, compat }, "")?;
+    write_printed(rt, &RangeSet { ranges, compat }, "")?;
     let comparator_set = Vec::new();
     let no_comparators = Range {
         comparator_set,
         compat,
     };
-    write_printed(rt,&no_comparators, "")?;
+    write_printed(rt, &no_comparators, "")?;
     for text in [
         "=1.2.3",
         ">=1.2.3-7.beta <2.0.0 || =4.5.6-a",
@@ -53,9 +53,9 @@ pub fn write_sets(rt: &impl Print) -> io::Result<()> {
     ] {
         match RangeSet::try_parse(text, Compat::Npm) {
             Ok(set) => {
-                write_printed(rt,&set, text)?;
+                write_printed(rt, &set, text)?;
                 for (range, text) in set.ranges.iter().zip(text.split(" || ")) {
-                    write_range(rt,range, text)?;
+                    write_range(rt, range, text)?;
                 }
             }
             Err(error) => crate::rattle_std::fallible_println!(rt; "{error}")?,
@@ -64,25 +64,26 @@ pub fn write_sets(rt: &impl Print) -> io::Result<()> {
     Ok(())
 }
 
-fn write_range(rt: &impl Print,range: &Range, text: &str) -> io::Result<()> {
-    write_printed(rt,range, text)?;
+fn write_range(rt: &impl Print, range: &Range, text: &str) -> io::Result<()> {
+    write_printed(rt, range, text)?;
     for (comparator, text) in range.comparator_set.iter().zip(text.split(' ')) {
-        write_comparator(rt,comparator, text)?;
+        write_comparator(rt, comparator, text)?;
     }
     Ok(())
 }
 
 fn write_comparator(
-    rt: &impl Print,comparator: &Comparator,
+    rt: &impl Print,
+    comparator: &Comparator,
     text: &str,
 ) -> io::Result<()> {
-    write_printed(rt,comparator, text)?;
+    write_printed(rt, comparator, text)?;
     let version = text.trim_start_matches(['<', '>', '=']);
     let operator = text.strip_suffix(version).unwrap_or(text);
-    write_printed(rt,&comparator.op, operator)?;
+    write_printed(rt, &comparator.op, operator)?;
     if let Some((_, pre)) = text.split_once('-') {
         for (identifier, text) in comparator.pre.iter().zip(pre.split('.')) {
-            write_printed(rt,identifier, text)?;
+            write_printed(rt, identifier, text)?;
         }
     }
     Ok(())
@@ -101,34 +102,37 @@ pub fn write_errors(rt: &impl Print) -> io::Result<()> {
         ),
     ] {
         if let Err(error) = version::parse(text) {
-            write_error(rt,&error, sentence)?;
+            write_error(rt, &error, sentence)?;
         }
     }
     write_error(
-        rt,&Error::EmptyPredicate,
+        rt,
+        &Error::EmptyPredicate,
         "encountered empty predicate",
     )?;
-    write_error(rt,&Error::EmptyRange, "encountered empty range")?;
-    write_error(rt,&Error::OutOfMemory, "out of memory")?;
-    write_printed(rt,&RangeError::NotARange, "not a range")?;
-    write_printed(rt,&RangeError::NumberTooLarge, "number too large")?;
-    write_printed(rt,&RangeError::OutOfMemory, "out of memory")
+    write_error(rt, &Error::EmptyRange, "encountered empty range")?;
+    write_error(rt, &Error::OutOfMemory, "out of memory")?;
+    write_printed(rt, &RangeError::NotARange, "not a range")?;
+    write_printed(rt, &RangeError::NumberTooLarge, "number too large")?;
+    write_printed(rt, &RangeError::OutOfMemory, "out of memory")
 }
 
 /// Writes whether the sentence of the error is what it prints, and what its text is.
 fn write_error(
-    rt: &impl Print,error: &Error<'_>,
+    rt: &impl Print,
+    error: &Error<'_>,
     sentence: &str,
 ) -> io::Result<()> {
     if error.text()?.as_str() != sentence {
         crate::rattle_std::fallible_println!(rt; "[{sentence}] is not the text of the error")?;
     }
-    write_printed(rt,error, sentence)
+    write_printed(rt, error, sentence)
 }
 
 /// Writes the text, and whether the value prints as that.
 fn write_printed<T: fmt::Display>(
-    rt: &impl Print,value: &T,
+    rt: &impl Print,
+    value: &T,
     text: &str,
 ) -> io::Result<()> {
     for left in 0..=text.len() {

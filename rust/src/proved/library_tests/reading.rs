@@ -101,7 +101,8 @@ fn is_judged_as(text: &[u8], wanted: &str) -> io::Result<bool> {
 }
 
 /// Whether a filter reads the text as the version that prints so, or as none.
-fn is_read_as(range: &str,
+fn is_read_as(
+    range: &str,
     rule: PreReleases,
     text: &str,
     wanted: Option<&str>,

@@ -126,7 +126,8 @@ fn of_range_sets() -> [(&'static str, Ending); 11] {
         ),
         (
             "two_simples",
-            ranges::parse_text(">=1.2.3 <2.0.0-rc.1",
+            ranges::parse_text(
+                ">=1.2.3 <2.0.0-rc.1",
                 ">=1.2.3 <2.0.0-rc.1",
                 Compat::Npm,
             ),
@@ -137,7 +138,8 @@ fn of_range_sets() -> [(&'static str, Ending); 11] {
         ),
         (
             "three_simples",
-            ranges::parse_text(">1 <3 ~2",
+            ranges::parse_text(
+                ">1 <3 ~2",
                 ">1.0.0 <3.0.0 >=2.0.0 <3.0.0",
                 Compat::Npm,
             ),
@@ -150,7 +152,8 @@ fn of_range_sets() -> [(&'static str, Ending); 11] {
         ("range_set_from_str", ranges::from_str()),
         (
             "longer_second_range",
-            ranges::parse_text("1 || 2 3 4",
+            ranges::parse_text(
+                "1 || 2 3 4",
                 ">=1.0.0 <2.0.0 || >=2.0.0 <3.0.0 >=3.0.0 <4.0.0 >=4.0.0 <5.0.0",
                 Compat::Npm,
             ),
@@ -158,14 +161,16 @@ fn of_range_sets() -> [(&'static str, Ending); 11] {
         ("ninth_range", ranges::ninth_range()),
         (
             "exact_simple",
-            ranges::parse_exact_text("^1.2.3-beta.4",
+            ranges::parse_exact_text(
+                "^1.2.3-beta.4",
                 ">=1.2.3-beta.4 <2.0.0-0",
                 Compat::Npm,
             ),
         ),
         (
             "exact_range_set",
-            ranges::parse_exact_text("1.2 - 2 || <2 ~3.4",
+            ranges::parse_exact_text(
+                "1.2 - 2 || <2 ~3.4",
                 ">=1.2.0 <3.0.0-0 || <2.0.0 >=3.4.0 <3.5.0-0",
                 Compat::Cargo,
             ),

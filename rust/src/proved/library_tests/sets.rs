@@ -158,7 +158,8 @@ pub fn write_sets(rt: &impl Print) -> io::Result<()> {
 }
 
 /// Whether the comparison of the sets of two ranges tells these versions.
-fn is_compared(old: &str,
+fn is_compared(
+    old: &str,
     new: &str,
     rule: PreReleases,
     wanted: &[&str; 3],

@@ -46,7 +46,8 @@ fn count_writes(most: usize, refusal: Refusal) -> (u32, u32) {
 
 /// Whether all is written, or what is taken before a refusal, and then the error of the
 /// documentation is told.
-fn ends_as_documented(bytes: &[u8],
+fn ends_as_documented(
+    bytes: &[u8],
     left: usize,
     most: usize,
     refusal: Refusal,

@@ -82,7 +82,8 @@ impl Counts {
     /// What is to be counted of a line of which a filter says this.
     #[inline(always)]
     pub(crate) fn noted(
-        &self,line: &[u8],
+        &self,
+        line: &[u8],
         judged: &Judged<'_>,
     ) -> Result<Noted, AllocError> {
         match judged {
@@ -92,7 +93,7 @@ impl Counts {
     }
 
     /// What is to be counted of a line that has no version.
-    fn noted_without_version(&self,line: &[u8]) -> Result<Noted, AllocError> {
+    fn noted_without_version(&self, line: &[u8]) -> Result<Noted, AllocError> {
         let text = text_of(line);
         if text.is_empty() {
             return Ok(Noted::Empty);

@@ -49,7 +49,8 @@ impl Filter {
     /// assert!(!["1.3.0-rc", "2.0.0"].iter().any(passes));
     /// # Ok::<(), semver_parser::RangeError>(())
     /// ```
-    pub fn new(range: &str,
+    pub fn new(
+        range: &str,
         compat: Compat,
         pre_releases: PreReleases,
     ) -> Result<Filter, RangeError> {
@@ -171,7 +172,8 @@ impl Filter {
 /// assert_eq!(kept, [&versions[0], &versions[3], &versions[4]]);
 /// # Ok::<(), semver_parser::RangeError>(())
 /// ```
-pub fn filter_text<'v>(text: &str,
+pub fn filter_text<'v>(
+    text: &str,
     compat: Compat,
     versions: &'v [Version],
 ) -> Result<Vec<&'v Version>, RangeError> {

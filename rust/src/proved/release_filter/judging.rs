@@ -81,7 +81,7 @@ impl Filter {
     /// }
     /// # Ok::<(), semver_parser::AllocError>(())
     /// ```
-    pub fn read(&self,text: &str) -> Result<Option<Version>, AllocError> {
+    pub fn read(&self, text: &str) -> Result<Option<Version>, AllocError> {
         match self.judge(text.as_bytes()) {
             Judged::Passes(outline) => Ok(Some(outline.version()?)),
             Judged::NoVersion | Judged::DoesNotPass => Ok(None),

@@ -26,7 +26,8 @@ impl Filter {
     /// # Ok::<(), semver_parser::AllocError>(())
     /// ```
     pub fn kept<'v>(
-        &self,versions: &'v [Version],
+        &self,
+        versions: &'v [Version],
     ) -> Result<Vec<&'v Version>, AllocError> {
         let mut kept = Vec::new();
         let mut rest = versions;

@@ -133,7 +133,8 @@ impl Lines {
     /// assert_eq!(kept, b"v1.4.0\nv1.9.2\n");
     /// # Ok::<(), semver_parser::RangeError>(())
     /// ```
-    pub fn new(filter: Filter,
+    pub fn new(
+        filter: Filter,
         prefixes: Vec<String>,
         wanted: Wanted,
         is_strict: bool,
@@ -179,7 +180,7 @@ impl Lines {
     /// assert_eq!(kept, b"1.4.0\n1.9.2\n");
     /// # Ok::<(), semver_parser::RangeError>(())
     /// ```
-    pub fn push(&mut self,piece: &[u8], kept: &mut Vec<u8>) -> Result<(), Stopped> {
+    pub fn push(&mut self, piece: &[u8], kept: &mut Vec<u8>) -> Result<(), Stopped> {
         let _ = &self.unended;
         let mut taken = 0;
         'lines: loop {
@@ -229,7 +230,7 @@ impl Lines {
     /// assert_eq!(kept, b"1.4.0\n1.9.0\n");
     /// # Ok::<(), semver_parser::RangeError>(())
     /// ```
-    pub fn finish(&mut self,kept: &mut Vec<u8>) -> Result<(), LinesError> {
+    pub fn finish(&mut self, kept: &mut Vec<u8>) -> Result<(), LinesError> {
         let line = after_mark(self.at_front, self.unended.as_slice());
         if line.is_empty() {
             let Ok(_) = self.held.finish(line, &Judged::NoVersion, kept) else {
@@ -284,7 +285,8 @@ impl Lines {
     /// it is.
     #[inline(always)]
     fn take_first<'p>(
-        &mut self,bytes: &'p [u8],
+        &mut self,
+        bytes: &'p [u8],
         kept: &mut Vec<u8>,
     ) -> Result<Option<(&'p [u8], bool)>, AllocError> {
         if self.at_front || !self.unended.is_empty() {
@@ -320,13 +322,15 @@ impl Lines {
     /// Ends the line that has not ended, and returns whether it isn't an invalid one. Of a skipped
     /// line nothing more is held but a line feed.
     fn take_line(
-        &mut self,end: &[u8],
+        &mut self,
+        end: &[u8],
         kept: &mut Vec<u8>,
     ) -> Result<bool, AllocError> {
         let begun = self.unended.len();
         let end = if self.is_skipped { LINE_FEED } else { end };
         self.unended.fallible_extend_from_slice(end)?;
-        match take_ended(&self.chosen,
+        match take_ended(
+            &self.chosen,
             self.at_front,
             &mut self.unended,
             &mut self.held,
@@ -349,7 +353,8 @@ impl Lines {
 
 /// Takes a line that has ended, and returns whether it is no invalid one. So that a long line isn't
 /// held twice, one that is kept is handed over if nothing was appended before it, or held as it is.
-fn take_ended(chosen: &LineFilter,
+fn take_ended(
+    chosen: &LineFilter,
     at_front: bool,
     bytes: &mut Vec<u8>,
     held: &mut Held,
@@ -397,7 +402,8 @@ fn may_hold(wanted: Wanted, line: &[u8], marked: &[u8]) -> bool {
 
 /// Takes a line of which a filter says this, and returns whether it is no invalid one.
 #[inline(always)]
-fn take(line: &[u8],
+fn take(
+    line: &[u8],
     judged: &Judged<'_>,
     held: &mut Held,
     counts: &mut Counts,

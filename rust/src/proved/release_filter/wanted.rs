@@ -85,7 +85,8 @@ impl Held {
     /// Holds or appends a kept line of this outline.
     #[inline(always)]
     pub(crate) fn keep(
-        &mut self,outline: &Outline<'_>,
+        &mut self,
+        outline: &Outline<'_>,
         line: &[u8],
         kept: &mut Vec<u8>,
     ) -> Result<(), AllocError> {
@@ -105,7 +106,8 @@ impl Held {
 
     /// Holds a line if it is better than the best so far.
     fn hold_best(
-        &mut self,version: ReadVersion,
+        &mut self,
+        version: ReadVersion,
         line: &[u8],
     ) -> Result<(), AllocError> {
         if !is_better(self.wanted, &version, &self.best) {
@@ -121,7 +123,7 @@ impl Held {
     }
 
     /// Holds a line if it is better than the best so far, and takes its memory with it.
-    pub(crate) fn hold_whole(&mut self,version: ReadVersion, line: &mut Vec<u8>) {
+    pub(crate) fn hold_whole(&mut self, version: ReadVersion, line: &mut Vec<u8>) {
         if !is_better(self.wanted, &version, &self.best) {
             return;
         }
@@ -132,7 +134,8 @@ impl Held {
     /// Appends the rest of the answer at the end of a text, of which this is the last line. What is
     /// held then is of no use.
     pub(crate) fn finish(
-        &mut self,line: &[u8],
+        &mut self,
+        line: &[u8],
         judged: &Judged<'_>,
         kept: &mut Vec<u8>,
     ) -> Result<(), AllocError> {
@@ -174,7 +177,8 @@ impl Held {
 
     /// Appends all lines, sorted, this last one among them.
     fn append_sorted(
-        &self,last: &Option<KeptLine>,
+        &self,
+        last: &Option<KeptLine>,
         kept: &mut Vec<u8>,
     ) -> Result<(), AllocError> {
         let mut lines = Vec::new();
@@ -227,7 +231,8 @@ fn better_of<'k>(
 }
 
 /// The last line of a text, if it is kept.
-fn last_line(line: &[u8],
+fn last_line(
+    line: &[u8],
     judged: &Judged<'_>,
 ) -> Result<Option<KeptLine>, AllocError> {
     match judged {

@@ -86,7 +86,7 @@ impl Options {
     }
 
     /// The lines that these options ask for, of which no byte was taken yet.
-    pub fn lines(&self,filter: Filter) -> Result<Lines, AllocError> {
+    pub fn lines(&self, filter: Filter) -> Result<Lines, AllocError> {
         let mut prefixes = Vec::new();
         for prefix in self.prefixes.iter() {
             prefixes.fallible_push(prefix.as_str().fallible_to_string()?)?;

@@ -45,7 +45,8 @@ impl Output {
 
     /// Writes and drops lines that were kept.
     pub fn write<W: Write>(
-        &mut self,output: &mut W,
+        &mut self,
+        output: &mut W,
         kept: &mut Vec<u8>,
     ) -> io::Result<()> {
         if kept.is_empty() {
@@ -63,7 +64,7 @@ impl Output {
     }
 
     /// Writes the number of lines, if that is wanted.
-    pub fn finish<W: Write>(&self,output: &mut W) -> io::Result<()> {
+    pub fn finish<W: Write>(&self, output: &mut W) -> io::Result<()> {
         if !self.form.is_counted {
             return Ok(());
         }

@@ -12,7 +12,8 @@ use crate::rattle_std::io::Write;
 
 /// Writes the versions of a list, separated by blanks, that are kept of it, or the error of the
 /// text.
-pub fn write_kept<W: Write>(text: &str,
+pub fn write_kept<W: Write>(
+    text: &str,
     compat: Compat,
     list: &str,
     out: &mut W,
@@ -25,7 +26,8 @@ pub fn write_kept<W: Write>(text: &str,
 
 /// Writes the versions of a list, separated by blanks, that pass a filter, or the error of the
 /// text. Where the filter reads other ones of the texts itself, that is told after them.
-pub fn write_passed<W: Write>(text: &str,
+pub fn write_passed<W: Write>(
+    text: &str,
     compat: Compat,
     pre_releases: PreReleases,
     list: &str,
@@ -64,7 +66,8 @@ fn are_read(filter: &Filter, list: &str, kept: &[&Version]) -> io::Result<bool> 
 }
 
 /// Writes the greatest of those, if there is one.
-pub fn write_greatest<W: Write>(text: &str,
+pub fn write_greatest<W: Write>(
+    text: &str,
     pre_releases: PreReleases,
     list: &str,
     out: &mut W,
@@ -83,7 +86,8 @@ pub fn write_greatest<W: Write>(text: &str,
 }
 
 /// Writes the line of the greatest version after a prefix, and how many bytes are left.
-pub fn write_greatest_line<W: Write>(text: &str,
+pub fn write_greatest_line<W: Write>(
+    text: &str,
     prefix: &str,
     lines: &str,
     out: &mut W,
@@ -103,7 +107,8 @@ pub fn write_greatest_line<W: Write>(text: &str,
 }
 
 /// Writes whether a line is kept, the kept lines, and how many bytes are left.
-pub fn write_copied<W: Write>(text: &str,
+pub fn write_copied<W: Write>(
+    text: &str,
     prefix: &str,
     lines: &str,
     out: &mut W,
@@ -119,7 +124,8 @@ pub fn write_copied<W: Write>(text: &str,
 }
 
 /// The lines that a range means in npm mode by the default rule, after a prefix if there is one.
-fn lines_of(text: &str,
+fn lines_of(
+    text: &str,
     prefix: &str,
     wanted: Wanted,
 ) -> io::Result<Result<Lines, RangeError>> {
@@ -135,7 +141,8 @@ fn lines_of(text: &str,
 }
 
 /// What a text appends in pieces of so many bytes, and how many of its bytes are not taken.
-fn appended(lines: &mut Lines,
+fn appended(
+    lines: &mut Lines,
     text: &str,
     length: usize,
 ) -> io::Result<(Vec<u8>, usize)> {
@@ -158,7 +165,8 @@ fn appended(lines: &mut Lines,
 }
 
 /// Writes whether a text appends something else in pieces of one byte.
-fn write_in_bytes<W: Write>(chosen: &mut Lines,
+fn write_in_bytes<W: Write>(
+    chosen: &mut Lines,
     lines: &str,
     kept: &[u8],
     out: &mut W,
@@ -197,7 +205,8 @@ fn write_answer<W: Write>(kept: &Result<Vec<&Version>, RangeError>, out: &mut W)
 
 /// Writes the versions of a list, separated by blanks, that meet the set of a text, pre-releases
 /// too, or the error of the text.
-pub fn write_met<W: Write>(text: &str,
+pub fn write_met<W: Write>(
+    text: &str,
     compat: Compat,
     list: &str,
     out: &mut W,

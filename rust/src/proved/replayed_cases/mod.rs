@@ -87,7 +87,8 @@ fn replay<W: Write>(line: &str, out: &mut W) -> io::Result<()> {
 }
 
 /// Writes what a call answers for a text.
-fn answer<W: Write>(call: &str,
+fn answer<W: Write>(
+    call: &str,
     text: &str,
     steps: &str,
     out: &mut W,

@@ -12,7 +12,8 @@ use crate::rattle_std::io::Write;
 use crate::proved::version_sets::PreReleases;
 
 /// Writes what a call returns for a text and steps, if there is such a call.
-pub fn write_answer<W: Write>(call: &str,
+pub fn write_answer<W: Write>(
+    call: &str,
     text: &str,
     steps: &str,
     out: &mut W,
@@ -49,7 +50,8 @@ fn mode(word: &str) -> Option<Compat> {
 }
 
 /// Writes what a call with a rule returns, if there is such a call.
-fn write_by_rule<W: Write>(call: &str,
+fn write_by_rule<W: Write>(
+    call: &str,
     mode: Compat,
     text: &str,
     steps: &str,

@@ -10,7 +10,8 @@ use crate::rattle_std::io;
 use crate::rattle_std::io::Write;
 
 /// Makes a parser and writes what each of the steps answers.
-pub fn write_steps<W: Write>(text: &str,
+pub fn write_steps<W: Write>(
+    text: &str,
     steps: &str,
     out: &mut W,
 ) -> io::Result<()> {
@@ -27,7 +28,8 @@ pub fn write_steps<W: Write>(text: &str,
     Ok(())
 }
 
-fn write_step<W: Write>(parser: &mut Parser<'_>,
+fn write_step<W: Write>(
+    parser: &mut Parser<'_>,
     step: &str,
     out: &mut W,
 ) -> io::Result<()> {

@@ -11,7 +11,8 @@ use crate::proved::tool_ranges::refusals::refused;
 
 /// Writes where and why the text gives no range, and the hint, if there is one; or that it gives
 /// one.
-pub fn write_refused<W: Write>(text: &str,
+pub fn write_refused<W: Write>(
+    text: &str,
     dialect: Dialect,
     out: &mut W,
 ) -> io::Result<()> {

@@ -9,7 +9,8 @@ use crate::rattle_std::io::Write;
 use crate::proved::text_prefixes::reasons::{Reason, explain};
 
 /// Writes where and why the text is no version, or that it is one.
-pub fn write_refused<W: Write>(text: &str,
+pub fn write_refused<W: Write>(
+    text: &str,
     grammar: Grammar,
     out: &mut W,
 ) -> io::Result<()> {

@@ -9,7 +9,8 @@ use crate::rattle_std::io::Write;
 
 /// Writes the fields of the set that a text is in a mode, or its error. The mode is written where
 /// the set and each range have it.
-pub fn write_set<W: Write>(text: &str,
+pub fn write_set<W: Write>(
+    text: &str,
     compat: Compat,
     out: &mut W,
 ) -> io::Result<()> {
@@ -43,7 +44,8 @@ pub fn write_set<W: Write>(text: &str,
 }
 
 /// Writes what the set of a text prints, if both calls read it back to an equal set, or its error.
-pub fn write_printed<W: Write>(text: &str,
+pub fn write_printed<W: Write>(
+    text: &str,
     compat: Compat,
     out: &mut W,
 ) -> io::Result<()> {
@@ -54,7 +56,8 @@ pub fn write_printed<W: Write>(text: &str,
 }
 
 /// As `write_printed`, of the set with exact bounds.
-pub fn write_exact<W: Write>(text: &str,
+pub fn write_exact<W: Write>(
+    text: &str,
     compat: Compat,
     out: &mut W,
 ) -> io::Result<()> {

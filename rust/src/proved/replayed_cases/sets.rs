@@ -16,7 +16,8 @@ pub type Dialect = (PreReleases, Compat);
 
 /// Writes the versions of a list, separated by blanks, that are in the set of a text, then its
 /// least version and its least release, or the error of the text.
-pub fn write_set<W: Write>(dialect: Dialect,
+pub fn write_set<W: Write>(
+    dialect: Dialect,
     text: &str,
     list: &str,
     out: &mut W,
@@ -70,7 +71,8 @@ fn is_same_flat(set: &VersionSet, versions: &[Version]) -> io::Result<bool> {
 /// Writes how the sets of two texts stand to each other, or the error of a text. The second text
 /// may have a semicolon after it and then versions, separated by blanks: of each is written what
 /// it is in.
-pub fn write_pair<W: Write>(dialect: Dialect,
+pub fn write_pair<W: Write>(
+    dialect: Dialect,
     text: &str,
     steps: &str,
     out: &mut W,
@@ -97,7 +99,8 @@ pub fn write_pair<W: Write>(dialect: Dialect,
 }
 
 /// Writes the releases and the pre-releases that a text means as ranges, or the error of the text.
-pub fn write_whole<W: Write>(dialect: Dialect,
+pub fn write_whole<W: Write>(
+    dialect: Dialect,
     text: &str,
     out: &mut W,
 ) -> io::Result<()> {
@@ -109,7 +112,8 @@ pub fn write_whole<W: Write>(dialect: Dialect,
 
 /// Writes what the second of two texts loses, gains and keeps of the first as ranges, or the error
 /// of a text.
-pub fn write_whole_pair<W: Write>(dialect: Dialect,
+pub fn write_whole_pair<W: Write>(
+    dialect: Dialect,
     text: &str,
     other: &str,
     out: &mut W,
@@ -159,7 +163,8 @@ impl Parts {
 
 /// Writes the least versions that the first set has alone, the second has alone, and both have, and
 /// whether the first is within the second, both overlap, and are the same.
-fn write_compared<W: Write>(first: &VersionSet,
+fn write_compared<W: Write>(
+    first: &VersionSet,
     second: &VersionSet,
     parts: &Parts,
     out: &mut W,

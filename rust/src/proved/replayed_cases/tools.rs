@@ -11,7 +11,8 @@ use crate::proved::tool_ranges::dialect::{self, Dialect};
 use crate::proved::tool_ranges::meaning::{self, Meaning};
 
 /// Writes what a text of a dialect is rewritten to, or the word of its error.
-pub fn write_rewritten<W: Write>(tool: Dialect,
+pub fn write_rewritten<W: Write>(
+    tool: Dialect,
     text: &str,
     out: &mut W,
 ) -> io::Result<()> {
@@ -23,7 +24,8 @@ pub fn write_rewritten<W: Write>(tool: Dialect,
 
 /// Writes those versions of a list, separated by spaces, that a text means by the tool's own rule
 /// for pre-releases or with all of them, or the word of its error.
-pub fn write_meant<W: Write>(tool: Meaning,
+pub fn write_meant<W: Write>(
+    tool: Meaning,
     text: &str,
     list: &str,
     out: &mut W,

@@ -28,7 +28,8 @@ pub fn write_read<W: Write>(text: &str, out: &mut W) -> io::Result<()> {
 }
 
 /// Writes the fields of the version that a text spells in a dialect, or `none` if it spells none.
-pub fn write_read_in<W: Write>(text: &str,
+pub fn write_read_in<W: Write>(
+    text: &str,
     grammar: Grammar,
     out: &mut W,
 ) -> io::Result<()> {
@@ -80,7 +81,8 @@ pub fn write_error_text<W: Write>(text: &str, out: &mut W) -> io::Result<()> {
 }
 
 /// Writes the identifier that a text is and another text are joined to.
-pub fn write_joined<W: Write>(text: &str,
+pub fn write_joined<W: Write>(
+    text: &str,
     added: &str,
     out: &mut W,
 ) -> io::Result<()> {

@@ -254,7 +254,7 @@ impl<'input> Partial<'input> {
 
     /// The comparator of an operator and this partial, with zeros for what isn't stated.
     #[inline(always)]
-    pub(crate) fn as_comparator(&self,op: Op) -> Result<Comparator, AllocError> {
+    pub(crate) fn as_comparator(&self, op: Op) -> Result<Comparator, AllocError> {
         let pre = if self.pre.is_empty() {
             Vec::new()
         } else {
@@ -273,7 +273,8 @@ impl<'input> Partial<'input> {
     /// by one, and those after it are 0.
     #[inline(always)]
     pub(crate) fn raised(
-        &self,place: Place,
+        &self,
+        place: Place,
         raised: RaisedBounds,
     ) -> Result<Comparator, AllocError> {
         let (major, minor, patch) = match place {
@@ -308,7 +309,8 @@ fn raised_pre(raised: RaisedBounds) -> Result<Vec<Identifier>, AllocError> {
 /// partials have none, and then nothing is called.
 #[inline(never)]
 fn kept_parts(pre: &[u8]) -> Result<Vec<Identifier>, AllocError> {
-    of_parts(text_of_parts(pre),
+    of_parts(
+        text_of_parts(pre),
         |part| read_identifier(part),
     )
 }

@@ -159,7 +159,8 @@ impl RangeSet {
 
 /// The range set of a text, or why there is none: a text that is one simple is read at once, and
 /// any other in two runs.
-fn parse_with(input: &str,
+fn parse_with(
+    input: &str,
     compat: Compat,
     raised: RaisedBounds,
 ) -> Result<RangeSet, RangeError> {
@@ -196,7 +197,8 @@ fn read_only_simple(text: &[u8], compat: Compat) -> Option<(Partial<'_>, Bounds)
 }
 
 /// The set of one range that has these comparators.
-fn build_only_simple(partial: &Partial<'_>,
+fn build_only_simple(
+    partial: &Partial<'_>,
     bounds: Bounds,
     compat: Compat,
     raised: RaisedBounds,
@@ -228,7 +230,8 @@ impl Table for Rows {
 
     #[inline(always)]
     fn push(
-        &self,simple: &Simple<'_>,
+        &self,
+        simple: &Simple<'_>,
         comparators: &mut Vec<Comparator>,
     ) -> Result<(), AllocError> {
         rewritten(simple, self.compat).push(&simple.partial, comparators, self.raised)

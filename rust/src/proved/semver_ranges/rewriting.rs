@@ -65,7 +65,8 @@ impl Bounds {
     /// The comparators by themselves. For speed none is pushed where there might be no room.
     #[inline(always)]
     pub(crate) fn to_vec(
-        self,partial: &Partial<'_>,
+        self,
+        partial: &Partial<'_>,
         raised: RaisedBounds,
     ) -> Result<Vec<Comparator>, AllocError> {
         match self {
@@ -83,7 +84,8 @@ impl Bounds {
     /// Adds the comparators.
     #[inline(always)]
     pub(crate) fn push(
-        self,partial: &Partial<'_>,
+        self,
+        partial: &Partial<'_>,
         comparators: &mut Vec<Comparator>,
         raised: RaisedBounds,
     ) -> Result<(), AllocError> {

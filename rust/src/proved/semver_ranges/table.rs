@@ -21,14 +21,16 @@ pub(crate) trait Table {
 
     /// Adds the comparators of a simple that fits.
     fn push(
-        &self,simple: &Simple<'_>,
+        &self,
+        simple: &Simple<'_>,
         comparators: &mut Vec<Comparator>,
     ) -> Result<(), AllocError>;
 }
 
 /// The range set of a text by a table, in two runs over its events: the first surveys all of it,
 /// and the second builds. `lower` says how the left side of a hyphen range begins.
-pub fn read_by<T: Table>(text: &[u8],
+pub fn read_by<T: Table>(
+    text: &[u8],
     compat: Compat,
     lower: LowerBounds,
     table: &T,
@@ -86,7 +88,8 @@ fn remember(comparators: &mut [usize; REMEMBERED], range: usize, count: usize) {
 }
 
 /// The ranges of a text that was surveyed: it has no error.
-fn build<T: Table>(text: &[u8],
+fn build<T: Table>(
+    text: &[u8],
     sizes: &Sizes,
     compat: Compat,
     lower: LowerBounds,

@@ -168,7 +168,8 @@ fn split_text_at_dot(text: &str) -> (&str, Option<&str>) {
 }
 
 /// What is made of each part between the dots. Their list is asked for once, at its size.
-fn cut_parts<T, F: Fn(&str) -> Result<T, AllocError>>(text: &str,
+fn cut_parts<T, F: Fn(&str) -> Result<T, AllocError>>(
+    text: &str,
     make: F,
 ) -> Result<Vec<T>, AllocError> {
     let mut made = Vec::fallible_with_capacity(count_dots(text.as_bytes()).saturating_add(1))?;
@@ -183,7 +184,8 @@ fn cut_parts<T, F: Fn(&str) -> Result<T, AllocError>>(text: &str,
 
 /// What is made of each part between the dots; nothing of an empty text, which takes no memory.
 #[inline(always)]
-pub(crate) fn of_parts<T, F: Fn(&str) -> Result<T, AllocError>>(text: &str,
+pub(crate) fn of_parts<T, F: Fn(&str) -> Result<T, AllocError>>(
+    text: &str,
     make: F,
 ) -> Result<Vec<T>, AllocError> {
     if text.is_empty() {

@@ -92,7 +92,7 @@ impl Identifier {
     /// let same = Identifier::Numeric(7).try_concat("");
     /// assert_eq!(same, Ok(Identifier::AlphaNumeric("7".to_string())));
     /// ```
-    pub fn try_concat(self,add_str: &str) -> Result<Identifier, Identifier> {
+    pub fn try_concat(self, add_str: &str) -> Result<Identifier, Identifier> {
         match self {
             Identifier::Numeric(number) => match number_and(number, add_str) {
                 Ok(text) => Ok(Identifier::AlphaNumeric(text)),

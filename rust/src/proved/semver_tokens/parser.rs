@@ -351,7 +351,7 @@ impl<'input> Parser<'input> {
 
     /// The identifiers of a part whose mark comes next, if it is there, and else none.
     #[inline(always)]
-    fn part(&mut self,there: bool) -> Result<Vec<Identifier>, Error<'input>> {
+    fn part(&mut self, there: bool) -> Result<Vec<Identifier>, Error<'input>> {
         if there {
             self.identifiers()
         } else {

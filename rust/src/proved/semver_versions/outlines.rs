@@ -223,7 +223,7 @@ impl<'t> Outline<'t> {
     /// The version, if the outline is that of the text. For speed, the identifiers are cut from the
     /// text, so their bytes aren't checked for UTF-8.
     #[inline(always)]
-    pub(crate) fn version_in(&self,text: &str) -> Result<Version, AllocError> {
+    pub(crate) fn version_in(&self, text: &str) -> Result<Version, AllocError> {
         Ok(Version {
             major: self.major,
             minor: self.minor,
@@ -258,7 +258,8 @@ impl<'t> Outline<'t> {
 
 /// The identifiers of parts that are in a text at an offset.
 #[inline(always)]
-fn identifiers_at(text: &str,
+fn identifiers_at(
+    text: &str,
     offset: usize,
     parts: &[u8],
 ) -> Result<Vec<Identifier>, AllocError> {

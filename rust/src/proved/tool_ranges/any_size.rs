@@ -9,7 +9,8 @@ use crate::rattle_std::AllocError;
 use crate::proved::version_sets::{PreReleases, VersionSet};
 
 /// The versions that meet comparators by a rule for pre-releases.
-pub(crate) fn set_of(set: &RangeSet,
+pub(crate) fn set_of(
+    set: &RangeSet,
     pre_releases: PreReleases,
 ) -> Result<VersionSet, AllocError> {
     VersionSet::of_set_by(set, pre_releases, Digits::AnySize)

@@ -163,7 +163,8 @@ fn ended<T: Copy>(stands_alone: bool, fit: bool, answer: T) -> Result<T, RangeEr
 
 /// The range of a requirement, by which some versions are judged, and the ranges of the
 /// pre-releases that count, if these are asked for.
-fn build(surveyed: &Surveyed<'_>,
+fn build(
+    surveyed: &Surveyed<'_>,
     judged: JudgedVersions,
     counts: bool,
 ) -> Result<(Vec<Range>, Vec<Range>), AllocError> {
@@ -172,7 +173,8 @@ fn build(surveyed: &Surveyed<'_>,
 }
 
 /// The comparators of that set, and those ranges.
-fn build_comparators(surveyed: &Surveyed<'_>,
+fn build_comparators(
+    surveyed: &Surveyed<'_>,
     judged: JudgedVersions,
     counts: bool,
 ) -> Result<(Vec<Comparator>, Vec<Range>), AllocError> {

@@ -70,7 +70,8 @@ fn read_npm(range: &str, rule: PreReleases) -> Result<VersionSet, RangeError> {
 }
 
 /// The releases of what was read.
-fn releases_of(read: Result<VersionSet, RangeError>,
+fn releases_of(
+    read: Result<VersionSet, RangeError>,
 ) -> Result<VersionSet, RangeError> {
     match read {
         Ok(set) => Ok(set.only_releases()),

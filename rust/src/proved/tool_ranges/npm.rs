@@ -88,7 +88,8 @@ impl Table for Rows {
 
     #[inline(always)]
     fn push(
-        &self,simple: &Simple<'_>,
+        &self,
+        simple: &Simple<'_>,
         comparators: &mut Vec<Comparator>,
     ) -> Result<(), AllocError> {
         rows::push(simple, Compat::Npm, self.lower, comparators)

@@ -65,7 +65,8 @@ impl Cell {
     /// Adds the comparators, with a lower bound as it is asked for.
     #[inline(always)]
     pub(crate) fn push(
-        self,partial: &Partial<'_>,
+        self,
+        partial: &Partial<'_>,
         lower: LowerBounds,
         comparators: &mut Vec<Comparator>,
     ) -> Result<(), AllocError> {
@@ -120,7 +121,8 @@ fn ends_below(simple: &Simple<'_>, compat: Compat) -> bool {
 
 /// From the bound that is raised at a place on.
 #[inline(always)]
-fn from_raised(partial: &Partial<'_>,
+fn from_raised(
+    partial: &Partial<'_>,
     place: Place,
     lower: LowerBounds,
 ) -> Result<Comparator, AllocError> {
@@ -147,7 +149,8 @@ fn begun<'input>(partial: &Partial<'input>, bounds: &Bounds, lower: LowerBounds)
 /// Adds the comparators of a simple that fits. Where all pre-releases within its bounds count, it
 /// begins with the lowest one of its numbers if the tool says so.
 #[inline(always)]
-pub(crate) fn push(simple: &Simple<'_>,
+pub(crate) fn push(
+    simple: &Simple<'_>,
     compat: Compat,
     lower: LowerBounds,
     comparators: &mut Vec<Comparator>,

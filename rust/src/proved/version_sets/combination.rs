@@ -46,7 +46,8 @@ impl Combination {
     /// The switches of the combination, which are those where being in it changes. `Err` is out of
     /// memory; nothing is allocated if there are none.
     pub(crate) fn of<T: Switch>(
-        self,first: &[T],
+        self,
+        first: &[T],
         second: &[T],
     ) -> Result<Vec<T>, AllocError> {
         let mut switches = Vec::new();

@@ -20,7 +20,7 @@ impl VersionSet {
     /// assert_eq!(union, set(">=1.0.0 <2.0.0"));
     /// # Ok::<(), semver_parser::AllocError>(())
     /// ```
-    pub fn union(&self,other: &VersionSet) -> Result<VersionSet, AllocError> {
+    pub fn union(&self, other: &VersionSet) -> Result<VersionSet, AllocError> {
         self.combined(Combination::Union, other)
     }
 
@@ -37,7 +37,7 @@ impl VersionSet {
     /// assert_eq!(intersection, set(">=1.2.0 <1.5.0"));
     /// # Ok::<(), semver_parser::AllocError>(())
     /// ```
-    pub fn intersection(&self,other: &VersionSet) -> Result<VersionSet, AllocError> {
+    pub fn intersection(&self, other: &VersionSet) -> Result<VersionSet, AllocError> {
         self.combined(Combination::Intersection, other)
     }
 
@@ -55,13 +55,14 @@ impl VersionSet {
     /// assert_eq!(difference, set(">=1.0.0 <1.2.0"));
     /// # Ok::<(), semver_parser::AllocError>(())
     /// ```
-    pub fn difference(&self,other: &VersionSet) -> Result<VersionSet, AllocError> {
+    pub fn difference(&self, other: &VersionSet) -> Result<VersionSet, AllocError> {
         self.combined(Combination::Difference, other)
     }
 
     /// The versions of a combination.
     pub(crate) fn combined(
-        &self,how: Combination,
+        &self,
+        how: Combination,
         other: &VersionSet,
     ) -> Result<VersionSet, AllocError> {
         let releases = how.of(&self.releases, &other.releases)?;

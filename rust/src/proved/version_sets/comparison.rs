@@ -49,7 +49,7 @@ impl VersionSet {
     /// assert_eq!(comparison.shared.unwrap().to_string(), "1.4.0");
     /// # Ok::<(), semver_parser::RangeError>(())
     /// ```
-    pub fn compare(&self,new: &VersionSet) -> Result<Comparison, AllocError> {
+    pub fn compare(&self, new: &VersionSet) -> Result<Comparison, AllocError> {
         Ok(Comparison {
             lost: self.least_combined(Combination::Difference, new)?,
             gained: new.least_combined(Combination::Difference, self)?,
@@ -59,7 +59,8 @@ impl VersionSet {
 
     /// The least version of a combination.
     fn least_combined(
-        &self,how: Combination,
+        &self,
+        how: Combination,
         other: &VersionSet,
     ) -> Result<Option<Version>, AllocError> {
         let release = how.first(&self.releases, &other.releases);

@@ -42,7 +42,8 @@ fn release_of(switch: &FlatSwitch) -> Release {
 }
 
 /// The pre-releases of switches.
-fn pre_releases_of(switches: &[FlatSwitch],
+fn pre_releases_of(
+    switches: &[FlatSwitch],
     bytes: &[u8],
 ) -> Result<Vec<PreRelease>, AllocError> {
     let mut versions = Vec::new();

@@ -22,7 +22,7 @@ pub(crate) trait Bound: Switch {
     fn is_alone(&self, to: Option<&Self>) -> bool;
 
     /// The comparator of an operator and its version. `Err` is out of memory.
-    fn comparator(&self,op: Op) -> Result<Comparator, AllocError>;
+    fn comparator(&self, op: Op) -> Result<Comparator, AllocError>;
 }
 
 impl Bound for Release {
@@ -39,7 +39,7 @@ impl Bound for Release {
     }
 
     /// It does not allocate.
-    fn comparator(&self,op: Op) -> Result<Comparator, AllocError> {
+    fn comparator(&self, op: Op) -> Result<Comparator, AllocError> {
         Ok(Comparator {
             op,
             major: self.major,
@@ -71,7 +71,7 @@ impl Bound for PreRelease {
         }
     }
 
-    fn comparator(&self,op: Op) -> Result<Comparator, AllocError> {
+    fn comparator(&self, op: Op) -> Result<Comparator, AllocError> {
         Ok(Comparator {
             op,
             major: self.version.major,
@@ -98,7 +98,8 @@ fn are_right_above(switch: &PreRelease, below: &PreRelease) -> bool {
 }
 
 /// Identifiers of a version that are read so, as those of a range.
-fn copied(identifiers: &[version::Identifier],
+fn copied(
+    identifiers: &[version::Identifier],
     digits: Digits,
 ) -> Result<Vec<Identifier>, AllocError> {
     let mut copies = Vec::fallible_with_capacity(identifiers.len())?;

@@ -43,7 +43,8 @@ impl VersionSet {
 
 /// The lower one of a release and a pre-release, or the one that there is, without a build. `Err`
 /// is out of memory, which is asked for only for a pre-release.
-pub(crate) fn least_of(release: Option<&Release>,
+pub(crate) fn least_of(
+    release: Option<&Release>,
     pre_release: Option<&PreRelease>,
 ) -> Result<Option<Version>, AllocError> {
     let Some(pre_release) = pre_release else {

@@ -32,7 +32,8 @@ impl VersionSet {
     /// assert!(set.has(&version::parse("2.0.0-rc")?)); // below 2.0.0
     /// # Ok::<(), String>(())
     /// ```
-    pub fn of_set(set: &RangeSet,
+    pub fn of_set(
+        set: &RangeSet,
         pre_releases: PreReleases,
     ) -> Result<VersionSet, AllocError> {
         VersionSet::of_set_by(set, pre_releases, Digits::Kept)
@@ -41,7 +42,8 @@ impl VersionSet {
     /// What [`VersionSet::of_set`] returns, if an identifier of digits alone from 2^64 on is what
     /// `digits` says: by `Digits::AnySize` it is a number, as to Cargo and npm, so `<1.0.0-10a`
     /// gives a set with 1.0.0-18446744073709551616.
-    pub fn of_set_by(set: &RangeSet,
+    pub fn of_set_by(
+        set: &RangeSet,
         pre_releases: PreReleases,
         digits: Digits,
     ) -> Result<VersionSet, AllocError> {
@@ -68,7 +70,8 @@ fn releases_of(ranges: &[Range]) -> Result<Vec<Release>, AllocError> {
 }
 
 /// The switches of the pre-releases that meet some of the ranges by a rule.
-fn pre_releases_of(ranges: &[Range],
+fn pre_releases_of(
+    ranges: &[Range],
     rule: PreReleases,
     digits: Digits,
 ) -> Result<Vec<PreRelease>, AllocError> {

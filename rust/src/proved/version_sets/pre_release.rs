@@ -82,7 +82,8 @@ impl Switch for PreRelease {
 }
 
 /// Identifiers that are read so, as they are kept.
-fn kept(identifiers: &[Identifier],
+fn kept(
+    identifiers: &[Identifier],
     digits: Digits,
 ) -> Result<Vec<Identifier>, AllocError> {
     let mut copies = Vec::fallible_with_capacity(identifiers.len())?;

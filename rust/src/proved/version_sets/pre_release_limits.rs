@@ -107,7 +107,8 @@ impl<'a> Limit for PreReleaseLimit<'a> {
 }
 
 /// Identifiers of a range, and the number 0 after them or not, as those of a version.
-fn copied(pre: WithZero<&[Identifier]>,
+fn copied(
+    pre: WithZero<&[Identifier]>,
 ) -> Result<Vec<version::Identifier>, AllocError> {
     let size = pre.identifiers.len().saturating_add(usize::from(pre.zero));
     let mut copies = Vec::fallible_with_capacity(size)?;

@@ -33,7 +33,8 @@ impl VersionSet {
     /// assert!(!["1.3.0-rc", "2.0.0"].iter().any(has));
     /// # Ok::<(), semver_parser::RangeError>(())
     /// ```
-    pub fn of_text(range: &str,
+    pub fn of_text(
+        range: &str,
         compat: Compat,
         pre_releases: PreReleases,
     ) -> Result<VersionSet, RangeError> {
@@ -53,7 +54,8 @@ impl VersionSet {
 ///
 /// Those of `RangeSet::parse`: `NotARange` and `NumberTooLarge` exactly of the texts that it
 /// refuses so, and `OutOfMemory` in place of a set alone.
-fn read_set(range: &str,
+fn read_set(
+    range: &str,
     compat: Compat,
     pre_releases: PreReleases,
 ) -> Result<RangeSet, RangeError> {

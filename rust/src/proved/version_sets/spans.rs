@@ -117,7 +117,8 @@ impl<L: Limit> Bounds<L> {
 }
 
 /// The switches of what is in some of the spans. `Err` is out of memory.
-pub(crate) fn switches_of<L: Limit>(spans: &mut [Span<L>],
+pub(crate) fn switches_of<L: Limit>(
+    spans: &mut [Span<L>],
 ) -> Result<Vec<L::Switch>, AllocError> {
     spans.sort_unstable_by(|span, other| span.from.compare(&other.from));
     joined(spans)
@@ -151,7 +152,8 @@ fn is_apart<L: Limit>(end: Option<L>, limit: &L) -> bool {
 }
 
 /// Adds the switches of a span. `Err` is out of memory.
-fn push_switches<L: Limit>(span: &Span<L>,
+fn push_switches<L: Limit>(
+    span: &Span<L>,
     switches: &mut Vec<L::Switch>,
 ) -> Result<(), AllocError> {
     switches.fallible_push(span.from.switch()?)?;

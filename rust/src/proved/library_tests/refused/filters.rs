@@ -38,7 +38,8 @@ fn is_wanted(version: &Version) -> bool {
 
 /// The filter of the calls below: `>=1.2.0-rc <1.10.0`, as stated.
 pub fn as_stated() -> Result<Filter, Ending> {
-    match Filter::new(">=1.2.0-rc <1.10.0",
+    match Filter::new(
+        ">=1.2.0-rc <1.10.0",
         Compat::Cargo,
         PreReleases::Default,
     ) {
@@ -124,7 +125,8 @@ pub fn sorted_lines() -> Ending {
 
 /// More than 20 lines, which are sorted without a buffer too. The least of them is the last.
 pub fn many_sorted_lines() -> Ending {
-    ends(Wanted::Sorted,
+    ends(
+        Wanted::Sorted,
         "1.3.0\n1.3.1\n1.3.2\n1.3.3\n1.3.4\n1.3.5\n1.3.6\n1.3.7\n1.3.8\n1.3.9\n1.4.0\n1.4.1\n\
         1.4.2\n1.4.3\n1.4.4\n1.4.5\n1.4.6\n1.4.7\n1.4.8\n1.4.9\n1.2.0\n",
         "1.2.0\n1.3.0\n1.3.1\n1.3.2\n1.3.3\n1.3.4\n1.3.5\n1.3.6\n1.3.7\n1.3.8\n1.3.9\n1.4.0\n\

@@ -96,7 +96,8 @@ pub fn from_str() -> Ending {
 
 /// The sizes of eight ranges are remembered, and that of a ninth is counted ahead.
 pub fn ninth_range() -> Ending {
-    parse_text("<1||<2||<3||<4||<5||<6||<7||<8||1 2 3",
+    parse_text(
+        "<1||<2||<3||<4||<5||<6||<7||<8||1 2 3",
         "<1.0.0 || <2.0.0 || <3.0.0 || <4.0.0 || <5.0.0 || <6.0.0 || <7.0.0 || <8.0.0 || \
          >=1.0.0 <2.0.0 >=2.0.0 <3.0.0 >=3.0.0 <4.0.0",
         Compat::Cargo,

@@ -44,7 +44,8 @@ fn set_of(text: &str, pre_releases: PreReleases) -> Result<VersionSet, Ending> {
 pub fn of_refused_texts() -> Ending {
     let pre_releases = PreReleases::Included;
     let not_a_range = VersionSet::of_text("|", Compat::Npm, pre_releases);
-    let too_large = VersionSet::of_text("<=18446744073709551615",
+    let too_large = VersionSet::of_text(
+        "<=18446744073709551615",
         Compat::Cargo,
         pre_releases,
     );

@@ -21,20 +21,23 @@ pub(crate) enum JudgedVersions {
 
 /// Adds the comparators that judge them.
 #[inline(always)]
-pub(crate) fn push_judging(judged: JudgedVersions,
+pub(crate) fn push_judging(
+    judged: JudgedVersions,
     simple: &Simple<'_>,
     comparators: &mut Vec<Comparator>,
 ) -> Result<(), AllocError> {
     match judged {
         JudgedVersions::Releases => {
-            rows::push(simple,
+            rows::push(
+                simple,
                 Compat::Cargo,
                 LowerBounds::Stated,
                 comparators,
             )
         }
         JudgedVersions::PreReleases => pre_releases::push(simple, comparators),
-        JudgedVersions::All => rows::push(simple,
+        JudgedVersions::All => rows::push(
+            simple,
             Compat::Cargo,
             LowerBounds::Lowest,
             comparators,

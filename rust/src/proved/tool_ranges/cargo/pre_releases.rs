@@ -10,7 +10,8 @@ use crate::proved::semver_ranges::{Comparator, Compat, Identifier, Op, Range};
 use crate::rattle_std::AllocError;
 
 /// Adds the comparators that judge pre-releases.
-pub(crate) fn push(simple: &Simple<'_>,
+pub(crate) fn push(
+    simple: &Simple<'_>,
     comparators: &mut Vec<Comparator>,
 ) -> Result<(), AllocError> {
     match simple.partial.kind() {
@@ -20,7 +21,8 @@ pub(crate) fn push(simple: &Simple<'_>,
         }
         PartialKind::MajorOnly | PartialKind::MajorMinor => push_some(simple, comparators),
         PartialKind::MajorMinorPatch => {
-            rows::push(simple,
+            rows::push(
+                simple,
                 Compat::Cargo,
                 LowerBounds::Stated,
                 comparators,
@@ -31,7 +33,8 @@ pub(crate) fn push(simple: &Simple<'_>,
 
 /// Adds those of one or two numbers. What is below the lowest pre-release of some numbers has lower
 /// numbers, and what is above the last release of them has higher ones.
-fn push_some(simple: &Simple<'_>,
+fn push_some(
+    simple: &Simple<'_>,
     comparators: &mut Vec<Comparator>,
 ) -> Result<(), AllocError> {
     match simple.form {
@@ -82,7 +85,8 @@ fn above_last(partial: &Partial<'_>) -> Comparator {
 /// Adds the range of the pre-releases that count beside a partial, if it has a pre-release, and if
 /// such ranges are asked for.
 #[inline(always)]
-pub(crate) fn push_counting(counts: bool,
+pub(crate) fn push_counting(
+    counts: bool,
     partial: &Partial<'_>,
     ranges: &mut Vec<Range>,
 ) -> Result<(), AllocError> {

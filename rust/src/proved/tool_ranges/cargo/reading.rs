@@ -46,7 +46,8 @@ pub(crate) fn read_with_all(requirement: &str) -> Result<VersionSet, RangeError>
 }
 
 /// The versions that meet the comparators by which some are judged.
-fn judged(surveyed: &Surveyed<'_>,
+fn judged(
+    surveyed: &Surveyed<'_>,
     judged: JudgedVersions,
 ) -> Result<VersionSet, AllocError> {
     let (ranges, _) = build(surveyed, judged, false)?;
@@ -72,7 +73,8 @@ fn meant(surveyed: &Surveyed<'_>) -> Result<VersionSet, AllocError> {
 }
 
 /// The pre-releases that count, and meet each comparator.
-fn counted(surveyed: &Surveyed<'_>,
+fn counted(
+    surveyed: &Surveyed<'_>,
     ranges: Vec<Range>,
 ) -> Result<VersionSet, AllocError> {
     let counting = RangeSet {
