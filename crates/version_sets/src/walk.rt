@@ -52,6 +52,7 @@ impl<'a, T: Switch> Iterator for Walk<'a, T> {
 
     ghost remaining = { item_count (pieces_left T.place) };
 
+    #[inline(always)]
     fn next(&mut self) -> Option<Piece<'a, T>> {
         let (from, turns) = match (self.first.first(), self.second.first()) {
             (None, None) => return None,

@@ -39,6 +39,7 @@ impl<'a, T: Switch> Walk<'a, T> {
 impl<'a, T: Switch> Iterator for Walk<'a, T> {
     type Item = Piece<'a, T>;
 
+    #[inline(always)]
     fn next(&mut self) -> Option<Piece<'a, T>> {
         let (from, turns) = match (self.first.first(), self.second.first()) {
             (None, None) => return None,
