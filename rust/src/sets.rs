@@ -14,8 +14,8 @@
 //! # Ok::<(), semver_parser::RangeError>(())
 //! ```
 
-use crate::proved::tool_ranges::meaning;
-use crate::{AllocError, Meaning, RangeError};
+use crate::proved::tool_ranges::{dialect, meaning};
+use crate::{AllocError, Dialect, Meaning, RangeError, RangeSet};
 
 pub use crate::proved::version_sets::{Comparison, Release, SetRanges, VersionSet};
 
@@ -37,6 +37,25 @@ pub use crate::proved::version_sets::{Comparison, Release, SetRanges, VersionSet
 /// ```
 pub fn read(meaning: impl Into<Meaning>, range: &str) -> Result<VersionSet, RangeError> {
     meaning::read(meaning.into(), range)
+}
+
+/// Rewrites a range string of a dialect into plain comparators with exact bounds: a release
+/// satisfies them exactly if it satisfies the range.
+///
+/// # Errors
+///
+/// Those of [`read`].
+///
+/// ```
+/// use semver_parser::{sets, Dialect, RangeError};
+///
+/// let of_cargo = sets::comparators(Dialect::Cargo, "1.2")?;
+/// assert_eq!(of_cargo.to_string(), ">=1.2.0 <2.0.0-0");
+/// assert_eq!(sets::comparators(Dialect::Npm, "1.2")?.to_string(), ">=1.2.0 <1.3.0-0");
+/// # Ok::<(), RangeError>(())
+/// ```
+pub fn comparators(dialect: Dialect, range: &str) -> Result<RangeSet, RangeError> {
+    dialect::rewrite(dialect, range)
 }
 
 impl From<AllocError> for RangeError {
