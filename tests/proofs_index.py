@@ -37,7 +37,7 @@ Caution: `RangeSet::parse` turns `^1.2.3` into `>=1.2.3 <2.0.0`, which admits 2.
 | `semver_parser_wasm` | the WebAssembly module has the contracts of `plain_calls` | [`parse_version`](../crates/semver_parser_wasm/src/lib.rt): `parses`, `parts` | [`Versions`](../crates/plain_calls/specs/Versions.antt) |
 
 Below these is `semver_texts`. Programs: `semver_parser_main`, `release_filter_main`, `compare_ranges_main`. Tests:
-`library_tests`, `replayed_cases`, `speed`.
+`library_tests`, `replayed_cases`.
 
 ## What isn't proved
 
