@@ -98,8 +98,8 @@ impl Filter {
     }
 
     // Answer: equation.
-    /// A filter that the versions of a set pass, as the set that `tool_ranges::meaning::read`
-    /// returns, and that reads version texts by a dialect. It does not allocate.
+    /// A filter that the versions of a set pass, such as the set of a range in any dialect, and that
+    /// reads version texts by a dialect. It does not allocate.
     ///
     /// ```
     /// use semver_parser::filters::Filter;

@@ -1,5 +1,5 @@
-//! Version texts as plain data, and back: what `semver_versions` reads from bytes, and [`parse`],
-//! which also says what is wrong with a text that is no version.
+//! Version texts as plain data, and back: read from bytes, and by [`parse`], which also says what is
+//! wrong with an invalid version.
 ghost use Rattle.std.specs.Prelude.{◌≡◌, ◌↔◌, [], Ok, IfOk};
 ghost use Rattle.semver_texts.specs.Versions.{VersionValue};
 ghost use Rattle.semver_texts.specs.PrintedText.{version_text};

@@ -164,8 +164,7 @@ impl Lines {
     /// # Details
     ///
     /// A kept line is appended as it is, with the line feed that ends it, but for a byte order mark
-    /// at the front of the text. What a text appends doesn't depend on how it is cut into pieces
-    /// (`laws::pieces_do_not_matter`).
+    /// at the front of the text. What a text appends doesn't depend on how it is cut into pieces.
     ///
     /// ```
     /// use semver_parser::filters::{Filter, Lines, Wanted};

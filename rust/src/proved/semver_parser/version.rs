@@ -1,6 +1,6 @@
 // Made by tools/erase from crates/semver_parser/src/version.rt; not edited by hand.
-//! Version texts as plain data, and back: what `semver_versions` reads from bytes, and [`parse`],
-//! which also says what is wrong with a text that is no version.
+//! Version texts as plain data, and back: read from bytes, and by [`parse`], which also says what is
+//! wrong with an invalid version.
 
 use crate::rattle_std::prelude::*;
 use crate::proved::semver_parser::parser::{self, Parser};
