@@ -1,9 +1,9 @@
 # The tests of rust/ for other processors, read by tools/compare: rows, library tests and refused
-# requests on aarch64 and i686 by qemu, with checks of overflow, over Debian's std for these; and
-# `cargo check` for each other target for which there is a std. The packages are unpacked into a
-# folder of its own, and nothing of another architecture is installed.
+# requests on i686, which this processor runs, and on aarch64 by qemu, with checks of overflow, over
+# Debian's std for these; and `cargo check` for each other target for which there is a std. The
+# packages are unpacked into a folder of its own.
 for tool in /usr/bin/rustc=rustc-web aarch64-linux-gnu-gcc=gcc-aarch64-linux-gnu \
-    i686-linux-gnu-gcc=gcc-i686-linux-gnu qemu-aarch64=qemu-user; do
+    i686-linux-gnu-gcc=gcc-i686-linux-gnu qemu-aarch64=qemu-user /lib/ld-linux.so.2=libc6-i386; do
     command -v "${tool%=*}" > /dev/null || {
         echo "needs ${tool%=*} (Debian: apt-get install ${tool#*=})" >&2
         exit 2
@@ -34,7 +34,7 @@ unpack() {
     dpkg -x "$folder"/libstd-rust-web-dev_*_"$1".deb "$folder/sysroot-$2"
 }
 
-# pass TARGET COMPILER RUNNER..: all tests of the crate.
+# pass TARGET COMPILER [RUNNER..]: all tests of the crate.
 pass() {
     name=$(echo "$1" | tr a-z- A-Z_) target=$1 compiler=$2
     shift 2
@@ -44,10 +44,10 @@ pass() {
         cargo test --quiet --target "$target" --target-dir "$folder/target" --test proved --test api
 }
 
+unpack i386 i686-unknown-linux-gnu
+pass i686-unknown-linux-gnu i686-linux-gnu-gcc env
 unpack arm64 aarch64-unknown-linux-gnu
 pass aarch64-unknown-linux-gnu aarch64-linux-gnu-gcc qemu-aarch64 -L /usr/aarch64-linux-gnu
-unpack i386 i686-unknown-linux-gnu
-pass i686-unknown-linux-gnu i686-linux-gnu-gcc qemu-i386 -L /usr/i686-linux-gnu
 unset RUSTC
 here=$(rustc -vV | sed -n 's/^host: //p')
 for target in "$(rustc --print sysroot)"/lib/rustlib/*-*-*/lib; do
