@@ -205,7 +205,7 @@ impl Reason {
             Reason::TextAfter => "text follows the version",
             Reason::NotUtf8 => "the string isn't UTF-8",
             Reason::NumberExpected => "a number is expected",
-            Reason::UnexpectedEnd => "unexpected end",
+            Reason::UnexpectedEnd => "something is missing",
             Reason::CargoCommas => "Cargo separates comparators by commas",
             Reason::CargoWildcard => "Cargo takes * without numbers before it only alone",
             Reason::CargoBars => "Cargo takes no ||; npm does",
