@@ -1,4 +1,4 @@
--- serves: tool_ranges::satisfying::satisfies
+-- serves: tool_ranges::laws::one_satisfies
 -- What is refused of a range, as it is answered, and that there is one answer.
 use Rattle.std.proofs.Common.{◌≡◌, ◌≢◌, ◌∙◌, Bool, Ok, Err, ap, inl, inr, refl, subst, sym, true≢false}
 use Rattle.std.specs.Prelude.{Result}
