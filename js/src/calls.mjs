@@ -1,86 +1,166 @@
-// The proved functions, in WebAssembly, and the strings that are written into their memory.
+// The functions of the WebAssembly module, and the strings that are written into its memory.
 //
-// The memory has, from the module's own end on, 64 bytes for what a function writes, and three places
-// for strings: two that are read, and a buffer.
-import { MODULE } from './module.mjs'
+// The module has one buffer for strings, which grows. A call reads all its arguments first and then
+// writes them, so no code of a caller runs between the first byte that is written and the result.
+import { EMBEDDED, WHERE } from './module.mjs'
 
-/** The longest string that is taken, in bytes of UTF-8. */
-export const LONGEST = 1_000_000
+let functions = null
+let bytes, numbers, buffer, capacity
+let held = '', heldLength = 0 // the string that is at the begin of the buffer, and its bytes
 
-export const FIRST = 0, SECOND = 1, BUFFER = 2
-
-const ROOM = LONGEST + 8
-
-// Lengths as the functions take them: making a BigInt takes longer than asking a table.
-const LENGTHS = Array.from({ length: 1024 }, (_, length) => BigInt(length))
-
-export const asLength = (length) => (length < LENGTHS.length ? LENGTHS[length] : BigInt(length))
-
-function opened(instance) {
-  const { memory, __heap_base, ...functions } = instance.exports
-  const result = Math.ceil(Number(__heap_base.value) / 8) * 8
-  const places = [FIRST, SECOND, BUFFER].map((place) => result + 64 + place * ROOM)
-  return {
-    ...functions,
-    bytes: new Uint8Array(memory.buffer),
-    words: new Uint32Array(memory.buffer),
-    result,
-    places,
-    resultAt: BigInt(result),
-    placesAt: places.map(BigInt),
-  }
+function open(instance) {
+  functions = instance.exports
+  held = ''
+  heldLength = capacity = 0
+  refresh()
+  reserve(1024)
 }
 
-let proved = null
+// What sees the memory has to be made anew when that has grown.
+function refresh() {
+  bytes = new Uint8Array(functions.memory.buffer)
+  numbers = new Uint32Array(functions.memory.buffer, functions.numbers(), 14)
+}
 
-const bytesOfModule = () => Uint8Array.from(atob(MODULE), (it) => it.charCodeAt(0))
+const bytesOfModule = (text) => Uint8Array.from(atob(text), (it) => it.charCodeAt(0))
 
-/** The functions and their memory. The first call compiles the module, which takes milliseconds. */
+/** The functions. The first call compiles the module, which takes milliseconds. */
 export function calls() {
-  proved ??= opened(new WebAssembly.Instance(new WebAssembly.Module(bytesOfModule())))
-  return proved
-}
-
-/**
- * Compiles the module if it isn't yet, without holding up the thread. Only an engine that compiles
- * nothing of this size at once on its main thread needs it, as Chrome before version 115.
- */
-export async function ready() {
-  if (proved === null) {
-    const { instance } = await WebAssembly.instantiate(bytesOfModule())
-    proved ??= opened(instance)
+  if (functions === null) {
+    if (EMBEDDED === null) throw new Error('the module is not compiled yet: await ready() first')
+    init(bytesOfModule(EMBEDDED))
   }
+  return functions
 }
 
-/** Writes a string from an address on, as UTF-8. Returns how many bytes it has. */
-export function writeAt(at, string) {
-  const { bytes } = calls()
+/** Takes a module that is compiled, or its bytes, in place of the one that the first call compiles. */
+export function init(module) {
+  const compiled = module instanceof WebAssembly.Module ? module : new WebAssembly.Module(module)
+  if (functions === null) open(new WebAssembly.Instance(compiled))
+}
+
+/** Compiles the module if it isn't yet, without holding up the thread. */
+export async function ready() {
+  if (functions !== null) return
+  const source = EMBEDDED === null ? await (await fetch(WHERE)).arrayBuffer() : bytesOfModule(EMBEDDED)
+  init(await WebAssembly.compile(source))
+}
+
+function reserve(length) {
+  buffer = functions.reserve(length)
+  if (buffer === 0) throw new RangeError('out of memory')
+  capacity = length
+}
+
+// Writes a string at an offset of the buffer, as UTF-8. Returns how many bytes it has.
+function write(offset, string) {
   const { length } = string
-  if (length > LONGEST) throw new TypeError(`string longer than ${LONGEST} bytes`)
+  if (offset + length > capacity) reserve(2 * (offset + length))
+  if (bytes.length === 0) refresh()
+  if (length > 200) return writeUtf8(offset, string)
+  const begin = buffer + offset
   for (let index = 0; index < length; index += 1) {
     const code = string.charCodeAt(index)
-    if (code > 127) return writeUtf8(at, string)
-    bytes[at + index] = code
+    if (code > 127) return writeUtf8(offset, string)
+    bytes[begin + index] = code
   }
   return length
 }
 
-function writeUtf8(at, string) {
-  const { read, written } = new TextEncoder().encodeInto(string, calls().bytes.subarray(at, at + LONGEST))
-  if (read < string.length) throw new TypeError(`string longer than ${LONGEST} bytes`)
-  return written
+function writeUtf8(offset, string) {
+  const most = offset + 3 * string.length
+  if (most > capacity) reserve(most)
+  if (bytes.length === 0) refresh()
+  return new TextEncoder().encodeInto(string, bytes.subarray(buffer + offset, buffer + capacity)).written
 }
 
-/** Writes a string into a place. Returns its length as the functions take it. */
-export const write = (place, string) => asLength(writeAt(calls().places[place], string))
-
-/** A number of 64 bits that a function wrote, at a multiple of 8 bytes: a BigInt above 2^53 - 1. */
-export function numberAt(offset) {
-  const { words, result } = calls()
-  const at = (result + offset) / 4
-  const number = words[at] + words[at + 1] * 2 ** 32
-  return number <= Number.MAX_SAFE_INTEGER ? number : (BigInt(words[at + 1]) << 32n) + BigInt(words[at])
+// Writes a string at the begin of the buffer, if it isn't there yet.
+function hold(string) {
+  if (string === held) return heldLength
+  held = ''
+  heldLength = write(0, string)
+  held = string
+  return heldLength
 }
 
-/** A number of 32 bits, with a sign. */
-export const signedAt = (offset) => calls().words[(calls().result + offset) / 4] | 0
+/** Makes a call with the address and the length of a string, and then the other arguments. */
+export function callWith(name, string, ...others) {
+  const call = calls()[name]
+  const length = hold(string)
+  return call(buffer, length, ...others)
+}
+
+/** Returns whether a version satisfies a range, or a negative number if one of them is invalid. */
+export function askOnce(version, range, dialect, rule) {
+  const { range_satisfied: call } = calls()
+  const rangeLength = hold(range)
+  const length = write(rangeLength, version)
+  return call(buffer, rangeLength, buffer + rangeLength, length, dialect, rule)
+}
+
+/** Returns 1 if a version is in a range that was read, 0 if it isn't, and else a negative number. */
+export function askRange(address, version) {
+  const { range_has: call } = calls()
+  const length = hold(version)
+  return call(address, buffer, length)
+}
+
+/** Returns how two versions compare by precedence; null if one is invalid. */
+export function compareOnce(version, other, dialect) {
+  const { version_compare: call } = calls()
+  const length = hold(version)
+  const otherLength = write(length, other)
+  const order = call(buffer, length, buffer + length, otherLength, dialect)
+  return order < 0 ? null : order - 1
+}
+
+/** Reads a version into the numbers. Returns how many bytes it has, or -1 if it is invalid. */
+export function readVersion(version, dialect) {
+  const { version_read: call } = calls()
+  const length = hold(version)
+  return call(buffer, length, dialect) === 0 ? length : -1
+}
+
+/** Returns the index of the best of some versions that are in a range; their number if none is. */
+export function bestOf(address, versions, isLowest) {
+  const { range_best: call } = calls()
+  held = ''
+  const begin = 4 * versions.length
+  let end = begin
+  const lengths = versions.map((version) => {
+    const length = write(end, version)
+    end += length
+    return length
+  })
+  if (end > capacity) reserve(end)
+  if (bytes.length === 0) refresh()
+  new Uint32Array(bytes.buffer, buffer, lengths.length).set(lengths)
+  return call(address, buffer, lengths.length, buffer + begin, isLowest ? 1 : 0)
+}
+
+/** A number of 64 bits that a call handed back, by its index: a BigInt. */
+export function bigAt(index) {
+  if (bytes.length === 0) refresh()
+  return (BigInt(numbers[2 * index + 1]) << 32n) + BigInt(numbers[2 * index])
+}
+
+/** The same of a number that isn't above 2^53. */
+export function numberAt(index) {
+  if (bytes.length === 0) refresh()
+  return numbers[2 * index] + numbers[2 * index + 1] * 2 ** 32
+}
+
+/** The string that a call handed back. */
+export function stringBack() {
+  const begin = numberAt(0)
+  return new TextDecoder().decode(bytes.subarray(begin, begin + numberAt(1)))
+}
+
+/** A part of the string that was written last, of which the call handed back where it is. */
+export function partOf(string, length, index) {
+  const partLength = numberAt(index + 1)
+  if (partLength === 0) return ''
+  const begin = numberAt(index)
+  if (string.length === length) return string.slice(begin, begin + partLength)
+  return new TextDecoder().decode(bytes.subarray(buffer + begin, buffer + begin + partLength))
+}

@@ -1,7 +1,14 @@
 // What the package exports.
-export { ready } from './calls.mjs'
+export { init, ready } from './calls.mjs'
+export { SemverError } from './errors.mjs'
 export {
-  Version, compare, compareBuild, eq, explainVersion, gt, gte, lt, lte, major, minor, neq, parse, patch,
-  prerelease, rcompare, rsort, sort, valid,
+  SemVer, cmp, compare, compareBuild, compareIdentifiers, compareLoose, eq, explainVersion, gt, gte, lt, lte,
+  major, minor, neq, parse, patch, prerelease, rcompare, rcompareIdentifiers, rsort, sort, valid,
 } from './versions.mjs'
-export { explainRange, filter, maxSatisfying, minSatisfying, satisfies, validRange } from './ranges.mjs'
+export { RELEASE_TYPES, SEMVER_SPEC_VERSION, clean, coerce, diff, inc } from './increments.mjs'
+export { Comparator } from './comparators.mjs'
+export { Range } from './ranges.mjs'
+export {
+  compareRanges, explainRange, filter, gtr, intersects, ltr, maxSatisfying, minSatisfying, minVersion, outside,
+  satisfies, simplifyRange, subset, toComparators, validRange,
+} from './selections.mjs'

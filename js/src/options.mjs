@@ -1,28 +1,45 @@
-// The options of a call, as the numbers that the proved functions take.
+// The options of a call.
+import { numberOf } from './names.mjs'
 
-const DIALECTS = { cargo: 0, npm: 1, 'crate-cargo': 2, 'crate-npm': 3 }
-const PRE_RELEASES = { default: 0, included: 1, excluded: 2 }
-
-const OF_NPM = { dialect: DIALECTS.npm, preReleases: PRE_RELEASES.default }
-
-function numberOf(numbers, name, what) {
-  if (Object.hasOwn(numbers, name)) return numbers[name]
-  throw new TypeError(`unknown ${what}: ${String(name)}`)
+/** What options say. */
+class Meaning {
+  constructor(options, dialect, preReleases) {
+    this.options = options
+    this.dialect = numberOr('dialect_name', dialect, 'dialect')
+    this.rule = numberOr('rule_name', preReleases, 'rule for pre-releases')
+    this.isOfNpm = dialect === 'npm'
+    this.isIncluded = preReleases === 'included'
+  }
 }
 
-/** The numbers of a dialect and of a rule for pre-releases: npm's if nothing is said. */
-export function numbersOf(options) {
-  if (!options) return OF_NPM
-  if (typeof options !== 'object') {
-    throw new TypeError("options must be an object, as { dialect: 'cargo' }")
+function numberOr(call, name, what) {
+  const number = numberOf(call, name)
+  if (number === undefined) throw new TypeError(`unknown ${what}: ${String(name)}`)
+  return number
+}
+
+const NONE = Object.freeze({})
+const LOOSE = Object.freeze({ loose: true })
+let byDefault = null
+
+/**
+ * What options say, each read once. As in node-semver what is no object stands for `loose`, which
+ * changes nothing here: so `versions.map(valid)` may pass an index.
+ */
+export function meaningOf(options) {
+  if (!options) {
+    byDefault ??= new Meaning(NONE, 'npm', 'default')
+    return byDefault
   }
-  if (options.loose) throw new TypeError('loose parsing is not supported')
-  const byDefault = options.includePrerelease ? 'included' : 'default'
-  if (options.includePrerelease && (options.preReleases ?? byDefault) !== byDefault) {
+  if (options instanceof Meaning) return options
+  if (typeof options !== 'object') return new Meaning(LOOSE, 'npm', 'default')
+  const { dialect, includePrerelease, preReleases } = options
+  const rule = includePrerelease ? 'included' : 'default'
+  if (includePrerelease && (preReleases ?? rule) !== rule) {
     throw new TypeError('includePrerelease contradicts preReleases')
   }
-  return {
-    dialect: numberOf(DIALECTS, options.dialect ?? 'npm', 'dialect'),
-    preReleases: numberOf(PRE_RELEASES, options.preReleases ?? byDefault, 'rule for pre-releases'),
-  }
+  return new Meaning(options, dialect ?? 'npm', preReleases ?? rule)
 }
+
+/** Whether two meanings are the same. */
+export const isSameMeaning = (one, other) => one.dialect === other.dialect && one.rule === other.rule

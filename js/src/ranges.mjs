@@ -1,69 +1,151 @@
-// Ranges: whether versions satisfy one.
-import { BUFFER, FIRST, LONGEST, SECOND, calls, write } from './calls.mjs'
-import { OK, explanationOfRange, invalidRange, stringOf } from './errors.mjs'
-import { numbersOf } from './options.mjs'
-import { isAbove } from './versions.mjs'
+// Ranges that are read once.
+import { askRange, callWith, calls, stringBack } from './calls.mjs'
+import { invalidRange, noString } from './errors.mjs'
+import { isSameMeaning, meaningOf } from './options.mjs'
+import { Comparator, comparatorsOf } from './comparators.mjs'
+import { stringOf } from './versions.mjs'
 
-// How the version in the first place and the range in the second one end.
-function asked(length, rangeLength, { dialect, preReleases }) {
-  const { satisfies, placesAt, resultAt } = calls()
-  return satisfies(placesAt[FIRST], length, placesAt[SECOND], rangeLength, dialect, preReleases, resultAt)
-}
+// The memory of the module has so many ranges, so that it doesn't fill. A range whose place another
+// one took is read again.
+const PLACES = 1000
+const owners = []
+const addresses = []
+let next = 0
 
-// Whether that version satisfies the range; an invalid one satisfies none, and none an invalid range.
-const isMet = (length, rangeLength, numbers) =>
-  asked(length, rangeLength, numbers) === OK && calls().bytes[calls().result] === 1
+/** A string that was read as a range. */
+export class ReadRange {
+  #place = -1
 
-// Whether a range is one, by asking of a version that each dialect has.
-function isRange(range, numbers) {
-  if (typeof range !== 'string' || range.length > LONGEST) return false
-  return asked(write(FIRST, '0.0.0'), write(SECOND, range), numbers) === OK
-}
-
-export function satisfies(version, range, options) {
-  const numbers = numbersOf(options)
-  if (typeof range !== 'string' || !version) return false
-  return isMet(write(FIRST, stringOf(version)), write(SECOND, range), numbers)
-}
-
-export function validRange(range, options) {
-  return isRange(range, numbersOf(options)) ? range || '*' : null
-}
-
-export function explainRange(range, options) {
-  const { dialect } = numbersOf(options)
-  return explanationOfRange(stringOf(range), dialect)
-}
-
-export function filter(versions, range, options) {
-  const numbers = numbersOf(options)
-  if (!isRange(range, numbers)) throw invalidRange(stringOf(range), numbers.dialect)
-  const rangeLength = write(SECOND, range)
-  return versions.filter((version) => version && isMet(write(FIRST, stringOf(version)), rangeLength, numbers))
-}
-
-// The first of the highest versions that satisfy a range, or of the lowest; null if there is none.
-function best(versions, range, options, isBetter) {
-  const numbers = numbersOf(options)
-  if (!isRange(range, numbers)) return null
-  const rangeLength = write(SECOND, range)
-  let found = null
-  let foundLength = 0n
-  for (const version of versions) {
-    const string = version ? stringOf(version) : ''
-    const length = write(FIRST, string)
-    if (isMet(length, rangeLength, numbers)) {
-      if (found === null || isBetter(length, foundLength, numbers.dialect)) {
-        found = version
-        foundLength = write(BUFFER, string)
-      }
-    }
+  constructor(string, meaning) {
+    this.string = string
+    this.meaning = meaning
+    this.#read()
   }
-  return found
+
+  #read() {
+    const { dialect, rule } = this.meaning
+    const address = callWith('range_read', this.string, dialect, rule)
+    if (address === 0) throw invalidRange(this.string, this.meaning)
+    if (owners[next]) calls().range_free(addresses[next])
+    owners[next] = this
+    addresses[next] = address
+    this.#place = next
+    next = (next + 1) % PLACES
+  }
+
+  /** Where it is in the memory of the module, until another range is read. */
+  get address() {
+    if (owners[this.#place] !== this) this.#read()
+    return addresses[this.#place]
+  }
+
+  /** Whether a version is in it; an invalid one isn't. */
+  has(version) {
+    return askRange(this.address, version) === 1
+  }
+
+  /** What a call returns of this range and another. */
+  beside(other, call) {
+    const second = this.address && other.address
+    return calls()[call](this.address, second)
+  }
+
+  /** The string that a call returns of it. */
+  shown(call) {
+    if (calls()[call](this.address) !== 0) throw new RangeError('out of memory')
+    return stringBack()
+  }
+
+  /** What is in this range and not in another, as comparators; null if nothing is. */
+  without(other) {
+    const address = this.beside(other, 'range_difference')
+    if (address === 0) throw new RangeError('out of memory')
+    const text = (call) => calls()[call](address) === 0 && stringBack()
+    const isEmpty = calls().range_is_empty(address) === 1
+    const found = isEmpty ? null : { releases: text('range_releases'), preReleases: text('range_pre_releases') }
+    calls().range_free(address)
+    return found
+  }
 }
 
-export const maxSatisfying = (versions, range, options) =>
-  best(versions, range, options, (length, other, dialect) => isAbove(FIRST, length, BUFFER, other, dialect))
+let readOf
 
-export const minSatisfying = (versions, range, options) =>
-  best(versions, range, options, (length, other, dialect) => isAbove(BUFFER, other, FIRST, length, dialect))
+/** A range of node-semver's class. Its fields can't be written. */
+export class Range {
+  #read
+  #set = null
+
+  static {
+    readOf = (value) => (value !== null && typeof value === 'object' && #read in value ? value.#read : null)
+  }
+
+  constructor(range, options) {
+    const meaning = meaningOf(options)
+    const read = readRange(range, meaning)
+    if (read === readOf(range)) return range
+    this.#read = read
+  }
+
+  get options() { return this.#read.meaning.options }
+  get loose() { return Boolean(this.#read.meaning.options.loose) }
+  get includePrerelease() { return this.#read.meaning.isIncluded }
+  get raw() { return this.#read.string.trim().replace(/\s+/g, ' ') }
+
+  get set() {
+    this.#set ??= comparatorsOf(this.#read.string, this.#read.meaning)
+    return this.#set
+  }
+
+  get range() {
+    return this.set.map((comparators) => comparators.join(' ')).join('||')
+  }
+
+  format() { return this.range }
+  toString() { return this.range }
+
+  toJSON() {
+    const { options, loose, includePrerelease, raw, set, range } = this
+    return { options, loose, includePrerelease, raw, set, range }
+  }
+
+  [Symbol.for('nodejs.util.inspect.custom')](depth, options, inspect) {
+    return `Range ${inspect(this.toJSON(), options)}`
+  }
+
+  test(version) {
+    return Boolean(version) && this.#read.has(stringOf(version))
+  }
+
+  intersects(other, options) {
+    if (readOf(other) === null) throw new TypeError('a Range is required')
+    const meaning = options === undefined ? this.#read.meaning : meaningOf(options)
+    return readRange(this, meaning).beside(readRange(other, meaning), 'range_overlaps') === 1
+  }
+}
+
+/** The string of a range, which may be one that was read, here or by another copy of the package. */
+export function rangeStringOf(range) {
+  if (typeof range === 'string') return range
+  if (range instanceof Comparator) return range.value
+  const read = readOf(range)
+  if (read !== null) return read.string
+  const { raw, range: text } = range ?? {}
+  if (typeof raw === 'string' && typeof text === 'string') return raw
+  throw noString('range', range)
+}
+
+/** A range that was read: it may have been before. Throws if it is invalid. */
+export function readRange(range, meaning) {
+  const read = readOf(range)
+  return read !== null && isSameMeaning(read.meaning, meaning) ? read : new ReadRange(rangeStringOf(range), meaning)
+}
+
+/** The same, but null if it is invalid. */
+export function readRangeOrNull(range, meaning) {
+  try {
+    return readRange(range, meaning)
+  } catch (error) {
+    if (error instanceof TypeError) return null
+    throw error
+  }
+}

@@ -1,82 +1,139 @@
-// Versions: parsed, compared and sorted.
-import { BUFFER, FIRST, LONGEST, SECOND, asLength, calls, numberAt, signedAt, write, writeAt } from './calls.mjs'
-import { OK, explanationOfVersion, invalidVersion, stringOf } from './errors.mjs'
-import { numbersOf } from './options.mjs'
+// Versions: read, compared and sorted.
+import { bigAt, compareOnce, numberAt, partOf, readVersion } from './calls.mjs'
+import { explained, invalidVersion, noString } from './errors.mjs'
+import { incremented } from './increments.mjs'
+import { isSameMeaning, meaningOf } from './options.mjs'
 
-/** A version that was parsed. */
-export class Version {
-  constructor(raw, [major, minor, patch], prerelease, build, version) {
-    Object.assign(this, { raw, major, minor, patch, prerelease, build, version })
-  }
+const identifiersOf = (part) => (part === '' ? [] : part.split('.'))
 
-  toString() {
-    return this.version
-  }
-}
-
-// A part of the string in the first place, which has only ASCII itself: what is written at an offset
-// says where it begins, and what is 8 bytes after that how long it is.
-function partAt(string, bytes, offset) {
-  const begin = numberAt(offset)
-  const length = numberAt(offset + 8)
-  if (length === 0) return ''
-  if (string.length === bytes) return string.slice(begin, begin + length)
-  const at = calls().places[FIRST] + begin
-  return new TextDecoder().decode(calls().bytes.subarray(at, at + length))
-}
-
-const identifiers = (part) => (part === '' ? [] : part.split('.'))
-
-// An identifier of digits is a number, if that is below 2^53 - 1.
+// A pre-release identifier of digits is a number, if that is below 2^53 - 1.
 function valueOf(identifier) {
   const number = /^\d+$/.test(identifier) ? Number(identifier) : Infinity
   return number < Number.MAX_SAFE_INTEGER ? number : identifier
 }
 
-// Parses a string into what the module writes. Returns how many bytes it has, or -1 if it is invalid.
-function read(string, dialect) {
-  const length = write(FIRST, string)
-  const { parse_version, placesAt, resultAt } = calls()
-  return parse_version(placesAt[FIRST], length, dialect, resultAt) === OK ? Number(length) : -1
+// The canonical string of the numbers and the pre-release that were read.
+function versionBack(string, length, meaning) {
+  const [major, minor, patch] = meaning.isOfNpm ? [numberAt(0), numberAt(1), numberAt(2)] : [bigAt(0), bigAt(1), bigAt(2)]
+  const pre = partOf(string, length, 3)
+  return pre === '' ? `${major}.${minor}.${patch}` : `${major}.${minor}.${patch}-${pre}`
 }
 
-// The version that was read, without build metadata.
-function textRead(string, bytes) {
-  const pre = partAt(string, bytes, 24)
-  return `${numberAt(0)}.${numberAt(8)}.${numberAt(16)}${pre === '' ? '' : `-${pre}`}`
+let isSemVer
+
+/** A version of node-semver's class. Its fields can't be written; `inc` changes them. */
+export class SemVer {
+  #meaning
+  #raw
+  #version
+  #numbers
+  #pre
+  #build
+
+  static {
+    isSemVer = (value) => value !== null && typeof value === 'object' && #raw in value
+  }
+
+  constructor(version, options) {
+    const meaning = meaningOf(options)
+    if (isSemVer(version) && isSameMeaning(version.#meaning, meaning)) return version
+    this.#meaning = meaning
+    this.#read(stringOf(version))
+  }
+
+  #read(string) {
+    const meaning = this.#meaning
+    const length = readVersion(string, meaning.dialect)
+    if (length < 0) throw invalidVersion(string, meaning)
+    const at = meaning.isOfNpm ? numberAt : bigAt
+    this.#raw = string
+    this.#numbers = [at(0), at(1), at(2)]
+    this.#version = versionBack(string, length, meaning)
+    this.#pre = Object.freeze(identifiersOf(partOf(string, length, 3)).map(valueOf))
+    this.#build = Object.freeze(identifiersOf(partOf(string, length, 5)))
+  }
+
+  get options() { return this.#meaning.options }
+  get loose() { return Boolean(this.#meaning.options.loose) }
+  get includePrerelease() { return this.#meaning.isIncluded }
+  get raw() { return this.#raw }
+  get major() { return this.#numbers[0] }
+  get minor() { return this.#numbers[1] }
+  get patch() { return this.#numbers[2] }
+  get prerelease() { return this.#pre }
+  get build() { return this.#build }
+  get version() { return this.#version }
+
+  format() { return this.#version }
+  toString() { return this.#version }
+
+  toJSON() {
+    const { options, loose, includePrerelease, raw, major, minor, patch, prerelease, build, version } = this
+    return { options, loose, includePrerelease, raw, major, minor, patch, prerelease, build, version }
+  }
+
+  [Symbol.for('nodejs.util.inspect.custom')](depth, options, inspect) {
+    return `SemVer ${inspect(this.toJSON(), options)}`
+  }
+
+  #with(other) {
+    return isSemVer(other) ? other : new SemVer(other, this.#meaning)
+  }
+
+  compare(other) {
+    return comparedOrThrow(this.#version, stringOf(other), this.#meaning)
+  }
+
+  compareMain(other) {
+    const { major, minor, patch } = this.#with(other)
+    return comparedOrThrow(this.#numbers.join('.'), [major, minor, patch].join('.'), this.#meaning)
+  }
+
+  comparePre(other) {
+    const [one, two] = [this, this.#with(other)].map((it) => (it.prerelease.length ? `0.0.0-${it.prerelease.join('.')}` : '0.0.0'))
+    return comparedOrThrow(one, two, this.#meaning)
+  }
+
+  compareBuild(other) {
+    return compareBuilds(this.#build, this.#with(other).build)
+  }
+
+  inc(release, identifier, identifierBase) {
+    this.#read(incremented(this, release, identifier, identifierBase))
+    return this
+  }
 }
 
-// The version that a string is in a dialect, or null.
-function parsed(string, dialect) {
-  const bytes = read(string, dialect)
-  if (bytes < 0) return null
-  const numbers = [numberAt(0), numberAt(8), numberAt(16)]
-  const pre = identifiers(partAt(string, bytes, 24)).map(valueOf)
-  const build = identifiers(partAt(string, bytes, 40))
-  return new Version(string, numbers, pre, build, textRead(string, bytes))
+// What another copy of the package, or node-semver, made of a version.
+const isForeign = (version) => version !== null && typeof version === 'object' && typeof version.raw === 'string' &&
+  typeof version.version === 'string' && Array.isArray(version.build)
+
+const mayBeVersion = (version) => typeof version === 'string' || isForeign(version)
+
+/** The string of a version, which may be one that was read. */
+export function stringOf(version) {
+  if (typeof version === 'string') return version
+  if (!isForeign(version)) throw noString('version', version)
+  const { version: string, build } = version
+  return build.length ? `${string}+${build.join('.')}` : `${string}`
 }
 
-function parsedOrThrow(version, options) {
-  const { dialect } = numbersOf(options)
-  const string = stringOf(version)
-  const found = parsed(string, dialect)
-  if (found === null) throw invalidVersion(string, dialect)
-  return found
-}
-
-const mayBeVersion = (version) => typeof version === 'string' && version.length <= LONGEST
-
-export function parse(version, options) {
-  const { dialect } = numbersOf(options)
-  if (version instanceof Version) return version
-  return mayBeVersion(version) ? parsed(version, dialect) : null
+export function parse(version, options, throwErrors = false) {
+  const meaning = meaningOf(options)
+  if (throwErrors !== true && !isSemVer(version)) {
+    const string = mayBeVersion(version) ? stringOf(version) : null
+    return string !== null && readVersion(string, meaning.dialect) >= 0 ? new SemVer(string, meaning) : null
+  }
+  return isSemVer(version) ? version : new SemVer(version, meaning)
 }
 
 export function valid(version, options) {
-  const { dialect } = numbersOf(options)
-  if (version instanceof Version) return version.version
-  const bytes = mayBeVersion(version) ? read(version, dialect) : -1
-  return bytes < 0 ? null : textRead(version, bytes)
+  const meaning = meaningOf(options)
+  if (isSemVer(version)) return version.version
+  if (!mayBeVersion(version)) return null
+  const string = stringOf(version)
+  const length = readVersion(string, meaning.dialect)
+  return length < 0 ? null : versionBack(string, length, meaning)
 }
 
 export function prerelease(version, options) {
@@ -84,46 +141,57 @@ export function prerelease(version, options) {
   return found !== null && found.prerelease.length ? found.prerelease : null
 }
 
-export const major = (version, options) => parsedOrThrow(version, options).major
-export const minor = (version, options) => parsedOrThrow(version, options).minor
-export const patch = (version, options) => parsedOrThrow(version, options).patch
+// A number of a version, by its index.
+function partOfVersion(version, options, index) {
+  const meaning = meaningOf(options)
+  const string = stringOf(version)
+  if (readVersion(string, meaning.dialect) < 0) throw invalidVersion(string, meaning)
+  return meaning.isOfNpm ? numberAt(index) : bigAt(index)
+}
+
+export const major = (version, options) => partOfVersion(version, options, 0)
+export const minor = (version, options) => partOfVersion(version, options, 1)
+export const patch = (version, options) => partOfVersion(version, options, 2)
 
 export function explainVersion(version, options) {
-  const { dialect } = numbersOf(options)
-  return explanationOfVersion(stringOf(version), dialect)
+  const meaning = meaningOf(options)
+  return explained('version_refused', stringOf(version), meaning)
 }
 
 // ---- precedence
 
-// How two versions compare that are at addresses; null if one of them is invalid.
-function compared(at, length, otherAt, otherLength, dialect) {
-  const { compare_versions, resultAt } = calls()
-  const status = compare_versions(at, length, otherAt, otherLength, dialect, resultAt)
-  return status === OK ? signedAt(0) : null
-}
-
-function comparedOrThrow(string, other, dialect) {
-  const length = write(FIRST, string)
-  const otherLength = write(SECOND, other)
-  const { placesAt } = calls()
-  const order = compared(placesAt[FIRST], length, placesAt[SECOND], otherLength, dialect)
+export function comparedOrThrow(version, other, meaning) {
+  const order = compareOnce(version, other, meaning.dialect)
   if (order !== null) return order
-  const isSecond = explanationOfVersion(string, dialect) === null
-  throw invalidVersion(isSecond ? other : string, dialect)
+  const isFirst = readVersion(version, meaning.dialect) < 0
+  throw invalidVersion(isFirst ? version : other, meaning)
 }
 
 export function compare(version, other, options) {
-  const { dialect } = numbersOf(options)
-  return comparedOrThrow(stringOf(version), stringOf(other), dialect)
+  const meaning = meaningOf(options)
+  const string = stringOf(version)
+  return comparedOrThrow(string, stringOf(other), meaning)
 }
 
 export const rcompare = (version, other, options) => compare(other, version, options)
+export const compareLoose = (version, other) => compare(version, other)
 export const gt = (version, other, options) => compare(version, other, options) > 0
 export const gte = (version, other, options) => compare(version, other, options) >= 0
 export const lt = (version, other, options) => compare(version, other, options) < 0
 export const lte = (version, other, options) => compare(version, other, options) <= 0
 export const eq = (version, other, options) => compare(version, other, options) === 0
 export const neq = (version, other, options) => compare(version, other, options) !== 0
+
+const COMPARISONS = { '': eq, '=': eq, '==': eq, '!=': neq, '>': gt, '>=': gte, '<': lt, '<=': lte }
+
+const plain = (version) => (version !== null && typeof version === 'object' ? version.version : version)
+
+export function cmp(version, operator, other, options) {
+  if (operator === '===') return plain(version) === plain(other)
+  if (operator === '!==') return plain(version) !== plain(other)
+  if (!Object.hasOwn(COMPARISONS, operator)) throw new TypeError(`Invalid operator: ${operator}`)
+  return COMPARISONS[operator](version, other, options)
+}
 
 // ---- build metadata, which has no precedence: an order of its own, after that
 
@@ -133,12 +201,15 @@ function compareDigits(digits, others) {
   return first === second ? 0 : first < second ? -1 : 1
 }
 
-function compareIdentifiers(identifier, other) {
-  const [isNumber, otherIsNumber] = [identifier, other].map((it) => /^\d+$/.test(it))
-  if (isNumber && otherIsNumber) return compareDigits(identifier, other)
+export function compareIdentifiers(identifier, other) {
+  const [one, two] = [`${identifier}`, `${other}`]
+  const [isNumber, otherIsNumber] = [one, two].map((it) => /^\d+$/.test(it))
+  if (isNumber && otherIsNumber) return compareDigits(one, two)
   if (isNumber !== otherIsNumber) return isNumber ? -1 : 1
-  return identifier < other ? -1 : 1
+  return one === two ? 0 : one < two ? -1 : 1
 }
+
+export const rcompareIdentifiers = (identifier, other) => compareIdentifiers(other, identifier)
 
 function compareBuilds(build, other) {
   const at = build.findIndex((it, index) => it !== other[index])
@@ -146,52 +217,26 @@ function compareBuilds(build, other) {
   return at < other.length ? compareIdentifiers(build[at], other[at]) : 1
 }
 
-function orderOfBuilds(string, other, dialect) {
-  if (!string.includes('+') && !other.includes('+')) return 0
-  return compareBuilds(parsed(string, dialect).build, parsed(other, dialect).build)
+// The identifiers of the build metadata of a valid version, of which nothing else has a `+`.
+const buildOf = (string) => identifiersOf(string.includes('+') ? string.slice(string.indexOf('+') + 1).trim() : '')
+
+function compareStrings(version, other, meaning) {
+  const order = comparedOrThrow(version, other, meaning)
+  if (order || !(version.includes('+') || other.includes('+'))) return order
+  return compareBuilds(buildOf(version), buildOf(other))
 }
 
 export function compareBuild(version, other, options) {
-  const { dialect } = numbersOf(options)
-  const [string, otherString] = [version, other].map(stringOf)
-  return comparedOrThrow(string, otherString, dialect) || orderOfBuilds(string, otherString, dialect)
-}
-
-// ---- sorting
-
-// Each version with the place of its string in memory, all written at once; null if there are too many.
-function written(list) {
-  const { places } = calls()
-  const end = places[BUFFER] + LONGEST
-  let at = places[SECOND]
-  const entries = []
-  for (const version of list) {
-    const string = stringOf(version)
-    if (string.length * 3 > end - at) return null
-    const length = writeAt(at, string)
-    entries.push({ version, string, at: BigInt(at), length: asLength(length) })
-    at += length
-  }
-  return entries
-}
-
-function inOrder(list, dialect, sign) {
-  const entries = written(list)
-  if (entries === null) {
-    const compareStrings = (a, b) => comparedOrThrow(a, b, dialect) || orderOfBuilds(a, b, dialect)
-    return [...list].sort((a, b) => sign * compareStrings(stringOf(a), stringOf(b)))
-  }
-  const order = (a, b) => {
-    const found = compared(a.at, a.length, b.at, b.length, dialect)
-    if (found === null) return comparedOrThrow(a.string, b.string, dialect)
-    return found || orderOfBuilds(a.string, b.string, dialect)
-  }
-  return entries.sort((a, b) => sign * order(a, b)).map(({ version }) => version)
+  const meaning = meaningOf(options)
+  const string = stringOf(version)
+  return compareStrings(string, stringOf(other), meaning)
 }
 
 function sorted(list, options, sign) {
-  const { dialect } = numbersOf(options)
-  inOrder(list, dialect, sign).forEach((version, index) => {
+  const meaning = meaningOf(options)
+  const entries = Array.from(list, (version) => ({ version, string: stringOf(version) }))
+  entries.sort((one, other) => sign * compareStrings(one.string, other.string, meaning))
+  entries.forEach(({ version }, index) => {
     list[index] = version
   })
   return list
@@ -199,9 +244,3 @@ function sorted(list, options, sign) {
 
 export const sort = (list, options) => sorted(list, options, 1)
 export const rsort = (list, options) => sorted(list, options, -1)
-
-/** Whether a string, which is in a place, is above the one in another place; both are valid. */
-export function isAbove(place, length, otherPlace, otherLength, dialect) {
-  const { placesAt } = calls()
-  return compared(placesAt[place], length, placesAt[otherPlace], otherLength, dialect) > 0
-}

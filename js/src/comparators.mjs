@@ -1,0 +1,84 @@
+// Comparators, and the form in which node-semver writes them.
+import { callWith, stringBack } from './calls.mjs'
+import { invalidRange, noString } from './errors.mjs'
+import { isSameMeaning, meaningOf } from './options.mjs'
+import { ReadRange } from './ranges.mjs'
+import { SemVer, cmp, parse, valid } from './versions.mjs'
+
+const ANY = Symbol('SemVer ANY')
+const NO_VERSION = '<0.0.0-0'
+const PARTS = /^(<=|>=|<|>|=|)(.*)$/s
+
+/** A comparator of node-semver's class. Its fields can't be written. */
+export class Comparator {
+  #meaning
+  #operator
+  #semver
+
+  static get ANY() { return ANY }
+
+  constructor(comparator, options) {
+    const meaning = meaningOf(options)
+    if (comparator instanceof Comparator) {
+      if (isSameMeaning(comparator.#meaning, meaning)) return comparator
+      comparator = comparator.value
+    }
+    if (typeof comparator !== 'string') throw noString('comparator', comparator)
+    const [, operator, version] = PARTS.exec(comparator.trim())
+    this.#meaning = meaning
+    this.#operator = operator === '=' ? '' : operator
+    this.#semver = operator === '' && version === '' ? ANY : parse(version.trim(), meaning)
+    if (this.#semver === null) throw new TypeError(`Invalid comparator: ${comparator}`)
+  }
+
+  get options() { return this.#meaning.options }
+  get loose() { return Boolean(this.#meaning.options.loose) }
+  get operator() { return this.#operator }
+  get semver() { return this.#semver }
+  get value() { return this.#semver === ANY ? '' : this.#operator + this.#semver.version }
+
+  toString() { return this.value }
+
+  toJSON() {
+    const { options, loose, operator, semver, value } = this
+    return { options, loose, operator, semver, value }
+  }
+
+  [Symbol.for('nodejs.util.inspect.custom')](depth, options, inspect) {
+    return `Comparator ${inspect(this.toJSON(), options)}`
+  }
+
+  test(version) {
+    if (this.#semver === ANY || version === ANY) return true
+    if (typeof version === 'string' && valid(version, this.#meaning) === null) return false
+    return cmp(version, this.#operator, this.#semver, this.#meaning)
+  }
+
+  intersects(other, options) {
+    if (!(other instanceof Comparator)) throw new TypeError('a Comparator is required')
+    const meaning = options === undefined ? this.#meaning : meaningOf(options)
+    const [one, two] = [this, other].map(({ value }) => new ReadRange(value, meaning))
+    return one.beside(two, 'range_overlaps') === 1
+  }
+}
+
+// The comparators of one range, as strings: none twice, none that asks nothing beside others, and
+// alone the one that no version satisfies.
+function written(comparators, meaning) {
+  const lowest = meaning.isIncluded ? '>=0.0.0-0' : '>=0.0.0'
+  const values = new Set(comparators.map((it) => (it === lowest ? '' : it.replace(/^=/, ''))))
+  if (values.has(NO_VERSION)) return [NO_VERSION]
+  if (values.size > 1) values.delete('')
+  return [...values]
+}
+
+/** The ranges of a string as node-semver writes them, each a list of comparators. */
+export function comparatorsOf(string, meaning) {
+  const { dialect, rule } = meaning
+  if (callWith('range_comparators', string, dialect, rule) !== 0) throw invalidRange(string, meaning)
+  const all = stringBack().split(' || ').map((range) => written(range.split(' '), meaning))
+  const some = all.filter(([first]) => first !== NO_VERSION)
+  const any = some.find(([first]) => first === '')
+  const ranges = any ? [any] : some.length ? some : all.slice(0, 1)
+  return ranges.map((range) => range.map((it) => new Comparator(it, meaning)))
+}

@@ -1,0 +1,128 @@
+// What makes a version of another version or string: by hand, as node-semver's README says, and not
+// proved. That a result is a version, the module says.
+import { compare, compareIdentifiers, parse, SemVer, stringOf } from './versions.mjs'
+import { meaningOf } from './options.mjs'
+import { noString } from './errors.mjs'
+
+export const SEMVER_SPEC_VERSION = '2.0.0'
+
+export const RELEASE_TYPES = Object.freeze([
+  'major', 'premajor', 'minor', 'preminor', 'patch', 'prepatch', 'prerelease',
+])
+
+const wrong = (why) => new TypeError(`invalid increment argument: ${why}`)
+
+// The identifiers of the next pre-release after some.
+function nextPre(pre, identifier, identifierBase) {
+  const base = Number(identifierBase) ? 1 : 0
+  if (!identifier && identifierBase === false) throw wrong('identifier is empty')
+  const last = pre.findLastIndex((it) => typeof it === 'number')
+  if (identifier && identifierBase === false && last < 0 && identifier === pre.join('.')) {
+    throw wrong('identifier already exists')
+  }
+  const raised = last < 0 ? [...pre, base] : pre.map((it, index) => (index === last ? it + 1 : it))
+  if (!identifier) return raised
+  const isSame = pre.length > 0 && compareIdentifiers(pre[0], identifier) === 0
+  if (isSame && !Number.isNaN(Number(raised[1]))) return raised
+  return identifierBase === false ? [identifier] : [identifier, base]
+}
+
+const zero = (number) => (typeof number === 'bigint' ? 0n : 0)
+const more = (number) => (typeof number === 'bigint' ? number + 1n : number + 1)
+
+// The three numbers of the next release.
+function nextNumbers({ major, minor, patch, prerelease }, release) {
+  const isRelease = prerelease.length === 0
+  const none = zero(major)
+  if (release === 'major') return minor || patch || isRelease ? [more(major), none, none] : [major, none, none]
+  if (release === 'minor') return patch || isRelease ? [major, more(minor), none] : [major, minor, none]
+  return [major, minor, isRelease ? more(patch) : patch]
+}
+
+/** The string of the next version, with the build metadata of the one before. */
+export function incremented(version, release, identifier, identifierBase) {
+  const { major, minor, patch, prerelease, build } = version
+  const parts = () => {
+    const numbers = [major, minor, patch]
+    switch (release) {
+      case 'major': case 'minor': case 'patch': return [nextNumbers(version, release), []]
+      case 'premajor': return [[more(major), zero(major), zero(major)], nextPre([], identifier, identifierBase)]
+      case 'preminor': return [[major, more(minor), zero(major)], nextPre([], identifier, identifierBase)]
+      case 'prepatch': return [[major, minor, more(patch)], nextPre([], identifier, identifierBase)]
+      case 'prerelease': return [prerelease.length ? numbers : [major, minor, more(patch)], nextPre(prerelease, identifier, identifierBase)]
+      case 'pre': return [numbers, nextPre(prerelease, identifier, identifierBase)]
+      default: throw wrong(release)
+    }
+  }
+  const [numbers, pre] = parts()
+  return numbers.join('.') + (pre.length ? `-${pre.join('.')}` : '') + (build.length ? `+${build.join('.')}` : '')
+}
+
+export function inc(version, release, options, identifier, identifierBase) {
+  if (typeof options === 'string') return inc(version, release, undefined, options, identifier)
+  const meaning = meaningOf(options)
+  try {
+    return new SemVer(stringOf(version), meaning).inc(release, identifier, identifierBase).version
+  } catch (error) {
+    if (error instanceof TypeError) return null
+    throw error
+  }
+}
+
+export function diff(version, other) {
+  const [one, two] = [version, other].map((it) => parse(it, null, true))
+  const order = compare(one, two)
+  if (order === 0) return null
+  const [high, low] = order > 0 ? [one, two] : [two, one]
+  const toRelease = low.prerelease.length > 0 && high.prerelease.length === 0
+  if (toRelease) {
+    if (low.minor === 0 && low.patch === 0) return 'major'
+    if (high.patch !== 0) return 'patch'
+    return high.minor !== 0 ? 'minor' : 'major'
+  }
+  const prefix = high.prerelease.length ? 'pre' : ''
+  for (const part of ['major', 'minor', 'patch']) if (one[part] !== two[part]) return prefix + part
+  return 'prerelease'
+}
+
+export function clean(version, options) {
+  const meaning = meaningOf(options)
+  if (typeof version !== 'string') throw noString('version', version)
+  const found = parse(version.trim().replace(/^[=v]+/, ''), meaning)
+  return found === null ? null : found.version
+}
+
+// Up to three numbers of at most 16 digits, which no digits are before or after.
+const NUMBERS = String.raw`(?<!\d)(\d{1,16})(?:\.(\d{1,16}))?(?:\.(\d{1,16}))?`
+const dotted = (one) => String.raw`${one}(?:\.${one})*`
+const PRE = dotted(String.raw`(?:\d*[A-Za-z-][0-9A-Za-z-]*|0|[1-9]\d*)`)
+const BUILD = dotted('[0-9A-Za-z-]+')
+const COERCED = new RegExp(String.raw`${NUMBERS}(?!\d)`, 'g')
+const COERCED_WHOLE = new RegExp(String.raw`${NUMBERS}(?:-(${PRE}))?(?:\+(${BUILD}))?(?!\d)`, 'g')
+
+export function coerce(version, options) {
+  const meaning = meaningOf(options)
+  if (version instanceof SemVer) return version
+  const string = typeof version === 'number' ? String(version) : version
+  if (typeof string !== 'string') return null
+  const { includePrerelease, rtl } = meaning.options
+  const found = coerced(string, includePrerelease ? COERCED_WHOLE : COERCED, rtl)
+  if (found === null) return null
+  const [, major, minor = '0', patch = '0', pre, build] = found
+  const text = `${major}.${minor}.${patch}${pre ? `-${pre}` : ''}${build ? `+${build}` : ''}`
+  return parse(text, meaning)
+}
+
+function coerced(string, pattern, rtl) {
+  let found = null
+  for (let at = 0; at < string.length; at += 1) {
+    pattern.lastIndex = at
+    const next = pattern.exec(string)
+    if (next === null) return found
+    if (!rtl) return next
+    const end = next.index + next[0].length
+    if (found === null || end > found.index + found[0].length) found = next
+    at = next.index
+  }
+  return found
+}

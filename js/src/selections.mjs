@@ -1,0 +1,131 @@
+// Which versions satisfy a range, and what two ranges have in common.
+import { askOnce, bestOf } from './calls.mjs'
+import { explained } from './errors.mjs'
+import { isSameMeaning, meaningOf } from './options.mjs'
+import { Range, readRange, readRangeOrNull, rangeStringOf } from './ranges.mjs'
+import { SemVer, compare, stringOf } from './versions.mjs'
+
+// The string that was asked last as a range. It is read once it is asked again.
+let lastString = ''
+let lastMeaning = null
+let lastRead = null
+
+function readAgain(range, meaning) {
+  if (typeof range !== 'string') return readRangeOrNull(range, meaning)
+  if (lastMeaning !== null && range === lastString && isSameMeaning(meaning, lastMeaning)) {
+    lastRead ??= readRangeOrNull(range, meaning)
+    return lastRead
+  }
+  lastString = range
+  lastMeaning = meaning
+  lastRead = null
+  return null
+}
+
+export function satisfies(version, range, options) {
+  const meaning = meaningOf(options)
+  const string = version ? stringOf(version) : null
+  const read = readAgain(range, meaning)
+  if (string === null) return false
+  if (read !== null) return read.has(string)
+  return typeof range === 'string' && askOnce(string, range, meaning.dialect, meaning.rule) === 1
+}
+
+export function validRange(range, options) {
+  const meaning = meaningOf(options)
+  return readRangeOrNull(range, meaning) === null ? null : new Range(range, meaning).range || '*'
+}
+
+export function toComparators(range, options) {
+  return new Range(range, options).set.map((comparators) => comparators.map(String))
+}
+
+export function explainRange(range, options) {
+  const meaning = meaningOf(options)
+  return explained('range_refused', rangeStringOf(range), meaning)
+}
+
+// The versions of a list that are any, with their strings.
+function listed(versions) {
+  return Array.from(versions).filter(Boolean).map((version) => ({ version, string: stringOf(version) }))
+}
+
+export function filter(versions, range, options) {
+  const meaning = meaningOf(options)
+  const entries = listed(versions)
+  const read = readRange(range, meaning)
+  return entries.filter(({ string }) => read.has(string)).map(({ version }) => version)
+}
+
+function best(versions, range, options, isLowest) {
+  const meaning = meaningOf(options)
+  const entries = listed(versions)
+  const read = readRangeOrNull(range, meaning)
+  if (read === null) return null
+  const index = bestOf(read.address, entries.map(({ string }) => string), isLowest)
+  return index < entries.length ? entries[index].version : null
+}
+
+export const maxSatisfying = (versions, range, options) => best(versions, range, options, false)
+export const minSatisfying = (versions, range, options) => best(versions, range, options, true)
+
+export function minVersion(range, options) {
+  const meaning = meaningOf(options)
+  const lowest = readRange(range, meaning).shown('range_lowest')
+  return lowest === '' ? null : new SemVer(lowest, meaning)
+}
+
+// What a call says of two ranges.
+function asked(range, other, options, call) {
+  const meaning = meaningOf(options)
+  const one = readRange(range, meaning)
+  return one.beside(readRange(other, meaning), call) === 1
+}
+
+export const intersects = (range, other, options) => asked(range, other, options, 'range_overlaps')
+export const subset = (range, other, options) => asked(range, other, options, 'range_is_within')
+
+export function compareRanges(range, other, options) {
+  const meaning = meaningOf(options)
+  const [one, two] = [range, other].map((it) => readRange(it, meaning))
+  return { lost: one.without(two), gained: two.without(one) }
+}
+
+const BEYOND = { '>': '>=', '<': '<=' }
+
+export function outside(version, range, side, options) {
+  const meaning = meaningOf(options)
+  if (!Object.hasOwn(BEYOND, side)) throw new TypeError('Must provide a hilo val of "<" or ">"')
+  const { version: string } = new SemVer(version, meaning)
+  const read = readRange(range, meaning)
+  const { options: given } = meaning
+  const included = meaningOf({ dialect: given.dialect, preReleases: 'included' })
+  return read.beside(readRange(BEYOND[side] + string, included), 'range_overlaps') === 0
+}
+
+export const gtr = (version, range, options) => outside(version, range, '>', options)
+export const ltr = (version, range, options) => outside(version, range, '<', options)
+
+// The shortest range of the versions from one to another of a list.
+function between(first, last, list) {
+  if (first === last) return `${first}`
+  if (last === list.at(-1)) return first === list[0] ? '*' : `>=${first}`
+  return first === list[0] ? `<=${last}` : `${first} - ${last}`
+}
+
+export function simplifyRange(versions, range, options) {
+  const meaning = meaningOf(options)
+  const list = Array.from(versions).sort((one, other) => compare(one, other, meaning))
+  const ranges = []
+  let first = null
+  list.forEach((version, at) => {
+    const isIn = satisfies(version, range, meaning)
+    if (isIn) first ??= version
+    if (first !== null && isIn && at < list.length - 1) return
+    if (first !== null) ranges.push(between(first, isIn ? version : list[at - 1], list))
+    first = null
+  })
+  const simplified = ranges.join(' || ')
+  const original = typeof range === 'string' ? range : rangeStringOf(range)
+  return simplified.length < original.length ? simplified : range
+}

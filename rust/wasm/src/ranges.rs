@@ -1,0 +1,230 @@
+//! Ranges: read once, asked of versions, and what two have in common or alone.
+
+use crate::versions::{outline, refused};
+use crate::{bytes, state, status};
+use alloc::alloc::{alloc, Layout};
+use alloc::boxed::Box;
+use alloc::vec::Vec;
+use core::fmt::Write;
+use core::ptr::null_mut;
+use semver_parser::refusals::{self, Reason};
+use semver_parser::sets::{self, VersionSet};
+use semver_parser::{satisfies, Dialect, Meaning, PreReleases, SatisfiesError};
+
+/// A range that was read.
+pub struct Range {
+    set: VersionSet,
+    dialect: Dialect,
+}
+
+fn meaning(dialect: i32, rule: i32) -> Option<Meaning> {
+    let (dialect, pre_releases) = (Dialect::of_number(dialect)?, PreReleases::of_number(rule)?);
+    Some(Meaning { dialect, pre_releases })
+}
+
+/// The string at an address, if it is UTF-8.
+///
+/// # Safety
+/// There are so many bytes, and nothing writes to them meanwhile.
+unsafe fn string<'a>(at: *const u8, len: usize) -> Option<&'a str> {
+    core::str::from_utf8(unsafe { bytes(at, len) }).ok()
+}
+
+/// Returns 1 if a version satisfies a range, 0 if it doesn't, and a status if one is invalid.
+///
+/// # Safety
+/// There are so many bytes at the addresses.
+#[no_mangle]
+pub unsafe extern "C" fn range_satisfied(
+    range: *const u8,
+    range_len: usize,
+    at: *const u8,
+    len: usize,
+    dialect: i32,
+    rule: i32,
+) -> i32 {
+    let Some(meaning) = meaning(dialect, rule) else { return status::INVALID_RANGE };
+    let (range, version) = unsafe { (string(range, range_len), string(at, len)) };
+    let Some(range) = range else { return status::INVALID_RANGE };
+    match version.map(|version| satisfies(version, range, meaning)) {
+        Some(Ok(answer)) => answer.into(),
+        None | Some(Err(SatisfiesError::InvalidVersion)) => status::INVALID_VERSION,
+        Some(Err(SatisfiesError::InvalidRange(_))) => status::INVALID_RANGE,
+    }
+}
+
+/// Returns the number of the reason for which a string isn't a range, 0 if it is one. The first number
+/// is the offset in bytes.
+///
+/// # Safety
+/// There are so many bytes at the address.
+#[no_mangle]
+pub unsafe extern "C" fn range_refused(at: *const u8, len: usize, dialect: i32) -> i32 {
+    let (Some(dialect), Some(range)) = (Dialect::of_number(dialect), unsafe { string(at, len) })
+    else {
+        return Reason::NotUtf8.number();
+    };
+    match refusals::of_range(range, dialect) {
+        Some(refusal) => refused(refusal.offset, refusal.reason),
+        None => 0,
+    }
+}
+
+/// Hands back what is displayed as a string. Returns 0, or the status that memory ran out.
+fn show(shown: impl core::fmt::Display) -> i32 {
+    state::with(|state| {
+        state.text.clear();
+        if write!(state.text, "{shown}").is_err() {
+            return status::OUT_OF_MEMORY;
+        }
+        state.numbers[0] = state.text.as_ptr() as u64;
+        state.numbers[1] = state.text.len() as u64;
+        0
+    })
+}
+
+/// Returns the comparators of a range, as a string, or a status if it isn't one.
+///
+/// # Safety
+/// There are so many bytes at the address.
+#[no_mangle]
+pub unsafe extern "C" fn range_comparators(
+    at: *const u8,
+    len: usize,
+    dialect: i32,
+    rule: i32,
+) -> i32 {
+    let (Some(meaning), Some(range)) = (meaning(dialect, rule), unsafe { string(at, len) }) else {
+        return status::INVALID_RANGE;
+    };
+    match sets::comparators(meaning.dialect, range) {
+        Ok(set) => show(set),
+        Err(_) => status::INVALID_RANGE,
+    }
+}
+
+/// A range on the heap, or null if memory ran out.
+fn kept(set: VersionSet, dialect: Dialect) -> *mut Range {
+    // SAFETY: the block has the layout that `Box` gives back.
+    let place = unsafe { alloc(Layout::new::<Range>()) }.cast::<Range>();
+    if !place.is_null() {
+        unsafe { place.write(Range { set, dialect }) };
+    }
+    place
+}
+
+/// Reads a range. Returns null if it isn't one, or memory ran out.
+///
+/// # Safety
+/// There are so many bytes at the address.
+#[no_mangle]
+pub unsafe extern "C" fn range_read(
+    at: *const u8,
+    len: usize,
+    dialect: i32,
+    rule: i32,
+) -> *mut Range {
+    let (Some(meaning), Some(range)) = (meaning(dialect, rule), unsafe { string(at, len) }) else {
+        return null_mut();
+    };
+    match sets::read(meaning, range) {
+        Ok(set) => kept(set, meaning.dialect),
+        Err(_) => null_mut(),
+    }
+}
+
+/// Frees a range.
+///
+/// # Safety
+/// It was read, and isn't freed yet.
+#[no_mangle]
+pub unsafe extern "C" fn range_free(range: *mut Range) {
+    drop(unsafe { Box::from_raw(range) });
+}
+
+/// Returns 1 if a version is in a range, 0 if it isn't, and a status if it is invalid.
+///
+/// # Safety
+/// There are so many bytes at the address.
+#[no_mangle]
+pub unsafe extern "C" fn range_has(range: &Range, at: *const u8, len: usize) -> i32 {
+    match outline(unsafe { bytes(at, len) }, range.dialect.number()) {
+        Some(version) => range.set.has_outline(&version).into(),
+        None => status::INVALID_VERSION,
+    }
+}
+
+/// Returns the index of the highest of versions, or of the lowest, that is in a range, the first of
+/// equal ones; `count` if none is, or memory ran out. Invalid ones are skipped.
+///
+/// # Safety
+/// At the addresses are so many lengths, and the bytes of all versions, one after the other.
+#[no_mangle]
+pub unsafe extern "C" fn range_best(
+    range: &Range,
+    lengths: *const u32,
+    count: usize,
+    at: *const u8,
+    lowest: i32,
+) -> usize {
+    let lengths = unsafe { core::slice::from_raw_parts(lengths, count) };
+    let mut versions = Vec::new();
+    if versions.try_reserve_exact(count).is_err() {
+        return count;
+    }
+    let mut at = at;
+    for len in lengths {
+        versions.push(unsafe { bytes(at, *len as usize) });
+        at = at.wrapping_add(*len as usize);
+    }
+    crate::later::highest_of(&range.set, &versions, range.dialect, lowest != 0)
+}
+
+/// Returns 1 if no version is in a range.
+#[no_mangle]
+pub extern "C" fn range_is_empty(range: &Range) -> i32 {
+    range.set.is_empty().into()
+}
+
+/// Returns 1 if each version of a range is in the other.
+#[no_mangle]
+pub extern "C" fn range_is_within(range: &Range, other: &Range) -> i32 {
+    range.set.is_within(&other.set).into()
+}
+
+/// Returns 1 if a version is in both ranges.
+#[no_mangle]
+pub extern "C" fn range_overlaps(range: &Range, other: &Range) -> i32 {
+    range.set.overlaps(&other.set).into()
+}
+
+/// Returns what is in a range and not in the other; null if memory ran out.
+#[no_mangle]
+pub extern "C" fn range_difference(range: &Range, other: &Range) -> *mut Range {
+    match range.set.difference(&other.set) {
+        Ok(set) => kept(set, range.dialect),
+        Err(_) => null_mut(),
+    }
+}
+
+/// Returns the lowest version in a range as a string, empty if there is none.
+#[no_mangle]
+pub extern "C" fn range_lowest(range: &Range) -> i32 {
+    match range.set.least() {
+        Ok(Some(version)) => show(version),
+        Ok(None) => show(""),
+        Err(_) => status::OUT_OF_MEMORY,
+    }
+}
+
+/// Returns the releases of a range as comparators.
+#[no_mangle]
+pub extern "C" fn range_releases(range: &Range) -> i32 {
+    range.set.release_ranges().map_or(status::OUT_OF_MEMORY, show)
+}
+
+/// Returns the pre-releases of a range as comparators.
+#[no_mangle]
+pub extern "C" fn range_pre_releases(range: &Range) -> i32 {
+    range.set.pre_release_ranges().map_or(status::OUT_OF_MEMORY, show)
+}

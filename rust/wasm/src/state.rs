@@ -1,0 +1,46 @@
+//! What calls share: strings that JavaScript wrote, and what a call hands back.
+
+use alloc::string::String;
+use alloc::vec::Vec;
+use core::cell::UnsafeCell;
+
+pub struct State {
+    /// The strings that calls read.
+    pub strings: Vec<u8>,
+    /// The string that a call returns.
+    pub text: String,
+    /// The numbers that a call returns.
+    pub numbers: [u64; 7],
+}
+
+struct Shared(UnsafeCell<State>);
+
+// SAFETY: the module has one thread; each instance of it has a memory of its own.
+unsafe impl Sync for Shared {}
+
+static STATE: Shared = Shared(UnsafeCell::new(State {
+    strings: Vec::new(),
+    text: String::new(),
+    numbers: [0; 7],
+}));
+
+/// Runs a call with the state. No call makes another, so the reference is the only one.
+pub fn with<T>(call: impl FnOnce(&mut State) -> T) -> T {
+    // SAFETY: see above.
+    call(unsafe { &mut *STATE.0.get() })
+}
+
+impl State {
+    /// Has room for so many bytes of strings. Returns their address, or null if out of memory. What
+    /// was written before stays.
+    pub fn reserve(&mut self, len: usize) -> *mut u8 {
+        let now = self.strings.len();
+        if len > now {
+            if self.strings.try_reserve_exact(len - now).is_err() {
+                return core::ptr::null_mut();
+            }
+            self.strings.resize(len, 0);
+        }
+        self.strings.as_mut_ptr()
+    }
+}

@@ -1,0 +1,73 @@
+//! Versions: what one consists of, why a string is none, and how two compare.
+
+use crate::state::State;
+use crate::{bytes, state, status};
+use semver_parser::version::{outline_in, Outline};
+use semver_parser::{refusals, Dialect};
+
+/// The outline of a string that is a version of a dialect. None either if the number is no dialect's.
+pub fn outline(string: &[u8], dialect: i32) -> Option<Outline<'_>> {
+    outline_in(string, Dialect::of_number(dialect)?.grammar())
+}
+
+/// Reads a version. The numbers are its three, and then where the pre-release begins in the string and
+/// how long it is, and the same of the build metadata.
+///
+/// # Safety
+/// There are so many bytes at the address.
+#[no_mangle]
+pub unsafe extern "C" fn version_read(at: *const u8, len: usize, dialect: i32) -> i32 {
+    let Some(it) = outline(unsafe { bytes(at, len) }, dialect) else {
+        return status::INVALID_VERSION;
+    };
+    let parts = [it.pre_offset(), it.pre().len(), it.build_offset(), it.build().len()];
+    let [pre, pre_len, build, build_len] = parts.map(|it| it as u64);
+    let numbers = [it.major(), it.minor(), it.patch(), pre, pre_len, build, build_len];
+    state::with(|state| state.numbers = numbers);
+    0
+}
+
+/// Compares two versions by precedence: 0, 1 or 2 if the first is below, equal or above. -1 if the
+/// first is invalid, or else the second.
+///
+/// # Safety
+/// There are so many bytes at the addresses.
+#[no_mangle]
+pub unsafe extern "C" fn version_compare(
+    at: *const u8,
+    len: usize,
+    other: *const u8,
+    other_len: usize,
+    dialect: i32,
+) -> i32 {
+    let version = outline(unsafe { bytes(at, len) }, dialect);
+    let other = outline(unsafe { bytes(other, other_len) }, dialect);
+    match (version, other) {
+        (Some(version), Some(other)) => version.compare(&other) as i32 + 1,
+        _ => status::INVALID_VERSION,
+    }
+}
+
+/// Returns the number of the reason for which a string isn't a version, 0 if it is one. The first
+/// number is the offset in bytes.
+///
+/// # Safety
+/// There are so many bytes at the address.
+#[no_mangle]
+pub unsafe extern "C" fn version_refused(at: *const u8, len: usize, dialect: i32) -> i32 {
+    let (Some(dialect), Ok(string)) =
+        (Dialect::of_number(dialect), core::str::from_utf8(unsafe { bytes(at, len) }))
+    else {
+        return refusals::Reason::NotUtf8.number();
+    };
+    match refusals::of_version(string, dialect) {
+        Some(refusal) => refused(refusal.offset, refusal.reason),
+        None => 0,
+    }
+}
+
+/// Hands back an offset. Returns the number of the reason.
+pub fn refused(offset: usize, reason: refusals::Reason) -> i32 {
+    state::with(|State { numbers, .. }| numbers[0] = offset as u64);
+    reason.number()
+}
