@@ -194,30 +194,12 @@ wheel: out/lib/$(shared)
 	mkdir -p "$$OUT" && to=$$OUT put "$$work" "./$$name"
 	echo "made $$OUT/$$name"
 
-# The module for JavaScript, lowered to 32-bit memory.
-module := out/built/semver_parser.wasm
-$(module): crates/semver_parser_wasm/out/proved
-	$(begin)
-	mkdir -p $(@D)
-	lower crates/semver_parser_wasm/out/semver_parser_wasm.wasm $@.half && mv -f $@.half $@
+# The JavaScript package and the page, of the module for WebAssembly that cargo builds.
+js:
+	tools/make-js package "$(OUT)"
 
-js: $(module)
-	$(begin)
-	may_write "$$OUT"
-	command -v npm > /dev/null || refuse 'needs the command npm (Debian: apt-get install npm)'
-	js/build $(module) "$$work/package"
-	cd "$$work"
-	name=$$(npm pack --silent ./package)
-	mkdir -p "$$top/$$OUT" && cd "$$top" && to=$$OUT put "$$work" "./$$name"
-	echo "made $$OUT/$$name"
-
-page: $(module)
-	$(begin)
-	may_write "$$OUT"
-	js/build $(module) "$$work/package"
-	web/build "$$work/package" "$$work/semver-ranges.html"
-	mkdir -p "$$OUT" && to=$$OUT put "$$work" ./semver-ranges.html
-	echo "made $$OUT/semver-ranges.html"
+page:
+	tools/make-js page "$(OUT)"
 
 # The files of rust/, the licences, and what its tests read of crates/.
 crate:

@@ -10,7 +10,7 @@ export const RELEASE_TYPES = Object.freeze([
   'major', 'premajor', 'minor', 'preminor', 'patch', 'prepatch', 'prerelease',
 ])
 
-const wrong = (why) => new TypeError(`invalid increment argument: ${why}`)
+const wrong = (why) => new Error(`invalid increment argument: ${why}`)
 
 // The identifiers of the next pre-release after some.
 function nextPre(pre, identifier, identifierBase) {
@@ -61,11 +61,12 @@ export function incremented(version, release, identifier, identifierBase) {
 export function inc(version, release, options, identifier, identifierBase) {
   if (typeof options === 'string') return inc(version, release, undefined, options, identifier)
   const meaning = meaningOf(options)
+  const found = parse(version, meaning)
+  if (found === null) return null
   try {
-    return new SemVer(stringOf(version), meaning).inc(release, identifier, identifierBase).version
-  } catch (error) {
-    if (error instanceof TypeError) return null
-    throw error
+    return new SemVer(stringOf(found), meaning).inc(release, identifier, identifierBase).version
+  } catch {
+    return null
   }
 }
 
@@ -95,7 +96,7 @@ export function clean(version, options) {
 // Up to three numbers of at most 16 digits, which no digits are before or after.
 const NUMBERS = String.raw`(?<!\d)(\d{1,16})(?:\.(\d{1,16}))?(?:\.(\d{1,16}))?`
 const dotted = (one) => String.raw`${one}(?:\.${one})*`
-const PRE = dotted(String.raw`(?:\d*[A-Za-z-][0-9A-Za-z-]*|0|[1-9]\d*)`)
+const PRE = dotted(String.raw`(?:0|[1-9]\d*|\d*[A-Za-z-][0-9A-Za-z-]*)`)
 const BUILD = dotted('[0-9A-Za-z-]+')
 const COERCED = new RegExp(String.raw`${NUMBERS}(?!\d)`, 'g')
 const COERCED_WHOLE = new RegExp(String.raw`${NUMBERS}(?:-(${PRE}))?(?:\+(${BUILD}))?(?!\d)`, 'g')

@@ -106,24 +106,22 @@ export function outside(version, range, side, options) {
 export const gtr = (version, range, options) => outside(version, range, '>', options)
 export const ltr = (version, range, options) => outside(version, range, '<', options)
 
-// The shortest range of the versions from one to another of a list.
-function between(first, last, list) {
-  if (first === last) return `${first}`
-  if (last === list.at(-1)) return first === list[0] ? '*' : `>=${first}`
-  return first === list[0] ? `<=${last}` : `${first} - ${last}`
+// A range of the versions of a list from an index to another: one to the last has no end.
+function between(list, first, last) {
+  if (last === list.length - 1) return first === 0 ? '*' : `>=${list[first]}`
+  if (first === last) return `${list[first]}`
+  return first === 0 ? `<=${list[last]}` : `${list[first]} - ${list[last]}`
 }
 
 export function simplifyRange(versions, range, options) {
   const meaning = meaningOf(options)
   const list = Array.from(versions).sort((one, other) => compare(one, other, meaning))
+  const isIn = list.map((version) => satisfies(version, range, meaning))
   const ranges = []
-  let first = null
-  list.forEach((version, at) => {
-    const isIn = satisfies(version, range, meaning)
-    if (isIn) first ??= version
-    if (first !== null && isIn && at < list.length - 1) return
-    if (first !== null) ranges.push(between(first, isIn ? version : list[at - 1], list))
-    first = null
+  let first = 0
+  isIn.forEach((is, at) => {
+    if (is && !isIn[at - 1]) first = at
+    if (is && !isIn[at + 1]) ranges.push(between(list, first, at))
   })
   const simplified = ranges.join(' || ')
   const original = typeof range === 'string' ? range : rangeStringOf(range)

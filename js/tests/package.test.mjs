@@ -1,28 +1,41 @@
 // Tests of the package as it is installed: `node --test package.test.mjs`, in a project that has it.
 import assert from 'node:assert/strict'
-import { readFileSync } from 'node:fs'
+import { cpSync, readFileSync } from 'node:fs'
 import { createRequire } from 'node:module'
 import { test } from 'node:test'
 import { Worker } from 'node:worker_threads'
 import * as semver from 'semver-parser-proved'
 
 const require = createRequire(import.meta.url)
+const common = require('semver-parser-proved')
 const cases = JSON.parse(readFileSync(new URL('cases.json', import.meta.url)))
+const cargo = { dialect: 'cargo' }
+const wasm = readFileSync(require.resolve('semver-parser-proved/semver_parser.wasm'))
 
-// What a call returns, as the cases have it.
-function result(library, call, values) {
+// The fields of an object of a class, and of what it holds, as the cases have them.
+function plain(value) {
+  if (typeof value === 'symbol') return String(value)
+  if (value === null || typeof value !== 'object') return value
+  if (Array.isArray(value)) return value.map(plain)
+  const fields = Object.entries(value.toJSON?.() ?? value).filter(([name, it]) => name !== 'options' && it !== undefined)
+  return Object.fromEntries(fields.map(([name, it]) => [name, plain(it)]))
+}
+
+// What a call returns: make-cases.cjs says how the cases name them.
+function result(library, call, [...values]) {
+  const [name, method] = call.split('.')
   try {
-    const found = library[call](...values)
-    return found instanceof library.Version ? { ...found } : found
+    if (!/^[A-Z]/.test(name)) return plain(library[name](...values))
+    const object = new library[name](...values.splice(0, method === undefined ? values.length : 1))
+    if (method === undefined) return plain(object)
+    return plain(object[method](...values.map((it) => (method === 'intersects' ? new library[name](it) : it))))
   } catch (error) {
-    if (!(error instanceof TypeError)) throw error
-    return 'TypeError'
+    return error instanceof TypeError ? 'TypeError' : 'Error'
   }
 }
 
-// Of what is no string node-semver throws now and then what isn't a TypeError of its own making.
-for (const library of [semver, require('semver-parser-proved')]) {
-  test(`node-semver's answers, by ${library === semver ? 'import' : 'require'}`, () => {
+for (const [format, library] of [['import', semver], ['require', common]]) {
+  test(`node-semver's answers, by ${format}`, () => {
     for (const [call, values, right] of cases) {
       const given = values.map((it) => (it === '(undefined)' ? undefined : structuredClone(it)))
       assert.deepEqual(result(library, call, given), right, `${call}(${JSON.stringify(values)})`)
@@ -30,26 +43,43 @@ for (const library of [semver, require('semver-parser-proved')]) {
   })
 }
 
-test('the default export has all names', async () => {
+test('both formats have the same names, and the default export has them', async () => {
   const { default: all, ...named } = await import('semver-parser-proved')
   assert.deepEqual({ ...all }, named)
+  assert.deepEqual({ ...common }, named)
 })
 
-test('both files have the same names', () => {
-  const names = (library) => Object.keys(library).filter((it) => it !== 'default').sort()
-  assert.deepEqual(names(semver), names(require('semver-parser-proved')))
+test("node-semver's paths, with and without .js, are the same calls", async () => {
+  const paths = {
+    'functions/satisfies': 'satisfies', 'functions/compare-build': 'compareBuild', 'functions/rsort': 'rsort', 'functions/coerce': 'coerce',
+    'ranges/valid': 'validRange', 'ranges/max-satisfying': 'maxSatisfying', 'ranges/simplify': 'simplifyRange', 'ranges/to-comparators': 'toComparators',
+    'classes/semver': 'SemVer', 'classes/range': 'Range', 'classes/comparator': 'Comparator',
+  }
+  for (const [path, name] of Object.entries(paths)) {
+    for (const ending of ['', '.js']) {
+      assert.equal(require(`semver-parser-proved/${path}${ending}`), semver[name], path)
+      assert.equal((await import(`semver-parser-proved/${path}${ending}`)).default, semver[name], path)
+    }
+  }
+  for (const path of ['index', 'index.js', 'preload', 'preload.js']) assert.equal(require(`semver-parser-proved/${path}`), common)
+  assert.deepEqual(Object.keys(require('semver-parser-proved/classes')), ['SemVer', 'Range', 'Comparator'])
 })
 
 test("Cargo's dialect", () => {
-  const cargo = { dialect: 'cargo' }
   assert.equal(semver.satisfies('1.9.0', '1.2, <2', cargo), true)
   assert.equal(semver.satisfies('1.2.4', '1.2.3', cargo), true)
   assert.equal(semver.satisfies('1.2.4', '1.2.3'), false)
   assert.equal(semver.valid('v1.2.3', cargo), null)
   assert.equal(semver.validRange('1 || 2', cargo), null)
-  assert.equal(semver.parse('18446744073709551615.0.9007199254740992', cargo).major, 18446744073709551615n)
-  assert.equal(semver.parse('18446744073709551615.0.9007199254740992', cargo).patch, 9007199254740992n)
-  assert.equal(semver.valid('18446744073709551615.0.1', cargo), '18446744073709551615.0.1')
+  assert.equal(semver.validRange('1.2', cargo), '>=1.2.0 <2.0.0-0')
+  assert.equal(semver.minVersion('1.2, <2', cargo).version, '1.2.0')
+  assert.equal(semver.gtr('2.0.0', '1.2', cargo), true)
+  const large = semver.parse('18446744073709551615.0.9007199254740992', cargo)
+  assert.deepEqual([large.major, large.minor, large.patch], [18446744073709551615n, 0n, 9007199254740992n])
+  assert.equal(semver.major('1.2.3', cargo), 1n)
+  assert.equal(semver.major('1.2.3'), 1)
+  assert.equal(semver.inc('18446744073709551614.0.1', 'major', cargo), '18446744073709551615.0.0')
+  assert.equal(semver.inc('18446744073709551615.0.1', 'major', cargo), null)
   assert.equal(semver.valid('18446744073709551616.0.1', cargo), null)
 })
 
@@ -60,45 +90,67 @@ test('rules for pre-releases', () => {
   assert.equal(semver.satisfies('1.3.0-rc.1', '^1.2', { includePrerelease: true }), true)
 })
 
+test('loose is taken and read strictly', () => {
+  for (const options of [true, 1, 'x', { loose: true }]) {
+    assert.equal(semver.satisfies('1.2.3', '^1', options), true)
+    assert.equal(semver.valid('1.2.3beta', options), null)
+    assert.equal(semver.validRange('>=01.2.3', options), null)
+  }
+  assert.deepEqual(['1.2.3', 'x', '1.0.0'].map(semver.valid), ['1.2.3', null, '1.0.0'])
+  assert.equal(new semver.SemVer('1.2.3', true).loose, true)
+})
+
+test('wrong options are refused', () => {
+  for (const options of [{ dialect: 'yarn' }, { dialect: 'toString' }, { preReleases: 'all' }, { includePrerelease: true, preReleases: 'excluded' }]) {
+    for (const call of [() => semver.satisfies('1.2.3', '*', options), () => semver.valid('1.2.3', options), () => semver.parse('x', options),
+      () => semver.sort(['1.2.3'], options), () => new semver.Range('1', options), () => semver.maxSatisfying([], '1', options)]) {
+      assert.throws(call, TypeError)
+    }
+  }
+})
+
 test('where and why a string is refused', () => {
-  assert.deepEqual(semver.explainVersion('1.2.03', { dialect: 'cargo' }),
-    { offset: 5, reason: 'leading-zero', hint: 'a number or an identifier of digits has no leading zero' })
-  assert.deepEqual(semver.explainRange('1.2 || 3', { dialect: 'cargo' }),
-    { offset: 4, reason: 'cargo-bars', hint: 'Cargo takes no ||; npm does' })
+  assert.deepEqual(semver.explainVersion('1.2.03', cargo),
+    { offset: 5, reason: 'leading-zero', sentence: 'a number or an identifier of digits has no leading zero' })
+  assert.deepEqual(semver.explainRange('1.2 || 3', cargo),
+    { offset: 4, reason: 'cargo-bars', sentence: 'Cargo takes no ||; npm does' })
   assert.equal(semver.explainVersion('1.2.3'), null)
   assert.equal(semver.explainRange('1 || 2'), null)
   assert.equal(semver.explainRange('1 |').offset, 3)
   // The offset counts as JavaScript does: a no-break space has two bytes.
   assert.equal(semver.explainVersion('\u00a0\u00a01.2.x').offset, 6)
-  assert.equal(semver.explainRange('>=9007199254740992').reason, 'npm-limit')
+  assert.equal(semver.explainRange('>=9007199254740992').reason, 'npm-too-large')
+  assert.throws(() => semver.explainRange(5), /Invalid range\. Must be a string\. Got type "number"/)
 })
 
-test('errors have a sentence', () => {
+test('errors are of a class, with what is known', () => {
   assert.throws(() => semver.compare('1.2.3', '1.2'), (error) => {
-    assert.ok(error instanceof TypeError)
-    assert.equal(error.message, 'Invalid Version: 1.2 (offset 3: a version has three numbers)')
-    return error.offset === 3 && error.reason === 'not-three-numbers'
+    assert.ok(error instanceof semver.SemverError && error instanceof TypeError)
+    assert.match(error.message, /^Invalid Version: 1\.2 \(offset 3: /)
+    assert.throws(() => { error.offset = 5 }, TypeError)
+    return error.offset === 3 && error.input === '1.2' && error.reason === semver.explainVersion('1.2').reason
   })
   assert.throws(() => semver.filter(['1.2.3'], '1.2 |'), /^TypeError: Invalid SemVer Range: 1\.2 \|/)
+  assert.throws(() => new semver.Range('>=9007199254740992'), { reason: 'npm-too-large' })
+  assert.throws(() => semver.parse('x', undefined, true), semver.SemverError)
+  assert.throws(() => new semver.SemVer('1'.repeat(100000)), (error) => error.message.length < 300)
 })
 
 test('filter keeps the versions that satisfy a range, in order', () => {
   const versions = ['2.0.0', '1.4.0', 'x', '', '1.2.0', '1.1.0']
   assert.deepEqual(semver.filter(versions, '^1.2'), ['1.4.0', '1.2.0'])
+  assert.deepEqual(semver.filter(new Set(versions), new semver.Range('^1.2')), ['1.4.0', '1.2.0'])
   assert.deepEqual(semver.filter([], '^1.2'), [])
 })
 
-test('what is no option is refused', () => {
-  for (const options of [true, 1, 'x', { loose: true }, { dialect: 'yarn' }, { dialect: 'toString' }, { preReleases: 'all' },
-    { includePrerelease: true, preReleases: 'excluded' }]) {
-    assert.throws(() => semver.satisfies('1.2.3', '*', options), TypeError)
-    assert.throws(() => semver.valid('1.2.3', options), TypeError)
-    assert.throws(() => semver.sort(['1.2.3'], options), TypeError)
-  }
-  for (const options of [undefined, null, false, {}, { loose: false }]) assert.equal(semver.valid('1.2.3', options), '1.2.3')
+test('what two ranges lose and gain', () => {
+  assert.deepEqual(semver.compareRanges('^1.2', '>=1.2.1 <3'), {
+    lost: { releases: '=1.2.0', preReleases: '<0.0.0-0' }, gained: { releases: '>=2.0.0 <3.0.0', preReleases: '<0.0.0-0' },
+  })
+  assert.deepEqual(semver.compareRanges('^1.2', '1.x >=1.2'), { lost: null, gained: null })
 })
 
-test('versions that are parsed may be given again', () => {
+test('versions and ranges that were read may be given again', () => {
   const version = semver.parse('v1.2.3-rc.1+b')
   assert.equal(`${version}`, '1.2.3-rc.1')
   assert.equal(semver.parse(version), version)
@@ -106,30 +158,91 @@ test('versions that are parsed may be given again', () => {
   assert.equal(semver.compare(version, '1.2.3-rc.2'), -1)
   assert.deepEqual(semver.sort([version, '1.0.0']), ['1.0.0', version])
   assert.equal(semver.maxSatisfying([version], '1.2.3-rc.1'), version)
+  const range = new semver.Range('^1.2')
+  assert.equal(new semver.Range(range), range)
+  assert.equal(semver.subset(range, '1'), true)
+  assert.equal(semver.satisfies('1.3.0-a', range), false)
+  assert.equal(semver.satisfies('1.3.0-a', range, { includePrerelease: true }), true)
+  assert.equal(semver.satisfies('1.2.3', new semver.Comparator('>1.0.0')), true)
+  assert.equal(common.satisfies(version, new common.Range('1.2.3-rc.1')), true)
 })
 
-test('strings of up to a million bytes are taken', () => {
-  const longest = ' '.repeat(999999)
-  assert.equal(semver.satisfies('1.2.3', `${longest}1`), true)
-  assert.throws(() => semver.satisfies('1.2.3', `${longest}12`), /longer than 1000000 bytes/)
-  assert.throws(() => semver.satisfies('1.2.3', '\u00a0'.repeat(500001)), /longer than 1000000 bytes/)
-  assert.equal(semver.valid(`1.2.3-${longest}`), null)
-  assert.equal(semver.validRange(`${longest}12`), null)
-  assert.equal(semver.explainRange(`${longest}>`).offset, 1000000)
+test('a copy of the package takes what another one made', () => {
+  cpSync('node_modules/semver-parser-proved', 'node_modules/copy', { recursive: true })
+  const copy = require('copy')
+  assert.notEqual(copy, common)
+  assert.equal(copy.compare(semver.parse('1.2.3-a+b'), '1.2.3-a'), 0)
+  assert.equal(copy.compareBuild(semver.parse('1.2.3-a+b'), '1.2.3-a+b'), 0)
+  assert.equal(copy.satisfies('1.2.3', new semver.Range('^1.2')), true)
 })
 
-test('many versions are sorted, also more than memory has', () => {
+test('fields can not be written, and inc changes them', () => {
+  const version = new semver.SemVer('1.2.3-a.1+b')
+  for (const [name, value] of Object.entries(version.toJSON())) assert.throws(() => { version[name] = value }, TypeError, name)
+  assert.throws(() => { version.prerelease.push('x') }, TypeError)
+  assert.equal(version.inc('minor'), version)
+  assert.deepEqual([version.version, version.raw, version.minor, version.prerelease], ['1.3.0', '1.3.0+b', 3, []])
+  const range = new semver.Range('^1.2')
+  for (const [name, value] of Object.entries(range.toJSON())) assert.throws(() => { range[name] = value }, TypeError, name)
+  const given = new semver.SemVer('1.2.3')
+  assert.equal(semver.inc(given, 'major'), '2.0.0')
+  assert.equal(given.version, '1.2.3')
+})
+
+// Code of the caller that runs within a call, and makes calls itself.
+test('calls within calls change nothing', () => {
+  const disturb = () => {
+    semver.satisfies('9.9.9-a-long-version.that-fills-the-buffer', '>=8 <10-0 || 77.x')
+    semver.maxSatisfying(['5.0.0', '6.0.0'], '*')
+    return semver.valid('7.8.9')
+  }
+  const lazy = (values) => ({ * [Symbol.iterator]() { for (const value of values) { disturb(); yield value } } })
+  const proxy = new Proxy({}, { get: (target, name) => { disturb(); return name === 'includePrerelease' || undefined } })
+  const foreign = (raw) => ({ get raw() { disturb(); return raw }, get version() { disturb(); return raw }, get build() { disturb(); return [] } })
+  const versions = ['1.2.0', '1.9.0', '1.10.0-a', '2.0.0']
+  assert.equal(semver.maxSatisfying(lazy(versions), '^1'), '1.9.0')
+  assert.equal(semver.maxSatisfying(versions, '^1', proxy), '1.10.0-a')
+  assert.deepEqual(semver.filter(lazy(versions), '^1'), ['1.2.0', '1.9.0'])
+  assert.equal(semver.satisfies(foreign('1.2.3'), '^1', proxy), true)
+  assert.equal(semver.compare(foreign('1.2.3'), foreign('1.2.4'), proxy), -1)
+  assert.equal(semver.major(foreign('3.2.1'), proxy), 3)
+  const range = { get raw() { disturb(); return '^1' }, get range() { disturb(); return '^1' } }
+  assert.equal(semver.subset(range, { get raw() { disturb(); return '1 || 2' }, range: '' }, proxy), true)
+  assert.equal(semver.valid(foreign('1.2.3')), '1.2.3')
+})
+
+test('strings of megabytes are taken', () => {
+  const spaces = ' '.repeat(3_000_000)
+  assert.equal(semver.satisfies('1.2.3', `${spaces}1`), true)
+  assert.equal(semver.validRange(`${spaces}^1.2`), '>=1.2.0 <2.0.0-0')
+  assert.equal(semver.explainRange(`${spaces}>`).offset, 3_000_001)
+  assert.equal(semver.valid('\u3000'.repeat(333_334)), null)
+  assert.equal(semver.valid(`1.2.3-${'a'.repeat(1_000_000)}`), null)
+  assert.equal(semver.valid(`1.2.3-${'a'.repeat(1_000_000)}`, cargo)?.length, 1_000_006)
+  assert.equal(semver.satisfies('1.2.3', '1.2.3'), true)
+})
+
+test('build metadata above 2^53 is compared by its digits', () => {
+  assert.equal(semver.compareBuild('1.2.3+9007199254740993', '1.2.3+9007199254740992'), 1)
+  assert.equal(semver.compareBuild('1.2.3+9007199254740993', '1.2.3+9007199254740993'), 0)
+  assert.equal(semver.compareIdentifiers('9007199254740992', '9007199254740993'), -1)
+})
+
+test('many versions are sorted', () => {
   const many = Array.from({ length: 400 }, (_, at) => `1.0.${(at * 7919) % 400}-${'a'.repeat(4000)}`)
   const numbers = (list) => list.map((it) => Number(it.split('.')[2].split('-')[0]))
-  const cargo = { dialect: 'cargo' }
   assert.deepEqual(numbers(semver.sort([...many], cargo)), Array.from({ length: 400 }, (_, at) => at))
   assert.deepEqual(numbers(semver.rsort([...many], cargo)), Array.from({ length: 400 }, (_, at) => 399 - at))
 })
 
-test('nothing is kept between calls', () => {
-  assert.equal(semver.satisfies('1.2.3-a-much-longer-version.with.identifiers', '^1.2.3-0'), true)
-  assert.equal(semver.satisfies('1.2.3', '1'), true)
-  assert.equal(semver.valid('1.2.3'), '1.2.3')
+test('ranges do not fill the memory, and each stays as it is', () => {
+  const ranges = Array.from({ length: 5000 }, (_, at) => new semver.Range(`>=${at}.1 <${at + 1}`))
+  const memory = () => process.memoryUsage().arrayBuffers
+  const before = memory()
+  for (let at = 0; at < 200_000; at += 1) new semver.Range(`>=${at}.0.0 <${at + 1}.2.3-rc || 5.x`)
+  assert.ok(memory() - before < 4_000_000, `${memory() - before} bytes`)
+  ranges.forEach((range, at) => assert.ok(range.test(`${at}.2.0`) && !range.test(`${at + 1}.2.0`)))
+  ranges.forEach((range, at) => assert.equal(range.intersects(ranges[(at + 1) % 5000]), false))
 })
 
 test('ready', async () => {
@@ -137,26 +250,55 @@ test('ready', async () => {
   assert.equal(semver.valid('1.2.3'), '1.2.3')
 })
 
+const inWorker = (code) => new Promise((resolve, reject) => {
+  const module_ = new WebAssembly.Module(wasm)
+  const worker = new Worker(code, { eval: true, workerData: { module: module_ } })
+  worker.on('message', resolve)
+  worker.on('error', reject)
+})
+const SEND = "require('node:worker_threads').parentPort.postMessage"
+
 test('workers have their own', async () => {
-  const code = `import('semver-parser-proved').then((it) =>
-    require('node:worker_threads').parentPort.postMessage(it.satisfies('1.9.0', '^1.2')))`
-  const answers = await Promise.all([1, 2].map(() => new Promise((resolve, reject) => {
-    const worker = new Worker(code, { eval: true })
-    worker.on('message', resolve)
-    worker.on('error', reject)
-  })))
-  assert.deepEqual(answers, [true, true])
+  const code = `import('semver-parser-proved').then((it) => ${SEND}(it.satisfies('1.9.0', '^1.2')))`
+  assert.deepEqual(await Promise.all([inWorker(code), inWorker(code)]), [true, true])
+})
+
+test('where bytes are refused, init takes a module', async () => {
+  const refuse = `const Module = WebAssembly.Module
+    WebAssembly.Module = new Proxy(Module, { construct() { throw new WebAssembly.CompileError('refused') } })
+    const semver = require('semver-parser-proved')
+    let refused = false
+    try { semver.valid('1.2.3') } catch (error) { refused = error instanceof WebAssembly.CompileError }
+    semver.init(require('node:worker_threads').workerData.module)
+    ${SEND}([refused, semver.valid('1.2.3')])`
+  assert.deepEqual(await inWorker(refuse), [true, '1.2.3'])
+})
+
+test('the file for browsers has no bytes, and takes them', async () => {
+  const code = `import('semver-parser-proved/browser').then((it) => {
+    let refused = ''
+    try { it.valid('1.2.3') } catch (error) { refused = error.message }
+    it.init(require('node:worker_threads').workerData.module)
+    ${SEND}([refused, it.valid('1.2.3'), it.satisfies('1.9.0', '^1.2')])
+  })`
+  assert.deepEqual(await inWorker(code), ['the module is not compiled yet: await ready() first', '1.2.3', true])
 })
 
 // The README of the package that is installed: each line of its example has its result beside or below.
 test('the example of the README', () => {
   const readme = readFileSync(new URL('node_modules/semver-parser-proved/README.md', import.meta.url), 'utf8')
   const [, example] = /```js\n([^]*?)```/.exec(readme)
-  const lines = [...example.matchAll(/^(\w+\(.*\))\s+\/\/ (.*?)(?: \(.*\))?$/gm)]
-  assert.equal(lines.length, 5)
+  const lines = [...example.matchAll(/^((?:new )?\w+\(.*\))\s+\/\/ (.*?)(?: \(.*\))?$/gm)]
+  assert.ok(lines.length >= 7, `${lines.length} lines`)
   for (const [, call, right] of lines) {
     const { default: all } = semver
     const found = Function(...Object.keys(all), `return ${call}`)(...Object.values(all))
     assert.deepEqual(found, Function(`return (${right})`)(), call)
   }
+})
+
+// Its tables of calls and of options name what there is.
+test('the README names each export', () => {
+  const readme = readFileSync(new URL('node_modules/semver-parser-proved/README.md', import.meta.url), 'utf8')
+  for (const name of Object.keys(common)) assert.match(readme, new RegExp(`\`[^\`]*\\b${name}\\b`), name)
 })
