@@ -1,10 +1,11 @@
 // Compares the package of js/ with node-semver: `node js-with-node-semver.js PACKAGE COUNT SEED` makes
-// COUNT pairs of a range and versions, by the grammar, changed at a place, and at the limits of lengths
-// and numbers, and makes each call that both have of them, with and without `includePrerelease`. It
+// COUNT pairs of ranges and versions, by the grammar, changed at a place, and at the limits of lengths
+// and numbers, and makes each call of node-semver with them, with and without `includePrerelease`. It
 // prints the first difference, and then ends with status 1.
 //
-// What docs/DIFFERENCES.md lists is counted by kind: texts that node-semver reads by accident, and
-// digits above 2^53, which it compares as floats.
+// What docs/DIFFERENCES.md and js/README.md list is counted by kind: texts that node-semver reads by
+// accident, digits above 2^53, which it compares as floats, and what it says of two ranges by their
+// comparators.
 'use strict'
 
 const path = require('path')
@@ -44,15 +45,16 @@ function result (library, call, values) {
   try {
     return shown(library[call](...values.map((it) => Array.isArray(it) ? [...it] : it)))
   } catch (error) {
-    return error instanceof TypeError ? 'TypeError' : `${error}`
+    return error instanceof TypeError ? 'TypeError' : 'Error'
   }
 }
 
+const FIELDS = ['raw', 'major', 'minor', 'patch', 'prerelease', 'build', 'version', 'range', 'set', 'operator', 'semver', 'value']
+
 function shown (value) {
   if (value === null || typeof value !== 'object') return String(value)
-  if (Array.isArray(value)) return JSON.stringify(value)
-  const { raw, major, minor, patch, prerelease, build, version } = value
-  return JSON.stringify({ raw, major, minor, patch, prerelease, build, version })
+  if (Array.isArray(value)) return `[${value.map(shown)}]`
+  return FIELDS.filter((name) => name in value).map((name) => `${name} ${shown(value[name])}`).join(', ')
 }
 
 function compareCall (call, values, isKnown) {
@@ -65,37 +67,76 @@ function compareCall (call, values, isKnown) {
 const isLarge = (values) => () => LARGE.test(values.join(' ')) && count('digits above 2^53 compared as floats')
 const never = () => false
 
-function compareVersions (one, other) {
-  for (const call of ['valid', 'parse', 'prerelease', 'major', 'minor', 'patch']) compareCall(call, [one], never)
-  for (const call of ['compare', 'rcompare', 'compareBuild', 'gt', 'gte', 'lt', 'lte', 'eq', 'neq']) {
+const RELEASES = [...semver.RELEASE_TYPES, 'pre', 'x']
+const OPERATORS = ['', '=', '==', '!=', '<', '<=', '>', '>=', '===', '!==', '~']
+
+function compareVersions (random, one, other) {
+  for (const call of ['valid', 'parse', 'prerelease', 'major', 'minor', 'patch', 'clean']) compareCall(call, [one], never)
+  for (const call of ['compare', 'rcompare', 'compareBuild', 'gt', 'gte', 'lt', 'lte', 'eq', 'neq', 'diff']) {
     compareCall(call, [one, other], isLarge([one, other]))
   }
+  compareCall('cmp', [one, random.of(OPERATORS), other], isLarge([one, other]))
+  compareCall('inc', [one, random.of(RELEASES), random.of(['', 'rc', 'a', '1']), random.of([undefined, '0', '1', false])], isLarge([one]))
+  for (const call of ['compareIdentifiers', 'rcompareIdentifiers']) {
+    const pair = [random.of(IDENTIFIERS), random.of(IDENTIFIERS)]
+    compareCall(call, pair, isLarge(pair))
+  }
+  const string = [one, other].join(random.of([' ', '-', '.', 'v']))
+  for (const options of [{}, { rtl: true }, { includePrerelease: true }]) compareCall('coerce', [string, options], isLarge([string]))
+}
+
+// Whether both read a range, or neither; how else is counted.
+function isRead (range, options) {
+  const [wanted, found] = [semver, ours].map((library) => library.validRange(range, options) !== null)
+  if (wanted === found) return wanted
+  const kind = [...ACCIDENTS, ...REFUSALS].find(isOf(range)) ?? (options && /\s-\s/.test(range) && ['', /./] && ['a side of a hyphen range at a limit'])
+  if (!kind) compareCall('validRange', [range, options], never)
+  count(kind[0])
+  return false
 }
 
 function compareRange (random, range) {
   const list = asked(random, range)
   const versions = [...list.slice(0, 6), version(random)]
   for (const options of [undefined, { includePrerelease: true }]) {
-    const isRead = [semver, ours].map((library) => library.validRange(range, options) !== null)
-    if (isRead[0] !== isRead[1]) {
-      const kind = [...ACCIDENTS, ...REFUSALS].find(isOf(range)) ?? (options && /\s-\s/.test(range) && ['', /./] && ['a side of a hyphen range at a limit'])
-      if (!kind) compareCall('validRange', [range, options], never)
-      count(kind[0])
-      continue
-    }
-    if (!isRead[0]) continue
+    if (!isRead(range, options)) continue
     const isKnown = () => plain(range) !== range && count('a build or a `v` beside 0.0.0')
     const known = (wanted, found) => isLarge([range, ...versions])() || isKnown()
     for (const one of versions) compareCall('satisfies', [one, range, options], known)
     for (const call of ['maxSatisfying', 'minSatisfying']) compareCall(call, [versions, range, options], known)
+    const isLong = () => isKnown() || isLarge([range])()
+    if (options === undefined) for (const call of ['validRange', 'toComparators']) compareCall(call, [range], isLong)
+    const releases = versions.filter((it) => semver.valid(it) !== null && !/-/.test(it))
+    compareCall('simplifyRange', [releases, range, options], isLong)
   }
+}
+
+// Whether node-semver has to say of a range what the sets say: if it has no pre-release, and each of
+// its parts some version.
+const isPlain = (range) => !/\d-/.test(range) && plain(range) === range && !LARGE.test(range) &&
+  new semver.Range(range).set.every((comparators) => semver.minVersion(comparators.join(' ')) !== null)
+
+function compareRanges (random, range, other) {
+  if (![range, other].every((it) => isRead(it))) return
+  const isKnown = () => ![range, other].every(isPlain) && count('two ranges of which one has pre-releases or a part without versions')
+  const isWhole = () => semver.validRange(other) === '*' && count('a range from 0.0.0 on within `*`')
+  compareCall('intersects', [range, other], isKnown)
+  const isTogether = (found) => /\|\|/.test(other) && found === 'true' && count('a range within several together')
+  compareCall('subset', [range, other], (wanted, found) => isWhole() || isTogether(found) || isKnown())
+  compareCall('minVersion', [range], isKnown)
+  const one = random.of(asked(random, range))
+  const isBeside = () => /-/.test(one) ? count('a pre-release beside a range') : isKnown()
+  for (const call of ['gtr', 'ltr']) compareCall(call, [one, range], isBeside)
+  compareCall('outside', [one, range, random.of(['<', '>', ''])], isBeside)
 }
 
 function main (count, seed) {
   const random = new Random(seed)
   for (let at = 0; at < count; at += 1) {
-    compareVersions(version(random), version(random))
-    compareRange(random, random.of([text, text, changed, limited])(random))
+    compareVersions(random, version(random), version(random))
+    const ranges = [0, 1].map(() => random.of([text, text, changed, limited])(random))
+    compareRange(random, ranges[0])
+    compareRanges(random, ...ranges)
     if (at % 50 === 0) {
       const list = Array.from({ length: random.below(12) }, () => version(random)).filter((it) => semver.valid(it) !== null)
       for (const call of ['sort', 'rsort']) compareCall(call, [list], isLarge(list))

@@ -1,5 +1,6 @@
 """A registry of npm on the loopback address, which serves the packages of one world."""
 
+import gzip
 import hashlib
 import io
 import json
@@ -41,6 +42,21 @@ class Handler(BaseHTTPRequestHandler):
         self.end_headers()
         self.wfile.write(body)
 
+    def do_POST(self) -> None:
+        """Sends the advisories of the packages that a request of `npm audit` names."""
+        sent = self.rfile.read(int(self.headers.get("Content-Length", "0")))
+        if self.headers.get("Content-Encoding") == "gzip":
+            sent = gzip.decompress(sent)
+        asked = json.loads(sent or b"{}")
+        found = {name: it for name, it in self.server.advisories.items() if name in asked}
+        is_bulk = self.path.endswith("/advisories/bulk")
+        self.send_response(200 if is_bulk else 404)
+        body = json.dumps(found if is_bulk else {}).encode()
+        self.send_header("Content-Length", str(len(body)))
+        self.send_header("Content-Type", "application/json")
+        self.end_headers()
+        self.wfile.write(body)
+
     def log_message(self, format: str, *arguments: Any) -> None:
         """Writes nothing."""
 
@@ -53,6 +69,7 @@ class Registry(ThreadingHTTPServer):
     def __init__(self) -> None:
         super().__init__(("127.0.0.1", 0), Handler)
         self.files: Dict[str, bytes] = {}
+        self.advisories: Json = {}
         Thread(target=self.serve_forever, daemon=True).start()
 
     @property
@@ -77,6 +94,10 @@ class Registry(ThreadingHTTPServer):
             latest = max(versions, key=in_order)
             document = {"name": name, "dist-tags": {"latest": latest}, "versions": listed}
             self.files[f"/{name}"] = json.dumps(document).encode()
+
+    def serve_advisories(self, advisories: Json) -> None:
+        """Serves advisories by the names of packages in place of those before."""
+        self.advisories = advisories
 
     @staticmethod
     def sums_of(archive: bytes, url: str) -> Json:
