@@ -10,7 +10,7 @@ use Rattle.text_prefixes.specs.Reasons.{IsReason, byte_at, reason_by}
 use Rattle.text_prefixes.specs.VersionCompletions.{version_completions}
 use Rattle.text_prefixes.specs.VersionPrefixes.{IsLongestVersionPrefix, IsPrefixIn, IsWholePrefixIn}
 use Rattle.text_prefixes.specs.declared.reasons.Reason.{Reason}
-use Rattle.text_prefixes.specs.declared.reasons.Refusal.{Refusal}
+use Rattle.text_prefixes.specs.declared.refusals.Refusal.{Refusal}
 use Rattle.text_prefixes.proofs.LongestPrefixes.{whole_from}
 use Rattle.text_prefixes.proofs.VersionPrefixes.{known}
 
@@ -40,7 +40,7 @@ pub one_reason : (d : Grammar) (prefix : Text) (next : Option ℕ) (x y : Reason
     → IsReason d prefix next y → x ≡ y
 one_reason d prefix next x y a b =
     a.is
-    ∙ (λ i. reason_by (same_test a.version b.version _ a.is_version b.is_version i)
+    ∙ (λ i. reason_by d (same_test a.version b.version _ a.is_version b.is_version i)
     (same_test a.letter b.letter _ a.takes_letter b.takes_letter i)
     (same_test a.zero b.zero _ a.takes_zero b.takes_zero i)
     (same_test a.too_long b.too_long _ a.is_too_long b.is_too_long i) prefix next)
