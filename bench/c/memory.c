@@ -111,13 +111,6 @@ static bool unite(semver_parser_options options) {
     return is_ok;
 }
 
-static bool equal(semver_parser_options options) {
-    bool is_equal;
-    if (!make_set(options)) return false;
-    begin();
-    return semver_parser_range_equal(set, set, &is_equal) == SEMVER_PARSER_OK;
-}
-
 static bool print_set(semver_parser_options options) {
     char *string = NULL;
     if (!make_set(options)) return false;
@@ -127,24 +120,13 @@ static bool print_set(semver_parser_options options) {
     return is_ok;
 }
 
-static bool save(semver_parser_options options) {
-    char *bytes = NULL;
-    size_t length;
-    if (!make_set(options)) return false;
-    begin();
-    bool is_ok = semver_parser_set_save(set, &bytes, &length) == SEMVER_PARSER_OK;
-    semver_parser_free(bytes);
-    return is_ok;
-}
-
 static const struct {
     const char *name;
     bool (*run)(semver_parser_options options);
     int ranges;
-} calls[] = {{"set_of_range", make_set, 1}, {"comparators_of_range", make_list, 1},
+} calls[] = {{"range_parse", make_set, 1}, {"comparators_of_range", make_list, 1},
     {"comparators_to_string", print_list, 1}, {"satisfies, for an error", explain, 1},
-    {"set_union", unite, 2}, {"set_equal", equal, 2}, {"set_to_string", print_set, 1},
-    {"set_save", save, 1}};
+    {"range_union", unite, 2}, {"range_to_string", print_set, 1}};
 
 /* ---- ranges: so many equal terms, and this again and again; # is another number each time */
 
@@ -193,8 +175,8 @@ static char shown[80];
 static void run(size_t call, const char *term, size_t count, size_t often) {
     range.length = length;
     for (int at = 0; at < 12; at++) {
-        semver_parser_options options = {
-            (semver_parser_dialect)(at / 3), (semver_parser_pre_releases)(at % 3)};
+        semver_parser_options options = semver_parser_options_of(at / 3);
+        options.pre_releases = at % 3;
         if (!calls[call].run(options) || most < 1000) continue;
         double found = (double)(most - 1000) / (double)length / calls[call].ranges;
         if (found <= rate) continue;

@@ -1,7 +1,7 @@
 //! The types of the header, and what they are in Rust.
 
 use crate::errors::Problem;
-use core::ptr::{self, NonNull};
+use core::ptr::NonNull;
 use core::slice;
 use proved::{Dialect, Meaning, PreReleases};
 
@@ -15,7 +15,8 @@ pub struct StringView {
 
 impl StringView {
     pub fn of(text: &[u8]) -> StringView {
-        let data = if text.is_empty() { ptr::null() } else { text.as_ptr() };
+        // One that may be read, also of no bytes: the slice's own may be any address.
+        let data = if text.is_empty() { c"".as_ptr().cast() } else { text.as_ptr() };
         StringView { data, length: text.len() }
     }
 }
