@@ -116,6 +116,11 @@ function compareRange (random, range) {
 const isPlain = (range) => !/\d-/.test(range) && plain(range) === range && !LARGE.test(range) &&
   new semver.Range(range).set.every((comparators) => semver.minVersion(comparators.join(' ')) !== null)
 
+// Whether each part of a range has one lower bound at most, and one upper one: node-semver asks each
+// comparator whether a version is outside.
+const isOfBounds = (range) => ours.toComparators(range).every(([one, other = '<', third]) =>
+  third === undefined && (other === '<' || (/^>/.test(one) && /^</.test(other))))
+
 function compareRanges (random, range, other) {
   if (![range, other].every((it) => isRead(it))) return
   const isKnown = () => ![range, other].every(isPlain) && count('two ranges of which one has pre-releases or a part without versions')
@@ -125,7 +130,8 @@ function compareRanges (random, range, other) {
   compareCall('subset', [range, other], (wanted, found) => isWhole() || isTogether(found) || isKnown())
   compareCall('minVersion', [range], isKnown)
   const one = random.of(asked(random, range))
-  const isBeside = () => /-/.test(one) ? count('a pre-release beside a range') : isKnown()
+  const isBeside = () => /-/.test(one) ? count('a pre-release beside a range') : isKnown() ||
+    (!isOfBounds(range) && count('a version beside several bounds'))
   for (const call of ['gtr', 'ltr']) compareCall(call, [one, range], isBeside)
   compareCall('outside', [one, range, random.of(['<', '>', ''])], isBeside)
 }

@@ -10,7 +10,6 @@
 extern crate alloc;
 
 mod allocator;
-mod later;
 mod names;
 mod ranges;
 mod state;

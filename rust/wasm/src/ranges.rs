@@ -177,7 +177,13 @@ pub unsafe extern "C" fn range_best(
         versions.push(unsafe { bytes(at, *len as usize) });
         at = at.wrapping_add(*len as usize);
     }
-    crate::later::highest_of(&range.set, &versions, range.dialect, lowest != 0)
+    let (set, grammar) = (&range.set, range.dialect.grammar());
+    let found = if lowest != 0 {
+        set.lowest_of(&versions, grammar)
+    } else {
+        set.highest_of(&versions, grammar)
+    };
+    found.unwrap_or(count)
 }
 
 /// Returns 1 if no version is in a range.
