@@ -66,6 +66,9 @@ async function main() {
         await ask('Input.insertText', { text });
     };
 
+    const ranges = () => value("[...document.querySelectorAll('#ranges tr')].map((row) => [...row.cells].map((it) => it.textContent).join(': '))");
+    const heads = () => value("[...document.querySelectorAll('#heads th')].map((it) => it.textContent)");
+
     await open('');
     await type('range', '1.2.3');
     await type('versions', '1.2.3\n1.2.4\nv1.2.3\n1.2.03');
@@ -74,15 +77,55 @@ async function main() {
     ]);
     expect('the marked rows', await marked(), ['1.2.4', 'v1.2.3']);
     expect('the errors', await errors(), [
-        'Invalid version to Cargo: unexpected character\nv1.2.3\n^',
-        'Invalid version to Cargo: a number or an identifier of digits has no leading zero\n1.2.03\n     ^',
+        'Cargo refuses the version: unexpected character\nv1.2.3\n^',
+        'Cargo refuses the version: a number or an identifier of digits has no leading zero\n1.2.03\n     ^',
+    ]);
+    expect('the comparators', await ranges(), [
+        'Cargo: >=1.2.3 <2.0.0-0', 'npm: 1.2.3', 'crate, Cargo mode: >=1.2.3 <2.0.0-0', 'crate, npm mode: 1.2.3',
     ]);
     await type('range', '1 || 2');
-    expect('the heads', await value("[...document.querySelectorAll('#heads th')].map((it) => it.textContent)"),
-        ['version', 'Cargo: no range', 'npm', 'crate, Cargo mode', 'crate, npm mode']);
-    expect('the first error', (await errors())[0], 'Invalid range to Cargo: Cargo takes no ||; npm does\n1 || 2\n  ^');
+    expect('the heads', await heads(), ['version', 'Cargo: refused', 'npm', 'crate, Cargo mode', 'crate, npm mode']);
+    expect('the first error', (await errors())[0], 'Cargo refuses the range: Cargo takes no ||; npm does\n1 || 2\n  ^');
     expect('a row', (await rows())[1], '1.2.4 – yes yes yes');
     expect('the address', new URLSearchParams(new URL(await value('location.href')).hash.slice(1)).get('range'), '1 || 2');
+    await type('range', '>=18446744073709551616');
+    expect('a number too large', (await errors())[0],
+        'Cargo refuses the range: numbers and raised bounds are at most 2^64 - 1\n>=18446744073709551616\n                      ^');
+
+    await type('range', '^1.2');
+    await type('other', '>=1.2.1');
+    expect('what is lost and gained', await ranges(), [
+        'Cargo: >=1.2.0 <2.0.0-0: =1.2.0: >=2.0.0', 'npm: >=1.2.0 <2.0.0-0: =1.2.0: >=2.0.0',
+        'crate, Cargo mode: >=1.2.0 <2.0.0-0: =1.2.0: >=2.0.0', 'crate, npm mode: >=1.2.0 <2.0.0-0: =1.2.0: >=2.0.0',
+    ]);
+    await type('other', '>=1.2.1 <2');
+    expect('another range that is refused', (await ranges())[0], 'Cargo: >=1.2.0 <2.0.0-0: refused: refused');
+    expect('its error', (await errors())[0], 'Cargo refuses the range: Cargo separates comparators by commas\n>=1.2.1 <2\n        ^');
+    expect('the same range by npm', (await ranges())[1], 'npm: >=1.2.0 <2.0.0-0: =1.2.0: nothing');
+
+    // Colours, on a page that shows each kind of text.
+    for (const scheme of ['light', 'dark']) {
+        await ask('Emulation.setEmulatedMedia', { features: [{ name: 'prefers-color-scheme', value: scheme }] });
+        await open('#range=1.2.3&other=x%20y&versions=1.2.3%0A1.2.4%0Av1.2.3%0A1.2&preReleases=default&dialect=cargo');
+        expect(`the scheme ${scheme}`, await value(`matchMedia('(prefers-color-scheme: ${scheme})').matches`), true);
+        const { count, low } = await value(`(${contrasts})()`);
+        if (count < 40) throw new Error(`only ${count} texts are seen`);
+        expect(`texts of less contrast than 4.5 in the scheme ${scheme}`, low, []);
+    }
+
+    // Texts of a megabyte: one line, and many.
+    const started = Date.now();
+    await open('');
+    await value(`{ const it = document.getElementById('range'); it.value = ' '.repeat(1e6) + '1.2 || 3.0.0'; it.dispatchEvent(new Event('input')) }`);
+    expect('a range of a megabyte', (await rows())[1], '1.2.3 – yes yes yes');
+    expect('its comparators', (await ranges())[1], 'npm: >=1.2.0 <1.3.0-0||3.0.0');
+    await value(`{ const it = document.getElementById('range'); it.value = Array.from({ length: 1e5 }, (_, at) => '1.' + at).join(' || '); it.dispatchEvent(new Event('input')) }`);
+    expect('many ranges', (await rows())[1], '1.2.3 – yes yes yes');
+    await type('range', '1');
+    await value(`{ const it = document.getElementById('versions'); it.value = '1.2.3-' + 'a'.repeat(1e6) + '\\n1.2.3\\n'.repeat(1e5); it.dispatchEvent(new Event('input')) }`);
+    expect('many versions', await value("document.querySelectorAll('#rows tr').length"), 1000);
+    expect('how many', await value("document.getElementById('more').textContent"), 'The first 1000 of 100001 lines are shown.');
+    if (Date.now() - started > 30000) throw new Error(`texts of a megabyte take ${Date.now() - started} ms`);
 
     await open('#range=%5E1.2&versions=1.3.0-rc.1&preReleases=included&dialect=npm');
     expect('a link', await rows(), ['1.3.0-rc.1 yes yes yes yes']);
@@ -93,11 +136,43 @@ async function main() {
     expect('requests', await value("performance.getEntriesByType('resource').length"), 0);
 
     if (picture) {
-        await open('#range=1.2.3&versions=1.2.2%0A1.2.3%0A1.2.4%0A1.3.0-rc.1%0Av1.2.3&preReleases=default&dialect=cargo');
-        await ask('Emulation.setDeviceMetricsOverride', { width: 860, height: 900, deviceScaleFactor: 1, mobile: false });
+        await open('#range=1.2.3&other=%5E1.2.4&versions=1.2.2%0A1.2.3%0A1.2.4%0A1.3.0-rc.1%0Av1.2.3&preReleases=default&dialect=cargo');
+        await ask('Emulation.setDeviceMetricsOverride', { width: 860, height: 1000, deviceScaleFactor: 1, mobile: false });
         const { data } = await ask('Page.captureScreenshot', { format: 'png' });
         fs.writeFileSync(picture, Buffer.from(data, 'base64'));
     }
+}
+
+// In the page: how many elements have text of their own, and which of them have a contrast below 4.5
+// (WCAG 2.1, 1.4.3) with what is behind it.
+function contrasts() {
+    const numbers = (color) => {
+        const found = color.match(/[\d.]+(?:e-?\d+)?/g).map(Number);
+        const scale = color.startsWith('color(') ? 1 : 255;
+        return [...found.slice(0, 3).map((it) => it / scale), found[3] ?? 1];
+    };
+    const over = ([...front], behind) => {
+        const alpha = front.pop();
+        return [...front.map((it, at) => it * alpha + behind[at] * (1 - alpha)), 1];
+    };
+    const luminance = (color) => {
+        const [red, green, blue] = color.map((it) => (it <= 0.04045 ? it / 12.92 : ((it + 0.055) / 1.055) ** 2.4));
+        return 0.2126 * red + 0.7152 * green + 0.0722 * blue;
+    };
+    const isDark = matchMedia('(prefers-color-scheme: dark)').matches;
+    const behind = (element) => {
+        const under = element.parentElement ? behind(element.parentElement) : isDark ? [0, 0, 0, 1] : [1, 1, 1, 1];
+        return over(numbers(getComputedStyle(element).backgroundColor), under);
+    };
+    const hasText = (it) => /^(INPUT|TEXTAREA|SELECT)$/.test(it.tagName) || [...it.childNodes].some((node) => node.nodeType === 3 && node.data.trim() !== '');
+    const shown = [...document.body.querySelectorAll('*')].filter((it) => hasText(it) && it.getClientRects().length > 0);
+    const ratio = (it) => {
+        const ground = behind(it);
+        const [high, low] = [over(numbers(getComputedStyle(it).color), ground), ground].map(luminance).sort((a, b) => b - a);
+        return (high + 0.05) / (low + 0.05);
+    };
+    const low = shown.filter((it) => ratio(it) < 4.5).map((it) => `${it.tagName} ${it.className} ${ratio(it).toFixed(2)}`);
+    return { count: shown.length, low };
 }
 
 function expect(what, found, right) {

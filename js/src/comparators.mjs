@@ -72,13 +72,12 @@ function written(comparators, meaning) {
   return [...values]
 }
 
-/** The ranges of a string as node-semver writes them, each a list of comparators. */
-export function comparatorsOf(string, meaning) {
+/** The ranges of a string as node-semver writes them, each a list of comparators: as strings. */
+export function rangesOf(string, meaning) {
   const { dialect, rule } = meaning
   if (callWith('range_comparators', string, dialect, rule) !== 0) throw invalidRange(string, meaning)
   const all = stringBack().split(' || ').map((range) => written(range.split(' '), meaning))
   const some = all.filter(([first]) => first !== NO_VERSION)
   const any = some.find(([first]) => first === '')
-  const ranges = any ? [any] : some.length ? some : all.slice(0, 1)
-  return ranges.map((range) => range.map((it) => new Comparator(it, meaning)))
+  return any ? [any] : some.length ? some : all.slice(0, 1)
 }

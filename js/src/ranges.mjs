@@ -2,7 +2,7 @@
 import { askRange, callWith, calls, stringBack } from './calls.mjs'
 import { invalidRange, noString } from './errors.mjs'
 import { isSameMeaning, meaningOf } from './options.mjs'
-import { Comparator, comparatorsOf } from './comparators.mjs'
+import { Comparator, rangesOf } from './comparators.mjs'
 import { stringOf } from './versions.mjs'
 
 // The memory of the module has so many ranges, so that it doesn't fill. A range whose place another
@@ -73,6 +73,7 @@ let readOf
 /** A range of node-semver's class. Its fields can't be written. */
 export class Range {
   #read
+  #ranges = null
   #set = null
 
   static {
@@ -91,13 +92,19 @@ export class Range {
   get includePrerelease() { return this.#read.meaning.isIncluded }
   get raw() { return this.#read.string.trim().replace(/\s+/g, ' ') }
 
+  #written() {
+    this.#ranges ??= rangesOf(this.#read.string, this.#read.meaning)
+    return this.#ranges
+  }
+
   get set() {
-    this.#set ??= comparatorsOf(this.#read.string, this.#read.meaning)
+    this.#set ??= Object.freeze(this.#written().map((range) =>
+      Object.freeze(range.map((it) => new Comparator(it, this.#read.meaning)))))
     return this.#set
   }
 
   get range() {
-    return this.set.map((comparators) => comparators.join(' ')).join('||')
+    return this.#written().map((range) => range.join(' ')).join('||')
   }
 
   format() { return this.range }
