@@ -135,6 +135,7 @@ async function main() {
     expect('a link with unknown options', await rows(), ['1.3.0 yes yes yes yes']);
     expect('requests', await value("performance.getEntriesByType('resource').length"), 0);
 
+    await ask('Emulation.setEmulatedMedia', { features: [] });
     if (picture) {
         await open('#range=1.2.3&other=%5E1.2.4&versions=1.2.2%0A1.2.3%0A1.2.4%0A1.3.0-rc.1%0Av1.2.3&preReleases=default&dialect=cargo');
         await ask('Emulation.setDeviceMetricsOverride', { width: 860, height: 1000, deviceScaleFactor: 1, mobile: false });
