@@ -4,6 +4,9 @@
 // writes them, so no code of a caller runs between the first byte that is written and the result.
 import { EMBEDDED, WHERE } from './module.mjs'
 
+const encoder = new TextEncoder()
+const decoder = new TextDecoder()
+
 let functions = null
 let bytes, numbers, buffer, capacity
 let held = '', heldLength = 0 // the string that is at the begin of the buffer, and its bytes
@@ -33,7 +36,7 @@ export function calls() {
   return functions
 }
 
-/** Takes a module that is compiled, or its bytes, in place of the one that the first call compiles. */
+/** Takes a compiled module, or its bytes, in place of the one that the first call compiles. */
 export function init(module) {
   const compiled = module instanceof WebAssembly.Module ? module : new WebAssembly.Module(module)
   if (functions === null) open(new WebAssembly.Instance(compiled))
@@ -42,7 +45,8 @@ export function init(module) {
 /** Compiles the module if it isn't yet, without holding up the thread. */
 export async function ready() {
   if (functions !== null) return
-  const source = EMBEDDED === null ? await (await fetch(WHERE)).arrayBuffer() : bytesOfModule(EMBEDDED)
+  const fetched = async () => (await fetch(WHERE)).arrayBuffer()
+  const source = EMBEDDED === null ? await fetched() : bytesOfModule(EMBEDDED)
   init(await WebAssembly.compile(source))
 }
 
@@ -71,7 +75,8 @@ function writeUtf8(offset, string) {
   const most = offset + 3 * string.length
   if (most > capacity) reserve(most)
   if (bytes.length === 0) refresh()
-  return new TextEncoder().encodeInto(string, bytes.subarray(buffer + offset, buffer + capacity)).written
+  const place = bytes.subarray(buffer + offset, buffer + capacity)
+  return encoder.encodeInto(string, place).written
 }
 
 // Writes a string at the begin of the buffer, if it isn't there yet.
@@ -98,7 +103,7 @@ export function askOnce(version, range, dialect, rule) {
   return call(buffer, rangeLength, buffer + rangeLength, length, dialect, rule)
 }
 
-/** Returns 1 if a version is in a range that was read, 0 if it isn't, and else a negative number. */
+/** Returns 1 if a version is in a range that was read, 0 if not, and else a negative number. */
 export function askRange(address, version) {
   const { range_has: call } = calls()
   const length = hold(version)
@@ -153,7 +158,7 @@ export function numberAt(index) {
 /** The string that a call handed back. */
 export function stringBack() {
   const begin = numberAt(0)
-  return new TextDecoder().decode(bytes.subarray(begin, begin + numberAt(1)))
+  return decoder.decode(bytes.subarray(begin, begin + numberAt(1)))
 }
 
 /** A part of the string that was written last, of which the call handed back where it is. */
@@ -162,5 +167,5 @@ export function partOf(string, length, index) {
   if (partLength === 0) return ''
   const begin = numberAt(index)
   if (string.length === length) return string.slice(begin, begin + partLength)
-  return new TextDecoder().decode(bytes.subarray(buffer + begin, buffer + begin + partLength))
+  return decoder.decode(bytes.subarray(buffer + begin, buffer + begin + partLength))
 }

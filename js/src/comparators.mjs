@@ -1,6 +1,6 @@
 // Comparators, and the form in which node-semver writes them.
 import { callWith, stringBack } from './calls.mjs'
-import { invalidRange, noString } from './errors.mjs'
+import { noString } from './errors.mjs'
 import { isSameMeaning, meaningOf } from './options.mjs'
 import { ReadRange } from './ranges.mjs'
 import { SemVer, cmp, parse, valid } from './versions.mjs'
@@ -72,10 +72,13 @@ function written(comparators, meaning) {
   return [...values]
 }
 
-/** The ranges of a string as node-semver writes them, each a list of comparators: as strings. */
+/**
+ * The ranges of a string as node-semver writes them, each a list of comparators, as strings; null if
+ * it is invalid.
+ */
 export function rangesOf(string, meaning) {
   const { dialect, rule } = meaning
-  if (callWith('range_comparators', string, dialect, rule) !== 0) throw invalidRange(string, meaning)
+  if (callWith('range_comparators', string, dialect, rule) !== 0) return null
   const all = stringBack().split(' || ').map((range) => written(range.split(' '), meaning))
   const some = all.filter(([first]) => first !== NO_VERSION)
   const any = some.find(([first]) => first === '')

@@ -1,6 +1,6 @@
 // What makes a version of another version or string: by hand, as node-semver's README says, and not
 // proved. That a result is a version, the module says.
-import { compare, compareIdentifiers, parse, SemVer, stringOf } from './versions.mjs'
+import { SemVer, compare, compareIdentifiers, parse, valid } from './versions.mjs'
 import { meaningOf } from './options.mjs'
 import { noString } from './errors.mjs'
 
@@ -34,28 +34,34 @@ const more = (number) => (typeof number === 'bigint' ? number + 1n : number + 1)
 function nextNumbers({ major, minor, patch, prerelease }, release) {
   const isRelease = prerelease.length === 0
   const none = zero(major)
-  if (release === 'major') return minor || patch || isRelease ? [more(major), none, none] : [major, none, none]
-  if (release === 'minor') return patch || isRelease ? [major, more(minor), none] : [major, minor, none]
-  return [major, minor, isRelease ? more(patch) : patch]
+  if (release === 'patch') return [major, minor, isRelease ? more(patch) : patch]
+  if (release === 'minor') return [major, patch || isRelease ? more(minor) : minor, none]
+  return [minor || patch || isRelease ? more(major) : major, none, none]
+}
+
+// The three numbers of the next version, and the identifiers of its pre-release.
+function nextParts(version, release, identifier, identifierBase) {
+  const { major, minor, patch, prerelease } = version
+  const none = zero(major)
+  const pre = (before) => nextPre(before, identifier, identifierBase)
+  const isRelease = prerelease.length === 0
+  switch (release) {
+    case 'major': case 'minor': case 'patch': return [nextNumbers(version, release), []]
+    case 'premajor': return [[more(major), none, none], pre([])]
+    case 'preminor': return [[major, more(minor), none], pre([])]
+    case 'prepatch': return [[major, minor, more(patch)], pre([])]
+    case 'prerelease': return [[major, minor, isRelease ? more(patch) : patch], pre(prerelease)]
+    case 'pre': return [[major, minor, patch], pre(prerelease)]
+    default: throw wrong(release)
+  }
 }
 
 /** The string of the next version, with the build metadata of the one before. */
 export function incremented(version, release, identifier, identifierBase) {
-  const { major, minor, patch, prerelease, build } = version
-  const parts = () => {
-    const numbers = [major, minor, patch]
-    switch (release) {
-      case 'major': case 'minor': case 'patch': return [nextNumbers(version, release), []]
-      case 'premajor': return [[more(major), zero(major), zero(major)], nextPre([], identifier, identifierBase)]
-      case 'preminor': return [[major, more(minor), zero(major)], nextPre([], identifier, identifierBase)]
-      case 'prepatch': return [[major, minor, more(patch)], nextPre([], identifier, identifierBase)]
-      case 'prerelease': return [prerelease.length ? numbers : [major, minor, more(patch)], nextPre(prerelease, identifier, identifierBase)]
-      case 'pre': return [numbers, nextPre(prerelease, identifier, identifierBase)]
-      default: throw wrong(release)
-    }
-  }
-  const [numbers, pre] = parts()
-  return numbers.join('.') + (pre.length ? `-${pre.join('.')}` : '') + (build.length ? `+${build.join('.')}` : '')
+  const { build } = version
+  const [numbers, pre] = nextParts(version, release, identifier, identifierBase)
+  const before = pre.length ? `${numbers.join('.')}-${pre.join('.')}` : numbers.join('.')
+  return build.length ? `${before}+${build.join('.')}` : before
 }
 
 export function inc(version, release, options, identifier, identifierBase) {
@@ -64,7 +70,7 @@ export function inc(version, release, options, identifier, identifierBase) {
   const found = parse(version, meaning)
   if (found === null) return null
   try {
-    return new SemVer(stringOf(found), meaning).inc(release, identifier, identifierBase).version
+    return valid(incremented(found, release, identifier, identifierBase), meaning)
   } catch {
     return null
   }
@@ -99,7 +105,8 @@ const dotted = (one) => String.raw`${one}(?:\.${one})*`
 const PRE = dotted(String.raw`(?:0|[1-9]\d*|\d*[A-Za-z-][0-9A-Za-z-]*)`)
 const BUILD = dotted('[0-9A-Za-z-]+')
 const COERCED = new RegExp(String.raw`${NUMBERS}(?!\d)`, 'g')
-const COERCED_WHOLE = new RegExp(String.raw`${NUMBERS}(?:-(${PRE}))?(?:\+(${BUILD}))?(?!\d)`, 'g')
+const WHOLE = String.raw`${NUMBERS}(?:-(${PRE}))?(?:\+(${BUILD}))?`
+const COERCED_WHOLE = new RegExp(String.raw`${WHOLE}(?!\d)`, 'g')
 
 export function coerce(version, options) {
   const meaning = meaningOf(options)

@@ -9,7 +9,9 @@ const named = (call, number) => (calls()[call](number) === 0 ? stringBack() : nu
 export function numberOf(call, name) {
   if (!tables.has(call)) {
     const table = new Map()
-    for (let number = 0; named(call, number) !== null; number += 1) table.set(named(call, number), number)
+    for (let number = 0; named(call, number) !== null; number += 1) {
+      table.set(named(call, number), number)
+    }
     tables.set(call, table)
   }
   return tables.get(call).get(name)

@@ -42,4 +42,6 @@ export function meaningOf(options) {
 }
 
 /** Whether two meanings are the same. */
-export const isSameMeaning = (one, other) => one.dialect === other.dialect && one.rule === other.rule
+export function isSameMeaning(one, other) {
+  return one.dialect === other.dialect && one.rule === other.rule
+}

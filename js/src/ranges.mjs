@@ -60,13 +60,17 @@ export class ReadRange {
   without(other) {
     const address = this.beside(other, 'range_difference')
     if (address === 0) throw new RangeError('out of memory')
-    const text = (call) => calls()[call](address) === 0 && stringBack()
     const isEmpty = calls().range_is_empty(address) === 1
-    const found = isEmpty ? null : { releases: text('range_releases'), preReleases: text('range_pre_releases') }
+    const [releases, preReleases] = ['range_releases', 'range_pre_releases'].map((call) =>
+      (calls()[call](address) === 0 ? stringBack() : null))
+    const found = isEmpty ? null : { releases, preReleases }
     calls().range_free(address)
     return found
   }
 }
+
+/** Ranges of comparators as one string. */
+export const formatted = (ranges) => ranges.map((range) => range.join(' ')).join('||')
 
 let readOf
 
@@ -77,7 +81,10 @@ export class Range {
   #set = null
 
   static {
-    readOf = (value) => (value !== null && typeof value === 'object' && #read in value ? value.#read : null)
+    readOf = (value) => {
+      const isOne = value !== null && typeof value === 'object' && #read in value
+      return isOne ? value.#read : null
+    }
   }
 
   constructor(range, options) {
@@ -103,9 +110,7 @@ export class Range {
     return this.#set
   }
 
-  get range() {
-    return this.#written().map((range) => range.join(' ')).join('||')
-  }
+  get range() { return formatted(this.#written()) }
 
   format() { return this.range }
   toString() { return this.range }
@@ -130,7 +135,7 @@ export class Range {
   }
 }
 
-/** The string of a range, which may be one that was read, here or by another copy of the package. */
+/** The string of a range, which may be one that was read, also by another copy of the package. */
 export function rangeStringOf(range) {
   if (typeof range === 'string') return range
   if (range instanceof Comparator) return range.value
@@ -144,7 +149,8 @@ export function rangeStringOf(range) {
 /** A range that was read: it may have been before. Throws if it is invalid. */
 export function readRange(range, meaning) {
   const read = readOf(range)
-  return read !== null && isSameMeaning(read.meaning, meaning) ? read : new ReadRange(rangeStringOf(range), meaning)
+  if (read !== null && isSameMeaning(read.meaning, meaning)) return read
+  return new ReadRange(rangeStringOf(range), meaning)
 }
 
 /** The same, but null if it is invalid. */

@@ -2,7 +2,8 @@
 import { askOnce, bestOf } from './calls.mjs'
 import { explained } from './errors.mjs'
 import { isSameMeaning, meaningOf } from './options.mjs'
-import { Range, readRange, readRangeOrNull, rangeStringOf } from './ranges.mjs'
+import { rangesOf } from './comparators.mjs'
+import { Range, formatted, rangeStringOf, readRange, readRangeOrNull } from './ranges.mjs'
 import { SemVer, compare, stringOf } from './versions.mjs'
 
 // The string that was asked last as a range. It is read once it is asked again.
@@ -33,7 +34,9 @@ export function satisfies(version, range, options) {
 
 export function validRange(range, options) {
   const meaning = meaningOf(options)
-  return readRangeOrNull(range, meaning) === null ? null : new Range(range, meaning).range || '*'
+  const string = typeof range === 'string' ? range : readRangeOrNull(range, meaning)?.string
+  const ranges = string === undefined ? null : rangesOf(string, meaning)
+  return ranges === null ? null : formatted(ranges) || '*'
 }
 
 export function toComparators(range, options) {
@@ -47,7 +50,8 @@ export function explainRange(range, options) {
 
 // The versions of a list that are any, with their strings.
 function listed(versions) {
-  return Array.from(versions).filter(Boolean).map((version) => ({ version, string: stringOf(version) }))
+  const some = Array.from(versions).filter(Boolean)
+  return some.map((version) => ({ version, string: stringOf(version) }))
 }
 
 export function filter(versions, range, options) {

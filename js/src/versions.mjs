@@ -14,9 +14,10 @@ function valueOf(identifier) {
 
 // The canonical string of the numbers and the pre-release that were read.
 function versionBack(string, length, meaning) {
-  const [major, minor, patch] = meaning.isOfNpm ? [numberAt(0), numberAt(1), numberAt(2)] : [bigAt(0), bigAt(1), bigAt(2)]
+  const at = meaning.isOfNpm ? numberAt : bigAt
+  const numbers = `${at(0)}.${at(1)}.${at(2)}`
   const pre = partOf(string, length, 3)
-  return pre === '' ? `${major}.${minor}.${patch}` : `${major}.${minor}.${patch}-${pre}`
+  return pre === '' ? numbers : `${numbers}-${pre}`
 }
 
 let isSemVer
@@ -34,16 +35,18 @@ export class SemVer {
     isSemVer = (value) => value !== null && typeof value === 'object' && #raw in value
   }
 
-  constructor(version, options) {
+  // The third argument is how many bytes the version has, if it was just read by a meaning.
+  constructor(version, options, length) {
     const meaning = meaningOf(options)
     if (isSemVer(version) && isSameMeaning(version.#meaning, meaning)) return version
     this.#meaning = meaning
-    this.#read(stringOf(version))
+    const string = stringOf(version)
+    const isRead = meaning === options && length !== undefined
+    this.#take(string, isRead ? length : readVersion(string, meaning.dialect))
   }
 
-  #read(string) {
+  #take(string, length) {
     const meaning = this.#meaning
-    const length = readVersion(string, meaning.dialect)
     if (length < 0) throw invalidVersion(string, meaning)
     const at = meaning.isOfNpm ? numberAt : bigAt
     this.#raw = string
@@ -68,8 +71,10 @@ export class SemVer {
   toString() { return this.#version }
 
   toJSON() {
-    const { options, loose, includePrerelease, raw, major, minor, patch, prerelease, build, version } = this
-    return { options, loose, includePrerelease, raw, major, minor, patch, prerelease, build, version }
+    const { options, loose, includePrerelease, raw, prerelease, build, version } = this
+    const [major, minor, patch] = this.#numbers
+    const parts = { major, minor, patch, prerelease, build }
+    return { options, loose, includePrerelease, raw, ...parts, version }
   }
 
   [Symbol.for('nodejs.util.inspect.custom')](depth, options, inspect) {
@@ -90,8 +95,8 @@ export class SemVer {
   }
 
   comparePre(other) {
-    const [one, two] = [this, this.#with(other)].map((it) => (it.prerelease.length ? `0.0.0-${it.prerelease.join('.')}` : '0.0.0'))
-    return comparedOrThrow(one, two, this.#meaning)
+    const alone = ({ prerelease }) => ['0.0.0', prerelease.join('.')].filter(Boolean).join('-')
+    return comparedOrThrow(alone(this), alone(this.#with(other)), this.#meaning)
   }
 
   compareBuild(other) {
@@ -99,14 +104,18 @@ export class SemVer {
   }
 
   inc(release, identifier, identifierBase) {
-    this.#read(incremented(this, release, identifier, identifierBase))
+    const string = incremented(this, release, identifier, identifierBase)
+    this.#take(string, readVersion(string, this.#meaning.dialect))
     return this
   }
 }
 
 // What another copy of the package, or node-semver, made of a version.
-const isForeign = (version) => version !== null && typeof version === 'object' && typeof version.raw === 'string' &&
-  typeof version.version === 'string' && Array.isArray(version.build)
+function isForeign(version) {
+  if (version === null || typeof version !== 'object') return false
+  const { raw, version: string, build } = version
+  return typeof raw === 'string' && typeof string === 'string' && Array.isArray(build)
+}
 
 const mayBeVersion = (version) => typeof version === 'string' || isForeign(version)
 
@@ -122,7 +131,8 @@ export function parse(version, options, throwErrors = false) {
   const meaning = meaningOf(options)
   if (throwErrors !== true && !isSemVer(version)) {
     const string = mayBeVersion(version) ? stringOf(version) : null
-    return string !== null && readVersion(string, meaning.dialect) >= 0 ? new SemVer(string, meaning) : null
+    const length = string === null ? -1 : readVersion(string, meaning.dialect)
+    return length < 0 ? null : new SemVer(string, meaning, length)
   }
   return isSemVer(version) ? version : new SemVer(version, meaning)
 }
@@ -184,7 +194,7 @@ export const neq = (version, other, options) => compare(version, other, options)
 
 const COMPARISONS = { '': eq, '=': eq, '==': eq, '!=': neq, '>': gt, '>=': gte, '<': lt, '<=': lte }
 
-const plain = (version) => (version !== null && typeof version === 'object' ? version.version : version)
+const plain = (version) => (typeof version === 'object' ? version?.version : version)
 
 export function cmp(version, operator, other, options) {
   if (operator === '===') return plain(version) === plain(other)
@@ -218,7 +228,10 @@ function compareBuilds(build, other) {
 }
 
 // The identifiers of the build metadata of a valid version, of which nothing else has a `+`.
-const buildOf = (string) => identifiersOf(string.includes('+') ? string.slice(string.indexOf('+') + 1).trim() : '')
+function buildOf(string) {
+  const at = string.indexOf('+')
+  return identifiersOf(at < 0 ? '' : string.slice(at + 1).trim())
+}
 
 function compareStrings(version, other, meaning) {
   const order = comparedOrThrow(version, other, meaning)

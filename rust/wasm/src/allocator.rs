@@ -1,5 +1,5 @@
-//! An allocator in sixty lines: blocks whose sizes are powers of two, and a list of free ones of each
-//! size. Blocks are neither split nor joined.
+//! An allocator: blocks whose sizes are powers of two, and a list of free ones of each size. Blocks
+//! are neither split nor joined.
 
 use core::alloc::{GlobalAlloc, Layout};
 use core::arch::wasm32::{memory_grow, memory_size};
@@ -8,7 +8,7 @@ use core::ptr::null_mut;
 
 const PAGE: usize = 65536;
 
-/// The smallest block has 16 bytes, and the largest 2^31.
+/// The smallest block has 2^4 bytes, and the largest 2^31.
 const SMALLEST: u32 = 4;
 const SIZES: usize = 28;
 
@@ -27,44 +27,37 @@ unsafe impl Sync for Allocator {}
 
 impl Allocator {
     pub const fn new() -> Allocator {
-        let free = [null_mut(); SIZES];
-        Allocator(UnsafeCell::new(Blocks { free, begin: 0, end: 0 }))
+        Allocator(UnsafeCell::new(Blocks { free: [null_mut(); SIZES], begin: 0, end: 0 }))
     }
 }
 
-/// The index of the smallest size that a layout fits into. A block is at a multiple of its size, or of
-/// a page if that is less.
-fn size_of(layout: Layout) -> usize {
+/// The index of the smallest size that a layout fits into.
+fn index_of(layout: Layout) -> usize {
     let size = layout.size().max(layout.align()).max(1 << SMALLEST);
     (usize::BITS - (size - 1).leading_zeros() - SMALLEST) as usize
 }
 
 impl Blocks {
-    fn take(&mut self, index: usize) -> *mut u8 {
-        let Some(size) = (index < SIZES).then(|| 1_usize << (index as u32 + SMALLEST)) else {
-            return null_mut();
-        };
-        let Some(begin) = self.begin.checked_next_multiple_of(size.min(PAGE)) else {
-            return null_mut();
-        };
-        if self.end < begin || self.end - begin < size {
-            return self.grow(size);
+    /// A block of memory that was never given out, at a multiple of its size, or of a page if that is
+    /// less. Only this makes memory grow, so new pages follow those before.
+    fn take(&mut self, index: usize) -> Option<*mut u8> {
+        if self.end == 0 {
+            self.begin = memory_size(0) * PAGE;
+            self.end = self.begin;
         }
-        self.begin = begin + size;
-        begin as *mut u8
-    }
-
-    /// A block at the begin of new pages, which follow those before.
-    fn grow(&mut self, size: usize) -> *mut u8 {
-        let pages = size.div_ceil(PAGE);
-        let before = memory_grow(0, pages);
-        if before == usize::MAX {
-            return null_mut();
+        let size = 1_usize.checked_shl(index as u32 + SMALLEST)?;
+        let begin = self.begin.checked_next_multiple_of(size.min(PAGE))?;
+        let next = begin.checked_add(size)?;
+        if next > self.end {
+            let pages = (next - self.end).div_ceil(PAGE);
+            let end = self.end.checked_add(pages * PAGE)?;
+            if memory_grow(0, pages) == usize::MAX {
+                return None;
+            }
+            self.end = end;
         }
-        debug_assert!(memory_size(0) >= before + pages);
-        let at = before * PAGE;
-        (self.begin, self.end) = (at + size, at + (pages * PAGE - 1) + 1);
-        at as *mut u8
+        self.begin = next;
+        Some(begin as *mut u8)
     }
 }
 
@@ -72,17 +65,19 @@ impl Blocks {
 unsafe impl GlobalAlloc for Allocator {
     unsafe fn alloc(&self, layout: Layout) -> *mut u8 {
         let blocks = unsafe { &mut *self.0.get() };
-        let index = size_of(layout);
-        let Some(first) = blocks.free.get(index).copied().filter(|it| !it.is_null()) else {
-            return blocks.take(index);
-        };
-        blocks.free[index] = unsafe { first.cast::<*mut u8>().read() };
-        first
+        let index = index_of(layout);
+        match blocks.free.get(index).copied() {
+            Some(first) if !first.is_null() => {
+                blocks.free[index] = unsafe { first.cast::<*mut u8>().read() };
+                first
+            }
+            _ => blocks.take(index).unwrap_or(null_mut()),
+        }
     }
 
     unsafe fn dealloc(&self, block: *mut u8, layout: Layout) {
         let blocks = unsafe { &mut *self.0.get() };
-        let index = size_of(layout);
+        let index = index_of(layout);
         unsafe { block.cast::<*mut u8>().write(blocks.free[index]) };
         blocks.free[index] = block;
     }

@@ -18,11 +18,8 @@ struct Shared(UnsafeCell<State>);
 // SAFETY: the module has one thread; each instance of it has a memory of its own.
 unsafe impl Sync for Shared {}
 
-static STATE: Shared = Shared(UnsafeCell::new(State {
-    strings: Vec::new(),
-    text: String::new(),
-    numbers: [0; 7],
-}));
+static STATE: Shared =
+    Shared(UnsafeCell::new(State { strings: Vec::new(), text: String::new(), numbers: [0; 7] }));
 
 /// Runs a call with the state. No call makes another, so the reference is the only one.
 pub fn with<T>(call: impl FnOnce(&mut State) -> T) -> T {
