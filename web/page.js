@@ -1,7 +1,8 @@
 // The page: what is typed, asked of the package, which comes before this in the same script.
 
 const COLUMNS = [
-  ['cargo', 'Cargo'], ['npm', 'npm'], ['crate-cargo', 'crate, Cargo mode'], ['crate-npm', 'crate, npm mode'],
+  ['cargo', 'Cargo'], ['npm', 'npm'],
+  ['crate-cargo', 'crate, Cargo mode'], ['crate-npm', 'crate, npm mode'],
 ]
 const FIELDS = ['range', 'other', 'versions', 'preReleases', 'dialect']
 const NOTHING = '<0.0.0-0' // comparators that no version satisfies
@@ -45,10 +46,12 @@ function shownPart(part) {
 function rangeRow([dialect, title], range, now) {
   const row = made('tr', '', '')
   const chosen = dialect === now.dialect ? ' chosen' : ''
-  row.append(made('td', chosen, title), made('td', `range${chosen}`, range === null ? 'refused' : range.range || '*'))
+  const comparators = range === null ? 'refused' : range.range || '*'
+  row.append(made('td', chosen, title), made('td', `range${chosen}`, comparators))
   if (now.other.trim() === '') return row
   const other = readIn(dialect, now.other, now.preReleases)
-  const changes = range && other && compareRanges(range, other, { dialect, preReleases: now.preReleases })
+  const options = { dialect, preReleases: now.preReleases }
+  const changes = range && other && compareRanges(range, other, options)
   for (const part of ['lost', 'gained']) {
     row.append(made('td', `range${chosen}`, changes ? shownPart(changes[part]) : 'refused'))
   }
@@ -63,7 +66,7 @@ function showRanges(ranges, now) {
 
 // ---- the versions
 
-// What a version is to a range by a dialect: `yes`, `no`, `invalid`, or `–` if the range is refused.
+// What a version is to a range by a dialect: `yes`, `no`, `invalid`, or `–` if that is refused.
 function answer(version, range, dialect) {
   if (range === null) return '–'
   if (valid(version, { dialect }) === null) return 'invalid'
@@ -119,8 +122,9 @@ function show() {
   const versions = lines.slice(0, MOST_LINES)
   const ranges = COLUMNS.map(([dialect]) => readIn(dialect, now.range, now.preReleases))
   showRanges(ranges, now)
-  element('heads').replaceChildren(made('th', '', 'version'), ...COLUMNS.map(([name, title], at) =>
-    made('th', name === now.dialect ? 'chosen' : '', ranges[at] === null ? `${title}: refused` : title)))
+  const heads = COLUMNS.map(([name, title], at) =>
+    made('th', name === now.dialect ? 'chosen' : '', ranges[at] ? title : `${title}: refused`))
+  element('heads').replaceChildren(made('th', '', 'version'), ...heads)
   element('rows').replaceChildren(...versions.map((version) => rowOf(version, ranges, now)))
   element('more').hidden = lines.length === versions.length
   element('more').textContent = `The first ${versions.length} of ${lines.length} lines are shown.`

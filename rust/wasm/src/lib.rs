@@ -1,9 +1,9 @@
-//! What JavaScript calls of the crate `semver-parser-proved`. It decides nothing: each function makes
-//! one call of the crate.
+//! What JavaScript calls of the crate `semver-parser-proved`. It decides nothing: each function
+//! makes one call of the crate.
 //!
-//! A string is the address and the length of its bytes, which JavaScript wrote where [`reserve`] says.
-//! A string that a function returns is at the address and of the length that the first two numbers
-//! say which [`numbers`] has; so are what a version consists of, and offsets.
+//! A string is the address and the length of its bytes, which JavaScript wrote where [`reserve`]
+//! says. What a function hands back beside its result are [`numbers`]: of a string its address and
+//! its length, of a version its parts, and of a refused string the offset.
 #![no_std]
 #![warn(missing_docs)]
 
@@ -30,8 +30,8 @@ pub(crate) mod status {
     pub const OUT_OF_MEMORY: i32 = -3;
 }
 
-/// Returns where so many bytes of strings can be written, or null if out of memory. What was written
-/// there before is there still.
+/// Returns where so many bytes of strings can be written, or null if out of memory. What was
+/// written there before is there still.
 #[no_mangle]
 pub extern "C" fn reserve(len: usize) -> *mut u8 {
     state::with(|state| state.reserve(len))

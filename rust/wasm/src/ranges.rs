@@ -53,8 +53,8 @@ pub unsafe extern "C" fn range_satisfied(
     }
 }
 
-/// Returns the number of the reason for which a string isn't a range, 0 if it is one. The first number
-/// is the offset in bytes.
+/// Returns the number of the reason for which a string isn't a range, 0 if it is one. The first
+/// number handed back is the offset in bytes.
 ///
 /// # Safety
 /// There are so many bytes at the address.

@@ -10,8 +10,8 @@ pub fn outline(string: &[u8], dialect: i32) -> Option<Outline<'_>> {
     outline_in(string, Dialect::of_number(dialect)?.grammar())
 }
 
-/// Reads a version. The numbers are its three, and then where the pre-release begins in the string and
-/// how long it is, and the same of the build metadata.
+/// Reads a version. The numbers handed back are its three, and then where the pre-release begins in
+/// the string and how long it is, and the same of the build metadata.
 ///
 /// # Safety
 /// There are so many bytes at the address.
@@ -49,7 +49,7 @@ pub unsafe extern "C" fn version_compare(
 }
 
 /// Returns the number of the reason for which a string isn't a version, 0 if it is one. The first
-/// number is the offset in bytes.
+/// number handed back is the offset in bytes.
 ///
 /// # Safety
 /// There are so many bytes at the address.
