@@ -97,14 +97,14 @@ def run(tree: Tree, folder: Path, registry: Registry, top: Path) -> List[Tuple[s
 
 
 def advisories(world: World, chance: random.Random) -> Json:
-    """What the registry says of vulnerable versions: of some packages, below one of theirs."""
+    """What the registry says of vulnerable versions: of most packages, those up to a high one."""
     found = {}
     for number, (name, versions) in enumerate(sorted(world.releases.items()), 1):
-        if chance.random() < 0.4:
-            bound = chance.choice(sorted(versions))
+        if chance.random() < 0.7:
+            bound = chance.choice(sorted(versions)[-2:])
             found[name] = [{
                 "id": number, "url": f"https://example.com/{number}", "title": f"flaw {number}",
-                "severity": "high", "vulnerable_versions": f"<{bound} || ={bound}", "cwe": [],
+                "severity": "high", "vulnerable_versions": f"<{bound} || {bound}", "cwe": [],
                 "cvss": {"score": 0, "vectorString": None},
             }]  # fmt: skip
     return found
