@@ -120,7 +120,7 @@ stage stage-python: all
 		> "$$to/$(LIBDIR)/pkgconfig/semver_parser.pc"
 	if [ $@ = stage-python ]; then
 		modules=$$to/$$PACKAGES
-		for file in $$(cd python && find semver_* -name '*.py' -o -name py.typed); do
+		for file in $$(cd python && find semver_parser -name '*.py' -o -name py.typed); do
 			install -D -m 644 python/$$file "$$modules/$$file"
 		done
 		up=../$$(echo "$$PACKAGES" | sed 's:[^/][^/]*:..:g')
