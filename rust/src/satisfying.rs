@@ -1,8 +1,9 @@
-//! Whether a version satisfies a range, of two strings: two proved calls, one after the other.
+//! Whether a version satisfies a range, of two strings, and what stands for a meaning.
 
-use crate::proved::tool_ranges::meaning;
-use crate::{version, Dialect, Meaning, PreReleases, RangeError};
-use core::fmt;
+use crate::proved::tool_ranges::satisfying;
+use crate::{Dialect, Meaning, PreReleases};
+
+pub use crate::proved::tool_ranges::satisfying::SatisfiesError;
 
 /// Returns whether a version satisfies a range as Cargo, npm or the crate in one of its modes reads
 /// both. It does not allocate. For many versions and one range, read the range once, by
@@ -35,45 +36,7 @@ pub fn satisfies(
     range: &str,
     meaning: impl Into<Meaning>,
 ) -> Result<bool, SatisfiesError> {
-    let meaning = meaning.into();
-    match version::outline_in(version.as_bytes(), meaning.dialect.grammar()) {
-        Some(outline) => Ok(meaning::meets(meaning, range, &outline)?),
-        None => Err(SatisfiesError::InvalidVersion),
-    }
-}
-
-/// Why [`satisfies`] returns no answer. [`refusals`](crate::refusals) says where and why.
-///
-/// ```
-/// use semver_parser::{satisfies, Dialect};
-///
-/// let error = satisfies("1.2.3", "1.2 || 3", Dialect::Cargo).unwrap_err();
-/// assert_eq!(error.to_string(), "invalid range: not a range");
-/// ```
-#[derive(Debug, PartialEq, Eq)]
-pub enum SatisfiesError {
-    /// The version isn't one in the dialect.
-    InvalidVersion,
-    /// The range isn't one in the dialect, or one of its numbers is too large.
-    InvalidRange(RangeError),
-}
-
-impl fmt::Display for SatisfiesError {
-    fn fmt(&self, f: &mut fmt::Formatter<'_>) -> fmt::Result {
-        match self {
-            SatisfiesError::InvalidVersion => f.write_str("invalid version"),
-            SatisfiesError::InvalidRange(error) => write!(f, "invalid range: {error}"),
-        }
-    }
-}
-
-#[cfg(feature = "std")]
-impl std::error::Error for SatisfiesError {}
-
-impl From<RangeError> for SatisfiesError {
-    fn from(error: RangeError) -> SatisfiesError {
-        SatisfiesError::InvalidRange(error)
-    }
+    satisfying::satisfies(version.as_bytes(), range, meaning.into())
 }
 
 impl From<Dialect> for Meaning {

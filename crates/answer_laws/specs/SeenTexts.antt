@@ -1,4 +1,4 @@
--- What is seen of texts and refusals that calls return: the bytes, and all but the hint.
+-- What is seen of texts and refusals that calls return: the bytes, and all but the reason.
 use Rattle.std.specs.Prelude.{ℕ}
 use Rattle.std.specs.Borrow.{Bor}
 use Rattle.semver_texts.specs.Texts.{Text}
@@ -13,6 +13,6 @@ seen_text t = t.now
 abbrev pub seen_numbers : ℕ × ℕ × ℕ × Bor Text → ℕ × ℕ × ℕ × Text
 seen_numbers r = (r.0, r.1, r.2, r.3.now)
 
--- the error of a range text and its offset, without the hint
+-- the error of a range text and its offset, without the reason
 abbrev pub seen_refusal : Refusal → RangeError × ℕ
 seen_refusal r = (r.error, r.offset)

@@ -1,17 +1,16 @@
 //! The calls that read a range text into comparators, and the offset of its error.
 
-ghost use Rattle.std.specs.Prelude.{◌≡◌, ◌+◌, ◌≤◌, alloc_error, length, option_map};
+ghost use Rattle.std.specs.Prelude.{◌≡◌, alloc_error, option_map};
 ghost use Rattle.semver_parser.specs.RangeViews.{set_of};
 ghost use Rattle.answer_laws.specs.OneAnswer.{AreOne, itself};
 ghost use Rattle.answer_laws.specs.SeenTexts.{seen_refusal};
-ghost use Rattle.tool_ranges.specs.Dialects.{IsTextAs};
 
 use semver_parser::{Compat, RangeError, RangeSet};
 use std::alloc::{AllocError, Global};
 use tool_ranges::dialect::{self, Dialect};
 use tool_ranges::laws::{one_limit_offset, one_offset};
 use tool_ranges::offset::error_offset;
-use tool_ranges::refusals::{Refusal, refused, refused_in};
+use tool_ranges::refusals::{Refusal, refused};
 use tool_ranges::{cargo, npm};
 
 /// Two answers of `RangeSet::parse`, or of a call below, on the same inputs.
@@ -89,7 +88,7 @@ pub fn one_error_offset(
     )
 }
 
-/// `refusals::refused` has one error and one offset. Which hint it has is free.
+/// `refusals::refused` has one error and one offset. Which reason `NotARange` has is free.
 pub fn one_refusal(
     alloc: Global,
     dialect: Dialect,
@@ -103,24 +102,4 @@ pub fn one_refusal(
     one_offset();
     one_limit_offset();
     (refused(alloc, dialect, text), refused(alloc, dialect, text))
-}
-
-/// So has `refusals::refused_in`, whatever the buffers hold.
-pub fn one_refusal_in(
-    dialect: Dialect,
-    text: &str,
-    buffer: &mut [u8],
-    other_buffer: &mut [u8],
-) -> (Option<Refusal>, Option<Refusal>)
-    requires buffer { ¬ (IsTextAs dialect text.now) → length text.now + 8 ≤ length buffer.old }
-    requires other_buffer { ¬ (IsTextAs dialect text.now)
-        → length text.now + 8 ≤ length other_buffer.old }
-    ensures one { option_map seen_refusal result.0 ≡ option_map seen_refusal result.1 }
-{
-    one_offset();
-    one_limit_offset();
-    (
-        refused_in(dialect, text, buffer),
-        refused_in(dialect, text, other_buffer),
-    )
 }

@@ -13,8 +13,8 @@ use semver_texts::grammar::Digits;
 use std::alloc::{AllocError, Global};
 use tool_ranges::meaning::{self, Meaning};
 use tool_ranges::{cargo, npm};
-use version_sets::laws::{one_flat, one_set, sets_are_normal};
-use version_sets::{Comparison, FlatSet, FlatSwitch, PreReleases, Release, VersionSet};
+use version_sets::laws::{one_set, sets_are_normal};
+use version_sets::{Comparison, PreReleases, Release, VersionSet};
 
 /// Two answers of a call that reads a text, on the same inputs.
 type Read = (
@@ -243,18 +243,4 @@ pub fn one_compare(
 {
     laws::precedence_is_total();
     (set.compare(alloc, new), set.compare(alloc, new))
-}
-
-/// `FlatSet::read` has one answer.
-pub fn one_flat_read<'a>(
-    switches: &'a [FlatSwitch],
-    bytes: &'a [u8],
-) -> (Option<FlatSet<'a>>, Option<FlatSet<'a>>)
-    ensures one { result.0 ≡ result.1 }
-{
-    one_flat();
-    (
-        FlatSet::read(switches, bytes),
-        FlatSet::read(switches, bytes),
-    )
 }

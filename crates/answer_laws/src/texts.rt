@@ -9,7 +9,7 @@ use semver_texts::grammar::Grammar;
 use semver_texts::{decimals, dotted};
 use std::alloc::{AllocError, Global};
 use text_prefixes::laws::{one_longest_prefix, one_reason};
-use text_prefixes::reasons::{Refusal, explain};
+use text_prefixes::refusals::{Refusal, explain};
 
 /// A text is one number, or none.
 pub fn one_whole_number(text: &str) -> (Option<u64>, Option<u64>)

@@ -4,9 +4,9 @@ use Rattle.std.specs.Prelude.{Option, Some, None, Result, Ok, Err, MatchResult, 
 use Rattle.semver_parser.specs.Texts.{Text}
 use Rattle.version_sets.specs.declared.PreReleases.{PreReleases}
 use Rattle.version_sets.specs.declared.PreReleases.TheVariants.{Excluded, Default, Included}
+use Rattle.tool_ranges.specs.DialectTable.{name_of}
 use Rattle.tool_ranges.specs.declared.dialect.Dialect.{Dialect}
-use Rattle.tool_ranges.specs.declared.dialect.Dialect.TheVariants.{Cargo, Npm, CrateCargo}
-use Rattle.tool_ranges.specs.declared.dialect.Dialect.TheVariants.{CrateNpm}
+use Rattle.tool_ranges.specs.declared.dialect.Dialect.TheVariants.{Cargo, Npm}
 use Rattle.tool_ranges.specs.declared.meaning.Meaning.{Meaning}
 use Rattle.command_line.specs.declared.error.ArgumentError.{ArgumentError}
 use Rattle.command_line.specs.declared.error.ArgumentError.TheVariants.{NoDialect}
@@ -22,13 +22,6 @@ pub record OptionsValue : Type 0 where
 
 abbrev pub no_options : OptionsValue
 no_options = record { dialect = None; rule = None; wants_name = false }
-
--- the name of a dialect after `--dialect`
-abbrev pub name_of : Dialect → Text
-name_of Cargo = codes "cargo"
-name_of Npm = codes "npm"
-name_of CrateCargo = codes "crate-cargo"
-name_of CrateNpm = codes "crate-npm"
 
 -- the option that asks for a dialect by its name
 abbrev pub dialect_option_of : Dialect → Text

@@ -6,7 +6,6 @@ mod error;
 mod options;
 mod program;
 mod refused;
-mod sentences;
 mod shown;
 
 pub use error::ArgumentError;

@@ -6,11 +6,12 @@ ghost use Rattle.std.specs.Prelude.{IfErr, IfOk};
 ghost use Rattle.std.specs.Option.{is_some};
 ghost use Rattle.semver_parser.specs.Texts.{Text};
 ghost use Rattle.version_sets.specs.declared.PreReleases.{PreReleases};
+ghost use Rattle.tool_ranges.specs.DialectTable.{name_of};
 ghost use Rattle.tool_ranges.specs.declared.dialect.Dialect.{Dialect};
 ghost use Rattle.command_line.specs.Options.{AsksFor, Fails, IsDialectName, IsOption, Names};
 ghost use Rattle.command_line.specs.Options.{TellsContradiction, TellsTwice, TellsUnknown};
 ghost use Rattle.command_line.specs.Options.{IsOptionOf, WantsName, dialect_option_of, meant};
-ghost use Rattle.command_line.specs.Options.{name_of, no_options, option_of};
+ghost use Rattle.command_line.specs.Options.{no_options, option_of};
 
 use crate::error::ArgumentError;
 use std::alloc::Global;

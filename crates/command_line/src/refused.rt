@@ -1,22 +1,21 @@
 //! The text of a range's error: the offset of the first byte that no range could have there, with a
-//! caret under it, and a hint if another dialect takes it or a known rule is broken.
+//! caret under it, and the reason.
 
-use crate::sentences::sentence;
 use crate::shown::Shown;
 use semver_parser::RangeError;
 use std::alloc::{AllocError, Global};
 use tool_ranges::dialect::Dialect;
 use tool_ranges::refusals::{Refusal, refused};
 
-/// The text of an error: the error and the range text, and two lines more with the offset, and a
-/// hint if there is one. A long text is shortened. `Err` is out of memory.
+/// The text of an error: the error and the range text, and two lines more with the offset and the
+/// reason. A long text is shortened. `Err` is out of memory.
 ///
 /// Of `1.2 || 3` as Cargo reads it:
 ///
 /// ```text
 /// not a range: "1.2 || 3"
 ///     1.2 || 3
-///         ^ at byte 4: Cargo takes no ||; --dialect npm does
+///         ^ at byte 4: Cargo takes no ||; npm does
 /// ```
 pub fn refused_text(
     alloc: Global,
@@ -33,7 +32,7 @@ pub fn refused_text(
 }
 
 /// The text of an error in one line, without the range text:
-/// `not a range (at byte 4: Cargo takes no ||; --dialect npm does)`. `Err` is out of memory.
+/// `not a range (at byte 4: Cargo takes no ||; npm does)`. `Err` is out of memory.
 pub fn refused_line(
     alloc: Global,
     dialect: Dialect,
@@ -60,18 +59,13 @@ fn write_refusal(out: &mut String, refusal: &Refusal, text: &str) -> Result<(), 
     write_why(out, refusal, text)
 }
 
-/// Writes the offset of an error, and the hint if there is one.
+/// Writes the offset of an error, and the reason.
 fn write_why(out: &mut String, refusal: &Refusal, text: &str) -> Result<(), AllocError> {
     let offset = refusal.offset;
     if offset < text.len() {
         write!(out, "at byte {offset}")?;
-    } else if refusal.hint.is_some() {
-        write!(out, "at the end")?;
     } else {
-        write!(out, "something is missing at the end")?;
+        write!(out, "at the end")?;
     }
-    match refusal.hint {
-        Some(hint) => write!(out, ": {}", sentence(hint)),
-        None => Ok(()),
-    }
+    write!(out, ": {}", refusal.reason)
 }

@@ -11,7 +11,6 @@
 
 mod bytes;
 mod example;
-mod flat;
 mod lines;
 mod made;
 mod orders;
@@ -57,7 +56,6 @@ fn write_values(rt: &HostRuntime) -> io::Result<()> {
     bytes::write_bytes(rt, rt.alloc())?;
     reading::write_reading(rt, rt.alloc())?;
     sets::write_sets(rt, rt.alloc())?;
-    flat::write_flat(rt, rt.alloc())?;
     orders::write_enums(rt, rt.alloc())?;
     orders::write_structs(rt, rt.alloc())?;
     precedence::write_precedence(rt, rt.alloc())?;

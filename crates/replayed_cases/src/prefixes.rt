@@ -4,7 +4,7 @@ use semver_parser::version::Grammar;
 use std::alloc::Global;
 use std::io;
 use std::io::Write;
-use text_prefixes::reasons::{Reason, explain};
+use text_prefixes::refusals::explain;
 
 /// Writes where and why the text is no version, or that it is one.
 pub fn write_refused<W: Write>(
@@ -17,21 +17,7 @@ pub fn write_refused<W: Write>(
         None => out.write_all(b"a version"),
         Some(refusal) => {
             write!(out, "{}: ", refusal.offset)?;
-            out.write_all(words(refusal.reason).as_bytes())
+            out.write_all(refusal.reason.name().as_bytes())
         }
-    }
-}
-
-/// The words for a reason.
-fn words(reason: Reason) -> &'static str {
-    match reason {
-        Reason::Empty => "empty",
-        Reason::NotThreeNumbers => "not three numbers",
-        Reason::LeadingZero => "leading zero",
-        Reason::EmptyIdentifier => "empty identifier",
-        Reason::UnexpectedCharacter => "unexpected character",
-        Reason::TooLarge => "too large",
-        Reason::TooLong => "too long",
-        Reason::TextAfter => "text after the version",
     }
 }

@@ -6,7 +6,7 @@ use semver_parser::{Compat, RangeError};
 use std::alloc::{AllocError, Global};
 use std::io;
 use std::io::Write;
-use version_sets::{FlatSet, PreReleases, VersionSet};
+use version_sets::{PreReleases, VersionSet};
 
 /// A rule for pre-releases, and a mode.
 pub type Dialect = (PreReleases, Compat);
@@ -27,14 +27,10 @@ pub fn write_set<W: Write>(
         Ok(set) => set,
         Err(error) => return write!(out, "{error}"),
     };
-    let is_flat = is_same_flat(alloc, &set, &versions)?;
     for version in versions.iter() {
         if set.has(version) {
             write!(out, "{version} ")?;
         }
-    }
-    if !is_flat {
-        write!(out, "as flat data another set, ")?;
     }
     write!(out, "end, least ")?;
     write_least(alloc, &set, out)?;
@@ -44,26 +40,6 @@ pub fn write_set<W: Write>(
         None => write!(out, "none")?,
     }
     write!(out, ", empty {}", set.is_empty())
-}
-
-/// Whether the set as flat data is read back as the same set, and has the same of some versions.
-fn is_same_flat(alloc: Global, set: &VersionSet, versions: &[Version]) -> io::Result<bool> {
-    let Some(data) = set.to_flat(alloc)? else {
-        return Ok(false);
-    };
-    let Some(flat) = FlatSet::read(&data.switches, data.bytes.as_bytes()) else {
-        return Ok(false);
-    };
-    for version in versions {
-        let text = version.to_string(alloc)?;
-        let Some(outline) = version::outline(&text) else {
-            return Ok(false);
-        };
-        if flat.has_outline(&outline) != set.has(version) {
-            return Ok(false);
-        }
-    }
-    Ok(flat.to_set(alloc)? == *set)
 }
 
 /// Writes how the sets of two texts stand to each other, or the error of a text. The second text

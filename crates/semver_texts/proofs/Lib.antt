@@ -7,3 +7,4 @@ pub mod Numbers
 pub mod PartRuns
 pub mod Runs
 pub mod SpelledVersions
+pub mod OneOption

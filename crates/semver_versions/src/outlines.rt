@@ -379,6 +379,30 @@ impl<'t> Outline<'t> {
             ByDigits::of(version.pre.as_slice(), self.digits),
         )
     }
+
+    // Answer: equation.
+    /// How the version of this outline compares with that of another by precedence (SemVer 2.0.0,
+    /// section 11). Build metadata is ignored. Identifiers of digits alone are read by the dialect
+    /// of each. It does not allocate.
+    ///
+    /// ```
+    /// use semver_parser::version;
+    ///
+    /// let outline = version::outline("1.2.3-rc.4+5aedf").unwrap();
+    /// assert!(outline.compare(&version::outline("1.2.3-rc.11").unwrap()).is_lt());
+    /// assert!(outline.compare(&version::outline("1.2.3-rc.4").unwrap()).is_eq());
+    /// ```
+    #[inline(always)]
+    pub fn compare(&self, other: &Outline<'_>) -> Ordering
+        ensures { result ≡ precedence (version_of self.now).plain (version_of other.now).plain }
+    {
+        compare(
+            (self.major, self.minor, self.patch),
+            self.compared_pre(),
+            (other.major, other.minor, other.patch),
+            other.compared_pre(),
+        )
+    }
 }
 
 /// The identifiers of parts that are in a text at an offset.

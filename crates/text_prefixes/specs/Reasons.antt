@@ -1,4 +1,4 @@
--- Why a text is no version: a reason, by the longest prefix that it begins with and the byte after
+-- Why a text is not a version: a reason, by the longest prefix that it begins with and the byte after
 -- it, if there is one.
 use Prim.Native.Char.{code}
 use Rattle.std.specs.Prelude.{◌≡◌, ◌↔◌, ℕ, Bool, not, ◌&&◌, ◌||◌, ◌==◌, nat_lt, []}
@@ -9,13 +9,15 @@ use Rattle.std.specs.Int.{is_in_range}
 use Rattle.std.specs.List.{list_all}
 use Rattle.semver_texts.specs.Texts.{Text, is_part_byte}
 use Rattle.semver_texts.specs.declared.grammar.Grammar.{Grammar}
+use Rattle.semver_texts.specs.declared.grammar.Grammar.TheVariants as grammar
 use Rattle.semver_versions.specs.AnyLength.{IsVersionAtAnyLength}
 use Rattle.text_prefixes.specs.VersionPrefixes.{IsPrefixIn}
 use Rattle.text_prefixes.specs.declared.reasons.Reason.{Reason}
 use Rattle.text_prefixes.specs.declared.reasons.Reason.TheVariants.{Empty, NotThreeNumbers}
 use Rattle.text_prefixes.specs.declared.reasons.Reason.TheVariants.{LeadingZero, EmptyIdentifier}
 use Rattle.text_prefixes.specs.declared.reasons.Reason.TheVariants.{UnexpectedCharacter, TooLarge}
-use Rattle.text_prefixes.specs.declared.reasons.Reason.TheVariants.{TooLong, TextAfter}
+use Rattle.text_prefixes.specs.declared.reasons.Reason.TheVariants.{NpmTooLarge, TooLong}
+use Rattle.text_prefixes.specs.declared.reasons.Reason.TheVariants.{NumberExpected, TextAfter}
 
 -- ---- the prefix
 
@@ -68,18 +70,30 @@ is_separator b = (b == code ".") || ((b == code "-") || ((b == code "+") || is_a
 
 -- ---- the reason
 
+-- after fewer than three numbers: after a number more of them are missing, else a number is
+abbrev pub missing_after : Text → Reason
+missing_after prefix = if ends_in_digit prefix then NotThreeNumbers else NumberExpected
+
+-- the limit of the numbers of a dialect
+abbrev pub too_large_in : Grammar → Reason
+too_large_in grammar.Crate = TooLarge
+too_large_in grammar.Cargo = TooLarge
+too_large_in grammar.Npm = NpmTooLarge
+
 -- by whether the prefix is a version of any length, is one with a letter after it, and with a zero;
 -- whether the prefix and the byte are too long; the prefix, and the byte
-abbrev pub reason_by : Bool → Bool → Bool → Bool → Text → Option ℕ → Reason
-reason_by version letter zero too_long prefix None = if is_blank prefix then Empty
-    else (if not letter then NotThreeNumbers else (if zero then EmptyIdentifier else LeadingZero))
-reason_by version letter zero too_long prefix (Some b) = if too_long then TooLong
+abbrev pub reason_by : Grammar → Bool → Bool → Bool → Bool → Text → Option ℕ → Reason
+reason_by g version letter zero too_long prefix None = if is_blank prefix then Empty
+    else (if not letter then missing_after prefix
+    else (if zero then EmptyIdentifier else LeadingZero))
+reason_by g version letter zero too_long prefix (Some b) = if too_long then TooLong
     else (if is_ascii_digit b && (ends_in_digit prefix && not letter) then
-    (if ends_in_zero prefix then LeadingZero else TooLarge)
+    (if ends_in_zero prefix then LeadingZero else too_large_in g)
     else (if version then
     (if is_ascii_white b || not (ends_in_part prefix) then TextAfter else UnexpectedCharacter)
     else (if not (is_separator b) then UnexpectedCharacter
-    else (if not letter then (if has_no_digit prefix then UnexpectedCharacter else NotThreeNumbers)
+    else (if not letter then (if has_no_digit prefix then UnexpectedCharacter
+    else missing_after prefix)
     else (if zero then EmptyIdentifier else LeadingZero)))))
 
 -- the reason at a prefix and the byte after it
@@ -93,4 +107,4 @@ pub record IsReason (grammar : Grammar) (prefix : Text) (next : Option ℕ) (rea
     pub takes_letter : IsTrue letter ↔ Completes grammar prefix (codes "a")
     pub takes_zero : IsTrue zero ↔ Completes grammar prefix (codes "0")
     pub is_too_long : IsTrue too_long ↔ IsTooLong grammar (prefix ++ byte_text next)
-    pub is : reason ≡ reason_by version letter zero too_long prefix next
+    pub is : reason ≡ reason_by grammar version letter zero too_long prefix next

@@ -8,11 +8,10 @@ ghost use Rattle.text_prefixes.specs.Prefixes.{AreCompletions};
 ghost use Rattle.text_prefixes.specs.VersionPrefixes.{IsLongestVersionPrefix, IsPrefixIn};
 ghost use Rattle.text_prefixes.specs.VersionPrefixes.{IsWholePrefixIn};
 ghost use Rattle.text_prefixes.specs.Reasons.{IsReason};
-ghost use Rattle.text_prefixes.specs.declared.reasons.Reason.{Reason};
+ghost use Rattle.text_prefixes.specs.declared.reasons.Reason.{Reason as SomeReason};
 
 use crate::longest::{Language, longest_prefix};
-use crate::reasons::{Refusal, refused};
-use semver_texts::grammar::Grammar;
+use crate::reasons::Reason;
 
 /// What begins a prefix is one, so is nothing, and so is each version.
 pub fn prefixes_begin_prefixes()
@@ -48,23 +47,13 @@ pub fn one_offset<L: Language>(
 
 /// A prefix and what follows it have one reason.
 pub fn one_reason()
-    ensures same_reason { (grammar : Grammar) (prefix : Text) (next : Option ℕ) (x y : Reason)
+    ensures same_reason { (grammar : Grammar) (prefix : Text) (next : Option ℕ) (x y : SomeReason)
         → IsReason grammar prefix next x → IsReason grammar prefix next y → x ≡ y }
 {}
 
-/// `refused` has one answer, whatever the buffer holds.
-pub fn one_refused(
-    input: &[u8],
-    grammar: Grammar,
-    buffer: &mut [u8],
-    other: &mut [u8],
-) -> (Option<Refusal>, Option<Refusal>)
-    requires room { length input.now + 8 ≤ length buffer.old }
-    requires other_room { length input.now + 8 ≤ length other.old }
+/// A number has one reason, or none.
+pub fn one_reason_of_number(number: i32) -> (Option<Reason>, Option<Reason>)
     ensures one { result.0 ≡ result.1 }
 {
-    (
-        refused(input, grammar, buffer),
-        refused(input, grammar, other),
-    )
+    (Reason::of_number(number), Reason::of_number(number))
 }

@@ -1,7 +1,7 @@
 //! Prefixes of the texts of a language: what some text of it begins with, and the end of the
 //! longest one that a text begins with. The language says which texts are its own, and which few
 //! texts complete a prefix; there is no second grammar. Versions of each dialect are such a
-//! language. Only `reasons::explain` allocates.
+//! language. Only `refusals::explain` allocates.
 #![tactic(auto)]
 
 mod buffers;
@@ -9,4 +9,5 @@ pub mod bytes;
 pub mod laws;
 pub mod longest;
 pub mod reasons;
+pub mod refusals;
 mod versions;

@@ -32,3 +32,4 @@ mod WordCompletions
 mod RangeCompletions
 mod CargoCompletions
 pub mod ReadingCompletions
+mod SatisfiesErrors

@@ -27,7 +27,7 @@ use Rattle.semver_ranges.specs.Terms.{left_side, of_simple, right_side, terms}
 use Rattle.semver_ranges.proofs.AnsweredLaws.{filled_fits, port_prints}
 use Rattle.semver_ranges.proofs.ReadingPieces.{word_parts}
 use Rattle.semver_ranges.proofs.SetMeanings.{stated_shape}
-use Rattle.version_sets.specs.Flat.{are_printable, HasPrintableRanges}
+use Rattle.version_sets.specs.Printable.{are_printable, HasPrintableRanges}
 use Rattle.version_sets.specs.SetRanges.{is_at_least}
 use Rattle.tool_ranges.specs.declared.cargo.judging.JudgedVersions.{JudgedVersions}
 use Rattle.tool_ranges.specs.declared.cargo.judging.JudgedVersions.TheVariants.{Releases, PreReleases, All}

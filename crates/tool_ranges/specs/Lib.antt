@@ -9,8 +9,9 @@ pub mod NpmTable
 pub mod AllPreReleases
 pub mod Steps
 pub mod Dialects
+pub mod DialectTable
 pub mod Prefixes
 pub mod TooLarge
-pub mod Hints
 pub mod Meanings
 pub mod Refusals
+pub mod Satisfying

@@ -1,12 +1,12 @@
 -- Where a text stops being a range, and why.
-use Rattle.std.specs.Prelude.{◌≡◌, ◌≢◌, ◌↔◌, Option, Some, None, IfSome}
+use Rattle.std.specs.Prelude.{◌≡◌, ◌≢◌, ◌↔◌, Option, None, IfSome}
 use Rattle.semver_texts.specs.Texts.{Text}
 use Rattle.semver_ranges.specs.declared.range_set.RangeError.TheVariants.{NotARange}
 use Rattle.semver_ranges.specs.declared.range_set.RangeError.TheVariants.{NumberTooLarge}
 use Rattle.semver_ranges.specs.declared.range_set.RangeError.TheVariants.{OutOfMemory}
 use Rattle.text_prefixes.specs.Prefixes.{IsLongestPrefix}
-use Rattle.tool_ranges.specs.Dialects.{HasSetAs, IsTextAs, IsTooLargeAs}
-use Rattle.tool_ranges.specs.Hints.{limit_of}
+use Rattle.text_prefixes.specs.Reasons.{too_large_in}
+use Rattle.tool_ranges.specs.Dialects.{HasSetAs, IsTextAs, IsTooLargeAs, grammar_of}
 use Rattle.tool_ranges.specs.Prefixes.{BeginsAs}
 use Rattle.tool_ranges.specs.TooLarge.{IsLimitOffset}
 use Rattle.tool_ranges.specs.declared.dialect.Dialect.{Dialect}
@@ -24,5 +24,6 @@ pub record IsRefusalAs (d : Dialect) (text : Text) (found : Option Refusal) : Ty
       r.error ≡ NotARange → IsLongestPrefix (BeginsAs d) text r.offset)
   -- it is the end of the first term that does not fit
   pub limit : IfSome found (λ r. r.error ≡ NumberTooLarge → IsLimitOffset d text r.offset)
-  -- the hint of a number that is too large is the limit of the dialect
-  pub limit_hint : IfSome found (λ r. r.error ≡ NumberTooLarge → r.hint ≡ Some (limit_of d))
+  -- the reason of a number that is too large is the limit of the dialect
+  pub limit_reason : IfSome found (λ r.
+      r.error ≡ NumberTooLarge → r.reason ≡ too_large_in (grammar_of d))

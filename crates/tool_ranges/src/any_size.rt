@@ -4,7 +4,7 @@
 ghost use Rattle.std.specs.Prelude.{◌≡◌, IfOk};
 ghost use Rattle.semver_ranges.specs.RangeViews.{set_of};
 ghost use Rattle.semver_texts.specs.Versions.{VersionValue};
-ghost use Rattle.version_sets.specs.Flat.{HasPrintableRanges, IsPrintable};
+ghost use Rattle.version_sets.specs.Printable.{HasPrintableRanges, IsPrintable};
 ghost use Rattle.version_sets.specs.PreReleaseRules.{meets_with};
 ghost use Rattle.version_sets.specs.VersionSets.{has, Fits};
 ghost use Rattle.tool_ranges.specs.AnySize.{set_any};

@@ -1,6 +1,7 @@
-//! The dialects of range texts: Cargo's, npm's, and those of the Rust crate in its two modes.
+//! The dialects of range texts: Cargo's, npm's, and those of the Rust crate in its two modes, with
+//! their numbers and names.
 
-ghost use Rattle.std.specs.Prelude.{◌≡◌, [], IfOk, IsTrue};
+ghost use Rattle.std.specs.Prelude.{◌≡◌, [], IfOk, IsTrue, MatchOption};
 ghost use Rattle.semver_texts.specs.Versions.{PlainVersion};
 ghost use Rattle.semver_ranges.specs.Meeting.{meets_set};
 ghost use Rattle.semver_ranges.specs.PrintedRanges.{IsPrintableSet, set_text};
@@ -9,6 +10,8 @@ ghost use Rattle.semver_ranges.specs.RangeViews.{set_of};
 ghost use Rattle.semver_ranges.specs.RewritingTable.{fits, rewritten};
 ghost use Rattle.tool_ranges.specs.Dialects.{IsRewrittenAs, RefusesAs, SpellsAs, TreeOf};
 ghost use Rattle.tool_ranges.specs.Dialects.{grammar_of, means_release, mode_of};
+ghost use Rattle.tool_ranges.specs.DialectTable.{name_of, number_of};
+ghost use Rattle.tool_ranges.specs.declared.dialect.Dialect.{Dialect as SomeDialect};
 
 use crate::{cargo, npm};
 use semver_ranges::{Compat, RangeError, RangeSet};
@@ -55,6 +58,66 @@ impl Dialect {
             Dialect::Cargo => Grammar::Cargo,
             Dialect::Npm => Grammar::Npm,
             Dialect::CrateCargo | Dialect::CrateNpm => Grammar::Crate,
+        }
+    }
+
+    // Answer: equation.
+    /// Returns its number in C, Python and JavaScript.
+    ///
+    /// ```
+    /// use semver_parser::Dialect;
+    ///
+    /// assert_eq!(Dialect::Npm.number(), 1);
+    /// ```
+    pub fn number(self) -> i32
+        ensures { result ≡ number_of self }
+    {
+        match self {
+            Dialect::Cargo => 0,
+            Dialect::Npm => 1,
+            Dialect::CrateCargo => 2,
+            Dialect::CrateNpm => 3,
+        }
+    }
+
+    // Answer: law tool_ranges::laws::one_dialect_of_number.
+    /// Returns the dialect of a number, or `None` if none has it.
+    ///
+    /// ```
+    /// use semver_parser::Dialect;
+    ///
+    /// assert_eq!(Dialect::of_number(1), Some(Dialect::Npm));
+    /// assert_eq!(Dialect::of_number(9), None);
+    /// ```
+    pub fn of_number(number: i32) -> Option<Dialect>
+        ensures { MatchOption result (¬ ((it : SomeDialect) × (number ≡ number_of it)))
+            (λ it. number ≡ number_of it) }
+    {
+        match number {
+            0 => Some(Dialect::Cargo),
+            1 => Some(Dialect::Npm),
+            2 => Some(Dialect::CrateCargo),
+            3 => Some(Dialect::CrateNpm),
+            _ => None,
+        }
+    }
+
+    // Answer: equation.
+    /// Returns its name for programs.
+    ///
+    /// ```
+    /// use semver_parser::Dialect;
+    ///
+    /// assert_eq!(Dialect::Npm.name(), "npm");
+    /// ```
+    pub fn name(self) -> &'static str
+        ensures { result.now ≡ name_of self }
+    {
+        match self {
+            Dialect::Cargo => "cargo",
+            Dialect::Npm => "npm",
+            Dialect::CrateCargo => "crate-cargo",
+            Dialect::CrateNpm => "crate-npm",
         }
     }
 }

@@ -100,14 +100,33 @@ impl Ending {
         goes_on && text.len().saturating_sub(self.begin) >= LONG
     }
 
-    /// Whether the last number or the last identifier of a pre-release is of digits and begins with
-    /// a zero that isn't all of it. `text` is the text, and `next` a digit that comes after it.
-    pub(crate) fn has_leading_zero(self, text: &[u8], next: Option<u8>) -> bool {
+    /// Whether an identifier has begun at the end of a text of so many bytes, and has no byte yet.
+    pub(crate) fn has_empty_identifier(self, length: usize) -> bool {
+        self.has_suffix() && self.word == length
+    }
+
+    /// Whether a number has to follow: after an operator, a dot, a `v`, a comma, or the hyphen of a
+    /// hyphen range with the space after it. `last` is the last byte that isn't a space, and `next`
+    /// the byte after the text.
+    pub(crate) fn wants_number(self, last: Option<u8>, next: Option<u8>) -> bool {
+        let after_space = self.last != last;
+        match last {
+            Some(b'<'..=b'>' | b'^' | b'~' | b',') => true,
+            Some(b'.' | b'v') => !self.has_suffix() && !after_space,
+            Some(b'-') => !self.has_suffix() && (after_space || next.is_none()),
+            _ => false,
+        }
+    }
+
+    /// Whether the last number is of digits and begins with a zero that isn't all of it, or, with
+    /// `identifiers`, the last identifier of a pre-release. `text` is the text, and `next` a digit
+    /// that comes after it.
+    pub(crate) fn has_leading_zero(self, text: &[u8], next: Option<u8>, identifiers: bool) -> bool {
         let Some(word) = text.get(self.word..) else {
             return false;
         };
         let after_zero = matches!(next, Some(b'0'..=b'9')) && !self.has_suffix();
-        let long = word.len() > 1 && self.suffix.0;
+        let long = identifiers && word.len() > 1 && self.suffix.0;
         let digits = word.iter().all(|byte| matches!(byte, b'0'..=b'9'));
         !self.suffix.1 && digits && word.first() == Some(&b'0') && (long || after_zero)
     }

@@ -4,33 +4,60 @@ ghost use Rattle.std.specs.Prelude.{◌≡◌, ◌++◌, ℕ, []};
 ghost use Rattle.semver_texts.specs.Texts.{Text};
 ghost use Rattle.text_prefixes.specs.Prefixes.{IsLongestPrefix};
 ghost use Rattle.tool_ranges.specs.Prefixes.{BeginsAs};
-ghost use Rattle.tool_ranges.specs.declared.dialect.Dialect.{Dialect};
+ghost use Rattle.tool_ranges.specs.declared.dialect.Dialect.{Dialect as SomeDialect};
 ghost use Rattle.tool_ranges.specs.Dialects.{IsTextAs, SpellsAs, TreeOf};
 ghost use Rattle.tool_ranges.specs.TooLarge.{IsLimitOffset};
 
+use crate::dialect::Dialect;
+use crate::meaning::Meaning;
+use crate::satisfying::{SatisfiesError, satisfies};
+use semver_parser::laws::one_version_in;
+
 /// In no dialect a range text has two trees.
 pub fn one_tree()
-    ensures same_tree { (dialect : Dialect) (tree other : TreeOf dialect) (t : Text)
+    ensures same_tree { (dialect : SomeDialect) (tree other : TreeOf dialect) (t : Text)
         → SpellsAs dialect tree t → SpellsAs dialect other t → tree ≡ other }
 {}
 
 /// What begins a prefix of a range text is one, so is nothing, and so is each range text.
 pub fn prefixes_begin_prefixes()
-    ensures shorter { (dialect : Dialect) (t more : Text) → BeginsAs dialect (t ++ more)
+    ensures shorter { (dialect : SomeDialect) (t more : Text) → BeginsAs dialect (t ++ more)
         → BeginsAs dialect t }
-    ensures empty { (dialect : Dialect) → BeginsAs dialect [] }
-    ensures whole { (dialect : Dialect) (t : Text) → IsTextAs dialect t → BeginsAs dialect t }
+    ensures empty { (dialect : SomeDialect) → BeginsAs dialect [] }
+    ensures whole { (dialect : SomeDialect) (t : Text) → IsTextAs dialect t → BeginsAs dialect t }
 {}
 
 /// A text has one offset at which it stops being the prefix of a range text.
 pub fn one_offset()
-    ensures same_offset { (dialect : Dialect) (t : Text) (m n : ℕ)
+    ensures same_offset { (dialect : SomeDialect) (t : Text) (m n : ℕ)
         → IsLongestPrefix (BeginsAs dialect) t m → IsLongestPrefix (BeginsAs dialect) t n
         → m ≡ n }
 {}
 
 /// And one end of the first term that does not fit.
 pub fn one_limit_offset()
-    ensures same_offset { (dialect : Dialect) (t : Text) (m n : ℕ)
+    ensures same_offset { (dialect : SomeDialect) (t : Text) (m n : ℕ)
         → IsLimitOffset dialect t m → IsLimitOffset dialect t n → m ≡ n }
 {}
+
+/// A number has one dialect, or none.
+pub fn one_dialect_of_number(number: i32) -> (Option<Dialect>, Option<Dialect>)
+    ensures one { result.0 ≡ result.1 }
+{
+    (Dialect::of_number(number), Dialect::of_number(number))
+}
+
+/// `satisfying::satisfies` has one answer.
+pub fn one_satisfies(
+    version: &[u8],
+    range: &str,
+    meaning: Meaning,
+) -> (Result<bool, SatisfiesError>, Result<bool, SatisfiesError>)
+    ensures one { result.0 ≡ result.1 }
+{
+    one_version_in();
+    (
+        satisfies(version, range, meaning),
+        satisfies(version, range, meaning),
+    )
+}

@@ -8,7 +8,7 @@ ghost use Rattle.tool_ranges.specs.declared.dialect.Dialect.TheVariants as diale
 ghost use Rattle.semver_parser.specs.Outlines.{version_of};
 ghost use Rattle.semver_ranges.specs.RangeTexts.{RefusesExactly};
 ghost use Rattle.semver_ranges.specs.RangeTree.{SetTree, Spells};
-ghost use Rattle.version_sets.specs.Flat.{IsPrintable};
+ghost use Rattle.version_sets.specs.Printable.{IsPrintable};
 ghost use Rattle.version_sets.specs.PreReleaseRules.{meant_with, numbers_fit};
 ghost use Rattle.tool_ranges.specs.Dialects.{RefusesAs, SpellsAs, TreeOf};
 ghost use Rattle.tool_ranges.specs.Meanings.{IsSetBy, MeansAs, MeansBy, meant_as, meant_by};

@@ -11,7 +11,7 @@ ghost use Rattle.semver_ranges.specs.RangeViews.{set_of};
 ghost use Rattle.semver_ranges.specs.Meeting.{meets_set};
 ghost use Rattle.semver_ranges.specs.PrintedRanges.{IsPrintableSet, set_text};
 ghost use Rattle.semver_ranges.specs.RewritingTable.{fits, rewritten};
-ghost use Rattle.version_sets.specs.Flat.{HasPrintableRanges};
+ghost use Rattle.version_sets.specs.Printable.{HasPrintableRanges};
 ghost use Rattle.tool_ranges.specs.Steps.LowerBounds.{set_begun, written_for};
 ghost use Rattle.tool_ranges.specs.NpmGrammar.{is_white_space_beyond_ascii, may_stand, SpellsNpmRange};
 ghost use Rattle.tool_ranges.specs.NpmMeaning.{meets_npm};

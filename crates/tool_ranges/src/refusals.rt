@@ -1,31 +1,32 @@
 //! Where a text stops being a range, and why.
 
-ghost use Rattle.std.specs.Prelude.{◌≡◌, ◌≢◌, ◌+◌, ◌≤◌, IfErr, IfOk, Some, length};
+ghost use Rattle.std.specs.Prelude.{◌≡◌, ◌≢◌, ◌+◌, ◌≤◌, IfErr, IfOk, length};
 ghost use Rattle.semver_ranges.specs.declared.range_set.RangeError.TheVariants.{NotARange};
 ghost use Rattle.semver_ranges.specs.declared.range_set.RangeError.TheVariants.{NumberTooLarge};
 ghost use Rattle.text_prefixes.specs.Prefixes.{IsLongestPrefix};
 ghost use Rattle.tool_ranges.specs.Prefixes.{BeginsAs};
-ghost use Rattle.tool_ranges.specs.Hints.{limit_of};
-ghost use Rattle.tool_ranges.specs.Dialects.{IsTextAs, SpellsAs, TreeOf};
+ghost use Rattle.text_prefixes.specs.Reasons.{too_large_in};
+ghost use Rattle.tool_ranges.specs.Dialects.{IsTextAs, SpellsAs, TreeOf, grammar_of};
 ghost use Rattle.tool_ranges.specs.Refusals.{IsRefusalAs};
 ghost use Rattle.tool_ranges.specs.TooLarge.{limit_offset};
 
 use crate::dialect::Dialect;
-use crate::hints::{self, Hint};
 use crate::limit::limit_offset;
 use crate::offset::{check, error_offset_in, is_range};
+use crate::reasons::reason_at;
 use semver_ranges::RangeError;
 use std::alloc::{AllocError, Global};
+use text_prefixes::reasons::Reason;
 
 /// Where and why a text gives no range.
 ///
 /// ```
-/// use semver_parser::refusals::{self, Hint, RangeRefusal};
+/// use semver_parser::refusals::{self, RangeRefusal, Reason};
 /// use semver_parser::{Dialect, RangeError};
 ///
-/// let (error, hint) = (RangeError::NotARange, Some(Hint::CargoBars));
+/// let (error, reason) = (RangeError::NotARange, Reason::CargoBars);
 /// let refusal = refusals::of_range("1.2 || 3", Dialect::Cargo);
-/// assert_eq!(refusal, Some(RangeRefusal { error, offset: 4, hint }));
+/// assert_eq!(refusal, Some(RangeRefusal { error, offset: 4, reason }));
 /// ```
 #[derive(Debug, PartialEq, Eq, Drop)]
 pub struct Refusal {
@@ -36,14 +37,14 @@ pub struct Refusal {
     /// the end of the first term that states a number, or has a raised bound, above the limit of
     /// the dialect: 21 in `=18446744073709551616 || 1`.
     pub offset: usize,
-    /// What may have been meant, or of a number that is too large the limit of the dialect.
-    pub hint: Option<Hint>,
+    /// Why, which may say what another dialect takes there.
+    pub reason: Reason,
 }
 
-// Answer: free, the hint (else law answer_laws::ranges::one_refusal): ../replayed_cases/stdin.
+// Answer: free, the reason (else law answer_laws::ranges::one_refusal): ../replayed_cases/stdin.
 /// Returns where and why a text gives no range by a dialect, or `None` if it gives one.
 ///
-/// `1.2 || 3` by Cargo's is `NotARange` at 4, with the hint that Cargo takes no `||`.
+/// `1.2 || 3` by Cargo's is `NotARange` at 4, since Cargo takes no `||`.
 ///
 /// # Errors
 ///
@@ -61,45 +62,45 @@ pub fn refused(alloc: Global, dialect: Dialect, text: &str) -> Result<Option<Ref
     Ok(refused_in(dialect, text, buffer.as_mut_slice()))
 }
 
-// Answer: free, the hint (else law answer_laws::ranges::one_refusal_in): ../replayed_cases/stdin.
-/// Returns what [`refused`] does, without allocating. If the text is no range text, the buffer must
-/// have at least 8 bytes more than the text; what it holds then is not specified.
-pub fn refused_in(dialect: Dialect, text: &str, buffer: &mut [u8]) -> Option<Refusal>
+/// What [`refused`] returns, found in a buffer that has 8 bytes more than a text that is no range
+/// text.
+fn refused_in(dialect: Dialect, text: &str, buffer: &mut [u8]) -> Option<Refusal>
     requires { ¬ (IsTextAs dialect text.now) → length text.now + 8 ≤ length buffer.old }
     ensures refused { IsRefusalAs dialect text.now result }
 {
     let Err(error) = check(dialect, text) else {
         return None;
     };
-    let (offset, hint) = explained(dialect, text, &error, buffer);
+    let (offset, reason) = explained(dialect, text, &error, buffer);
     Some(Refusal {
         error,
         offset,
-        hint,
+        reason,
     })
 }
 
-/// The offset of an error of a text, and the hint.
+/// The offset of an error of a text, and the reason.
 fn explained(
     dialect: Dialect,
     text: &str,
     error: &RangeError,
     buffer: &mut [u8],
-) -> (usize, Option<Hint>)
+) -> (usize, Reason)
     requires { error.now ≢ NumberTooLarge → length text.now + 8 ≤ length buffer.old }
     ensures offset { error.now ≡ NotARange → IsLongestPrefix (BeginsAs dialect) text.now result.0 }
     ensures limit { error.now ≡ NumberTooLarge → (tree : TreeOf dialect)
         → SpellsAs dialect tree text.now → result.0 ≡ limit_offset dialect tree text.now }
-    ensures limit_hint { error.now ≡ NumberTooLarge → result.1 ≡ Some (limit_of dialect) }
+    ensures limit_reason { error.now ≡ NumberTooLarge
+        → result.1 ≡ too_large_in (grammar_of dialect) }
 {
     match error {
         RangeError::NumberTooLarge => {
             let offset = limit_offset(dialect, text);
-            (offset, Some(hints::limit(dialect)))
+            (offset, Reason::too_large_in(dialect.grammar()))
         }
         _ => {
             let offset = error_offset_in(dialect, text, buffer);
-            (offset, hints::hint_at(dialect, text, offset))
+            (offset, reason_at(dialect, text, offset))
         }
     }
 }

@@ -18,7 +18,7 @@ use Rattle.semver_parser.specs.Partials.{fits_u64}
 use Rattle.semver_parser.specs.Precedence.{pre_cmp, precedence}
 use Rattle.semver_parser.specs.PrintedRanges.{is_kept, is_printable_version}
 use Rattle.semver_parser.specs.Versions.{IdentifierValue, numeric, alphanumeric, PlainVersion, numbers}
-use Rattle.version_sets.specs.Flat.{is_kept_by, prints_by}
+use Rattle.version_sets.specs.Printable.{is_kept_by, prints_by}
 use Rattle.std.specs.Prelude.{Option, Some, None, IfSome}
 use Rattle.semver_parser.specs.declared.Op.{Op}
 use Rattle.semver_parser.specs.declared.Op.TheVariants.{Lt, Gte, Eq}

@@ -18,7 +18,6 @@ mod IntervalLaws
 mod KindLaws
 mod ReadBack
 mod SetRangeLaws
-mod FlatTexts
-mod FlatLists
-mod FlatSets
 mod MetLaws
+mod HighestMembers
+mod OneHighest

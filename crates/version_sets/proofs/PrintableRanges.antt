@@ -6,7 +6,7 @@ use Rattle.std.specs.List.{list_all}
 use Rattle.semver_parser.specs.declared.Compat.{Compat}
 use Rattle.semver_parser.specs.PrintedRanges.{IsPrintableRange, IsPrintableSet}
 use Rattle.semver_parser.specs.RewritingTable.{PlainRange, PlainSet}
-use Rattle.version_sets.specs.Flat.{are_printable, HasPrintableRanges}
+use Rattle.version_sets.specs.Printable.{are_printable, HasPrintableRanges}
 
 each_prints : (mode : Compat) (rs : List PlainRange) → All (IsPrintableRange mode) rs
     → list_all (λ r. are_printable r.comparators) rs ≡ true

@@ -15,7 +15,7 @@ use Rattle.semver_texts.specs.declared.grammar.Digits.TheVariants.{Kept, AnySize
 use Rattle.semver_parser.specs.PrintedRanges.{is_printable_version}
 use Rattle.semver_parser.specs.RangeViews.{comparator_of}
 use Rattle.semver_parser.specs.Versions.{IdentifierValue, numeric, PlainVersion, numbers}
-use Rattle.version_sets.specs.Flat.{are_printable, is_kept_by, prints_by}
+use Rattle.version_sets.specs.Printable.{are_printable, is_kept_by, prints_by}
 use Rattle.version_sets.specs.Steps.Spans.{narrowed_from, narrowed_to}
 use Rattle.version_sets.specs.Steps.SpanViews.{holds_at, with_zero}
 use Rattle.version_sets.proofs.HeldLimits.{narrowed_holds}

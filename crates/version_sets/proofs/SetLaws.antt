@@ -3,7 +3,7 @@
 use Rattle.std.proofs.Common.{arith, ◌≡◌, ◌↔◌, Bool, true, false, ◌||◌, cond, List, [], ◌∷◌, refl, sym, ap, ap₂, ◌∙◌}
 use Rattle.std.proofs.lemmas.Bool.{and_parts}
 use Rattle.std.specs.List.{AllByRecursion, list_all}
-use Rattle.version_sets.specs.Flat.{IsPrintable, is_printable_switch}
+use Rattle.version_sets.specs.Printable.{IsPrintable, is_printable_switch}
 use Rattle.semver_parser.specs.Texts.{is_empty}
 use Rattle.semver_parser.specs.Versions.{PlainVersion}
 use Rattle.semver_parser.specs.Precedence.{precedence}

@@ -2,8 +2,10 @@ pub mod Switches
 pub mod Releases
 pub mod VersionSets
 pub mod Comparisons
+pub mod Highest
 pub mod PreReleaseRules
+pub mod PreReleaseTable
 pub mod SetRanges
 pub mod DigitViews
-pub mod Flat
+pub mod Printable
 pub mod Steps

@@ -9,5 +9,3 @@ pub mod Between
 pub mod WalkViews
 pub mod Combined
 pub mod SameSwitches
-pub mod FlatViews
-pub mod FlatForms

@@ -2,7 +2,7 @@
 
 ghost use Rattle.std.specs.Prelude.{◌≡◌, ◌⊎◌, ◌&&◌, ◌||◌, not, IfOk, IfErr};
 ghost use Rattle.semver_parser.specs.Versions.{PlainVersion};
-ghost use Rattle.version_sets.specs.Flat.{IsPrintable};
+ghost use Rattle.version_sets.specs.Printable.{IsPrintable};
 ghost use Rattle.version_sets.specs.VersionSets.{has, IsIn};
 ghost use Rattle.version_sets.specs.Steps.Combined.{keeps, KeepsSome};
 

@@ -9,7 +9,7 @@ ghost use Rattle.semver_parser.specs.VersionViews.{identifier_value};
 ghost use Rattle.semver_parser.specs.Versions.{PlainVersion};
 ghost use Rattle.semver_texts.specs.declared.grammar.Digits.{Digits as SomeDigits};
 ghost use Rattle.version_sets.specs.DigitViews.{comparator_by};
-ghost use Rattle.version_sets.specs.Flat.{prints_by};
+ghost use Rattle.version_sets.specs.Printable.{prints_by};
 ghost use Rattle.version_sets.specs.VersionSets.{IsPreRelease};
 ghost use Rattle.version_sets.specs.Releases.{release_value};
 ghost use Rattle.version_sets.specs.Steps.Bounds.{lowest_place, numbers_cmp};

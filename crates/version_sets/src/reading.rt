@@ -6,7 +6,7 @@ ghost use Rattle.semver_parser.specs.RangeTexts.{RefusesExactly};
 ghost use Rattle.semver_parser.specs.RangeTree.{SetTree, Spells};
 ghost use Rattle.semver_parser.specs.RangeViews.{set_of};
 ghost use Rattle.semver_parser.specs.Versions.{VersionValue};
-ghost use Rattle.version_sets.specs.Flat.{IsPrintable};
+ghost use Rattle.version_sets.specs.Printable.{IsPrintable};
 ghost use Rattle.version_sets.specs.PreReleaseRules.{meant_with, meets_text_with, meets_with};
 ghost use Rattle.version_sets.specs.VersionSets.{has, Fits};
 

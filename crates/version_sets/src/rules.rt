@@ -1,4 +1,8 @@
-//! The three rules by which pre-releases count.
+//! The three rules by which pre-releases count, with their numbers and names.
+
+ghost use Rattle.std.specs.Prelude.{◌≡◌, MatchOption};
+ghost use Rattle.version_sets.specs.PreReleaseTable.{name_of, number_of};
+ghost use Rattle.version_sets.specs.declared.rules.PreReleases.{PreReleases as SomePreReleases};
 
 /// Which pre-releases a range text means: docs/MEANING.md, "Three rules for pre-releases". Releases
 /// count by each of them.
@@ -24,4 +28,63 @@ pub enum PreReleases {
     Default,
     /// Each that meets a range by precedence: 1.3.0-rc is meant by `^1.2.0`.
     Included,
+}
+
+impl PreReleases {
+    // Answer: equation.
+    /// Returns its number in C, Python and JavaScript.
+    ///
+    /// ```
+    /// use semver_parser::PreReleases;
+    ///
+    /// assert_eq!(PreReleases::Included.number(), 1);
+    /// ```
+    pub fn number(self) -> i32
+        ensures { result ≡ number_of self }
+    {
+        match self {
+            PreReleases::Default => 0,
+            PreReleases::Included => 1,
+            PreReleases::Excluded => 2,
+        }
+    }
+
+    // Answer: law version_sets::laws::one_rule_of_number.
+    /// Returns the rule of a number, or `None` if none has it.
+    ///
+    /// ```
+    /// use semver_parser::PreReleases;
+    ///
+    /// assert_eq!(PreReleases::of_number(1), Some(PreReleases::Included));
+    /// assert_eq!(PreReleases::of_number(9), None);
+    /// ```
+    pub fn of_number(number: i32) -> Option<PreReleases>
+        ensures { MatchOption result (¬ ((it : SomePreReleases) × (number ≡ number_of it)))
+            (λ it. number ≡ number_of it) }
+    {
+        match number {
+            0 => Some(PreReleases::Default),
+            1 => Some(PreReleases::Included),
+            2 => Some(PreReleases::Excluded),
+            _ => None,
+        }
+    }
+
+    // Answer: equation.
+    /// Returns its name for programs.
+    ///
+    /// ```
+    /// use semver_parser::PreReleases;
+    ///
+    /// assert_eq!(PreReleases::Included.name(), "included");
+    /// ```
+    pub fn name(self) -> &'static str
+        ensures { result.now ≡ name_of self }
+    {
+        match self {
+            PreReleases::Default => "default",
+            PreReleases::Included => "included",
+            PreReleases::Excluded => "excluded",
+        }
+    }
 }

@@ -8,7 +8,7 @@ ghost use Rattle.semver_parser.specs.Versions.{PlainVersion, VersionValue};
 ghost use Rattle.semver_parser.specs.VersionGrammar.{SpellsVersion};
 ghost use Rattle.semver_parser.specs.VersionViews.{version_value};
 ghost use Rattle.semver_parser.specs.Outlines.{IsOutlineOf, version_of};
-ghost use Rattle.version_sets.specs.Flat.{IsPrintable};
+ghost use Rattle.version_sets.specs.Printable.{IsPrintable};
 ghost use Rattle.version_sets.specs.Releases.{release_value};
 ghost use Rattle.version_sets.specs.VersionSets.{has, Fits, IsNormal};
 ghost use Rattle.version_sets.specs.Steps.Places.{set_of};

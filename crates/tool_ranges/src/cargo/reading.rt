@@ -7,7 +7,7 @@ ghost use Rattle.semver_texts.specs.Texts.{Text};
 ghost use Rattle.semver_texts.specs.Versions.{PlainVersion};
 ghost use Rattle.semver_ranges.specs.Meeting.{meets_set};
 ghost use Rattle.semver_ranges.specs.RangeViews.{range_of};
-ghost use Rattle.version_sets.specs.Flat.{IsPrintable};
+ghost use Rattle.version_sets.specs.Printable.{IsPrintable};
 ghost use Rattle.version_sets.specs.VersionSets.{has, Fits};
 ghost use Rattle.tool_ranges.specs.AnySize.{set_any};
 ghost use Rattle.tool_ranges.specs.CargoGrammar.{SpellsRequirement};

@@ -5,7 +5,7 @@ ghost use Rattle.std.specs.List.{list_all, list_any};
 ghost use Rattle.semver_ranges.specs.RangeTree.{SetTree};
 ghost use Rattle.semver_ranges.specs.RangeViews.{comparator_of, range_of, set_of};
 ghost use Rattle.semver_texts.specs.Versions.{PlainVersion};
-ghost use Rattle.version_sets.specs.Flat.{HasPrintableRanges, IsPrintable};
+ghost use Rattle.version_sets.specs.Printable.{HasPrintableRanges, IsPrintable};
 ghost use Rattle.version_sets.specs.VersionSets.{has, Fits};
 ghost use Rattle.tool_ranges.specs.AnySize.{set_any};
 ghost use Rattle.tool_ranges.specs.NpmGrammar.{SpellsNpmRange};

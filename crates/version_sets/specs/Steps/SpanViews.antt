@@ -10,7 +10,7 @@ use Rattle.semver_parser.specs.Versions.{IdentifierValue, numeric, PlainVersion}
 use Rattle.semver_parser.specs.Precedence.{precedence}
 use Rattle.semver_texts.specs.Digits.{plain_by}
 use Rattle.semver_texts.specs.declared.grammar.Digits.{Digits}
-use Rattle.version_sets.specs.Flat.{prints_by}
+use Rattle.version_sets.specs.Printable.{prints_by}
 use Rattle.version_sets.specs.declared.pre_release_limits.PreReleaseLimit.{PreReleaseLimit}
 use Rattle.version_sets.specs.declared.spans.Bounds.{Bounds}
 use Rattle.version_sets.specs.declared.spans.Span.{Span}

@@ -8,7 +8,6 @@ mod error;
 mod options;
 mod program;
 mod refused;
-mod sentences;
 mod shown;
 
 pub use error::ArgumentError;

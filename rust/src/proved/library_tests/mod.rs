@@ -13,7 +13,6 @@
 use crate::rattle_std::prelude::*;
 mod bytes;
 mod example;
-mod flat;
 mod lines;
 mod made;
 mod orders;
@@ -59,7 +58,6 @@ fn write_values(rt: &HostRuntime) -> io::Result<()> {
     bytes::write_bytes(rt)?;
     reading::write_reading(rt)?;
     sets::write_sets(rt)?;
-    flat::write_flat(rt)?;
     orders::write_enums(rt)?;
     orders::write_structs(rt)?;
     precedence::write_precedence(rt)?;

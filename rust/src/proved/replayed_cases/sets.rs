@@ -9,7 +9,7 @@ use crate::proved::semver_parser::{Compat, RangeError};
 use crate::rattle_std::AllocError;
 use crate::rattle_std::io;
 use crate::rattle_std::io::Write;
-use crate::proved::version_sets::{FlatSet, PreReleases, VersionSet};
+use crate::proved::version_sets::{PreReleases, VersionSet};
 
 /// A rule for pre-releases, and a mode.
 pub type Dialect = (PreReleases, Compat);
@@ -29,14 +29,10 @@ pub fn write_set<W: Write>(
         Ok(set) => set,
         Err(error) => return write!(out, "{error}"),
     };
-    let is_flat = is_same_flat(&set, &versions)?;
     for version in versions.iter() {
         if set.has(version) {
             write!(out, "{version} ")?;
         }
-    }
-    if !is_flat {
-        write!(out, "as flat data another set, ")?;
     }
     write!(out, "end, least ")?;
     write_least(&set, out)?;
@@ -46,26 +42,6 @@ pub fn write_set<W: Write>(
         None => write!(out, "none")?,
     }
     write!(out, ", empty {}", set.is_empty())
-}
-
-/// Whether the set as flat data is read back as the same set, and has the same of some versions.
-fn is_same_flat(set: &VersionSet, versions: &[Version]) -> io::Result<bool> {
-    let Some(data) = set.to_flat()? else {
-        return Ok(false);
-    };
-    let Some(flat) = FlatSet::read(&data.switches, data.bytes.as_bytes()) else {
-        return Ok(false);
-    };
-    for version in versions {
-        let text = version.fallible_to_string()?;
-        let Some(outline) = version::outline(&text) else {
-            return Ok(false);
-        };
-        if flat.has_outline(&outline) != set.has(version) {
-            return Ok(false);
-        }
-    }
-    Ok(flat.to_set()? == *set)
 }
 
 /// Writes how the sets of two texts stand to each other, or the error of a text. The second text

@@ -1,33 +1,31 @@
 // Made by tools/erase from crates/text_prefixes/src/reasons.rt; not edited by hand.
-//! Where and why a text is no version.
+//! Why a text is refused: the one list of reasons, with their numbers, names and sentences.
 
 use crate::rattle_std::prelude::*;
-use crate::proved::text_prefixes::buffers::write;
-use crate::proved::text_prefixes::bytes::{Length, begins, is_version};
-use crate::proved::text_prefixes::versions::offset;
-use crate::proved::semver_texts::bytes::is_part_byte;
 use crate::proved::semver_texts::grammar::Grammar;
-use crate::rattle_std::AllocError;
+use crate::rattle_std::fmt;
 
-/// A version of npm has at most so many characters; the other dialects have no limit.
-const CHARACTERS: usize = 256;
-
-/// Why a text is no version.
+/// Why a text is not a version, or not a range. It prints as its sentence.
 ///
 /// ```
 /// use semver_parser::refusals::{self, Reason};
 /// use semver_parser::Dialect;
 ///
-/// let reason = |text| refusals::of_version(text, Dialect::Cargo).unwrap().reason;
-/// assert_eq!(reason("1.2"), Reason::NotThreeNumbers);
-/// assert_eq!(reason("1.2.3-01"), Reason::LeadingZero);
-/// assert_eq!(reason("1.2.3 x"), Reason::TextAfter);
+/// let of_version = |text| refusals::of_version(text, Dialect::Cargo).unwrap().reason;
+/// assert_eq!(of_version("1.2"), Reason::NotThreeNumbers);
+/// assert_eq!(of_version("1.2.3-01"), Reason::LeadingZero);
+/// assert_eq!(of_version("1.2.3 x"), Reason::TextAfter);
+///
+/// let of_range = |text| refusals::of_range(text, Dialect::Cargo).unwrap().reason;
+/// assert_eq!(of_range(">="), Reason::NumberExpected);
+/// assert_eq!(of_range(">=1 <2"), Reason::CargoCommas);
+/// assert_eq!(Reason::CargoCommas.to_string(), "Cargo separates comparators by commas");
 /// ```
 #[derive(Clone, Copy, PartialEq, Eq, Debug)]
 pub enum Reason {
     /// The text is empty, or only white space that the dialect takes before a version.
     Empty,
-    /// One of the three numbers is missing: `1.2`, `1..3`, `1.2-rc`.
+    /// There are fewer than three numbers: the version `1.2`, the range `1.2-rc`.
     NotThreeNumbers,
     /// A number, or a pre-release identifier of digits only, has a leading zero: `01.2.3`,
     /// `1.2.3-01`.
@@ -35,208 +33,194 @@ pub enum Reason {
     /// An identifier is empty: `1.2.3-`, `1.2.3-a..b`. In the crate's dialect also what is before
     /// or after a hyphen: `1.2.3--a`.
     EmptyIdentifier,
-    /// No version has this character there: `1.x`, `vv1.2.3`.
+    /// No version, or range, has this character there: the version `1.x`, the range `1.2.3.4`.
     UnexpectedCharacter,
-    /// A number is too large.
+    /// A number or a raised bound is above 2^64 - 1.
     TooLarge,
-    /// Each version that begins so is longer than npm's 256 characters.
+    /// Each version that begins so is longer than npm's 256 characters, or a build identifier
+    /// than 250.
     TooLong,
     /// Text follows a version and white space: `1.2.3 x`. In Cargo's dialect also the white space
     /// itself, and in the crate's a vertical tab or a form feed.
     TextAfter,
+    /// The bytes aren't UTF-8. No call on a `&str` returns this.
+    NotUtf8,
+    /// A number is expected: `1..3`, `>=`.
+    NumberExpected,
+    /// The range needs more at its end.
+    UnexpectedEnd,
+    /// Cargo separates comparators by commas.
+    CargoCommas,
+    /// Cargo takes `*` without numbers before it only alone.
+    CargoWildcard,
+    /// Cargo takes no `||`; npm does.
+    CargoBars,
+    /// Cargo takes no leading `v`; npm does.
+    CargoV,
+    /// Cargo takes no hyphen ranges; npm does.
+    CargoHyphen,
+    /// npm separates comparators by spaces; Cargo takes commas.
+    NpmComma,
+    /// The crate takes no commas; Cargo does.
+    CrateComma,
+    /// The crate takes no leading `v`; npm does.
+    CrateV,
+    /// To npm, a number or a raised bound is above 2^53 - 1.
+    NpmTooLarge,
 }
 
-/// Where and why a text is no version.
-///
-/// ```
-/// use semver_parser::refusals::{self, Reason, VersionRefusal};
-/// use semver_parser::Dialect;
-///
-/// let refusal = refusals::of_version("1.2.3-01", Dialect::Npm);
-/// assert_eq!(refusal, Some(VersionRefusal { offset: 8, reason: Reason::LeadingZero }));
-/// ```
-#[derive(Clone, Copy, PartialEq, Eq, Debug)]
-pub struct Refusal {
-    /// The byte offset of the first character that no version has there, or the length of the text
-    /// if something is missing at its end.
-    pub offset: usize,
-    /// Why.
-    pub reason: Reason,
-}
-
-/// Whether the byte is white space of ASCII.
-fn is_ascii_white(byte: u8) -> bool {
-    matches!(byte, 9..=13 | 32)
-}
-
-/// Whether the byte follows a number or an identifier in some versions.
-fn is_separator(byte: u8) -> bool {
-    matches!(byte, b'.' | b'-' | b'+') || is_ascii_white(byte)
-}
-
-/// A byte by its offset from the end; 0 before the first.
-fn from_end(prefix: &[u8], offset: usize) -> u8 {
-    if offset < prefix.len() {
-        prefix[prefix.len() - 1 - offset]
-    } else {
-        0
-    }
-}
-
-/// Whether it has no digit.
-fn has_no_digit(prefix: &[u8]) -> bool {
-    prefix.iter().all(|byte| !byte.is_ascii_digit())
-}
-
-/// Whether neither a number nor a `v` has begun.
-fn is_blank(prefix: &[u8]) -> bool {
-    prefix
-        .iter()
-        .all(|&byte| !(byte.is_ascii_digit() || byte == b'v'))
-}
-
-/// The reason, by what the prefix is and takes.
-fn reason_by(
-    version: bool,
-    letter: bool,
-    zero: bool,
-    too_long: bool,
-    prefix: &[u8],
-    next: Option<u8>,
-) -> Reason {
-    let Some(byte) = next else {
-        return if is_blank(prefix) {
-            Reason::Empty
-        } else if !letter {
-            Reason::NotThreeNumbers
-        } else if zero {
-            Reason::EmptyIdentifier
-        } else {
-            Reason::LeadingZero
-        };
-    };
-    let last = from_end(prefix, 0);
-    if too_long {
-        Reason::TooLong
-    } else if byte.is_ascii_digit() && (last.is_ascii_digit() && !letter) {
-        if last == b'0' && !from_end(prefix, 1).is_ascii_digit() {
-            Reason::LeadingZero
-        } else {
-            Reason::TooLarge
+impl Reason {
+    /// Returns the reason of a number that is above the limit of a dialect.
+    ///
+    /// ```
+    /// use semver_parser::refusals::Reason;
+    /// use semver_parser::version::Grammar;
+    ///
+    /// assert_eq!(Reason::too_large_in(Grammar::Cargo), Reason::TooLarge);
+    /// assert_eq!(Reason::too_large_in(Grammar::Npm), Reason::NpmTooLarge);
+    /// ```
+    pub fn too_large_in(grammar: Grammar) -> Reason {
+        match grammar {
+            Grammar::Npm => Reason::NpmTooLarge,
+            Grammar::Crate | Grammar::Cargo => Reason::TooLarge,
         }
-    } else if version {
-        if is_ascii_white(byte) || !is_part_byte(last) {
-            Reason::TextAfter
-        } else {
-            Reason::UnexpectedCharacter
+    }
+
+    /// Returns its number in C, Python and JavaScript.
+    ///
+    /// ```
+    /// use semver_parser::refusals::Reason;
+    ///
+    /// assert_eq!(Reason::LeadingZero.number(), 3);
+    /// ```
+    pub fn number(self) -> i32 {
+        match self {
+            Reason::Empty => 1,
+            Reason::NotThreeNumbers => 2,
+            Reason::LeadingZero => 3,
+            Reason::EmptyIdentifier => 4,
+            Reason::UnexpectedCharacter => 5,
+            Reason::TooLarge => 6,
+            Reason::TooLong => 7,
+            Reason::TextAfter => 8,
+            Reason::NotUtf8 => 9,
+            Reason::NumberExpected => 10,
+            Reason::UnexpectedEnd => 11,
+            Reason::CargoCommas => 12,
+            Reason::CargoWildcard => 13,
+            Reason::CargoBars => 14,
+            Reason::CargoV => 15,
+            Reason::CargoHyphen => 16,
+            Reason::NpmComma => 17,
+            Reason::CrateComma => 18,
+            Reason::CrateV => 19,
+            Reason::NpmTooLarge => 20,
         }
-    } else if !is_separator(byte) {
-        Reason::UnexpectedCharacter
-    } else if !letter {
-        if has_no_digit(prefix) {
-            Reason::UnexpectedCharacter
-        } else {
-            Reason::NotThreeNumbers
+    }
+
+    /// Returns the reason of a number, or `None` if no reason has it.
+    ///
+    /// ```
+    /// use semver_parser::refusals::Reason;
+    ///
+    /// assert_eq!(Reason::of_number(3), Some(Reason::LeadingZero));
+    /// assert_eq!(Reason::of_number(0), None);
+    /// ```
+    pub fn of_number(number: i32) -> Option<Reason> {
+        match number {
+            1 => Some(Reason::Empty),
+            2 => Some(Reason::NotThreeNumbers),
+            3 => Some(Reason::LeadingZero),
+            4 => Some(Reason::EmptyIdentifier),
+            5 => Some(Reason::UnexpectedCharacter),
+            6 => Some(Reason::TooLarge),
+            7 => Some(Reason::TooLong),
+            8 => Some(Reason::TextAfter),
+            9 => Some(Reason::NotUtf8),
+            10 => Some(Reason::NumberExpected),
+            11 => Some(Reason::UnexpectedEnd),
+            12 => Some(Reason::CargoCommas),
+            13 => Some(Reason::CargoWildcard),
+            14 => Some(Reason::CargoBars),
+            15 => Some(Reason::CargoV),
+            16 => Some(Reason::CargoHyphen),
+            17 => Some(Reason::NpmComma),
+            18 => Some(Reason::CrateComma),
+            19 => Some(Reason::CrateV),
+            20 => Some(Reason::NpmTooLarge),
+            _ => None,
         }
-    } else if zero {
-        Reason::EmptyIdentifier
-    } else {
-        Reason::LeadingZero
+    }
+
+    /// Returns its name for programs, in lower case with hyphens.
+    ///
+    /// ```
+    /// use semver_parser::refusals::Reason;
+    ///
+    /// assert_eq!(Reason::LeadingZero.name(), "leading-zero");
+    /// ```
+    pub fn name(self) -> &'static str {
+        match self {
+            Reason::Empty => "empty",
+            Reason::NotThreeNumbers => "not-three-numbers",
+            Reason::LeadingZero => "leading-zero",
+            Reason::EmptyIdentifier => "empty-identifier",
+            Reason::UnexpectedCharacter => "unexpected-character",
+            Reason::TooLarge => "too-large",
+            Reason::TooLong => "too-long",
+            Reason::TextAfter => "text-after",
+            Reason::NotUtf8 => "not-utf8",
+            Reason::NumberExpected => "number-expected",
+            Reason::UnexpectedEnd => "unexpected-end",
+            Reason::CargoCommas => "cargo-commas",
+            Reason::CargoWildcard => "cargo-wildcard",
+            Reason::CargoBars => "cargo-bars",
+            Reason::CargoV => "cargo-v",
+            Reason::CargoHyphen => "cargo-hyphen",
+            Reason::NpmComma => "npm-comma",
+            Reason::CrateComma => "crate-comma",
+            Reason::CrateV => "crate-v",
+            Reason::NpmTooLarge => "npm-too-large",
+        }
+    }
+
+    /// Returns its sentence for people, without a full stop.
+    ///
+    /// ```
+    /// use semver_parser::refusals::Reason;
+    ///
+    /// assert_eq!(Reason::CargoBars.sentence(), "Cargo takes no ||; npm does");
+    /// ```
+    pub fn sentence(self) -> &'static str {
+        match self {
+            Reason::Empty => "the string is empty",
+            Reason::NotThreeNumbers => "there are fewer than three numbers",
+            Reason::LeadingZero => "a number or an identifier of digits has no leading zero",
+            Reason::EmptyIdentifier => "an identifier is empty",
+            Reason::UnexpectedCharacter => "unexpected character",
+            Reason::TooLarge => "numbers and raised bounds are at most 2^64 - 1",
+            Reason::TooLong => {
+                "npm takes no version above 256 characters, and no build identifier above 250"
+            }
+            Reason::TextAfter => "text follows the version",
+            Reason::NotUtf8 => "the string isn't UTF-8",
+            Reason::NumberExpected => "a number is expected",
+            Reason::UnexpectedEnd => "something is missing",
+            Reason::CargoCommas => "Cargo separates comparators by commas",
+            Reason::CargoWildcard => "Cargo takes * without numbers before it only alone",
+            Reason::CargoBars => "Cargo takes no ||; npm does",
+            Reason::CargoV => "Cargo takes no leading v; npm does",
+            Reason::CargoHyphen => "Cargo takes no hyphen ranges; npm does",
+            Reason::NpmComma => "npm separates comparators by spaces; Cargo takes commas",
+            Reason::CrateComma => "the crate takes no commas; Cargo does",
+            Reason::CrateV => "the crate takes no leading v; npm does",
+            Reason::NpmTooLarge => "npm's numbers and raised bounds are at most 2^53 - 1",
+        }
     }
 }
 
-/// Whether the prefix and one more byte are a version of any length.
-fn takes(prefix: &[u8], byte: u8, grammar: Grammar, buffer: &mut [u8]) -> bool {
-    let end = prefix.len();
-    write(buffer, 0, prefix);
-    write(buffer, end, &[byte]);
-    is_version(&buffer[..end + 1], Length::Any, grammar)
-}
-
-/// Whether the dialect limits the length of a version.
-fn has_limit(grammar: Grammar) -> bool {
-    match grammar {
-        Grammar::Crate => false,
-        Grammar::Cargo => false,
-        Grammar::Npm => true,
+impl fmt::Display for Reason {
+    fn fmt(&self, f: &mut fmt::Formatter<'_>) -> fmt::Result {
+        f.write_str(self.sentence())
     }
-}
-
-/// Whether some version begins with the bytes, but each is longer than the dialect allows. For
-/// speed, of a short text the answer is known.
-fn is_too_long(text: &[u8], grammar: Grammar, buffer: &mut [u8]) -> bool {
-    if !has_limit(grammar) {
-        return false;
-    }
-    if text.len() + 8 <= CHARACTERS {
-        return false;
-    }
-    begins(text, Length::Any, grammar, buffer) && !begins(text, Length::Allowed, grammar, buffer)
-}
-
-/// The byte at an offset, if there is one.
-fn byte_at(input: &[u8], offset: usize) -> Option<u8> {
-    if offset < input.len() {
-        Some(input[offset])
-    } else {
-        None
-    }
-}
-
-/// The bytes up to an offset, and the one at it, if there is one.
-fn with_next(input: &[u8], offset: usize) -> &[u8] {
-    if offset < input.len() {
-        &input[..offset + 1]
-    } else {
-        input
-    }
-}
-
-/// Returns where and why a text is not a version, or `None` if it is one.
-///
-/// ```text
-/// explain(alloc, b"1.2.03", Grammar::Cargo)?    // at 5: LeadingZero
-/// explain(alloc, b"1.2", Grammar::Npm)?         // at 3: NotThreeNumbers
-/// explain(alloc, b"1.2.3 x", Grammar::Npm)?     // at 6: TextAfter
-/// explain(alloc, b" v1.2.3", Grammar::Npm)?     // None
-/// ```
-///
-/// # Errors
-///
-/// `AllocError` if an allocation fails. It allocates only if the text is not a version, and then
-/// one buffer of about its length.
-pub fn explain(text: &[u8], grammar: Grammar) -> Result<Option<Refusal>, AllocError> {
-    if is_version(text, Length::Allowed, grammar) {
-        return Ok(None);
-    }
-    let mut buffer = Vec::fallible_from_elem(0, text.len().saturating_add(8))?;
-    Ok(refused(text, grammar, buffer.as_mut_slice()))
-}
-
-/// Returns what [`explain`] does, without allocating. The buffer must have at least 8 bytes more
-/// than the text; what it holds then is not specified.
-pub(crate) fn refused(input: &[u8], grammar: Grammar, buffer: &mut [u8]) -> Option<Refusal> {
-    if is_version(input, Length::Allowed, grammar) {
-        return None;
-    }
-    let offset = offset(input, grammar, buffer);
-    let reason = reason_at(input, offset, grammar, buffer);
-    Some(Refusal { offset, reason })
-}
-
-/// The reason at an offset, up to which some version begins with the text.
-fn reason_at(input: &[u8], offset: usize, grammar: Grammar, buffer: &mut [u8]) -> Reason {
-    let prefix = &input[..offset];
-    let version = is_version(prefix, Length::Any, grammar);
-    let letter = takes(prefix, b'a', grammar, buffer);
-    let zero = takes(prefix, b'0', grammar, buffer);
-    let too_long = is_too_long(with_next(input, offset), grammar, buffer);
-    reason_by(
-        version,
-        letter,
-        zero,
-        too_long,
-        prefix,
-        byte_at(input, offset),
-    )
 }

@@ -1,5 +1,6 @@
 // Made by tools/erase from crates/tool_ranges/src/dialect.rt; not edited by hand.
-//! The dialects of range texts: Cargo's, npm's, and those of the Rust crate in its two modes.
+//! The dialects of range texts: Cargo's, npm's, and those of the Rust crate in its two modes, with
+//! their numbers and names.
 
 use crate::rattle_std::prelude::*;
 use crate::proved::tool_ranges::{cargo, npm};
@@ -43,6 +44,56 @@ impl Dialect {
             Dialect::Cargo => Grammar::Cargo,
             Dialect::Npm => Grammar::Npm,
             Dialect::CrateCargo | Dialect::CrateNpm => Grammar::Crate,
+        }
+    }
+
+    /// Returns its number in C, Python and JavaScript.
+    ///
+    /// ```
+    /// use semver_parser::Dialect;
+    ///
+    /// assert_eq!(Dialect::Npm.number(), 1);
+    /// ```
+    pub fn number(self) -> i32 {
+        match self {
+            Dialect::Cargo => 0,
+            Dialect::Npm => 1,
+            Dialect::CrateCargo => 2,
+            Dialect::CrateNpm => 3,
+        }
+    }
+
+    /// Returns the dialect of a number, or `None` if none has it.
+    ///
+    /// ```
+    /// use semver_parser::Dialect;
+    ///
+    /// assert_eq!(Dialect::of_number(1), Some(Dialect::Npm));
+    /// assert_eq!(Dialect::of_number(9), None);
+    /// ```
+    pub fn of_number(number: i32) -> Option<Dialect> {
+        match number {
+            0 => Some(Dialect::Cargo),
+            1 => Some(Dialect::Npm),
+            2 => Some(Dialect::CrateCargo),
+            3 => Some(Dialect::CrateNpm),
+            _ => None,
+        }
+    }
+
+    /// Returns its name for programs.
+    ///
+    /// ```
+    /// use semver_parser::Dialect;
+    ///
+    /// assert_eq!(Dialect::Npm.name(), "npm");
+    /// ```
+    pub fn name(self) -> &'static str {
+        match self {
+            Dialect::Cargo => "cargo",
+            Dialect::Npm => "npm",
+            Dialect::CrateCargo => "crate-cargo",
+            Dialect::CrateNpm => "crate-npm",
         }
     }
 }

@@ -3,21 +3,22 @@
 
 use crate::rattle_std::prelude::*;
 use crate::proved::tool_ranges::dialect::Dialect;
-use crate::proved::tool_ranges::hints::{self, Hint};
 use crate::proved::tool_ranges::limit::limit_offset;
 use crate::proved::tool_ranges::offset::{check, error_offset_in, is_range};
+use crate::proved::tool_ranges::reasons::reason_at;
 use crate::proved::semver_ranges::RangeError;
 use crate::rattle_std::AllocError;
+use crate::proved::text_prefixes::reasons::Reason;
 
 /// Where and why a text gives no range.
 ///
 /// ```
-/// use semver_parser::refusals::{self, Hint, RangeRefusal};
+/// use semver_parser::refusals::{self, RangeRefusal, Reason};
 /// use semver_parser::{Dialect, RangeError};
 ///
-/// let (error, hint) = (RangeError::NotARange, Some(Hint::CargoBars));
+/// let (error, reason) = (RangeError::NotARange, Reason::CargoBars);
 /// let refusal = refusals::of_range("1.2 || 3", Dialect::Cargo);
-/// assert_eq!(refusal, Some(RangeRefusal { error, offset: 4, hint }));
+/// assert_eq!(refusal, Some(RangeRefusal { error, offset: 4, reason }));
 /// ```
 #[derive(Debug, PartialEq, Eq)]
 pub struct Refusal {
@@ -28,13 +29,13 @@ pub struct Refusal {
     /// the end of the first term that states a number, or has a raised bound, above the limit of
     /// the dialect: 21 in `=18446744073709551616 || 1`.
     pub offset: usize,
-    /// What may have been meant, or of a number that is too large the limit of the dialect.
-    pub hint: Option<Hint>,
+    /// Why, which may say what another dialect takes there.
+    pub reason: Reason,
 }
 
 /// Returns where and why a text gives no range by a dialect, or `None` if it gives one.
 ///
-/// `1.2 || 3` by Cargo's is `NotARange` at 4, with the hint that Cargo takes no `||`.
+/// `1.2 || 3` by Cargo's is `NotARange` at 4, since Cargo takes no `||`.
 ///
 /// # Errors
 ///
@@ -48,35 +49,35 @@ pub fn refused(dialect: Dialect, text: &str) -> Result<Option<Refusal>, AllocErr
     Ok(refused_in(dialect, text, buffer.as_mut_slice()))
 }
 
-/// Returns what [`refused`] does, without allocating. If the text is no range text, the buffer must
-/// have at least 8 bytes more than the text; what it holds then is not specified.
-pub(crate) fn refused_in(dialect: Dialect, text: &str, buffer: &mut [u8]) -> Option<Refusal> {
+/// What [`refused`] returns, found in a buffer that has 8 bytes more than a text that is no range
+/// text.
+fn refused_in(dialect: Dialect, text: &str, buffer: &mut [u8]) -> Option<Refusal> {
     let Err(error) = check(dialect, text) else {
         return None;
     };
-    let (offset, hint) = explained(dialect, text, &error, buffer);
+    let (offset, reason) = explained(dialect, text, &error, buffer);
     Some(Refusal {
         error,
         offset,
-        hint,
+        reason,
     })
 }
 
-/// The offset of an error of a text, and the hint.
+/// The offset of an error of a text, and the reason.
 fn explained(
     dialect: Dialect,
     text: &str,
     error: &RangeError,
     buffer: &mut [u8],
-) -> (usize, Option<Hint>) {
+) -> (usize, Reason) {
     match error {
         RangeError::NumberTooLarge => {
             let offset = limit_offset(dialect, text);
-            (offset, Some(hints::limit(dialect)))
+            (offset, Reason::too_large_in(dialect.grammar()))
         }
         _ => {
             let offset = error_offset_in(dialect, text, buffer);
-            (offset, hints::hint_at(dialect, text, offset))
+            (offset, reason_at(dialect, text, offset))
         }
     }
 }

@@ -1,5 +1,5 @@
 // Made by tools/erase from crates/version_sets/src/rules.rt; not edited by hand.
-//! The three rules by which pre-releases count.
+//! The three rules by which pre-releases count, with their numbers and names.
 
 use crate::rattle_std::prelude::*;
 /// Which pre-releases a range text means: docs/MEANING.md, "Three rules for pre-releases". Releases
@@ -26,4 +26,53 @@ pub enum PreReleases {
     Default,
     /// Each that meets a range by precedence: 1.3.0-rc is meant by `^1.2.0`.
     Included,
+}
+
+impl PreReleases {
+    /// Returns its number in C, Python and JavaScript.
+    ///
+    /// ```
+    /// use semver_parser::PreReleases;
+    ///
+    /// assert_eq!(PreReleases::Included.number(), 1);
+    /// ```
+    pub fn number(self) -> i32 {
+        match self {
+            PreReleases::Default => 0,
+            PreReleases::Included => 1,
+            PreReleases::Excluded => 2,
+        }
+    }
+
+    /// Returns the rule of a number, or `None` if none has it.
+    ///
+    /// ```
+    /// use semver_parser::PreReleases;
+    ///
+    /// assert_eq!(PreReleases::of_number(1), Some(PreReleases::Included));
+    /// assert_eq!(PreReleases::of_number(9), None);
+    /// ```
+    pub fn of_number(number: i32) -> Option<PreReleases> {
+        match number {
+            0 => Some(PreReleases::Default),
+            1 => Some(PreReleases::Included),
+            2 => Some(PreReleases::Excluded),
+            _ => None,
+        }
+    }
+
+    /// Returns its name for programs.
+    ///
+    /// ```
+    /// use semver_parser::PreReleases;
+    ///
+    /// assert_eq!(PreReleases::Included.name(), "included");
+    /// ```
+    pub fn name(self) -> &'static str {
+        match self {
+            PreReleases::Default => "default",
+            PreReleases::Included => "included",
+            PreReleases::Excluded => "excluded",
+        }
+    }
 }

@@ -5,7 +5,7 @@ use Rattle.semver_texts.specs.declared.grammar.Grammar.{Grammar}
 use Rattle.text_prefixes.specs.Reasons.{IsReason, byte_at}
 use Rattle.text_prefixes.specs.VersionPrefixes.{IsLongestVersionPrefix}
 use Rattle.text_prefixes.specs.declared.reasons.Reason.{Reason}
-use Rattle.text_prefixes.specs.declared.reasons.Refusal.{Refusal}
+use Rattle.text_prefixes.specs.declared.refusals.Refusal.{Refusal}
 use Rattle.answer_laws.proofs.OneAnswer.{one_made, said}
 use Rattle.answer_laws.specs.OneAnswer.{itself}
 use Rattle.answer_laws.proofs.texts.one_explanation.Goals as goal

@@ -7,7 +7,7 @@ use Rattle.semver_ranges.specs.declared.range_set.RangeError.{RangeError}
 use Rattle.semver_ranges.specs.declared.range_set.RangeSet.{RangeSet}
 use Rattle.semver_ranges.specs.RangeViews.{set_of}
 use Rattle.semver_ranges.proofs.ReadingSound.{read_sound}
-use Rattle.version_sets.specs.Flat.{HasPrintableRanges}
+use Rattle.version_sets.specs.Printable.{HasPrintableRanges}
 use Rattle.semver_ranges.proofs.EventSums.{answered_by}
 use Rattle.tool_ranges.specs.Steps.LowerBounds.{set_begun, written_for}
 use Rattle.tool_ranges.proofs.NpmLaws.{IsAnswer, begun, refuses}

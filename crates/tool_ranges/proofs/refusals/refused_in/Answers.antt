@@ -16,6 +16,6 @@ returns c =
         limit = λ is.
             let large = error.too_large.0 is in
             record { tree = large.0; spelled = large.1; is = told.limit is large.0 large.1 };
-        limit_hint = told.limit_hint;
+        limit_reason = told.limit_reason;
       };
     }

@@ -3,7 +3,7 @@ use Rattle.semver_parser.specs.Meeting.{op_holds}
 use Rattle.semver_parser.specs.Precedence.{precedence}
 use Rattle.semver_parser.specs.RangeViews.{comparator_of}
 use Rattle.version_sets.specs.DigitViews.{comparator_by}
-use Rattle.version_sets.specs.Flat.{prints_by}
+use Rattle.version_sets.specs.Printable.{prints_by}
 use Rattle.version_sets.specs.Steps.Spans.{is_between}
 use Rattle.version_sets.proofs.BoundLaws.{and_true}
 use Rattle.version_sets.proofs.KindLaws.{pre_release_lowest}

@@ -4,7 +4,7 @@ use Rattle.semver_parser.specs.Meeting.{meets_comparator}
 use Rattle.semver_parser.specs.RangeViews.{comparator_of}
 use Rattle.semver_parser.specs.Versions.{PlainVersion}
 use Rattle.version_sets.specs.DigitViews.{comparator_by}
-use Rattle.version_sets.specs.Flat.{are_printable}
+use Rattle.version_sets.specs.Printable.{are_printable}
 use Rattle.version_sets.specs.VersionSets.{IsPreRelease}
 use Rattle.version_sets.specs.Steps.SpanViews.{bounds_print, is_within, limit_place}
 use Rattle.version_sets.proofs.of_comparators.met_pre_releases.Given as goal

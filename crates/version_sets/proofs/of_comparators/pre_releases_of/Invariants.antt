@@ -4,7 +4,7 @@ use Rattle.semver_parser.specs.Precedence.{precedence}
 use Rattle.semver_parser.specs.RangeViews.{range_of}
 use Rattle.version_sets.specs.DigitViews.{range_by}
 use Rattle.semver_parser.specs.Versions.{PlainVersion}
-use Rattle.version_sets.specs.Flat.{are_printable}
+use Rattle.version_sets.specs.Printable.{are_printable}
 use Rattle.version_sets.specs.VersionSets.{IsPreRelease}
 use Rattle.version_sets.specs.Steps.RangeRules.{meets_range_with}
 use Rattle.version_sets.specs.Steps.Spans.{some_empty, in_some}

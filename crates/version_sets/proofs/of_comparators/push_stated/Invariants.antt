@@ -6,7 +6,7 @@ use Rattle.semver_parser.specs.RangeViews.{comparator_of}
 use Rattle.semver_parser.specs.StatedPreReleases.{has_pre_release_at}
 use Rattle.semver_parser.specs.Versions.{PlainVersion}
 use Rattle.version_sets.specs.DigitViews.{comparator_by}
-use Rattle.version_sets.specs.Flat.{are_printable}
+use Rattle.version_sets.specs.Printable.{are_printable}
 use Rattle.version_sets.specs.VersionSets.{IsPreRelease}
 use Rattle.version_sets.specs.Steps.Spans.{some_empty, in_some}
 use Rattle.version_sets.specs.Steps.SpanViews.{limit_place, span_value, spans_print}

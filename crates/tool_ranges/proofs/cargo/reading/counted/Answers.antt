@@ -2,7 +2,7 @@ use Rattle.std.proofs.Common.{◌&&◌, List, [], ap, sym, subst, ◌∙◌}
 use Rattle.semver_ranges.specs.declared.range.Compat.TheVariants.{Cargo}
 use Rattle.semver_ranges.specs.Meeting.{meets_set}
 use Rattle.semver_ranges.specs.RewritingTable.{PlainRange, PlainSet}
-use Rattle.version_sets.specs.Flat.{HasPrintableRanges}
+use Rattle.version_sets.specs.Printable.{HasPrintableRanges}
 use Rattle.tool_ranges.specs.AnySize.{set_any}
 use Rattle.tool_ranges.proofs.PrintableSets.{counting_prints}
 use Rattle.tool_ranges.proofs.ReadRows.{if_ok}

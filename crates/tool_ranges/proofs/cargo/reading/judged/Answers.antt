@@ -1,6 +1,6 @@
 use Rattle.std.proofs.Common.{[], ap, sym, subst, ◌∙◌}
 use Rattle.semver_ranges.specs.Meeting.{meets_set}
-use Rattle.version_sets.specs.Flat.{HasPrintableRanges}
+use Rattle.version_sets.specs.Printable.{HasPrintableRanges}
 use Rattle.tool_ranges.specs.AnySize.{set_any}
 use Rattle.tool_ranges.proofs.PrintableSets.{judging_prints}
 use Rattle.tool_ranges.proofs.ReadRows.{if_ok}

@@ -2,7 +2,7 @@ use Rattle.std.proofs.Common.{rules, refl, ◌&&◌, ◌||◌, [], sym, subst, a
 use Rattle.semver_ranges.specs.Meeting.{meets_set}
 use Rattle.semver_ranges.specs.RangeViews.{range_of}
 use Rattle.semver_texts.specs.Texts.{is_empty}
-use Rattle.version_sets.specs.Flat.{HasPrintableRanges}
+use Rattle.version_sets.specs.Printable.{HasPrintableRanges}
 use Rattle.tool_ranges.specs.declared.cargo.judging.JudgedVersions.TheVariants.{Releases}
 use Rattle.tool_ranges.specs.AnySize.{set_any}
 use Rattle.tool_ranges.proofs.PrintableSets.{judging_prints}

@@ -5,7 +5,7 @@ use Rattle.semver_ranges.specs.declared.range_set.RangeSet.{RangeSet}
 use Rattle.semver_ranges.specs.RangeViews.{range_of, set_of}
 use Rattle.semver_ranges.specs.StatedPreReleases.{meets_set_as_stated}
 use Rattle.semver_ranges.proofs.Tests.{list_any-mapped}
-use Rattle.version_sets.specs.Flat.{HasPrintableRanges}
+use Rattle.version_sets.specs.Printable.{HasPrintableRanges}
 use Rattle.tool_ranges.specs.Steps.NpmReading.{has_no_other}
 use Rattle.tool_ranges.specs.AnySize.{set_any}
 use Rattle.tool_ranges.proofs.AnySizes.{no_others_any, others_any}

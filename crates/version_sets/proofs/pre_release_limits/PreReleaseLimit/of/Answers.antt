@@ -5,7 +5,7 @@ use Rattle.semver_parser.specs.Versions.{PlainVersion}
 use Rattle.semver_parser.specs.RangeViews.{comparator_of, identifier_of}
 use Rattle.semver_parser.specs.Texts.{is_empty}
 use Rattle.version_sets.specs.DigitViews.{comparator_by}
-use Rattle.version_sets.specs.Flat.{prints_by}
+use Rattle.version_sets.specs.Printable.{prints_by}
 use Rattle.version_sets.specs.Steps.Bounds.{numbers_cmp}
 use Rattle.version_sets.specs.Steps.SpanViews.{with_zero}
 use Rattle.version_sets.proofs.BoundLaws.{none_past, past}

@@ -1,5 +1,5 @@
 use Rattle.std.proofs.Common.{rules, ◌≡◌, true, ap, ap₂, subst, sym, ◌∙◌}
-use Rattle.version_sets.specs.Flat.{IsPrintable}
+use Rattle.version_sets.specs.Printable.{IsPrintable}
 use Rattle.version_sets.specs.VersionSets.{SetValue, has, IsNormal}
 use Rattle.version_sets.specs.Steps.Places.{set_of}
 use Rattle.version_sets.specs.Steps.Combined.{keeps, pieces, keeps_some, combined_sets, KeepsSome}

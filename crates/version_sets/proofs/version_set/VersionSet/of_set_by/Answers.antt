@@ -11,7 +11,7 @@ use Rattle.semver_parser.specs.RewritingTable.{PlainRange, PlainSet}
 use Rattle.semver_parser.specs.StatedPreReleases.{has_pre_release_at}
 use Rattle.semver_parser.specs.Texts.{is_empty}
 use Rattle.semver_parser.specs.Versions.{PlainVersion, VersionValue}
-use Rattle.version_sets.specs.Flat.{are_printable, IsPrintable, is_printable_switch, prints_by}
+use Rattle.version_sets.specs.Printable.{are_printable, IsPrintable, is_printable_switch, prints_by}
 use Rattle.version_sets.specs.PreReleaseRules.{is_release, meets_with}
 use Rattle.version_sets.specs.VersionSets.{has}
 use Rattle.version_sets.specs.Steps.RangeRules.{meets_range_with}

@@ -1,9 +1,0 @@
-pub mod Numbers
-pub mod Options
-pub mod Outcomes
-pub mod Parts
-pub mod Orders
-pub mod Reasons
-pub mod Versions
-pub mod Ranges
-pub mod Steps

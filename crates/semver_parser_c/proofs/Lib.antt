@@ -1,8 +1,0 @@
-mod OperationNumbers
-mod RangeSets
-mod ListedComparators
-mod Members
-mod Lowest
-mod OneOutcome
-mod OneSet
-mod OneMembership

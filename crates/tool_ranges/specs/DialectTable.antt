@@ -1,0 +1,20 @@
+-- The number and the name of each dialect.
+use Rattle.std.specs.Prelude.{ℤ, pos, codes}
+use Rattle.semver_texts.specs.Texts.{Text}
+use Rattle.tool_ranges.specs.declared.dialect.Dialect.{Dialect}
+use Rattle.tool_ranges.specs.declared.dialect.Dialect.TheVariants.{Cargo, Npm, CrateCargo}
+use Rattle.tool_ranges.specs.declared.dialect.Dialect.TheVariants.{CrateNpm}
+
+-- its number in C, Python and JavaScript
+abbrev pub number_of : Dialect → ℤ
+number_of Cargo = pos 0
+number_of Npm = pos 1
+number_of CrateCargo = pos 2
+number_of CrateNpm = pos 3
+
+-- its name, for programs and after `--dialect`
+abbrev pub name_of : Dialect → Text
+name_of Cargo = codes "cargo"
+name_of Npm = codes "npm"
+name_of CrateCargo = codes "crate-cargo"
+name_of CrateNpm = codes "crate-npm"

@@ -1,0 +1,30 @@
+-- What is answered of a version text and a range text.
+use Rattle.std.specs.Prelude.{◌≡◌, ◌⊎◌, Bool, Result, Ok, Err}
+use Rattle.semver_parser.specs.ToolVersions.{IsVersionTextIn, SpellsIn}
+use Rattle.semver_ranges.specs.declared.range_set.RangeError.TheVariants.{NotARange}
+use Rattle.semver_ranges.specs.declared.range_set.RangeError.TheVariants.{NumberTooLarge}
+use Rattle.semver_ranges.specs.declared.range_set.RangeError.TheVariants.{OutOfMemory}
+use Rattle.semver_texts.specs.Texts.{Text}
+use Rattle.semver_texts.specs.Versions.{VersionValue}
+use Rattle.tool_ranges.specs.Dialects.{HasSetAs, IsTextAs, IsTooLargeAs, SpellsAs, TreeOf}
+use Rattle.tool_ranges.specs.Dialects.{grammar_of}
+use Rattle.tool_ranges.specs.Meanings.{meant_as}
+use Rattle.tool_ranges.specs.declared.meaning.Meaning.{Meaning}
+use Rattle.tool_ranges.specs.declared.satisfying.SatisfiesError.{SatisfiesError}
+use Rattle.tool_ranges.specs.declared.satisfying.SatisfiesError.TheVariants.{InvalidRange}
+use Rattle.tool_ranges.specs.declared.satisfying.SatisfiesError.TheVariants.{InvalidVersion}
+
+-- of a version and a range text: whether the text means the version, or what is refused of it
+abbrev pub AnswersOf : Meaning → VersionValue → Text → Result Bool SatisfiesError → Type 0
+AnswersOf m v range (Ok met) = HasSetAs m.dialect range
+    × ((tree : TreeOf m.dialect) → SpellsAs m.dialect tree range → met ≡ meant_as m tree v)
+AnswersOf m v range (Err InvalidVersion) = ⊥
+AnswersOf m v range (Err (InvalidRange NotARange)) = ¬ (IsTextAs m.dialect range)
+AnswersOf m v range (Err (InvalidRange NumberTooLarge)) = IsTooLargeAs m.dialect range
+AnswersOf m v range (Err (InvalidRange OutOfMemory)) = ⊥
+
+-- the version text is read first, and what it spells is asked of the range text
+abbrev pub Satisfies : Meaning → Text → Text → Result Bool SatisfiesError → Type 0
+Satisfies m version range r =
+    ((¬ (IsVersionTextIn (grammar_of m.dialect) version)) × (r ≡ Err InvalidVersion))
+    ⊎ ((v : VersionValue) × SpellsIn (grammar_of m.dialect) v version × AnswersOf m v range r)

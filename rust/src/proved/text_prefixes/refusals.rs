@@ -1,0 +1,219 @@
+// Made by tools/erase from crates/text_prefixes/src/refusals.rt; not edited by hand.
+//! Where and why a text is not a version.
+
+use crate::rattle_std::prelude::*;
+use crate::proved::text_prefixes::buffers::write;
+use crate::proved::text_prefixes::bytes::{Length, begins, is_version};
+use crate::proved::text_prefixes::reasons::Reason;
+use crate::proved::text_prefixes::versions::offset;
+use crate::proved::semver_texts::bytes::is_part_byte;
+use crate::proved::semver_texts::grammar::Grammar;
+use crate::rattle_std::AllocError;
+
+/// A version of npm has at most so many characters; the other dialects have no limit.
+const CHARACTERS: usize = 256;
+
+/// Where and why a text is not a version.
+///
+/// ```
+/// use semver_parser::refusals::{self, Reason, VersionRefusal};
+/// use semver_parser::Dialect;
+///
+/// let refusal = refusals::of_version("1.2.3-01", Dialect::Npm);
+/// assert_eq!(refusal, Some(VersionRefusal { offset: 8, reason: Reason::LeadingZero }));
+/// ```
+#[derive(Clone, Copy, PartialEq, Eq, Debug)]
+pub struct Refusal {
+    /// The byte offset of the first character that no version has there, or the length of the text
+    /// if something is missing at its end.
+    pub offset: usize,
+    /// Why.
+    pub reason: Reason,
+}
+
+/// Whether the byte is white space of ASCII.
+fn is_ascii_white(byte: u8) -> bool {
+    matches!(byte, 9..=13 | 32)
+}
+
+/// Whether the byte follows a number or an identifier in some versions.
+fn is_separator(byte: u8) -> bool {
+    matches!(byte, b'.' | b'-' | b'+') || is_ascii_white(byte)
+}
+
+/// A byte by its offset from the end; 0 before the first.
+fn from_end(prefix: &[u8], offset: usize) -> u8 {
+    if offset < prefix.len() {
+        prefix[prefix.len() - 1 - offset]
+    } else {
+        0
+    }
+}
+
+/// Whether it has no digit.
+fn has_no_digit(prefix: &[u8]) -> bool {
+    prefix.iter().all(|byte| !byte.is_ascii_digit())
+}
+
+/// Whether neither a number nor a `v` has begun.
+fn is_blank(prefix: &[u8]) -> bool {
+    prefix
+        .iter()
+        .all(|&byte| !(byte.is_ascii_digit() || byte == b'v'))
+}
+
+/// Why a prefix with fewer than three numbers doesn't go on as a version.
+fn missing_after(prefix: &[u8]) -> Reason {
+    if from_end(prefix, 0).is_ascii_digit() {
+        Reason::NotThreeNumbers
+    } else {
+        Reason::NumberExpected
+    }
+}
+
+/// The reason, by what the prefix is and takes.
+fn reason_by(
+    grammar: Grammar,
+    version: bool,
+    letter: bool,
+    zero: bool,
+    too_long: bool,
+    prefix: &[u8],
+    next: Option<u8>,
+) -> Reason {
+    let Some(byte) = next else {
+        return if is_blank(prefix) {
+            Reason::Empty
+        } else if !letter {
+            missing_after(prefix)
+        } else if zero {
+            Reason::EmptyIdentifier
+        } else {
+            Reason::LeadingZero
+        };
+    };
+    let last = from_end(prefix, 0);
+    if too_long {
+        Reason::TooLong
+    } else if byte.is_ascii_digit() && (last.is_ascii_digit() && !letter) {
+        if last == b'0' && !from_end(prefix, 1).is_ascii_digit() {
+            Reason::LeadingZero
+        } else {
+            Reason::too_large_in(grammar)
+        }
+    } else if version {
+        if is_ascii_white(byte) || !is_part_byte(last) {
+            Reason::TextAfter
+        } else {
+            Reason::UnexpectedCharacter
+        }
+    } else if !is_separator(byte) {
+        Reason::UnexpectedCharacter
+    } else if !letter {
+        if has_no_digit(prefix) {
+            Reason::UnexpectedCharacter
+        } else {
+            missing_after(prefix)
+        }
+    } else if zero {
+        Reason::EmptyIdentifier
+    } else {
+        Reason::LeadingZero
+    }
+}
+
+/// Whether the prefix and one more byte are a version of any length.
+fn takes(prefix: &[u8], byte: u8, grammar: Grammar, buffer: &mut [u8]) -> bool {
+    let end = prefix.len();
+    write(buffer, 0, prefix);
+    write(buffer, end, &[byte]);
+    is_version(&buffer[..end + 1], Length::Any, grammar)
+}
+
+/// Whether the dialect limits the length of a version.
+fn has_limit(grammar: Grammar) -> bool {
+    match grammar {
+        Grammar::Crate => false,
+        Grammar::Cargo => false,
+        Grammar::Npm => true,
+    }
+}
+
+/// Whether some version begins with the bytes, but each is longer than the dialect allows. For
+/// speed, of a short text the answer is known.
+fn is_too_long(text: &[u8], grammar: Grammar, buffer: &mut [u8]) -> bool {
+    if !has_limit(grammar) {
+        return false;
+    }
+    if text.len() + 8 <= CHARACTERS {
+        return false;
+    }
+    begins(text, Length::Any, grammar, buffer) && !begins(text, Length::Allowed, grammar, buffer)
+}
+
+/// The byte at an offset, if there is one.
+fn byte_at(input: &[u8], offset: usize) -> Option<u8> {
+    if offset < input.len() {
+        Some(input[offset])
+    } else {
+        None
+    }
+}
+
+/// The bytes up to an offset, and the one at it, if there is one.
+fn with_next(input: &[u8], offset: usize) -> &[u8] {
+    if offset < input.len() {
+        &input[..offset + 1]
+    } else {
+        input
+    }
+}
+
+/// Returns where and why a text is not a version, or `None` if it is one.
+///
+/// ```text
+/// explain(alloc, b"1.2.03", Grammar::Cargo)?    // at 5: LeadingZero
+/// explain(alloc, b"1.2", Grammar::Npm)?         // at 3: NotThreeNumbers
+/// explain(alloc, b"1.2.3 x", Grammar::Npm)?     // at 6: TextAfter
+/// explain(alloc, b" v1.2.3", Grammar::Npm)?     // None
+/// ```
+///
+/// # Errors
+///
+/// `AllocError` if an allocation fails. It allocates only if the text is not a version, and then
+/// one buffer of about its length.
+pub fn explain(text: &[u8], grammar: Grammar) -> Result<Option<Refusal>, AllocError> {
+    if is_version(text, Length::Allowed, grammar) {
+        return Ok(None);
+    }
+    let mut buffer = Vec::fallible_from_elem(0, text.len().saturating_add(8))?;
+    Ok(refused(text, grammar, buffer.as_mut_slice()))
+}
+
+/// What [`explain`] returns, found in a buffer that has 8 bytes more than the text.
+fn refused(input: &[u8], grammar: Grammar, buffer: &mut [u8]) -> Option<Refusal> {
+    if is_version(input, Length::Allowed, grammar) {
+        return None;
+    }
+    let offset = offset(input, grammar, buffer);
+    let reason = reason_at(input, offset, grammar, buffer);
+    Some(Refusal { offset, reason })
+}
+
+/// The reason at an offset, up to which some version begins with the text.
+fn reason_at(input: &[u8], offset: usize, grammar: Grammar, buffer: &mut [u8]) -> Reason {
+    let prefix = &input[..offset];
+    let version = is_version(prefix, Length::Any, grammar);
+    let letter = takes(prefix, b'a', grammar, buffer);
+    let zero = takes(prefix, b'0', grammar, buffer);
+    let too_long = is_too_long(with_next(input, offset), grammar, buffer);
+    reason_by(
+        grammar,
+        version,
+        letter,
+        zero,
+        too_long,
+        prefix,
+        byte_at(input, offset),
+    )
+}
