@@ -20,10 +20,10 @@ Strings are `str`, or `bytes` in UTF-8. A string that is refused raises `Version
 may call everything at once, and use one range at once. A fork has ranges of its own. By POSIX a
 fork of several threads may not allocate, so it can't use the package.
 
-The functions are those of the shared library `libsemver_parser` (`semver_parser.dll` on Windows),
-which is loaded when the first of these names is imported: from the path of the environment variable
-SEMVER_PARSER_LIBRARY, else from beside these modules, else from where the system looks for
-libraries. If there is none that fits, that raises an `ImportError`.
+The functions are those of the shared library (`libsemver_parser.so.1`, `libsemver_parser.dylib` or
+`semver_parser.dll`), which is loaded when the first of these names is imported: from the path of
+the environment variable SEMVER_PARSER_LIBRARY, else from beside these modules, else from where the
+system looks for libraries. If there is none that fits, that raises an `ImportError`.
 """
 
 from importlib import import_module
