@@ -1,114 +1,92 @@
-# Builds, installs and packs; tools/README.md says why so.
-#   make                      proves and builds what isn't built: the programs and the C library
+# Builds, installs and packs, by cargo; tools/README.md says why so.
+#   make                      builds the programs and the C library
 #   make install              installs these, the header, a file for pkg-config and the manual
 #   make install-python       installs the Python package and the checkers, too
 #   make uninstall            removes what was installed under PREFIX
-#   make archive              makes OUT/semver-parser-VERSION-linux-x86_64.tar.gz
+#   make archive              makes OUT/semver-parser-VERSION-linux-PROCESSOR.tar.gz
 #   make wheel                makes a wheel in OUT, for pip: the Python package with the library
 #   make js                   makes the JavaScript package in OUT, for npm
-#   make crate                makes the Rust crate in OUT, for cargo; needs cargo alone
+#   make crate                makes the Rust crate in OUT, for cargo
 #   make page                 makes OUT/semver-ranges.html, the page of web/ in one file
-#   make clean                removes what was compiled of C; what is proved stays
+#   make release              makes all that is published in OUT, with SHA256SUMS
+#   make clean                removes what was built
 #   dpkg-buildpackage -b -uc  makes the Debian packages, in the directory above this one
 PREFIX ?= /usr/local
 LIBDIR ?= lib
 ZSHDIR ?= share/zsh/site-functions
 OUT ?= out
-CFLAGS ?= -O2
 export PREFIX OUT ZSHDIR
 MAKEFLAGS += -r -j$(shell nproc) --no-print-directory
 .ONESHELL .SILENT .DELETE_ON_ERROR:
 .SHELLFLAGS := -euc
-.PHONY: all stage stage-python install install-python uninstall archive wheel js page crate clean
+.PHONY: all stage stage-python install install-python uninstall archive wheel js page crate release \
+	clean FORCE
 
 programs := semver-parser release-filter compare-ranges
 checkers := check-lock-file compare-requirements
 version := $(file < VERSION)
-archive := semver-parser-$(version)-linux-x86_64
+date := $(shell date -u +%F -d "$$(sed -n '/^ -- /{s/.*>  //p;q}' debian/changelog)")
+archive := semver-parser-$(version)-linux-$(shell uname -m)
 # A program that was linked with the library asks for one whose version has the same first number,
 # and while that is 0 the same second one too.
 number := $(firstword $(subst ., ,$(version)))
 soname := libsemver_parser.so.$(if $(filter 0,$(number)),$(basename $(version)),$(number))
 shared := libsemver_parser.so.$(version)
-proved := out/built/libsemver_parser_c.a
-c := crates/semver_parser_c
+# What cargo builds is in a directory of its own, since it is built without this one's path in it.
+built := out/cargo/release
+capi := rust/capi
 
 # How recipes begin; `to` is the directory that is installed into.
 begin = self=make top=$$PWD && . tools/built.sh && begin && umask 022; \
 	case $$PREFIX in '') refuse 'PREFIX is empty' ;; /*) ;; *) PREFIX=$$PWD/$$PREFIX ;; esac; \
 	PREFIX=$${PREFIX%/} to=$${DESTDIR-}$${PREFIX%/}
 
-all: $(programs:%=out/built/%) out/lib/$(shared) out/lib/libsemver_parser.a
+all: $(built)/semver-parser out/lib/$(shared) out/lib/libsemver_parser.a
 clean:
-	rm -rf out/lib
+	rm -rf out/cargo out/lib out/man
 
-# What is proved is dated back to the time at which its build began, so what is edited meanwhile is
-# newer. Times decide, not bytes, and a change of the kit isn't seen.
-began := $(shell date +%s.%N)
-out/built/semver-parser: crates/semver_parser_main/out/proved
-out/built/release-filter: crates/release_filter_main/out/proved
-out/built/compare-ranges: crates/compare_ranges_main/out/proved
-$(proved): $(c)/out/proved
-$(programs:%=out/built/%) $(proved):
+# cargo is always asked, and knows what is newer: it leaves the time of what it doesn't build anew.
+$(built)/semver-parser: FORCE
 	$(begin)
-	mkdir -p $(@D) && half=$@.half
-	cp -p $< $@.half && mv -f $@.half $@
-
-# Each crate is proved once those are that it uses, below_NAME, by crates.txt, which has the lowest
-# first. What was built still counts if a crate's out/ was removed.
-lines := $(shell sed -n 's/^\([a-z_]*\)[^:\#]*: */\1 /p' crates.txt | tr ' ' :)
-names := $(foreach line,$(lines),$(firstword $(subst :, ,$(line))))
-sources := $(shell find crates/*/src crates/*/specs crates/*/proofs 2> /dev/null)
-define crate
-below_$1 := $(sort $(foreach name,$2,$(name) $(below_$(name))))
-crates/$1/out/proved: crates.txt $(filter crates/$1/%,$(sources)) $(2:%=crates/%/out/proved)
-endef
-$(foreach line,$(lines),$(eval $(call crate,$(firstword $(subst :, ,$(line))),\
-	$(filter $(names),$(wordlist 2,99,$(subst :, ,$(line)))))))
-.SECONDARY: $(names:%=crates/%/out/proved)
-crates/%/out/proved:
+	build -p semver-parser-proved --bins
+$(built)/libsemver_parser.a: FORCE
 	$(begin)
-	prove $* $(below_$*)
-	touch -d @$(began) "$$top/$@"
+	build -p semver-parser-capi
 
-# Both forms of the C library are one object file of the proved code and what c/ has. It needs only
-# the system's C library, and shows the names of the calls alone: those that the header declares and
-# doesn't define itself.
-out/lib/$(shared) out/lib/libsemver_parser.a &: $(proved) $(wildcard $(c)/c/* $(c)/include/*)
+# Both forms of the C library are one object file, of what the functions of the header need. It needs
+# only the system's C library, and shows the names alone that semver_parser.map has.
+out/lib/$(shared) out/lib/libsemver_parser.a &: $(built)/libsemver_parser.a $(capi)/semver_parser.map
 	$(begin)
 	may_build libsemver_parser
 	command -v $(firstword $(CC)) > /dev/null ||
 		refuse 'needs the command $(firstword $(CC)) (Debian: apt-get install gcc)'
-	mkdir -p out/lib "$$work/parts"
-	ld -r -o "$$work/parts/proved.o" --whole-archive $(proved) 2> /dev/null ||
-		refuse "$$top/$(proved) is no whole library: remove it, and build it anew"
-	for source in $(wildcard $(c)/c/*.c); do
-		beside $(CC) $(CPPFLAGS) $(CFLAGS) -ffile-prefix-map="$$top"=. -fPIC -I $(c)/include \
-			-c -o "$$work/parts/$$(basename $$source).o" $$source
-	done
+	mkdir -p out/lib
+	cp $(built)/libsemver_parser.a $(capi)/semver_parser.map "$$work"
 	cd "$$work"
-	ld -r -o joined.o parts/*
-	sed -n '/^static inline/!s/^[a-z].*\(semver_parser_[a-z_]*\)(.*/\1/p' \
-		"$$top"/$(c)/include/*.h | LC_ALL=C sort > calls
-	objcopy --keep-global-symbols=calls joined.o semver_parser.o
+	sed -n 's/^ *\(semver_parser_[a-z_]*\);$$/\1/p' semver_parser.map > calls
+	beside ld -r -o joined.o $$(sed 's/^/-u /' calls) libsemver_parser.a
+	objcopy --strip-debug --keep-global-symbols=calls joined.o semver_parser.o
+	rm libsemver_parser.a
 	ar rcD libsemver_parser.a semver_parser.o
-	$(CC) $(LDFLAGS) -shared -o $(shared) -Wl,-soname,$(soname) \
+	beside $(CC) $(LDFLAGS) -shared -o $(shared) -Wl,-soname,$(soname) -Wl,--gc-sections \
+		-Wl,--version-script=semver_parser.map -Wl,--no-undefined-version \
 		-Wl,-z,defs,-z,text,-z,noexecstack,-z,relro,-z,now semver_parser.o
-	nm -g --defined-only -D $(shared) | sed 's/.* //' | LC_ALL=C sort | cmp -s - calls ||
-		refuse "$(shared) doesn't have the calls of semver_parser.h, and these alone"
 	mv $(shared) libsemver_parser.a "$$top/out/lib"
 
-# What is installed, below DESTDIR and PREFIX.
-stage stage-python: all
+# A page of the manual for each function of the header.
+out/man/made: $(capi)/include/semver_parser.h tools/make-manuals VERSION debian/changelog
 	$(begin)
-	for name in $(programs); do
-		kind=$$(head -c 4 out/built/$$name | tail -c 3)
-		wrote=$$(exec 2> /dev/null; out/built/$$name --help < /dev/null || :)
-		case $$kind$$wrote in "ELFusage: $$name"* | ELFversion:*) ;;
-		*) refuse "$$top/out/built/$$name is no whole program: remove it, and build it anew" ;; esac
-	done
-	install -D -t "$$to/bin" $(programs:%=out/built/%)
-	install -D -m 644 -t "$$to/include" $(c)/include/semver_parser.h
+	command -v python3 > /dev/null || refuse 'needs the command python3'
+	rm -rf out/man
+	python3 tools/make-manuals $(version) $(date) "$$work/man" < $<
+	mkdir -p out && mv "$$work/man" out/man
+	: > $@
+
+# What is installed, below DESTDIR and PREFIX.
+stage stage-python: all out/man/made
+	$(begin)
+	install -D -t "$$to/bin" $(programs:%=$(built)/%)
+	install -D -m 644 -t "$$to/include" $(capi)/include/semver_parser.h
 	install -D -m 644 -t "$$to/$(LIBDIR)" out/lib/$(shared) out/lib/libsemver_parser.a
 	for name in $(soname) libsemver_parser.so; do ln -sf $(shared) "$$to/$(LIBDIR)/$$name"; done
 	mkdir -p "$$to/$(LIBDIR)/pkgconfig" "$$to/share/man/man1" \
@@ -116,7 +94,7 @@ stage stage-python: all
 	prefix=$$(printf '%s\n' "$$PREFIX" | sed 's/[ \\$$"'\'']/\\&/g')
 	printf '%s\n' "prefix=$$prefix" 'libdir=$${prefix}/$(LIBDIR)' 'includedir=$${prefix}/include' \
 		'Name: semver_parser' 'Version: $(version)' 'Libs: -L$${libdir} -lsemver_parser' \
-		'Cflags: -I$${includedir}' 'Description: version texts and range texts of Cargo and npm' \
+		'Cflags: -I$${includedir}' 'Description: versions and ranges of Cargo and npm' \
 		> "$$to/$(LIBDIR)/pkgconfig/semver_parser.pc"
 	if [ $@ = stage-python ]; then
 		modules=$$to/$$PACKAGES
@@ -132,8 +110,9 @@ stage stage-python: all
 	fi
 	for page in $(programs:%=%.1) semver_parser.3 semver-ranges.7 \
 			$(if $(filter %-python,$@),$(checkers:%=%.1)); do
-		sed 's/@VERSION@/$(version)/' man/$$page > "$$to/share/man/man$${page##*.}/$$page"
+		sed 's/@VERSION@/$(version)/; s/@DATE@/$(date)/' man/$$page > "$$to/share/man/man$${page##*.}/$$page"
 	done
+	cp -P out/man/*.3 "$$to/share/man/man3"
 	for name in $(filter-out semver-parser,$(programs)) $(if $(filter %-python,$@),$(checkers)); do
 		install -D -m 644 completions/$$name.bash "$$to/share/bash-completion/completions/$$name"
 		install -D -m 644 completions/_$$name "$$to/$(ZSHDIR)/_$$name"
@@ -194,7 +173,27 @@ wheel: out/lib/$(shared)
 	mkdir -p "$$OUT" && to=$$OUT put "$$work" "./$$name"
 	echo "made $$OUT/$$name"
 
-# The module for JavaScript, lowered to 32-bit memory.
+# The module for JavaScript, lowered to 32-bit memory: of the kit, until cargo builds it.
+# What is proved is dated back to the time at which its build began, so what is edited meanwhile is
+# newer. Times decide, not bytes, and a change of the kit isn't seen.
+began := $(shell date +%s.%N)
+
+# Each crate is proved once those are that it uses, below_NAME, by crates.txt, which has the lowest
+# first. What was built still counts if a crate's out/ was removed.
+lines := $(shell sed -n 's/^\([a-z_]*\)[^:\#]*: */\1 /p' crates.txt | tr ' ' :)
+names := $(foreach line,$(lines),$(firstword $(subst :, ,$(line))))
+sources := $(shell find crates/*/src crates/*/specs crates/*/proofs 2> /dev/null)
+define crate
+below_$1 := $(sort $(foreach name,$2,$(name) $(below_$(name))))
+crates/$1/out/proved: crates.txt $(filter crates/$1/%,$(sources)) $(2:%=crates/%/out/proved)
+endef
+$(foreach line,$(lines),$(eval $(call crate,$(firstword $(subst :, ,$(line))),\
+	$(filter $(names),$(wordlist 2,99,$(subst :, ,$(line)))))))
+.SECONDARY: $(names:%=crates/%/out/proved)
+crates/%/out/proved:
+	$(begin)
+	prove $* $(below_$*)
+	touch -d @$(began) "$$top/$@"
 module := out/built/semver_parser.wasm
 $(module): crates/semver_parser_wasm/out/proved
 	$(begin)
@@ -223,7 +222,7 @@ page: $(module)
 crate:
 	$(begin)
 	may_write "$$OUT"
-	command -v cargo > /dev/null || refuse 'needs the command cargo'
+	may_cargo
 	data=$$work/crate/tests/data
 	cp -R rust "$$work/crate" && cp LICENSE-APACHE LICENSE-MIT "$$work/crate"
 	mkdir -p "$$data/replayed_cases" "$$data/library_tests"
@@ -235,3 +234,24 @@ crate:
 	name=semver-parser-proved-$(version).crate
 	mkdir -p "$$OUT" && to=$$OUT put "$$work/target/package" "./$$name"
 	echo "made $$OUT/$$name"
+
+# All that is published; the Debian packages are built in a copy of what git has.
+release:
+	$(begin)
+	may_write "$$OUT"
+	for tool in npm=npm dpkg-buildpackage=dpkg-dev dh=debhelper git=git; do
+		command -v "$${tool%=*}" > /dev/null ||
+			refuse "needs the command $${tool%=*} (Debian: apt-get install $${tool#*=})"
+	done
+	export SOURCE_DATE_EPOCH=$${SOURCE_DATE_EPOCH-$$(git log -1 --format=%ct)}
+	out=$$OUT made=$$work/made
+	export OUT="$$made"
+	mkdir "$$made" "$$work/source"
+	for goal in crate wheel js archive; do again $$goal; done
+	git ls-files -z | tar --null -T - -cf - | tar -C "$$work/source" -xf -
+	cd "$$work/source"
+	beside dpkg-buildpackage -b -us -uc > "$$work/notes" 2>&1 || { cat "$$work/notes" >&2; exit 2; }
+	mv "$$work"/*.deb "$$made"
+	(cd "$$made" && LC_ALL=C sha256sum -- * > "$$work/sums" && mv "$$work/sums" SHA256SUMS)
+	cd "$$top" && mkdir -p "$$out" && to=$$out
+	for name in $$(ls "$$made"); do put "$$made" "./$$name" && echo "made $$out/$$name"; done

@@ -1,5 +1,5 @@
-# What the Makefile, the wrappers and the tests share. Each sets `top` first, the folder of the
-# repository by its whole path, and then reads this file, which has `cd` look in no other folders.
+# What the Makefile, the wrappers and the tests share. Each sets `top` first, the directory of the
+# repository by its whole path, and then reads this file, which has `cd` look in no others.
 unset CDPATH
 # A folder for temporary files, what isn't whole yet, and whether a command runs beside the script.
 work='' half='' running=''
@@ -38,22 +38,51 @@ again() {
     beside env MAKEFLAGS= make -s --no-print-directory -C "$top" "$@"
 }
 
-# run PROGRAM ARGUMENT..: runs a program, and has make build it first if anything is newer.
+# run PROGRAM ARGUMENT..: runs a program, and has cargo build it first if anything is newer.
 run() {
-    built=$top/out/built/$1
-    [ -s "$built" ] || rm -f -- "$built"
-    newer=$(cd "$top" && find crates.txt crates/*/src crates/*/specs crates/*/proofs \
-        -newer "$built" 2> /dev/null) || newer=unknown
-    [ -z "$newer" ] || { begin && again "out/built/$1" >&2 && let_go; } || exit 2
+    built=$top/out/cargo/release/$1
+    is_built "$built" || {
+        [ -e "$built" ] || echo "building $1, which can take a minute" >&2
+        begin && (build -p semver-parser-proved --bins) >&2 && let_go
+    } || exit 2
     shift
     exec "$built" "$@"
 }
 
+# is_built FILE: whether nothing of the sources in Rust is newer than what cargo built of them.
+is_built() {
+    [ -s "$1" ] && newer=$(find "$top/Cargo.toml" "$top/rust" -newer "$1" 2> /dev/null) && [ -z "$newer" ]
+}
+
+# build ARGUMENT..: has cargo build what the arguments say. The files don't depend on the directories
+# of the repository and of the toolchain: their paths aren't in them.
+build() {
+    if ! is_owner || [ ! -w "$top" ]; then
+        is_built "$top/out/cargo/release/semver-parser" || may_build 'the Rust crate'
+        return 0
+    fi
+    may_build 'the Rust crate'
+    may_cargo
+    flags=$(printf '%s\037' ${RUSTFLAGS-} "--remap-path-prefix=$top=." \
+        "--remap-path-prefix=$(rustc --print sysroot)/lib/rustlib/src/rust=/rust")
+    beside env -u RUSTFLAGS -u MAKEFLAGS CARGO_ENCODED_RUSTFLAGS="${flags%?}" cargo build --quiet --release \
+        --offline --manifest-path "$top/Cargo.toml" --target-dir "$top/out/cargo" "$@" || exit 2
+}
+
+may_cargo() {
+    command -v cargo > /dev/null || refuse 'needs the command cargo (Debian: apt-get install cargo)'
+}
+
+# Root builds nothing in a checkout of another user.
+is_owner() {
+    [ "$(id -u)" != 0 ] || [ -O "$top" ]
+}
+
 # may_build NAME: refuses a build that can't be, or would leave files of root among another user's.
 may_build() {
-    [ "$(id -u)" != 0 ] || [ -O "$top" ] || refuse "$1 isn't built, and root builds nothing in a" \
+    is_owner || refuse "$1 isn't built, and root builds nothing in a" \
         'checkout of another user: run make as its owner, then sudo make install'
-    for folder in "$top" "$top"/out "$top"/out/*/ "$top/crates/$1" "$top/crates/$1/out"; do
+    for folder in "$top" "$top"/out "$top"/out/*/; do
         [ ! -e "$folder" ] || [ -w "$folder" ] ||
             refuse "$1 isn't built, and cannot be: $folder may not be written to"
     done

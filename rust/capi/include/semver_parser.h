@@ -1,0 +1,405 @@
+/* Versions and ranges of Cargo, npm and the Rust crate semver-parser.
+ *
+ *     semver_parser_options npm = semver_parser_options_of(SEMVER_PARSER_DIALECT_NPM);
+ *     semver_parser_string range = semver_parser_str("^1.2");
+ *     bool satisfies;
+ *     semver_parser_error error;
+ *     char *message;
+ *     if (semver_parser_satisfies(semver_parser_str("1.9.0"), range, npm, &satisfies, &error)
+ *             != SEMVER_PARSER_OK
+ *         && semver_parser_error_message(&error, range, false, &message) == SEMVER_PARSER_OK) {
+ *         fprintf(stderr, "%s\n", message);
+ *         semver_parser_free(message);
+ *     }
+ *
+ * Compile with `pkg-config --cflags --libs semver_parser`. Each function has a page of the manual
+ * (man semver_parser_satisfies); semver-ranges(7) says what a range means.
+ *
+ * STRINGS are UTF-8 with a length in bytes, and need no terminating zero; `data` may be null if
+ * `length` is 0. A `char *` that a function makes is zero-terminated; semver_parser_free frees it.
+ *
+ * ERRORS. A function returns SEMVER_PARSER_OK or the status of an error. After an error its outputs
+ * are as they were, and `error`, which may be null, says more. INVALID_ARGUMENT comes first, then
+ * the errors of the arguments from left to right. OUT_OF_MEMORY comes only of a function that
+ * allocates: one that makes or prints something, combines ranges, or fills `error` after another
+ * error, in place of that. The others don't allocate.
+ *
+ * THE CALLER MUST pass valid pointers, not null except where it is said, and not change what they
+ * point to during a call. Threads may call concurrently, and read one range or list at once. Not in
+ * the child of a fork of several threads, where POSIX doesn't allow malloc.
+ *
+ * COMPATIBILITY. A minor version may add functions, statuses, reasons, dialects and rules, and give
+ * a meaning to reserved fields; a caller treats a number that it doesn't know as an unknown error.
+ * semver_parser_string, semver_parser_version and semver_parser_comparator never change.
+ */
+#ifndef SEMVER_PARSER_H
+#define SEMVER_PARSER_H
+
+#ifndef __cplusplus
+#include <stdbool.h>
+#endif
+#include <stddef.h>
+#include <stdint.h>
+#include <string.h>
+
+/* The version of this header, and its number for `#if`: 1.2.3 is 1002003. */
+#define SEMVER_PARSER_VERSION_MAJOR 1
+#define SEMVER_PARSER_VERSION_MINOR 0
+#define SEMVER_PARSER_VERSION_PATCH 0
+#define SEMVER_PARSER_VERSION "1.0.0"
+#define SEMVER_PARSER_VERSION_NUMBER 1000000
+
+/* Attributes, for compilers that have them. */
+#if defined(__GNUC__)
+#define SEMVER_PARSER_NONNULL(...) __attribute__((nonnull(__VA_ARGS__)))
+#define SEMVER_PARSER_CHECKED(...) __attribute__((warn_unused_result, nonnull(__VA_ARGS__)))
+#define SEMVER_PARSER_USED __attribute__((warn_unused_result))
+#pragma GCC visibility push(default)
+#else
+#define SEMVER_PARSER_NONNULL(...)
+#define SEMVER_PARSER_CHECKED(...)
+#define SEMVER_PARSER_USED
+#endif
+
+#ifdef __cplusplus
+extern "C" {
+#endif
+
+typedef struct {
+    const char *data;
+    size_t length;
+} semver_parser_string;
+
+/* Returns a zero-terminated string with its length. */
+SEMVER_PARSER_NONNULL(1)
+static inline semver_parser_string semver_parser_str(const char *zero_terminated) {
+    semver_parser_string string = {zero_terminated, strlen(zero_terminated)};
+    return string;
+}
+
+/* Frees a string that a function made; null is fine. */
+void semver_parser_free(void *string);
+
+/* ---- options */
+
+/* Whose rules apply (semver-ranges(7)). */
+typedef int32_t semver_parser_dialect;
+enum {
+    /* `1.2` is `>=1.2.0 <2.0.0`. Versions are those of SemVer 2.0.0. */
+    SEMVER_PARSER_DIALECT_CARGO = 0,
+    /* `1.2` is `>=1.2.0 <1.3.0`. A version may have a `v` and white space around it. Numbers go up
+     * to 2^53 - 1, and versions have at most 256 characters. */
+    SEMVER_PARSER_DIALECT_NPM = 1,
+    /* The Rust crate in its Cargo mode, which isn't Cargo's dialect: `1.2` is `>=1.2.0 <1.3.0`. */
+    SEMVER_PARSER_DIALECT_CRATE_CARGO = 2,
+    /* The Rust crate in its npm mode, which isn't npm's dialect: `>1.2` is `>1.2.0`. */
+    SEMVER_PARSER_DIALECT_CRATE_NPM = 3
+};
+
+/* Which pre-releases satisfy a range. */
+typedef int32_t semver_parser_pre_releases;
+enum {
+    /* Those that Cargo and npm match by default: `^1.2.3-rc` contains 1.2.3-rc.1, not 1.3.0-rc. */
+    SEMVER_PARSER_PRE_RELEASES_DEFAULT = 0,
+    /* Each within the bounds. */
+    SEMVER_PARSER_PRE_RELEASES_INCLUDED = 1,
+    /* None. */
+    SEMVER_PARSER_PRE_RELEASES_EXCLUDED = 2
+};
+
+typedef struct {
+    semver_parser_dialect dialect;
+    semver_parser_pre_releases pre_releases;
+    /* Has to be zero, or it is INVALID_ARGUMENT. */
+    int32_t reserved[6];
+} semver_parser_options;
+
+/* Returns the options of a dialect with the pre-releases that it matches by default. */
+static inline semver_parser_options semver_parser_options_of(semver_parser_dialect dialect) {
+    semver_parser_options options;
+    memset(&options, 0, sizeof options);
+    options.dialect = dialect;
+    return options;
+}
+
+/* Returns the name of a dialect ("cargo", "npm", "crate-cargo", "crate-npm") or of a rule
+ * ("default", "included", "excluded"), or null if there is no such number. */
+const char *semver_parser_dialect_name(semver_parser_dialect dialect);
+const char *semver_parser_pre_releases_name(semver_parser_pre_releases pre_releases);
+
+/* ---- errors */
+
+typedef int32_t semver_parser_status;
+enum {
+    SEMVER_PARSER_OK = 0,
+    /* The string is not a range of the dialect. */
+    SEMVER_PARSER_INVALID_RANGE = 1,
+    /* It is, but a number or a raised bound is above 2^64 - 1, to npm above 2^53 - 1. */
+    SEMVER_PARSER_NUMBER_TOO_LARGE = 2,
+    /* The string is an invalid version in the dialect. */
+    SEMVER_PARSER_INVALID_VERSION = 3,
+    SEMVER_PARSER_OUT_OF_MEMORY = 4,
+    /* An option that isn't one of those above, a reserved field that isn't zero, two ranges of
+     * different options, or an index that is too large. */
+    SEMVER_PARSER_INVALID_ARGUMENT = 5
+};
+
+/* Why a string is refused, as a version or as a range. */
+typedef int32_t semver_parser_reason;
+enum {
+    /* No string is refused: the status is OK, OUT_OF_MEMORY or INVALID_ARGUMENT. */
+    SEMVER_PARSER_REASON_NONE = 0,
+    /* It is empty or white space. */
+    SEMVER_PARSER_REASON_EMPTY = 1,
+    /* There are fewer than three numbers: the version `1.2`, the range `1.2-rc`. */
+    SEMVER_PARSER_REASON_NOT_THREE_NUMBERS = 2,
+    /* A number or a pre-release identifier of digits has one: `1.2.03`. */
+    SEMVER_PARSER_REASON_LEADING_ZERO = 3,
+    /* `1.2.3-`, `1.2.3-a..b`. */
+    SEMVER_PARSER_REASON_EMPTY_IDENTIFIER = 4,
+    /* No version, or range, has this character there: `1.x` as a version, `1.2.3.4`. */
+    SEMVER_PARSER_REASON_UNEXPECTED_CHARACTER = 5,
+    /* A number, or a raised bound, is above 2^64 - 1. */
+    SEMVER_PARSER_REASON_TOO_LARGE = 6,
+    /* It is longer than npm's 256 characters, or a build identifier than 250. */
+    SEMVER_PARSER_REASON_TOO_LONG = 7,
+    /* `1.2.3 x` as a version. */
+    SEMVER_PARSER_REASON_TEXT_AFTER = 8,
+    /* `offset` is that of the first byte that isn't UTF-8. */
+    SEMVER_PARSER_REASON_NOT_UTF8 = 9,
+    /* `>=`, `^1..2`. */
+    SEMVER_PARSER_REASON_NUMBER_EXPECTED = 10,
+    /* A range needs more at its end. */
+    SEMVER_PARSER_REASON_UNEXPECTED_END = 11,
+    /* Of ranges that another dialect takes. */
+    SEMVER_PARSER_REASON_CARGO_COMMAS = 12,
+    SEMVER_PARSER_REASON_CARGO_WILDCARD = 13,
+    SEMVER_PARSER_REASON_CARGO_BARS = 14,
+    SEMVER_PARSER_REASON_CARGO_V = 15,
+    SEMVER_PARSER_REASON_CARGO_HYPHEN = 16,
+    SEMVER_PARSER_REASON_NPM_COMMA = 17,
+    SEMVER_PARSER_REASON_CRATE_COMMA = 18,
+    SEMVER_PARSER_REASON_CRATE_V = 19,
+    /* To npm, a number or a raised bound is above 2^53 - 1. */
+    SEMVER_PARSER_REASON_NPM_TOO_LARGE = 20
+};
+
+/* Where and why a call was refused. */
+typedef struct {
+    semver_parser_status status;
+    semver_parser_reason reason;
+    /* The offset in bytes of the first character that no version or range has there, or the length
+     * of the string if something is missing at its end. After NUMBER_TOO_LARGE, the end of the
+     * first term above the limit. */
+    size_t offset;
+    /* Which string of the call it is about: 0 for the first, 1 for the second; of an array, its
+     * index there. */
+    size_t index;
+    /* Are zero. */
+    uint64_t reserved[4];
+} semver_parser_error;
+
+/* Writes an error about a string as an English sentence: `invalid range "1 || 2", at byte 2: Cargo
+ * takes no ||; npm does`. With `caret`, two lines more: the string, shortened if it is long, and a
+ * caret under the character. */
+SEMVER_PARSER_CHECKED(1, 4)
+semver_parser_status semver_parser_error_message(
+    const semver_parser_error *error, semver_parser_string string, bool caret, char **message);
+
+/* Returns an English phrase for a number, and the name of a reason ("leading-zero"), or null if
+ * there is no such number. */
+const char *semver_parser_status_text(semver_parser_status status);
+const char *semver_parser_reason_text(semver_parser_reason reason);
+const char *semver_parser_reason_name(semver_parser_reason reason);
+
+/* Returns the version of the loaded library: "1.0.0", and 1000000 for it. */
+const char *semver_parser_library_version(void);
+uint32_t semver_parser_library_version_number(void);
+
+/* ---- versions, and a version and a range */
+
+/* Whether a version satisfies a range: 1.9.0 satisfies `^1.2`. Build metadata is ignored.
+ * INVALID_VERSION, INVALID_RANGE, NUMBER_TOO_LARGE. */
+SEMVER_PARSER_CHECKED(4)
+semver_parser_status semver_parser_satisfies(
+    semver_parser_string version, semver_parser_string range, semver_parser_options options,
+    bool *satisfies, semver_parser_error *error);
+
+/* Whether a string is a range: OK, INVALID_RANGE or NUMBER_TOO_LARGE. */
+SEMVER_PARSER_USED
+semver_parser_status semver_parser_check_range(
+    semver_parser_string range, semver_parser_dialect dialect, semver_parser_error *error);
+
+/* A version. `pre` and `build` are parts of the string that was parsed, without `-` and `+`. */
+typedef struct {
+    uint64_t major;
+    uint64_t minor;
+    uint64_t patch;
+    semver_parser_string pre;
+    semver_parser_string build;
+} semver_parser_version;
+
+/* Parses a version: `1.2.3-rc.1+b5` gives 1, 2, 3, `rc.1` and `b5`.
+ * INVALID_VERSION. */
+SEMVER_PARSER_CHECKED(3)
+semver_parser_status semver_parser_parse_version(
+    semver_parser_string version, semver_parser_dialect dialect, semver_parser_version *parsed,
+    semver_parser_error *error);
+
+/* Compares two versions by precedence (SemVer 2.0.0, section 11): `order` is -1, 0 or 1, and -1 of
+ * 1.0.0-rc and 1.0.0. INVALID_VERSION. */
+SEMVER_PARSER_CHECKED(4)
+semver_parser_status semver_parser_compare_versions(
+    semver_parser_string version, semver_parser_string other, semver_parser_dialect dialect,
+    int32_t *order, semver_parser_error *error);
+
+/* ---- ranges that are read once */
+
+typedef struct semver_parser_range semver_parser_range;
+
+/* Reads a range. INVALID_RANGE, NUMBER_TOO_LARGE. */
+SEMVER_PARSER_CHECKED(3)
+semver_parser_status semver_parser_range_parse(
+    semver_parser_string string, semver_parser_options options, semver_parser_range **range,
+    semver_parser_error *error);
+
+/* Frees a range; null is fine. */
+void semver_parser_range_free(semver_parser_range *range);
+
+/* Returns the options that the range was read by, by which its versions are read. */
+SEMVER_PARSER_NONNULL(1)
+semver_parser_options semver_parser_range_options(const semver_parser_range *range);
+
+/* Whether a version is in the range, as semver_parser_satisfies says. INVALID_VERSION. */
+SEMVER_PARSER_CHECKED(1, 3)
+semver_parser_status semver_parser_range_contains(
+    const semver_parser_range *range, semver_parser_string version, bool *contains,
+    semver_parser_error *error);
+
+/* Whether each of `count` versions is in the range. `statuses`, which may be null, gets OK or
+ * INVALID_VERSION for each; an invalid version isn't contained. It does not allocate. */
+SEMVER_PARSER_CHECKED(1)
+semver_parser_status semver_parser_range_contains_each(
+    const semver_parser_range *range, const semver_parser_string *versions, size_t count,
+    bool *contains, semver_parser_status *statuses);
+
+/* Finds the highest or lowest of `count` versions that are in the range, the first of equal ones:
+ * `index` becomes its index, or `count` if none is. Invalid versions are skipped if `skip_invalid`;
+ * else the first is INVALID_VERSION, with its index in `error`. */
+SEMVER_PARSER_CHECKED(1, 5)
+semver_parser_status semver_parser_range_highest_of(
+    const semver_parser_range *range, const semver_parser_string *versions, size_t count,
+    bool skip_invalid, size_t *index, semver_parser_error *error);
+SEMVER_PARSER_CHECKED(1, 5)
+semver_parser_status semver_parser_range_lowest_of(
+    const semver_parser_range *range, const semver_parser_string *versions, size_t count,
+    bool skip_invalid, size_t *index, semver_parser_error *error);
+
+/* Makes the range of the versions that are in one or the other, in both, or in the first alone: the
+ * difference of `^1.2` and `>=1.4` contains 1.2.0 and not 1.4.0. Both ranges need the same options,
+ * or it is INVALID_ARGUMENT. */
+SEMVER_PARSER_CHECKED(1, 2, 3)
+semver_parser_status semver_parser_range_union(
+    const semver_parser_range *range, const semver_parser_range *other,
+    semver_parser_range **made);
+SEMVER_PARSER_CHECKED(1, 2, 3)
+semver_parser_status semver_parser_range_intersection(
+    const semver_parser_range *range, const semver_parser_range *other,
+    semver_parser_range **made);
+SEMVER_PARSER_CHECKED(1, 2, 3)
+semver_parser_status semver_parser_range_difference(
+    const semver_parser_range *range, const semver_parser_range *other,
+    semver_parser_range **made);
+
+/* Whether two ranges have the same versions, whether each version of the first is in the other, and
+ * whether no version is in both. Both need the same options, or it is INVALID_ARGUMENT. These don't
+ * allocate. */
+SEMVER_PARSER_CHECKED(1, 2, 3)
+semver_parser_status semver_parser_range_equal(
+    const semver_parser_range *range, const semver_parser_range *other, bool *equal);
+SEMVER_PARSER_CHECKED(1, 2, 3)
+semver_parser_status semver_parser_range_is_subset(
+    const semver_parser_range *range, const semver_parser_range *other, bool *is_subset);
+SEMVER_PARSER_CHECKED(1, 2, 3)
+semver_parser_status semver_parser_range_is_disjoint(
+    const semver_parser_range *range, const semver_parser_range *other, bool *is_disjoint);
+
+/* Returns whether a range has no version: `>2.0.0 <1.0.0` has none. */
+SEMVER_PARSER_NONNULL(1)
+bool semver_parser_range_is_empty(const semver_parser_range *range);
+
+/* Prints the lowest version of all that are in the range, which is null if it is empty: `^1.2.0`
+ * has 1.2.0. */
+SEMVER_PARSER_CHECKED(1, 2)
+semver_parser_status semver_parser_range_lowest_version(
+    const semver_parser_range *range, char **version);
+
+/* Prints the releases of a range, or its pre-releases, as a range: `>=1.2.0 <2.0.0`, `*` for all,
+ * `<0.0.0-0` for none. It reads back by SEMVER_PARSER_DIALECT_CRATE_NPM, except `*` of
+ * pre-releases. */
+SEMVER_PARSER_CHECKED(1, 3)
+semver_parser_status semver_parser_range_to_string(
+    const semver_parser_range *range, bool pre_releases, char **string);
+
+/* ---- comparators: what a range is rewritten to */
+
+typedef struct semver_parser_comparators semver_parser_comparators;
+
+typedef int32_t semver_parser_op;
+enum {
+    SEMVER_PARSER_OP_LESS = 0,
+    SEMVER_PARSER_OP_LESS_EQUAL = 1,
+    SEMVER_PARSER_OP_GREATER = 2,
+    SEMVER_PARSER_OP_GREATER_EQUAL = 3,
+    SEMVER_PARSER_OP_EQUAL = 4
+};
+
+/* A comparator. Those of one `range` all have to hold; ranges count from 0. `pre` is valid as long
+ * as the list that it is of. */
+typedef struct {
+    size_t range;
+    semver_parser_op op;
+    uint64_t major;
+    uint64_t minor;
+    uint64_t patch;
+    semver_parser_string pre;
+} semver_parser_comparator;
+
+/* Rewrites a range to plain comparators: `^1.2` gives `>=` 1.2.0 and `<` 2.0.0-0. By the crate's
+ * dialects a raised bound is such only if `exact`, and else `<2.0.0`. They say which releases
+ * satisfy the range; for pre-releases use semver_parser_range. INVALID_RANGE, NUMBER_TOO_LARGE. */
+SEMVER_PARSER_CHECKED(4)
+semver_parser_status semver_parser_comparators_of_range(
+    semver_parser_string range, semver_parser_dialect dialect, bool exact,
+    semver_parser_comparators **comparators, semver_parser_error *error);
+
+/* Frees comparators; null is fine. */
+void semver_parser_comparators_free(semver_parser_comparators *comparators);
+
+/* Returns how many there are. */
+SEMVER_PARSER_NONNULL(1)
+size_t semver_parser_comparators_count(const semver_parser_comparators *comparators);
+
+/* Gives one of them. An index that is too large is INVALID_ARGUMENT. */
+SEMVER_PARSER_CHECKED(1, 3)
+semver_parser_status semver_parser_comparators_get(
+    const semver_parser_comparators *comparators, size_t index,
+    semver_parser_comparator *comparator);
+
+/* Prints them: `>=1.2.0 <2.0.0-0 || >=3.0.0 <4.0.0-0`. */
+SEMVER_PARSER_CHECKED(1, 2)
+semver_parser_status semver_parser_comparators_to_string(
+    const semver_parser_comparators *comparators, char **string);
+
+#ifdef __cplusplus
+}
+#endif
+
+#if defined(__GNUC__)
+#pragma GCC visibility pop
+#endif
+#undef SEMVER_PARSER_NONNULL
+#undef SEMVER_PARSER_CHECKED
+#undef SEMVER_PARSER_USED
+
+#endif

@@ -1,0 +1,213 @@
+//! The calls of the proved crate that answer the functions.
+
+use crate::errors::Problem;
+use crate::message::printed;
+use crate::types::{dialect, Comparator, Options, StringView, Strings, Version};
+use alloc::{string::String, vec::Vec};
+use core::{ffi::c_char, ptr, str};
+use proved::proved::tool_ranges::meaning;
+use proved::rattle_std::{FalliblePush, FallibleToString};
+use proved::sets::{self, VersionSet};
+use proved::version::{outline_in, Grammar, Outline};
+use proved::{AllocError, Compat, Dialect, Meaning, Op, PreReleases, RangeError, RangeSet};
+
+type Answer<'a, T> = Result<T, Problem<'a>>;
+
+/// Reads the version that is the string of this index.
+fn version(bytes: &[u8], dialect: Dialect, index: usize) -> Answer<'_, Outline<'_>> {
+    outline_in(bytes, dialect.grammar()).ok_or(Problem::Version { bytes, dialect, index })
+}
+
+/// What is asked of the range that is the string of this index.
+fn of_range<T>(
+    bytes: &[u8],
+    dialect: Dialect,
+    index: usize,
+    ask: impl FnOnce(&str) -> Result<T, RangeError>,
+) -> Answer<'_, T> {
+    match str::from_utf8(bytes) {
+        Ok(range) => ask(range).map_err(|error| Problem::Range { error, range, dialect, index }),
+        Err(error) => Err(Problem::NotUtf8 { offset: error.valid_up_to(), index }),
+    }
+}
+
+fn made<'a, T>(value: T) -> Answer<'a, *mut T> {
+    crate::heap::moved(value).ok_or(Problem::Memory)
+}
+
+// ---------------------------------------------------------------- versions, and ranges as strings
+
+pub fn satisfies<'a>(bytes: &'a [u8], range: &'a [u8], options: Options) -> Answer<'a, bool> {
+    let meaning = options.meaning()?;
+    let outline = version(bytes, meaning.dialect, 0)?;
+    of_range(range, meaning.dialect, 1, |range| meaning::meets(meaning, range, &outline))
+}
+
+pub fn check_range(range: &[u8], number: i32) -> Answer<'_, ()> {
+    let meaning = Meaning { dialect: dialect(number)?, pre_releases: PreReleases::Default };
+    of_range(range, meaning.dialect, 0, |range| meaning::check(meaning, range))
+}
+
+pub fn parse_version(bytes: &[u8], number: i32) -> Answer<'_, Version> {
+    let outline = version(bytes, dialect(number)?, 0)?;
+    let (major, minor, patch) = (outline.major(), outline.minor(), outline.patch());
+    let pre = StringView::of(outline.pre_bytes());
+    Ok(Version { major, minor, patch, pre, build: StringView::of(outline.build().as_bytes()) })
+}
+
+pub fn compare_versions<'a>(bytes: &'a [u8], other: &'a [u8], number: i32) -> Answer<'a, i32> {
+    let dialect = dialect(number)?;
+    let outline = version(bytes, dialect, 0)?;
+    Ok(outline.compare(&version(other, dialect, 1)?) as i32)
+}
+
+// ---------------------------------------------------------------- ranges that were read
+
+/// semver_parser_range: what a range means, and by which options.
+pub struct Range {
+    set: VersionSet,
+    meaning: Meaning,
+}
+
+pub fn parse_range(range: &[u8], options: Options) -> Answer<'_, *mut Range> {
+    let meaning = options.meaning()?;
+    let set = of_range(range, meaning.dialect, 0, |range| sets::read(meaning, range))?;
+    made(Range { set, meaning })
+}
+
+impl Range {
+    pub fn options(&self) -> Options {
+        Options::of(self.meaning)
+    }
+
+    pub fn contains<'a>(&self, bytes: &'a [u8], index: usize) -> Answer<'a, bool> {
+        Ok(self.set.has_outline(&version(bytes, self.meaning.dialect, index)?))
+    }
+
+    pub fn is_empty(&self) -> bool {
+        self.set.is_empty()
+    }
+
+    pub fn lowest_version(&self) -> Answer<'_, *mut c_char> {
+        self.set.least()?.map_or(Ok(ptr::null_mut()), printed)
+    }
+
+    pub fn to_string(&self, pre_releases: bool) -> Answer<'_, *mut c_char> {
+        let set = &self.set;
+        printed(if pre_releases { set.pre_release_ranges()? } else { set.release_ranges()? })
+    }
+
+    fn set_beside<'a>(&'a self, other: &'a Range) -> Answer<'a, &'a VersionSet> {
+        if self.meaning == other.meaning { Ok(&self.set) } else { Err(Problem::Argument) }
+    }
+}
+
+/// How many versions are compared at once, beside the one that was found before.
+const AT_ONCE: usize = 32;
+
+/// The index of the highest or lowest version that is in a range. It does not allocate: the one that
+/// was found comes first among the next ones, and what isn't filled is an invalid version.
+pub fn outermost<'a>(
+    range: &Range,
+    strings: Strings<'a>,
+    skip_invalid: bool,
+    which: impl Fn(&VersionSet, &[&[u8]], Grammar) -> Option<usize>,
+) -> Answer<'a, usize> {
+    let (set, dialect) = (&range.set, range.meaning.dialect);
+    if !skip_invalid {
+        strings.all().enumerate().try_for_each(|(at, it)| version(it, dialect, at).map(drop))?;
+    }
+    let count = strings.all().len();
+    let (mut found, mut index): (&[u8], usize) = (b"", count);
+    for begin in (0..count).step_by(AT_ONCE) {
+        let mut compared: [&[u8]; AT_ONCE + 1] = [b""; AT_ONCE + 1];
+        compared[0] = found;
+        let next = strings.all().skip(begin);
+        compared[1..].iter_mut().zip(next).for_each(|(to, version)| *to = version);
+        if let Some(at @ 1..) = which(set, &compared, dialect.grammar()) {
+            (found, index) = (compared[at], begin + at - 1);
+        }
+    }
+    Ok(index)
+}
+
+pub fn combine<'a>(
+    range: &'a Range,
+    other: &'a Range,
+    combined: impl Fn(&VersionSet, &VersionSet) -> Result<VersionSet, AllocError>,
+) -> Answer<'a, *mut Range> {
+    let set = combined(range.set_beside(other)?, &other.set)?;
+    made(Range { set, meaning: range.meaning })
+}
+
+pub fn compare<'a>(
+    range: &'a Range,
+    other: &'a Range,
+    holds: impl Fn(&VersionSet, &VersionSet) -> bool,
+) -> Answer<'a, bool> {
+    Ok(holds(range.set_beside(other)?, &other.set))
+}
+
+pub fn are_disjoint(set: &VersionSet, other: &VersionSet) -> bool {
+    !set.overlaps(other)
+}
+
+// ---------------------------------------------------------------- comparators
+
+/// semver_parser_comparators: ranges, their comparators, and each as it is printed.
+pub struct Comparators {
+    set: RangeSet,
+    listed: Vec<Comparator>,
+    printed: Vec<String>,
+}
+
+pub fn comparators(bytes: &[u8], number: i32, exact: bool) -> Answer<'_, *mut Comparators> {
+    let dialect = dialect(number)?;
+    let set = of_range(bytes, dialect, 0, |range| match dialect {
+        Dialect::CrateCargo if !exact => RangeSet::try_parse(range, Compat::Cargo),
+        Dialect::CrateNpm if !exact => RangeSet::try_parse(range, Compat::Npm),
+        _ => sets::comparators(dialect, range),
+    })?;
+    let mut made_of = Comparators { set, listed: Vec::new(), printed: Vec::new() };
+    made_of.list()?;
+    made(made_of)
+}
+
+impl Comparators {
+    /// A pre-release is what is printed after the first hyphen.
+    fn list(&mut self) -> Result<(), AllocError> {
+        for (range, one) in self.set.ranges.iter().enumerate() {
+            for it in &one.comparator_set {
+                let printed = it.fallible_to_string()?;
+                let pre = printed.split_once('-').map_or("", |(_, pre)| pre);
+                let (op, pre) = (number_of(&it.op), StringView::of(pre.as_bytes()));
+                let (major, minor, patch) = (it.major, it.minor, it.patch);
+                self.listed.fallible_push(Comparator { range, op, major, minor, patch, pre })?;
+                self.printed.fallible_push(printed)?;
+            }
+        }
+        Ok(())
+    }
+
+    pub fn count(&self) -> usize {
+        self.listed.len()
+    }
+
+    pub fn get(&self, index: usize) -> Answer<'_, Comparator> {
+        self.listed.get(index).copied().ok_or(Problem::Argument)
+    }
+
+    pub fn to_string(&self) -> Answer<'_, *mut c_char> {
+        printed(&self.set)
+    }
+}
+
+fn number_of(op: &Op) -> i32 {
+    match op {
+        Op::Lt => 0,
+        Op::Lte => 1,
+        Op::Gt => 2,
+        Op::Gte => 3,
+        Op::Eq => 4,
+    }
+}
