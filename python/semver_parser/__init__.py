@@ -69,8 +69,8 @@ __all__ = [
 _UNPICKLE = "_unpickled_range"
 """The function that pickles name, beside the public classes."""
 
-_MODULES = ("strings", "options", "errors", "versions", "comparators", "ranges")
-_MODULES += ("satisfying", "comparing")
+_MODULES = ["strings", "options", "errors", "versions", "comparators", "ranges", "satisfying"]
+_MODULES += ["comparing"]
 
 
 def __getattr__(name: str) -> object:

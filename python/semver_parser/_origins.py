@@ -1,8 +1,6 @@
-"""What ranges are made of, from which they can be made again."""
+"""What ranges are made of, by which they are pickled."""
 
-from typing import Callable, Dict, List, NamedTuple, Sequence, Tuple, TypeVar, Union
-
-_Made = TypeVar("_Made")
+from typing import Dict, List, NamedTuple, Tuple, Union
 
 Step = Union[str, Tuple[str, int, int]]
 """The string of a range, or an operator and the indices of the two steps that it combines."""
@@ -38,19 +36,3 @@ def steps_to(origin: Origin) -> Tuple[Step, ...]:
         else:
             steps.append((it.operator, indices[id(it.first)], indices[id(it.second)]))
     return tuple(steps)
-
-
-def made_by(
-    steps: Sequence[Step],
-    read: Callable[[str], _Made],
-    combine: Callable[[str, _Made, _Made], _Made],
-) -> _Made:
-    """Returns what the last of some steps makes."""
-    made: List[_Made] = []
-    for step in steps:
-        if isinstance(step, str):
-            made.append(read(step))
-        else:
-            operator, first, second = step
-            made.append(combine(operator, made[first], made[second]))
-    return made[-1]

@@ -9,7 +9,7 @@ from ._errors import RangeError, VersionError
 from ._interface import INVALID_VERSION, OK, CError
 from ._library import LIBRARY, check
 from ._options import AnyDialect, AnyPreReleases, Dialect, PreReleases, dialect_of, pre_releases_of
-from ._origins import Combination, Origin, Step, made_by, steps_to
+from ._origins import Combination, Origin, Step, steps_to
 from ._strings import Printed, String, c_string, c_strings, printed
 from ._versions import AnyVersion, Version, fields_of_printed, string_of
 
@@ -320,11 +320,14 @@ def _unpickled_range(
 ) -> Range:
     """The range of a pickle. Those of each version 1 of the package name this function, with these
     arguments."""
-    return made_by(
-        steps,
-        lambda string: Range(string, dialect=dialect, pre_releases=pre_releases),
-        lambda operator, first, second: first._combined(operator, second),
-    )
+    made: List[Range] = []
+    for step in steps:
+        if isinstance(step, str):
+            made.append(Range(step, dialect=dialect, pre_releases=pre_releases))
+        else:
+            operator, first, second = step
+            made.append(made[first]._combined(operator, made[second]))
+    return made[-1]
 
 
 def _options_text(range: Range) -> str:

@@ -1,5 +1,6 @@
 """The frame of a program: its arguments, what it writes, and its status."""
 
+import io
 import json
 import os
 import signal
@@ -32,7 +33,8 @@ def open_output() -> None:
     sys.stdout = sys.stdout or open(os.devnull, "w")
     sys.stderr = sys.stderr or open(os.devnull, "w")
     for stream in (sys.stdout, sys.stderr):
-        stream.reconfigure(encoding="utf-8", errors="backslashreplace", newline="\n")
+        if isinstance(stream, io.TextIOWrapper):
+            stream.reconfigure(encoding="utf-8", errors="backslashreplace", newline="\n")
 
 
 # ---- a program and its arguments

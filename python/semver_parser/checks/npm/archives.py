@@ -1,7 +1,6 @@
 """The name and the version in the name of a package's archive, as npm's `versionFromTgz` has it."""
 
 import re
-from dataclasses import replace
 from functools import lru_cache
 from typing import NamedTuple, Optional
 
@@ -50,4 +49,4 @@ def without_build(text: str) -> Optional[str]:
         version = Version.parse(text, dialect=Dialect.NPM)
     except VersionError:
         return None
-    return str(replace(version, build=()))
+    return str(Version(version.major, version.minor, version.patch, version.pre))
