@@ -72,20 +72,21 @@ _UNPICKLE = "_unpickled_range"
 _MODULES = ["strings", "options", "errors", "versions", "comparators", "ranges", "satisfying"]
 _MODULES += ["comparing"]
 
+if not TYPE_CHECKING:
 
-def __getattr__(name: str) -> object:
-    """Loads the library and all public names when the first of these is used, so that the programs
-    of `semver_parser.checks` have their help, and their errors, without the library."""
-    if name not in (*__all__, _UNPICKLE):
-        raise AttributeError(f"module {__name__!r} has no attribute {name!r}")
-    for module in _MODULES:
-        defined = vars(import_module(f"{__name__}._{module}"))
-        for public in filter(defined.__contains__, (*__all__, _UNPICKLE)):
-            globals()[public] = it = defined[public]
-            if getattr(it, "__module__", "").startswith(f"{__name__}."):
-                it.__module__ = __name__  # as users, documents and pickles know it
-    return globals()[name]
+    def __getattr__(name):
+        """Loads the library and all public names when the first of these is used, so that the
+        programs of `semver_parser.checks` have their help, and their errors, without the library.
+        """
+        if name not in (*__all__, _UNPICKLE):
+            raise AttributeError(f"module {__name__!r} has no attribute {name!r}")
+        for module in _MODULES:
+            defined = vars(import_module(f"{__name__}._{module}"))
+            for public in filter(defined.__contains__, (*__all__, _UNPICKLE)):
+                globals()[public] = it = defined[public]
+                if getattr(it, "__module__", "").startswith(f"{__name__}."):
+                    it.__module__ = __name__  # as users, documents and pickles know it
+        return globals()[name]
 
-
-def __dir__() -> "list[str]":
-    return [*globals(), *__all__]
+    def __dir__():
+        return [*globals(), *__all__]
