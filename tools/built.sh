@@ -63,9 +63,10 @@ build() {
     fi
     may_build 'the Rust crate'
     may_cargo
+    unset MAKEFLAGS MFLAGS
     flags=$(printf '%s\037' ${RUSTFLAGS-} "--remap-path-prefix=$top=." \
         "--remap-path-prefix=$(rustc --print sysroot)/lib/rustlib/src/rust=/rust")
-    beside env -u RUSTFLAGS -u MAKEFLAGS CARGO_ENCODED_RUSTFLAGS="${flags%?}" cargo build --quiet --release \
+    beside env -u RUSTFLAGS CARGO_ENCODED_RUSTFLAGS="${flags%?}" cargo build --quiet --release \
         --offline --manifest-path "$top/Cargo.toml" --target-dir "$top/out/cargo" "$@" || exit 2
 }
 

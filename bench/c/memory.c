@@ -1,7 +1,7 @@
 /* Finds how much memory the functions that allocate hold at most for each byte of a range, beyond
  * the first 1,000 bytes: on ranges of many forms and lengths, by each dialect and rule. Linked by
  * -Wl,--wrap=malloc,--wrap=realloc,--wrap=free, it counts all that the library allocates. */
-#include "../../crates/semver_parser_c/include/semver_parser.h"
+#include "../../rust/capi/include/semver_parser.h"
 
 #include <stdio.h>
 #include <stdlib.h>
@@ -58,7 +58,7 @@ enum { LONGEST = 132000 };
 
 static char text[LONGEST];
 static semver_parser_string range = {text, 0};
-static semver_parser_set *set;
+static semver_parser_range *set;
 static semver_parser_comparators *list;
 
 static void begin(void) {
@@ -66,10 +66,10 @@ static void begin(void) {
 }
 
 static bool make_set(semver_parser_options options) {
-    semver_parser_set_free(set);
+    semver_parser_range_free(set);
     set = NULL;
     begin();
-    return semver_parser_set_of_range(range, options, &set, NULL) == SEMVER_PARSER_OK;
+    return semver_parser_range_parse(range, options, &set, NULL) == SEMVER_PARSER_OK;
 }
 
 static bool make_list(semver_parser_options options) {
@@ -85,7 +85,7 @@ static bool print_list(semver_parser_options options) {
     if (!make_list(options)) return false;
     begin();
     bool is_ok = semver_parser_comparators_to_string(list, &string) == SEMVER_PARSER_OK;
-    semver_parser_string_free(string);
+    semver_parser_free(string);
     return is_ok;
 }
 
@@ -103,37 +103,20 @@ static bool explain(semver_parser_options options) {
 
 /* Functions of a set, for each byte of the range or ranges that it is of. */
 static bool unite(semver_parser_options options) {
-    semver_parser_set *made = NULL;
+    semver_parser_range *made = NULL;
     if (!make_set(options)) return false;
     begin();
-    bool is_ok = semver_parser_set_union(set, set, &made) == SEMVER_PARSER_OK;
-    semver_parser_set_free(made);
+    bool is_ok = semver_parser_range_union(set, set, &made) == SEMVER_PARSER_OK;
+    semver_parser_range_free(made);
     return is_ok;
-}
-
-static bool equal(semver_parser_options options) {
-    bool is_equal;
-    if (!make_set(options)) return false;
-    begin();
-    return semver_parser_set_equal(set, set, &is_equal) == SEMVER_PARSER_OK;
 }
 
 static bool print_set(semver_parser_options options) {
     char *string = NULL;
     if (!make_set(options)) return false;
     begin();
-    bool is_ok = semver_parser_set_to_string(set, false, &string) == SEMVER_PARSER_OK;
-    semver_parser_string_free(string);
-    return is_ok;
-}
-
-static bool save(semver_parser_options options) {
-    char *bytes = NULL;
-    size_t length;
-    if (!make_set(options)) return false;
-    begin();
-    bool is_ok = semver_parser_set_save(set, &bytes, &length) == SEMVER_PARSER_OK;
-    semver_parser_string_free(bytes);
+    bool is_ok = semver_parser_range_to_string(set, false, &string) == SEMVER_PARSER_OK;
+    semver_parser_free(string);
     return is_ok;
 }
 
@@ -141,10 +124,9 @@ static const struct {
     const char *name;
     bool (*run)(semver_parser_options options);
     int ranges;
-} calls[] = {{"set_of_range", make_set, 1}, {"comparators_of_range", make_list, 1},
+} calls[] = {{"range_parse", make_set, 1}, {"comparators_of_range", make_list, 1},
     {"comparators_to_string", print_list, 1}, {"satisfies, for an error", explain, 1},
-    {"set_union", unite, 2}, {"set_equal", equal, 2}, {"set_to_string", print_set, 1},
-    {"set_save", save, 1}};
+    {"range_union", unite, 2}, {"range_to_string", print_set, 1}};
 
 /* ---- ranges: so many equal terms, and this again and again; # is another number each time */
 
@@ -193,8 +175,8 @@ static char shown[80];
 static void run(size_t call, const char *term, size_t count, size_t often) {
     range.length = length;
     for (int at = 0; at < 12; at++) {
-        semver_parser_options options = {
-            (semver_parser_dialect)(at / 3), (semver_parser_pre_releases)(at % 3)};
+        semver_parser_options options = semver_parser_options_of(at / 3);
+        options.pre_releases = at % 3;
         if (!calls[call].run(options) || most < 1000) continue;
         double found = (double)(most - 1000) / (double)length / calls[call].ranges;
         if (found <= rate) continue;

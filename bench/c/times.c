@@ -1,7 +1,7 @@
-/* Times a set of a range that is asked of 1 to 6 versions, and `semver_parser_satisfies` of each:
+/* Times a range that is read once and asked of 1 to 6 versions, and `semver_parser_satisfies` of each:
  * the best of many passes. */
 #define _POSIX_C_SOURCE 200809L
-#include "../../crates/semver_parser_c/include/semver_parser.h"
+#include "../../rust/capi/include/semver_parser.h"
 
 #include <stdio.h>
 #include <string.h>
@@ -18,18 +18,18 @@ static double now(void) {
     return (double)time.tv_sec * 1e9 + (double)time.tv_nsec;
 }
 
-static const semver_parser_options cargo = {SEMVER_PARSER_CARGO, SEMVER_PARSER_DEFAULT};
+static semver_parser_options cargo;
 static bool answers[MOST];
 
 /* A range that is read once, and one that is read for each version. */
-static bool ask_set(
+static bool ask_range(
     semver_parser_string range, const semver_parser_string *strings, size_t count) {
-    semver_parser_set *set = NULL;
-    bool is_ok = semver_parser_set_of_range(range, cargo, &set, NULL) == SEMVER_PARSER_OK;
+    semver_parser_range *set = NULL;
+    bool is_ok = semver_parser_range_parse(range, cargo, &set, NULL) == SEMVER_PARSER_OK;
     for (size_t i = 0; is_ok && i < count; i++) {
-        is_ok = semver_parser_set_contains(set, strings[i], &answers[i], NULL) == SEMVER_PARSER_OK;
+        is_ok = semver_parser_range_contains(set, strings[i], &answers[i], NULL) == SEMVER_PARSER_OK;
     }
-    semver_parser_set_free(set);
+    semver_parser_range_free(set);
     return is_ok;
 }
 
@@ -63,11 +63,12 @@ static double time_of(asking *ask, const char *range, size_t count) {
 }
 
 int main(void) {
-    static asking *const ways[] = {ask_set, ask_each};
+    cargo = semver_parser_options_of(SEMVER_PARSER_DIALECT_CARGO);
+    static asking *const ways[] = {ask_range, ask_each};
     printf("| ns for so many versions | 1 | 2 | 3 | 4 | 5 | 6 |\n");
     printf("|---|---|---|---|---|---|---|\n");
     for (size_t i = 0; i < 2 * sizeof ranges / sizeof *ranges; i++) {
-        printf("| `%s`, %s |", ranges[i / 2], i % 2 == 0 ? "as a set" : "read for each");
+        printf("| `%s`, %s |", ranges[i / 2], i % 2 == 0 ? "read once" : "read for each");
         for (size_t count = 1; count <= MOST; count++) {
             printf(" %.0f |", time_of(ways[i % 2], ranges[i / 2], count));
         }

@@ -29,10 +29,10 @@ typedef struct {
 } dialect_by_name;
 
 static const dialect_by_name dialects[] = {
-    {"npm", {SEMVER_PARSER_NPM, SEMVER_PARSER_DEFAULT}},
-    {"cargo", {SEMVER_PARSER_CARGO, SEMVER_PARSER_DEFAULT}},
-    {"crate-npm", {SEMVER_PARSER_CRATE_NPM, SEMVER_PARSER_INCLUDED}},
-    {"crate-cargo", {SEMVER_PARSER_CRATE_CARGO, SEMVER_PARSER_INCLUDED}},
+    {"npm", {SEMVER_PARSER_DIALECT_NPM, SEMVER_PARSER_PRE_RELEASES_DEFAULT}},
+    {"cargo", {SEMVER_PARSER_DIALECT_CARGO, SEMVER_PARSER_PRE_RELEASES_DEFAULT}},
+    {"crate-npm", {SEMVER_PARSER_DIALECT_CRATE_NPM, SEMVER_PARSER_PRE_RELEASES_INCLUDED}},
+    {"crate-cargo", {SEMVER_PARSER_DIALECT_CRATE_CARGO, SEMVER_PARSER_PRE_RELEASES_INCLUDED}},
 };
 
 static int output_error(unsigned long number) {

@@ -29,8 +29,8 @@ static void require(bool holds, const char *what, const text *of) {
 }
 
 semver_parser_options options_of(int dialect, int rule) {
-    semver_parser_options made = {
-        (semver_parser_dialect)dialect, (semver_parser_pre_releases)rule};
+    semver_parser_options made = semver_parser_options_of(dialect);
+    made.pre_releases = rule;
     return made;
 }
 
@@ -89,9 +89,9 @@ static void *output(size_t size) {
 /* Copies an output to `to` if the call writes it, and frees it. */
 static void take(void *made, size_t size, bool is_written, void *to, const text *of) {
     require(is_filled((char *)made + size, GUARDS), "a byte after an output", of);
-    if (is_written) {
+    if (is_written && size > 0) {
         memcpy(to, made, size);
-    } else {
+    } else if (!is_written) {
         require(is_filled(made, size), "an output that changes", of);
     }
     free(made);
@@ -99,7 +99,7 @@ static void take(void *made, size_t size, bool is_written, void *to, const text 
 
 /* ---- calls with an error */
 
-typedef enum { PARSE, ORDER, SATISFIES, CONTAINS, SET, COMPARATORS } function;
+typedef enum { PARSE, ORDER, SATISFIES, CONTAINS, CHECK, SET, COMPARATORS } function;
 
 /* A call, and the size of its output. */
 typedef struct {
@@ -109,7 +109,7 @@ typedef struct {
     int dialect;
     int rule;
     bool exact;
-    const semver_parser_set *set;
+    const semver_parser_range *set;
 } call;
 
 static semver_parser_status make(
@@ -121,12 +121,13 @@ static semver_parser_status make(
             strings[0], options.dialect, (semver_parser_version *)out, error);
     case ORDER:
         return semver_parser_compare_versions(
-            strings[0], strings[1], options.dialect, (int *)out, error);
+            strings[0], strings[1], options.dialect, (int32_t *)out, error);
     case SATISFIES:
         return semver_parser_satisfies(strings[0], strings[1], options, (bool *)out, error);
-    case CONTAINS: return semver_parser_set_contains(it->set, strings[0], (bool *)out, error);
+    case CONTAINS: return semver_parser_range_contains(it->set, strings[0], (bool *)out, error);
+    case CHECK: return semver_parser_check_range(strings[0], options.dialect, error);
     case SET:
-        return semver_parser_set_of_range(strings[0], options, (semver_parser_set **)out, error);
+        return semver_parser_range_parse(strings[0], options, (semver_parser_range **)out, error);
     case COMPARATORS: break;
     }
     return semver_parser_comparators_of_range(
@@ -136,34 +137,42 @@ static semver_parser_status make(
 /* What the header says of the fields of an error. */
 static void require_error(const call *it, const outcome *error) {
     const text *of = it->strings[0];
-    int reason = (int)error->reason;
-    bool is_range = error->status == SEMVER_PARSER_INVALID_RANGE;
+    semver_parser_reason reason = error->reason;
+    for (int at = 0; at < 4; at++) {
+        require(error->reserved[at] == 0, "a reserved field that isn't zero", of);
+    }
     if (error->status == SEMVER_PARSER_INVALID_ARGUMENT) {
-        require(error->argument == 0 && error->offset == 0 && reason == 0, "more than known", of);
+        require(error->index == 0 && error->offset == 0 && reason == 0, "more than known", of);
         return;
     }
-    require(error->argument == 0 || (error->argument == 1 && it->strings[1] != NULL),
-            "no such argument", of);
-    require(error->offset <= it->strings[error->argument]->length, "an offset outside", of);
+    require(error->index == 0 || (error->index == 1 && it->strings[1] != NULL), "no such string",
+            of);
+    require(error->offset <= it->strings[error->index]->length, "an offset outside", of);
+    require(reason >= SEMVER_PARSER_REASON_EMPTY && reason <= SEMVER_PARSER_REASON_NPM_TOO_LARGE,
+            "no reason", of);
     switch (error->status) {
     case SEMVER_PARSER_INVALID_VERSION:
-        require(reason >= SEMVER_PARSER_REASON_EMPTY && reason <= SEMVER_PARSER_REASON_TEXT_AFTER,
+        require(reason <= SEMVER_PARSER_REASON_TEXT_AFTER
+                    || reason == SEMVER_PARSER_REASON_NUMBER_EXPECTED
+                    || reason == SEMVER_PARSER_REASON_NPM_TOO_LARGE,
                 "no reason of a version", of);
         break;
     case SEMVER_PARSER_NUMBER_TOO_LARGE:
-        require(reason == SEMVER_PARSER_REASON_LIMIT || reason == SEMVER_PARSER_REASON_NPM_LIMIT,
+        require(reason == SEMVER_PARSER_REASON_TOO_LARGE
+                    || reason == SEMVER_PARSER_REASON_NPM_TOO_LARGE,
                 "no reason of a number", of);
         break;
     default:
-        require(is_range && (reason == 0 || (reason >= SEMVER_PARSER_REASON_NOT_UTF8
-                                             && reason <= SEMVER_PARSER_REASON_CRATE_V)),
+        require(error->status == SEMVER_PARSER_INVALID_RANGE
+                    && reason != SEMVER_PARSER_REASON_TEXT_AFTER
+                    && reason != SEMVER_PARSER_REASON_NPM_TOO_LARGE,
                 "no reason of a range", of);
     }
 }
 
 static void free_made(const call *it, void *made) {
     if (it->which == SET) {
-        semver_parser_set_free(*(semver_parser_set **)made);
+        semver_parser_range_free(*(semver_parser_range **)made);
     } else if (it->which == COMPARATORS) {
         semver_parser_comparators_free(*(semver_parser_comparators **)made);
     }
@@ -185,7 +194,7 @@ static void move_parts(semver_parser_version *parsed, const semver_parser_string
 static outcome call_once(const call *it, semver_parser_string *strings, bool asks, void *to) {
     void *out = output(it->size);
     semver_parser_error *error = (semver_parser_error *)output(sizeof *error);
-    outcome told = {SEMVER_PARSER_OK, 0, 0, SEMVER_PARSER_REASON_NONE};
+    outcome told = no_error;
     semver_parser_status status = make(it, strings, out, asks ? error : NULL);
     bool is_ok = status == SEMVER_PARSER_OK;
     take(out, it->size, is_ok, to, it->strings[0]);
@@ -205,7 +214,7 @@ static outcome call_once(const call *it, semver_parser_string *strings, bool ask
  * them is what is taken. */
 static outcome careful(const call *it, void *to) {
     semver_parser_string blocks[2] = {{NULL, 0}, {NULL, 0}};
-    outcome last = {SEMVER_PARSER_OK, 0, 0, SEMVER_PARSER_REASON_NONE};
+    outcome last = no_error;
     for (int at = 0; at < 2 && it->strings[at] != NULL; at++) {
         blocks[at] = alone(it->strings[at]);
     }
@@ -231,12 +240,17 @@ outcome parse(const text *version, int dialect, semver_parser_version *parsed) {
     return careful(&it, parsed);
 }
 
-outcome order_of(const text *version, const text *other, int dialect, int *order) {
+outcome order_of(const text *version, const text *other, int dialect, int32_t *order) {
     call it = {ORDER, sizeof *order, {version, other}, dialect, 0, false, NULL};
     return careful(&it, order);
 }
 
-outcome set_of(const text *range, int dialect, int rule, semver_parser_set **set) {
+outcome check_range(const text *range, int dialect) {
+    call it = {CHECK, 0, {range, NULL}, dialect, 0, false, NULL};
+    return careful(&it, NULL);
+}
+
+outcome set_of(const text *range, int dialect, int rule, semver_parser_range **set) {
     call it = {SET, sizeof *set, {range, NULL}, dialect, rule, false, NULL};
     return careful(&it, set);
 }
@@ -256,7 +270,7 @@ static bool is_same(const outcome *one, const outcome *other) {
 
 /* A version in an array, alone and between two others: at null, and no version. */
 static void contains_in_array(
-    const semver_parser_set *set, const text *version, const outcome *told, bool contains) {
+    const semver_parser_range *set, const text *version, const outcome *told, bool contains) {
     semver_parser_string own = alone(version);
     semver_parser_string versions[] = {{NULL, 0}, own, {"x", 1}};
     for (int first = 0; first < 2; first++) {
@@ -266,8 +280,8 @@ static void contains_in_array(
             (semver_parser_status *)output(count * sizeof *statuses);
         bool in[3];
         semver_parser_status of[3];
-        semver_parser_status status = semver_parser_set_contains_each(
-            set, versions + first, count, answers, first == 0 ? statuses : NULL, NULL);
+        semver_parser_status status = semver_parser_range_contains_each(
+            set, versions + first, count, answers, first == 0 ? statuses : NULL);
         require(status == SEMVER_PARSER_OK, "no answers of an array", version);
         take(answers, count * sizeof *answers, true, in, version);
         take(statuses, count * sizeof *statuses, first == 0, of, version);
@@ -284,38 +298,41 @@ static void contains_in_array(
 outcome satisfies(const text *version, const text *range, int dialect, int rule, bool *answer) {
     call it = {SATISFIES, sizeof *answer, {version, range}, dialect, rule, false, NULL};
     outcome told = careful(&it, answer);
-    semver_parser_set *set = NULL;
+    semver_parser_range *set = NULL;
     outcome made = set_of(range, dialect, rule, &set);
+    outcome checked = check_range(range, dialect);
+    require(is_same(&checked, &made) || (made.status == SEMVER_PARSER_INVALID_ARGUMENT && rule != 0),
+            "another error of a check", range);
     if (made.status != SEMVER_PARSER_OK) {
-        bool is_of_version = told.status == SEMVER_PARSER_INVALID_VERSION && told.argument == 0;
+        bool is_of_version = told.status == SEMVER_PARSER_INVALID_VERSION && told.index == 0;
         require(is_of_version || is_same(&made, &told), "another error of a set", range);
-        require(is_of_version || told.argument == (made.status != SEMVER_PARSER_INVALID_ARGUMENT),
-                "another argument", range);
+        require(is_of_version || told.index == (made.status != SEMVER_PARSER_INVALID_ARGUMENT),
+                "another index", range);
         return told;
     }
     bool contains = false;
     call ask = {CONTAINS, sizeof contains, {version, NULL}, dialect, rule, false, set};
     outcome has = careful(&ask, &contains);
-    require(is_same(&has, &told) && told.argument == 0, "another error by a set", version);
+    require(is_same(&has, &told) && told.index == 0, "another error by a set", version);
     require(has.status != SEMVER_PARSER_OK || contains == *answer, "another answer by a set",
             version);
     contains_in_array(set, version, &has, contains);
-    semver_parser_options options = semver_parser_set_options(set);
+    semver_parser_options options = semver_parser_range_options(set);
     require((int)options.dialect == dialect && (int)options.pre_releases == rule, "other options",
             range);
-    semver_parser_set_free(set);
+    semver_parser_range_free(set);
     return told;
 }
 
 /* ---- comparators */
 
-const char *operator_text(semver_parser_operator op) {
+const char *operator_text(semver_parser_op op) {
     switch (op) {
-    case SEMVER_PARSER_LESS: return "<";
-    case SEMVER_PARSER_LESS_EQUAL: return "<=";
-    case SEMVER_PARSER_GREATER: return ">";
-    case SEMVER_PARSER_GREATER_EQUAL: return ">=";
-    case SEMVER_PARSER_EQUAL: return "=";
+    case SEMVER_PARSER_OP_LESS: return "<";
+    case SEMVER_PARSER_OP_LESS_EQUAL: return "<=";
+    case SEMVER_PARSER_OP_GREATER: return ">";
+    case SEMVER_PARSER_OP_GREATER_EQUAL: return ">=";
+    case SEMVER_PARSER_OP_EQUAL: return "=";
     }
     return "no operator";
 }
@@ -363,7 +380,7 @@ outcome rewrite(const text *range, int dialect, bool exact, text *printed) {
             range);
     require(strcmp(made, listed.bytes) == 0, "printed otherwise than listed", range);
     text_add(printed, made, strlen(made));
-    semver_parser_string_free(made);
+    semver_parser_free(made);
     semver_parser_comparators_free(list);
     text_free(&listed);
     return told;
@@ -371,23 +388,23 @@ outcome rewrite(const text *range, int dialect, bool exact, text *printed) {
 
 /* ---- sets */
 
-semver_parser_set *made_of(const char *range, int dialect, int rule) {
+semver_parser_range *made_of(const char *range, int dialect, int rule) {
     text of = string(range);
-    semver_parser_set *set = NULL;
+    semver_parser_range *set = NULL;
     require(set_of(&of, dialect, rule, &set).status == SEMVER_PARSER_OK, "no set", &of);
     text_free(&of);
     return set;
 }
 
-semver_parser_set *combined(
-    const semver_parser_set *set, char operation, const semver_parser_set *other) {
+semver_parser_range *combined(
+    const semver_parser_range *set, char operation, const semver_parser_range *other) {
     text none = string("two sets");
-    semver_parser_set *made = NULL;
-    semver_parser_set **out = (semver_parser_set **)output(sizeof made);
+    semver_parser_range *made = NULL;
+    semver_parser_range **out = (semver_parser_range **)output(sizeof made);
     semver_parser_status status =
-        operation == '|'   ? semver_parser_set_union(set, other, out)
-        : operation == '&' ? semver_parser_set_intersection(set, other, out)
-                           : semver_parser_set_difference(set, other, out);
+        operation == '|'   ? semver_parser_range_union(set, other, out)
+        : operation == '&' ? semver_parser_range_intersection(set, other, out)
+                           : semver_parser_range_difference(set, other, out);
     take(out, sizeof made, status == SEMVER_PARSER_OK, &made, &none);
     require((status == SEMVER_PARSER_OK) == (made != NULL), "no set of two", &none);
     text_free(&none);
@@ -401,26 +418,26 @@ static void say_made(text *to, semver_parser_status status, char *made) {
     if (made != NULL) {
         text_add(to, made, strlen(made));
     }
-    semver_parser_string_free(made);
+    semver_parser_free(made);
     text_free(&none);
 }
 
-void say_releases(text *to, const semver_parser_set *set) {
+void say_releases(text *to, const semver_parser_range *set) {
     char *made = NULL;
-    semver_parser_status status = semver_parser_set_to_string(set, false, &made);
+    semver_parser_status status = semver_parser_range_to_string(set, false, &made);
     say_made(to, status, made);
 }
 
-void say_pre_releases(text *to, const semver_parser_set *set) {
+void say_pre_releases(text *to, const semver_parser_range *set) {
     char *made = NULL;
-    semver_parser_status status = semver_parser_set_to_string(set, true, &made);
+    semver_parser_status status = semver_parser_range_to_string(set, true, &made);
     say_made(to, status, made);
 }
 
-void say_lowest(text *to, const semver_parser_set *set) {
+void say_lowest(text *to, const semver_parser_range *set) {
     char *made = NULL;
-    semver_parser_status status = semver_parser_set_lowest_version(set, &made);
-    check((made == NULL) == semver_parser_set_is_empty(set), "a lowest version of none", "a set");
+    semver_parser_status status = semver_parser_range_lowest_version(set, &made);
+    check((made == NULL) == semver_parser_range_is_empty(set), "a lowest version of none", "a set");
     check(made == NULL || *made != 0, "an empty lowest version", "a set");
     say_made(to, status, made);
 }

@@ -5,22 +5,22 @@
 #ifndef CALLS_H
 #define CALLS_H
 
-#include "../../crates/semver_parser_c/include/semver_parser.h"
+#include "../../rust/capi/include/semver_parser.h"
 #include "texts.h"
 
 /* The numbers of the header, by short names. Functions below take dialects and rules as numbers, so
  * that they may be others, too. */
 enum {
-    CARGO = SEMVER_PARSER_CARGO,
-    NPM = SEMVER_PARSER_NPM,
-    CRATE_CARGO = SEMVER_PARSER_CRATE_CARGO,
-    CRATE_NPM = SEMVER_PARSER_CRATE_NPM,
+    CARGO = SEMVER_PARSER_DIALECT_CARGO,
+    NPM = SEMVER_PARSER_DIALECT_NPM,
+    CRATE_CARGO = SEMVER_PARSER_DIALECT_CRATE_CARGO,
+    CRATE_NPM = SEMVER_PARSER_DIALECT_CRATE_NPM,
     DIALECTS = 4
 };
 enum {
-    DEFAULT = SEMVER_PARSER_DEFAULT,
-    INCLUDED = SEMVER_PARSER_INCLUDED,
-    EXCLUDED = SEMVER_PARSER_EXCLUDED,
+    DEFAULT = SEMVER_PARSER_PRE_RELEASES_DEFAULT,
+    INCLUDED = SEMVER_PARSER_PRE_RELEASES_INCLUDED,
+    EXCLUDED = SEMVER_PARSER_PRE_RELEASES_EXCLUDED,
     RULES = 3
 };
 enum {
@@ -29,7 +29,8 @@ enum {
     NUMBER_TOO_LARGE = SEMVER_PARSER_NUMBER_TOO_LARGE,
     INVALID_VERSION = SEMVER_PARSER_INVALID_VERSION,
     OUT_OF_MEMORY = SEMVER_PARSER_OUT_OF_MEMORY,
-    INVALID_ARGUMENT = SEMVER_PARSER_INVALID_ARGUMENT
+    INVALID_ARGUMENT = SEMVER_PARSER_INVALID_ARGUMENT,
+    STATUSES = INVALID_ARGUMENT + 1
 };
 
 /* Counts and prints what isn't as it should be, in which case `finish` returns 1. */
@@ -45,32 +46,34 @@ text repeated(const char *front, const char *unit, int count, const char *end);
 
 /* A status, and what `error` says of it. After OK the rest is 0. */
 typedef semver_parser_error outcome;
+static const outcome no_error = {SEMVER_PARSER_OK, SEMVER_PARSER_REASON_NONE, 0, 0, {0, 0, 0, 0}};
 
 /* The functions of these names. What is written is valid after OK. */
 outcome parse(const text *version, int dialect, semver_parser_version *parsed);
-outcome order_of(const text *version, const text *other, int dialect, int *order);
-outcome set_of(const text *range, int dialect, int rule, semver_parser_set **set);
+outcome order_of(const text *version, const text *other, int dialect, int32_t *order);
+outcome set_of(const text *range, int dialect, int rule, semver_parser_range **set);
+outcome check_range(const text *range, int dialect);
 outcome comparators_of(
     const text *range, int dialect, bool exact, semver_parser_comparators **comparators);
 
-/* Whether a version satisfies a range: by semver_parser_satisfies, and by a set alone and in an
- * array, which have to agree. */
+/* Whether a version satisfies a range: by semver_parser_satisfies, and by a range that was read,
+ * alone and in an array, which have to agree. */
 outcome satisfies(const text *version, const text *range, int dialect, int rule, bool *answer);
 
 /* Appends a range, rewritten. What is printed has to be what the list has. */
 outcome rewrite(const text *range, int dialect, bool exact, text *printed);
 
 /* The set of a range that is one, and one made of two sets. */
-semver_parser_set *made_of(const char *range, int dialect, int rule);
-semver_parser_set *combined(const semver_parser_set *set, char operation,
-                            const semver_parser_set *other);
+semver_parser_range *made_of(const char *range, int dialect, int rule);
+semver_parser_range *combined(const semver_parser_range *set, char operation,
+                            const semver_parser_range *other);
 
 /* Appends what is printed of a set, and checks that the library ends it by a zero byte. */
-void say_releases(text *to, const semver_parser_set *set);
-void say_pre_releases(text *to, const semver_parser_set *set);
-void say_lowest(text *to, const semver_parser_set *set);
+void say_releases(text *to, const semver_parser_range *set);
+void say_pre_releases(text *to, const semver_parser_range *set);
+void say_lowest(text *to, const semver_parser_range *set);
 
 /* The operator of a comparator, as it is printed. */
-const char *operator_text(semver_parser_operator op);
+const char *operator_text(semver_parser_op op);
 
 #endif

@@ -1,12 +1,12 @@
 /* Errors: each status and each reason is returned for some string, with its offset, and has a text
- * of its own. What is expected is in docs/GRAMMAR.md and in rows of crates/replayed_cases. */
+ * and a name of its own; and their sentences. What is expected is in docs/GRAMMAR.md and in rows of crates/replayed_cases. */
 #include "calls.h"
 
 #include <stdio.h>
 #include <string.h>
 
 #define REASON(name) SEMVER_PARSER_REASON_##name
-enum { REASONS = SEMVER_PARSER_REASON_NPM_LIMIT + 1, STATUSES = INVALID_ARGUMENT + 1 };
+enum { REASONS = SEMVER_PARSER_REASON_NPM_TOO_LARGE + 1 };
 
 static bool is_status_seen[STATUSES];
 static bool is_reason_seen[REASONS];
@@ -22,8 +22,9 @@ static const struct {
     {NPM, "  ", 2, REASON(EMPTY)},
     {CRATE_NPM, "", 0, REASON(EMPTY)},
     {CARGO, "1.2", 3, REASON(NOT_THREE_NUMBERS)},
-    {NPM, "v", 1, REASON(NOT_THREE_NUMBERS)},
-    {CRATE_CARGO, "1..3", 2, REASON(NOT_THREE_NUMBERS)},
+    {NPM, "v", 1, REASON(NUMBER_EXPECTED)},
+    {CARGO, "1..3", 2, REASON(NUMBER_EXPECTED)},
+    {CRATE_CARGO, " 1.2", 4, REASON(NOT_THREE_NUMBERS)},
     {CARGO, "1.2.03", 5, REASON(LEADING_ZERO)},
     {CARGO, "1.2.3-a.007 ", 11, REASON(LEADING_ZERO)},
     {CARGO, "1.2.3-", 6, REASON(EMPTY_IDENTIFIER)},
@@ -33,7 +34,7 @@ static const struct {
     {CARGO, "1.2.3-\xC3\xA9", 6, REASON(UNEXPECTED_CHARACTER)},
     {CRATE_CARGO, "1.2.3\xFF", 5, REASON(UNEXPECTED_CHARACTER)},
     {CARGO, "18446744073709551616.0.0", 19, REASON(TOO_LARGE)},
-    {NPM, "9007199254740992.0.0", 15, REASON(TOO_LARGE)},
+    {NPM, "9007199254740992.0.0", 15, REASON(NPM_TOO_LARGE)},
     {CARGO, "1.2.3 x", 5, REASON(TEXT_AFTER)},
     {NPM, "1.2.3 x", 6, REASON(TEXT_AFTER)},
 };
@@ -45,12 +46,16 @@ static const struct {
     size_t offset;
     semver_parser_reason reason;
 } ranges[] = {
-    {CARGO, "^", 1, REASON(NONE)},
-    {NPM, "1.2.3 ^", 7, REASON(NONE)},
+    {CARGO, "", 0, REASON(EMPTY)},
+    {CARGO, ">=", 2, REASON(NUMBER_EXPECTED)},
+    {NPM, "1 - ", 4, REASON(NUMBER_EXPECTED)},
+    {NPM, "|", 1, REASON(UNEXPECTED_END)},
+    {CRATE_NPM, "1v", 1, REASON(UNEXPECTED_CHARACTER)},
+    {CARGO, "1.2.3-a..b", 8, REASON(EMPTY_IDENTIFIER)},
     {CARGO, "1.2.3\xE2\x82", 5, REASON(NOT_UTF8)},
     {NPM, "\xFF", 0, REASON(NOT_UTF8)},
-    {CARGO, "1.2.3-01", 8, REASON(RANGE_LEADING_ZERO)},
-    {CARGO, "1.2-a", 3, REASON(RANGE_NOT_THREE_NUMBERS)},
+    {CARGO, "1.2.3-01", 8, REASON(LEADING_ZERO)},
+    {CARGO, "1.2-a", 3, REASON(NOT_THREE_NUMBERS)},
     {CARGO, ">=1.2.3 <2", 8, REASON(CARGO_COMMAS)},
     {CARGO, "1, *", 3, REASON(CARGO_WILDCARD)},
     {CARGO, "1 || 2", 2, REASON(CARGO_BARS)},
@@ -59,14 +64,14 @@ static const struct {
     {NPM, ">=1.2.3, <2", 7, REASON(NPM_COMMA)},
     {CRATE_CARGO, "1.2.3,", 5, REASON(CRATE_COMMA)},
     {CRATE_NPM, "v1.2.3", 0, REASON(CRATE_V)},
-    {CARGO, "=18446744073709551616", 21, REASON(LIMIT)},
-    {CRATE_NPM, "=18446744073709551616", 21, REASON(LIMIT)},
-    {NPM, "1 || =1.2.9007199254740992", 26, REASON(NPM_LIMIT)},
+    {CARGO, "=18446744073709551616", 21, REASON(TOO_LARGE)},
+    {CRATE_NPM, "=18446744073709551616", 21, REASON(TOO_LARGE)},
+    {NPM, "1 || =1.2.9007199254740992", 26, REASON(NPM_TOO_LARGE)},
 };
 
-static void is_error(outcome told, int status, int argument, size_t offset,
+static void is_error(outcome told, int status, size_t index, size_t offset,
                      semver_parser_reason reason, const char *of) {
-    check((int)told.status == status && told.argument == argument, "another error", of);
+    check((int)told.status == status && told.index == index, "another error", of);
     check(told.offset == offset, "another offset", of);
     check(told.reason == reason, "another reason", of);
     is_status_seen[status] = true;
@@ -81,7 +86,7 @@ static void version_error_is(int dialect, const char *bytes, size_t offset,
     text other = string("1.0.0");
     semver_parser_version parsed;
     bool answer = false;
-    int order = 0;
+    int32_t order = 0;
     is_error(parse(&version, dialect, &parsed), INVALID_VERSION, 0, offset, reason, bytes);
     is_error(satisfies(&version, &range, dialect, DEFAULT, &answer), INVALID_VERSION, 0, offset,
              reason, bytes);
@@ -98,13 +103,15 @@ static void range_error_is(int dialect, const char *bytes, size_t offset,
                            semver_parser_reason reason) {
     text range = string(bytes);
     text version = string("1.0.0");
-    int status = reason >= REASON(LIMIT) ? NUMBER_TOO_LARGE : INVALID_RANGE;
+    bool is_large = reason == REASON(TOO_LARGE) || reason == REASON(NPM_TOO_LARGE);
+    int status = is_large ? NUMBER_TOO_LARGE : INVALID_RANGE;
     semver_parser_comparators *list = NULL;
-    semver_parser_set *set = NULL;
+    semver_parser_range *set = NULL;
     bool answer = false;
     is_error(satisfies(&version, &range, dialect, DEFAULT, &answer), status, 1, offset, reason,
              bytes);
     is_error(set_of(&range, dialect, INCLUDED, &set), status, 0, offset, reason, bytes);
+    is_error(check_range(&range, dialect), status, 0, offset, reason, bytes);
     is_error(comparators_of(&range, dialect, true, &list), status, 0, offset, reason, bytes);
     text_free(&range);
     text_free(&version);
@@ -122,7 +129,7 @@ static void strings(void) {
     text long_range = repeated("^1.2.3-", "a", 251, "");
     text long_zero = repeated("1.2.3-", "a", 3000, ".00");
     version_error_is(NPM, long_version.bytes, 256, REASON(TOO_LONG));
-    range_error_is(NPM, long_range.bytes, 257, REASON(NPM_LENGTH));
+    range_error_is(NPM, long_range.bytes, 257, REASON(TOO_LONG));
     version_error_is(CARGO, long_zero.bytes, long_zero.length, REASON(LEADING_ZERO));
     text_free(&long_version);
     text_free(&long_range);
@@ -136,7 +143,7 @@ static void strings(void) {
     text_free(&version);
 }
 
-/* An index that is too large, and bytes that are no set. */
+/* An index that is too large, and reserved fields that aren't zero. */
 static void arguments(void) {
     text range = string("^1.2");
     semver_parser_comparators *list = NULL;
@@ -150,34 +157,159 @@ static void arguments(void) {
     }
     semver_parser_comparators_free(list);
     text_free(&range);
+    for (int at = 0; at < 6; at++) {
+        semver_parser_options options = options_of(NPM, DEFAULT);
+        semver_parser_error error;
+        semver_parser_range *made = NULL;
+        bool answer = true;
+        options.reserved[at] = at % 2 == 0 ? 1 : INT32_MIN;
+        check(semver_parser_satisfies(semver_parser_str("1"), semver_parser_str("^1 ^"), options,
+                                      &answer, &error)
+                      == SEMVER_PARSER_INVALID_ARGUMENT
+                  && answer && error.status == SEMVER_PARSER_INVALID_ARGUMENT && error.offset == 0,
+              "a reserved field is ignored", "satisfies");
+        check(semver_parser_range_parse(semver_parser_str("^1"), options, &made, &error)
+                      == SEMVER_PARSER_INVALID_ARGUMENT
+                  && made == NULL,
+              "a reserved field is ignored", "range_parse");
+    }
 }
 
-/* Texts are phrases of one line, each of its own. tests/c/refused.c has OUT_OF_MEMORY returned. */
-static void texts(void) {
-    const char *no_status = semver_parser_status_text((semver_parser_status)STATUSES);
-    const char *no_reason = semver_parser_reason_text((semver_parser_reason)REASONS);
-    is_status_seen[OUT_OF_MEMORY] = true;
-    check(*no_status != 0 && *no_reason != 0, "no text for another number", "");
-    check(*semver_parser_reason_text(REASON(NONE)) == 0, "a text of no reason", "");
-    for (int status = 0; status < STATUSES; status++) {
-        const char *told = semver_parser_status_text((semver_parser_status)status);
-        check(is_status_seen[status], "a status that isn't returned", told);
-        check(*told != 0 && strchr(told, '\n') == NULL, "no phrase", told);
-        check(strcmp(told, no_status) != 0, "no text", told);
-        for (int other = 0; other < status; other++) {
-            check(strcmp(told, semver_parser_status_text((semver_parser_status)other)) != 0,
-                  "a text of two statuses", told);
+/* Texts and names: one for each number, each another, in one line; of other numbers null. */
+typedef const char *texts_of(int32_t number);
+
+static void texts(texts_of *text, int32_t count, const char *kind) {
+    static const int32_t others[] = {-1, INT32_MIN, INT32_MAX};
+    check(text(count) == NULL, "a text of no number", kind);
+    for (int at = 0; at < 3; at++) {
+        check(text(others[at]) == NULL, "a text of no number", kind);
+    }
+    for (int32_t number = 0; number < count; number++) {
+        const char *told = text(number);
+        check(told != NULL && *told != 0 && strchr(told, '\n') == NULL, "no text", kind);
+        for (int32_t other = 0; other < number && told != NULL; other++) {
+            check(strcmp(told, text(other)) != 0, "a text of two numbers", told);
         }
+    }
+}
+
+/* Names, which are those of README's options and of the table of cases. */
+static void names(void) {
+    static const char *const dialects[] = {"cargo", "npm", "crate-cargo", "crate-npm"};
+    static const char *const of_rules[] = {"default", "included", "excluded"};
+    for (int at = 0; at < DIALECTS; at++) {
+        check(strcmp(semver_parser_dialect_name(at), dialects[at]) == 0, "another name",
+              dialects[at]);
+    }
+    for (int at = 0; at < RULES; at++) {
+        check(strcmp(semver_parser_pre_releases_name(at), of_rules[at]) == 0, "another name",
+              of_rules[at]);
+    }
+    check(strcmp(semver_parser_reason_name(REASON(LEADING_ZERO)), "leading-zero") == 0
+              && strcmp(semver_parser_reason_name(REASON(NOT_UTF8)), "not-utf8") == 0
+              && strcmp(semver_parser_reason_text(REASON(CARGO_BARS)), "Cargo takes no ||; npm does")
+                     == 0,
+          "another name of a reason", "leading-zero");
+}
+
+/* tests/c/refused.c has OUT_OF_MEMORY returned. */
+static void all_are_returned(void) {
+    is_status_seen[OUT_OF_MEMORY] = true;
+    for (int status = 0; status < STATUSES; status++) {
+        check(is_status_seen[status], "a status that isn't returned",
+              semver_parser_status_text(status));
     }
     for (int reason = 0; reason < REASONS; reason++) {
-        const char *told = semver_parser_reason_text((semver_parser_reason)reason);
-        check(is_reason_seen[reason], "a reason that isn't returned", told);
-        check(strchr(told, '\n') == NULL && strcmp(told, no_reason) != 0, "no text", told);
-        for (int other = 0; other < reason; other++) {
-            check(strcmp(told, semver_parser_reason_text((semver_parser_reason)other)) != 0,
-                  "a text of two reasons", told);
-        }
+        check(is_reason_seen[reason], "a reason that isn't returned",
+              semver_parser_reason_text(reason));
     }
+}
+
+/* ---- the sentence of an error */
+
+static void message_of(const semver_parser_error *error, const text *of, bool caret,
+                       const char *wanted) {
+    semver_parser_string string_of_error = {of->bytes, of->length};
+    char *made = NULL;
+    check(semver_parser_error_message(error, string_of_error, caret, &made) == SEMVER_PARSER_OK
+              && made != NULL,
+          "no message", wanted);
+    check(made != NULL && strcmp(made, wanted) == 0, "another message", made);
+    semver_parser_free(made);
+}
+
+/* A range, and its message with a caret; without one it is the first line alone. */
+static const struct {
+    int dialect;
+    const char *range;
+    const char *message;
+} messages[] = {
+    {CARGO, "1 || 2",
+     "invalid range \"1 || 2\", at byte 2: Cargo takes no ||; npm does\n"
+     "    1 || 2\n"
+     "      ^"},
+    {CARGO, ">=",
+     "invalid range \">=\", at byte 2: a number is expected\n"
+     "    >=\n"
+     "      ^"},
+    /* Quotes and control characters are escaped, and are one column in the second line. */
+    {NPM, "1\t\"",
+     "invalid range \"1\\t\\\"\", at byte 2: unexpected character\n"
+     "    1\xEF\xBF\xBD\"\n"
+     "      ^"},
+    {CARGO, "\xC3\xA9",
+     "invalid range \"\xC3\xA9\", at byte 0: unexpected character\n"
+     "    \xC3\xA9\n"
+     "    ^"},
+    {CARGO, "1.2.\xFF",
+     "invalid range \"1.2.\xEF\xBF\xBD\", at byte 4: the string isn't UTF-8\n"
+     "    1.2.\xEF\xBF\xBD\n"
+     "        ^"},
+    {CARGO, "^18446744073709551616",
+     "number too large in range \"^18446744073709551616\", at byte 21: numbers and raised bounds "
+     "are at most 2^64 - 1\n"
+     "    ^18446744073709551616\n"
+     "                         ^"},
+    /* Of a long string 32 bytes before the offset and after it. */
+    {NPM, "1.0.0 || 2.0.0 || 3.0.0 || 4.0.0 || 5.0.0, 6 || 7.0.0 || 8.0.0 || 9.0.0 || 10.0.0",
+     "invalid range ...\"2.0.0 || 3.0.0 || 4.0.0 || 5.0.0, 6 || 7.0.0 || 8.0.0 || 9.0.0 |\"..., at "
+     "byte 41: npm separates comparators by spaces; Cargo takes commas\n"
+     "    ...2.0.0 || 3.0.0 || 4.0.0 || 5.0.0, 6 || 7.0.0 || 8.0.0 || 9.0.0 |...\n"
+     "                                       ^"},
+};
+
+static void messages_of_ranges(void) {
+    for (size_t at = 0; at < sizeof messages / sizeof *messages; at++) {
+        text range = string(messages[at].range);
+        outcome told = check_range(&range, messages[at].dialect);
+        text first = string_of(messages[at].message, strcspn(messages[at].message, "\n"));
+        message_of(&told, &range, true, messages[at].message);
+        message_of(&told, &range, false, first.bytes);
+        text_free(&first);
+        text_free(&range);
+    }
+}
+
+static void other_messages(void) {
+    text version = string("1.2.03");
+    text empty = string("");
+    semver_parser_version parsed;
+    semver_parser_error error = parse(&version, CARGO, &parsed);
+    message_of(&error, &version, false,
+               "invalid version \"1.2.03\", at byte 5: a number or an identifier of digits has no "
+               "leading zero");
+    /* Another string than that of the error: the offset is beyond its end. */
+    message_of(&error, &empty, true,
+               "invalid version \"\", at byte 5: a number or an identifier of digits has no leading "
+               "zero\n    \n    ^");
+    error = no_error;
+    message_of(&error, &version, true, "no error");
+    error.status = SEMVER_PARSER_OUT_OF_MEMORY;
+    message_of(&error, &version, true, "out of memory");
+    error.status = SEMVER_PARSER_INVALID_ARGUMENT;
+    message_of(&error, &version, false, "invalid argument");
+    text_free(&version);
+    text_free(&empty);
 }
 
 static void library_version(void) {
@@ -185,14 +317,23 @@ static void library_version(void) {
           "");
     check(semver_parser_library_version_number()
               == SEMVER_PARSER_VERSION_MAJOR * 1000000 + SEMVER_PARSER_VERSION_MINOR * 1000
-                     + SEMVER_PARSER_VERSION_PATCH,
+                     + SEMVER_PARSER_VERSION_PATCH
+              && semver_parser_library_version_number() == SEMVER_PARSER_VERSION_NUMBER,
           "another number of the version", "");
 }
 
 int main(void) {
     strings();
     arguments();
-    texts();
+    all_are_returned();
+    texts(semver_parser_status_text, STATUSES, "a status");
+    texts(semver_parser_reason_text, REASONS, "a reason");
+    texts(semver_parser_reason_name, REASONS, "the name of a reason");
+    texts(semver_parser_dialect_name, DIALECTS, "a dialect");
+    texts(semver_parser_pre_releases_name, RULES, "a rule");
+    names();
+    messages_of_ranges();
+    other_messages();
     library_version();
     return finish("errors");
 }

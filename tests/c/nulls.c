@@ -1,8 +1,8 @@
 /* A null pointer with a length above 0 for each string and array: it isn't taken for an empty one,
  * so the call ends by a fault at null, and no variable of the program changes. Each call is made in
- * a child. And arrays that are larger than any block, which are out of memory. */
+ * a child. */
 #define _POSIX_C_SOURCE 200809L
-#include "../../crates/semver_parser_c/include/semver_parser.h"
+#include "../../rust/capi/include/semver_parser.h"
 
 #include <signal.h>
 #include <stdio.h>
@@ -23,7 +23,7 @@ static void check(bool holds, const char *what, const char *of) {
 /* ---- the calls, each by these options, with a set and a list of them */
 
 static semver_parser_options options;
-static semver_parser_set *set;
+static semver_parser_range *set;
 static const semver_parser_string at_null = {NULL, 5};
 static semver_parser_status status;
 static bool answer;
@@ -42,52 +42,60 @@ static void parsed_version(void) {
 }
 
 static void compared_version(void) {
-    int order;
+    int32_t order;
     status = semver_parser_compare_versions(
         at_null, semver_parser_str("1.2.3"), options.dialect, &order, NULL);
 }
 
 static void other_version(void) {
-    int order;
+    int32_t order;
     status = semver_parser_compare_versions(
         semver_parser_str("1.2.3"), at_null, options.dialect, &order, NULL);
 }
 
 static void range_of_set(void) {
-    semver_parser_set *made;
-    status = semver_parser_set_of_range(at_null, options, &made, NULL);
+    semver_parser_range *made;
+    status = semver_parser_range_parse(at_null, options, &made, NULL);
 }
 
 static void contained_version(void) {
-    status = semver_parser_set_contains(set, at_null, &answer, NULL);
+    status = semver_parser_range_contains(set, at_null, &answer, NULL);
 }
 
 static void array_of_versions(void) {
-    status = semver_parser_set_contains_each(set, NULL, 1, &answer, NULL, NULL);
+    status = semver_parser_range_contains_each(set, NULL, 1, &answer, NULL);
 }
 
 static void version_in_array(void) {
-    status = semver_parser_set_contains_each(set, &at_null, 1, &answer, NULL, NULL);
+    status = semver_parser_range_contains_each(set, &at_null, 1, &answer, NULL);
 }
 
 static void answers_of_array(void) {
     const semver_parser_string version = semver_parser_str("1.2.3");
-    status = semver_parser_set_contains_each(set, &version, 1, NULL, NULL, NULL);
+    status = semver_parser_range_contains_each(set, &version, 1, NULL, NULL);
 }
 
 static void array_of_highest(void) {
     size_t index;
-    status = semver_parser_set_highest(set, NULL, 1, &index, NULL);
+    status = semver_parser_range_highest_of(set, NULL, 1, true, &index, NULL);
 }
 
 static void version_of_lowest(void) {
     size_t index;
-    status = semver_parser_set_lowest(set, &at_null, 1, &index, NULL);
+    status = semver_parser_range_lowest_of(set, &at_null, 1, false, &index, NULL);
 }
 
-static void saved_bytes(void) {
-    semver_parser_set *made;
-    status = semver_parser_set_load(NULL, 24, &made);
+static void checked_range(void) {
+    status = semver_parser_check_range(at_null, options.dialect, NULL);
+}
+
+static void string_of_message(void) {
+    semver_parser_error error;
+    char *message;
+    memset(&error, 0, sizeof error);
+    error.status = SEMVER_PARSER_INVALID_RANGE;
+    error.reason = SEMVER_PARSER_REASON_EMPTY;
+    status = semver_parser_error_message(&error, at_null, true, &message);
 }
 
 static void range_of_comparators(void) {
@@ -110,7 +118,8 @@ static const struct {
              {answers_of_array, "the answers of an array"},
              {array_of_highest, "an array, for the highest"},
              {version_of_lowest, "a version in an array, for the lowest"},
-             {saved_bytes, "the bytes of a set"},
+             {checked_range, "a range that is checked"},
+             {string_of_message, "the string of a message"},
              {range_of_comparators, "the range of comparators"}};
 
 /* ---- in a child */
@@ -173,42 +182,17 @@ static void ends_at_null(void (*call)(void), const char *what) {
     check(code == FAULT_AT_NULL, "no fault at null", what);
 }
 
-/* ---- more strings than any block has room for */
-
-static void is_out_of_memory(semver_parser_status told, const semver_parser_error *error) {
-    check(told == SEMVER_PARSER_OUT_OF_MEMORY && error->status == told && error->offset == 0
-              && error->argument == 0 && error->reason == SEMVER_PARSER_REASON_NONE,
-          "another error of too many versions", "");
-}
-
-static void too_many(void) {
-    const semver_parser_string version = {NULL, 0};
-    const size_t least = (SIZE_MAX - 1) / sizeof version + 1;
-    for (size_t count = least; count < least + 3; count++) {
-        semver_parser_error error;
-        semver_parser_status of = SEMVER_PARSER_OK;
-        size_t index = 77;
-        bool contains = true;
-        is_out_of_memory(
-            semver_parser_set_contains_each(set, &version, count, &contains, &of, &error), &error);
-        is_out_of_memory(semver_parser_set_highest(set, &version, count, &index, &error), &error);
-        is_out_of_memory(semver_parser_set_lowest(set, &version, count, &index, &error), &error);
-        check(contains && of == SEMVER_PARSER_OK && index == 77, "an output at an error", "");
-    }
-}
-
 int main(void) {
     sum_before = (uint64_t *)malloc(sizeof *sum_before);
     check(sum_before != NULL, "no memory", "");
-    for (int dialect = SEMVER_PARSER_CARGO; dialect <= SEMVER_PARSER_CRATE_NPM; dialect++) {
-        options.dialect = (semver_parser_dialect)dialect;
-        status = semver_parser_set_of_range(semver_parser_str("^1.2"), options, &set, NULL);
+    for (int dialect = SEMVER_PARSER_DIALECT_CARGO; dialect <= SEMVER_PARSER_DIALECT_CRATE_NPM; dialect++) {
+        options.dialect = dialect;
+        status = semver_parser_range_parse(semver_parser_str("^1.2"), options, &set, NULL);
         check(status == SEMVER_PARSER_OK, "no set", "^1.2");
         for (size_t at = 0; at < sizeof calls / sizeof *calls; at++) {
             ends_at_null(calls[at].call, calls[at].what);
         }
-        too_many();
-        semver_parser_set_free(set);
+        semver_parser_range_free(set);
     }
     free(sum_before);
     printf("nulls: %s\n", failed == 0 ? "passed" : "failed");

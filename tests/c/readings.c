@@ -90,7 +90,7 @@ static void version_is(int dialect, const text *of, int status, const uint64_t *
 static void order_is(int dialect, const char *bytes, const char *other_bytes, int wanted) {
     text version = string(bytes);
     text other = string(other_bytes);
-    int order = 7;
+    int32_t order = 7;
     check(order_of(&version, &other, dialect, &order).status == SEMVER_PARSER_OK
               && order == wanted,
           "another order", bytes);
@@ -104,7 +104,7 @@ static void order_is(int dialect, const char *bytes, const char *other_bytes, in
 /* The error of the first of two invalid versions comes first. */
 static void order_error_is(int dialect, const text *invalid) {
     text version = string("1.2.3-rc.1+b");
-    int order;
+    int32_t order;
     semver_parser_version parsed;
     outcome alone = parse(invalid, dialect, &parsed);
     outcome first = order_of(invalid, &version, dialect, &order);
@@ -113,7 +113,7 @@ static void order_error_is(int dialect, const text *invalid) {
     const outcome *all[] = {&first, &second, &both};
     for (int at = 0; at < 3; at++) {
         check(all[at]->status == SEMVER_PARSER_INVALID_VERSION
-                  && all[at]->argument == (at == 1) && all[at]->offset == alone.offset
+                  && all[at]->index == (size_t)(at == 1) && all[at]->offset == alone.offset
                   && all[at]->reason == alone.reason,
               "another error of an order", invalid->bytes);
     }
@@ -387,7 +387,7 @@ static void long_identifiers(void) {
 
 typedef struct {
     size_t range;
-    semver_parser_operator op;
+    semver_parser_op op;
     uint64_t numbers[3];
     const char *pre;
 } wanted_comparator;
@@ -417,30 +417,30 @@ static void comparators_are(int dialect, bool exact, const char *bytes,
 }
 
 static void comparators(void) {
-    static const wanted_comparator two_ranges[] = {{0, SEMVER_PARSER_GREATER_EQUAL, {1, 2, 0}, ""},
-                                                   {0, SEMVER_PARSER_LESS, {2, 0, 0}, "0"},
-                                                   {1, SEMVER_PARSER_GREATER_EQUAL, {3, 0, 0}, ""},
-                                                   {1, SEMVER_PARSER_LESS, {4, 0, 0}, "0"}};
+    static const wanted_comparator two_ranges[] = {{0, SEMVER_PARSER_OP_GREATER_EQUAL, {1, 2, 0}, ""},
+                                                   {0, SEMVER_PARSER_OP_LESS, {2, 0, 0}, "0"},
+                                                   {1, SEMVER_PARSER_OP_GREATER_EQUAL, {3, 0, 0}, ""},
+                                                   {1, SEMVER_PARSER_OP_LESS, {4, 0, 0}, "0"}};
     comparators_are(CRATE_NPM, true, "^1.2 || 3.x", two_ranges, 4);
     comparators_are(NPM, false, "^1.2 || 3.x", two_ranges, 4);
-    static const wanted_comparator three[] = {{0, SEMVER_PARSER_GREATER_EQUAL, {1, 2, 3}, "rc.1"},
-                                              {0, SEMVER_PARSER_LESS, {2, 0, 0}, "0"},
-                                              {1, SEMVER_PARSER_LESS, {2, 0, 0}, "a"}};
+    static const wanted_comparator three[] = {{0, SEMVER_PARSER_OP_GREATER_EQUAL, {1, 2, 3}, "rc.1"},
+                                              {0, SEMVER_PARSER_OP_LESS, {2, 0, 0}, "0"},
+                                              {1, SEMVER_PARSER_OP_LESS, {2, 0, 0}, "a"}};
     comparators_are(CRATE_CARGO, true, "^1.2.3-rc.1 || <2.0.0-a", three, 3);
     comparators_are(NPM, false, "^1.2.3-rc.1 || <2.0.0-a", three, 3);
     const wanted_comparator one_range[] = {
-        three[0], three[1], {0, SEMVER_PARSER_LESS, {2, 0, 0}, "a"}};
+        three[0], three[1], {0, SEMVER_PARSER_OP_LESS, {2, 0, 0}, "a"}};
     comparators_are(CARGO, false, "^1.2.3-rc.1, <2.0.0-a", one_range, 3);
-    static const wanted_comparator stated[] = {{0, SEMVER_PARSER_LESS, {1, 0, 0}, "a"},
-                                               {0, SEMVER_PARSER_LESS_EQUAL, {1, 0, 0}, ""},
-                                               {0, SEMVER_PARSER_GREATER, {1, 0, 0}, ""},
-                                               {1, SEMVER_PARSER_EQUAL, {1, 0, 0}, "b.10.c-d"}};
+    static const wanted_comparator stated[] = {{0, SEMVER_PARSER_OP_LESS, {1, 0, 0}, "a"},
+                                               {0, SEMVER_PARSER_OP_LESS_EQUAL, {1, 0, 0}, ""},
+                                               {0, SEMVER_PARSER_OP_GREATER, {1, 0, 0}, ""},
+                                               {1, SEMVER_PARSER_OP_EQUAL, {1, 0, 0}, "b.10.c-d"}};
     comparators_are(CRATE_NPM, false, "<1.0.0-a <=1.0.0 >1.0.0||1.0.0-b.10.c-d+build", stated, 4);
     static const wanted_comparator long_numbers[] = {
-        {0, SEMVER_PARSER_EQUAL, {UINT64_MAX, 10, 100}, "x"},
-        {1, SEMVER_PARSER_GREATER_EQUAL, {0, 0, 0}, ""}};
+        {0, SEMVER_PARSER_OP_EQUAL, {UINT64_MAX, 10, 100}, "x"},
+        {1, SEMVER_PARSER_OP_GREATER_EQUAL, {0, 0, 0}, ""}};
     comparators_are(CRATE_NPM, true, MOST ".10.100-x ||", long_numbers, 2);
-    static const wanted_comparator all[] = {{0, SEMVER_PARSER_GREATER_EQUAL, {0, 0, 0}, ""}};
+    static const wanted_comparator all[] = {{0, SEMVER_PARSER_OP_GREATER_EQUAL, {0, 0, 0}, ""}};
     comparators_are(CRATE_NPM, true, "", all, 1);
     comparators_are(CARGO, true, "*", all, 1);
 }

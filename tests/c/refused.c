@@ -2,7 +2,7 @@
  * `error` the error that it returns with ample memory, to leave its outputs as they were, and to
  * free all that it allocated. It may allocate only if the header says so. Linked by
  * -Wl,--wrap=malloc,--wrap=realloc,--wrap=free. */
-#include "../../crates/semver_parser_c/include/semver_parser.h"
+#include "../../rust/capi/include/semver_parser.h"
 
 #include <stdio.h>
 #include <stdlib.h>
@@ -67,27 +67,21 @@ static void check(bool holds, const char *what, const char *of, int request) {
 typedef struct {
     semver_parser_string strings[2];
     semver_parser_options options;
-    semver_parser_set *sets[2];
+    semver_parser_range *sets[2];
     semver_parser_comparators *list;
     const semver_parser_string *versions;
-    const char *saved;
-    size_t saved_length;
     semver_parser_error *error;
 } arguments;
 
 typedef union {
     unsigned char bytes[64];
     bool answers[4];
-    int order;
+    int32_t order;
     size_t index;
     char *string;
-    semver_parser_set *set;
+    semver_parser_range *set;
     semver_parser_comparators *list;
     semver_parser_version version;
-    struct {
-        char *bytes;
-        size_t length;
-    } saved;
 } outputs;
 
 typedef semver_parser_status calling(const arguments *with, outputs *to);
@@ -108,66 +102,77 @@ static semver_parser_status order(const arguments *with, outputs *to) {
 }
 
 static semver_parser_status make_set(const arguments *with, outputs *to) {
-    return semver_parser_set_of_range(with->strings[1], with->options, &to->set, with->error);
+    return semver_parser_range_parse(with->strings[1], with->options, &to->set, with->error);
 }
 
 static semver_parser_status contains(const arguments *with, outputs *to) {
-    return semver_parser_set_contains(
+    return semver_parser_range_contains(
         with->sets[0], with->strings[0], to->answers, with->error);
 }
 
 static semver_parser_status contains_each(const arguments *with, outputs *to) {
-    return semver_parser_set_contains_each(
-        with->sets[0], with->versions, 4, to->answers, NULL, with->error);
+    return semver_parser_range_contains_each(
+        with->sets[0], with->versions, 4, to->answers, NULL);
 }
 
 static semver_parser_status highest(const arguments *with, outputs *to) {
-    return semver_parser_set_highest(with->sets[0], with->versions, 4, &to->index, with->error);
+    return semver_parser_range_highest_of(
+        with->sets[0], with->versions, 4, true, &to->index, with->error);
 }
 
 static semver_parser_status lowest(const arguments *with, outputs *to) {
-    return semver_parser_set_lowest(with->sets[0], with->versions, 4, &to->index, with->error);
+    return semver_parser_range_lowest_of(
+        with->sets[0], with->versions, 4, true, &to->index, with->error);
 }
 
 static semver_parser_status unite(const arguments *with, outputs *to) {
-    return semver_parser_set_union(with->sets[0], with->sets[1], &to->set);
+    return semver_parser_range_union(with->sets[0], with->sets[1], &to->set);
 }
 
 static semver_parser_status intersect(const arguments *with, outputs *to) {
-    return semver_parser_set_intersection(with->sets[0], with->sets[1], &to->set);
+    return semver_parser_range_intersection(with->sets[0], with->sets[1], &to->set);
 }
 
 static semver_parser_status differ(const arguments *with, outputs *to) {
-    return semver_parser_set_difference(with->sets[0], with->sets[1], &to->set);
+    return semver_parser_range_difference(with->sets[0], with->sets[1], &to->set);
 }
 
 static semver_parser_status equal(const arguments *with, outputs *to) {
-    return semver_parser_set_equal(with->sets[0], with->sets[1], to->answers);
+    return semver_parser_range_equal(with->sets[0], with->sets[1], to->answers);
 }
 
 static semver_parser_status is_subset(const arguments *with, outputs *to) {
-    return semver_parser_set_is_subset(with->sets[0], with->sets[1], to->answers);
+    return semver_parser_range_is_subset(with->sets[0], with->sets[1], to->answers);
 }
 
 static semver_parser_status is_empty(const arguments *with, outputs *to) {
-    to->answers[0] = semver_parser_set_is_empty(with->sets[0]);
+    to->answers[0] = semver_parser_range_is_empty(with->sets[0]);
     return SEMVER_PARSER_OK;
 }
 
 static semver_parser_status lowest_version(const arguments *with, outputs *to) {
-    return semver_parser_set_lowest_version(with->sets[0], &to->string);
+    return semver_parser_range_lowest_version(with->sets[0], &to->string);
 }
 
 static semver_parser_status print(const arguments *with, outputs *to) {
-    return semver_parser_set_to_string(with->sets[0], true, &to->string);
+    return semver_parser_range_to_string(with->sets[0], true, &to->string);
 }
 
-static semver_parser_status save(const arguments *with, outputs *to) {
-    return semver_parser_set_save(with->sets[0], &to->saved.bytes, &to->saved.length);
+static semver_parser_status is_disjoint(const arguments *with, outputs *to) {
+    return semver_parser_range_is_disjoint(with->sets[0], with->sets[1], to->answers);
 }
 
-static semver_parser_status load(const arguments *with, outputs *to) {
-    return semver_parser_set_load(with->saved, with->saved_length, &to->set);
+static semver_parser_status check_range(const arguments *with, outputs *to) {
+    (void)to;
+    return semver_parser_check_range(with->strings[1], with->options.dialect, with->error);
+}
+
+static semver_parser_status message(const arguments *with, outputs *to) {
+    semver_parser_error error;
+    memset(&error, 0, sizeof error);
+    error.status = SEMVER_PARSER_INVALID_RANGE;
+    error.reason = SEMVER_PARSER_REASON_CARGO_BARS;
+    return semver_parser_error_message(&error, with->strings[1], true, &to->string);
 }
 
 static semver_parser_status make_list(const arguments *with, outputs *to) {
@@ -193,29 +198,30 @@ static const struct {
     {satisfies, "satisfies", NOTHING, false, true},
     {parse, "parse_version", NOTHING, false, true},
     {order, "compare_versions", NOTHING, false, true},
-    {make_set, "set_of_range", SET, true, true},
-    {contains, "set_contains", NOTHING, false, true},
-    {contains_each, "set_contains_each", NOTHING, true, true},
-    {highest, "set_highest", NOTHING, true, true},
-    {lowest, "set_lowest", NOTHING, true, true},
-    {unite, "set_union", SET, true, false},
-    {intersect, "set_intersection", SET, true, false},
-    {differ, "set_difference", SET, true, false},
-    {equal, "set_equal", NOTHING, true, false},
-    {is_subset, "set_is_subset", NOTHING, true, false},
-    {is_empty, "set_is_empty", NOTHING, false, false},
-    {lowest_version, "set_lowest_version", STRING, true, false},
-    {print, "set_to_string", STRING, true, false},
-    {save, "set_save", STRING, true, false},
-    {load, "set_load", SET, true, false},
+    {make_set, "range_parse", SET, true, true},
+    {contains, "range_contains", NOTHING, false, true},
+    {contains_each, "range_contains_each", NOTHING, false, false},
+    {highest, "range_highest_of", NOTHING, false, true},
+    {lowest, "range_lowest_of", NOTHING, false, true},
+    {unite, "range_union", SET, true, false},
+    {intersect, "range_intersection", SET, true, false},
+    {differ, "range_difference", SET, true, false},
+    {equal, "range_equal", NOTHING, false, false},
+    {is_subset, "range_is_subset", NOTHING, false, false},
+    {is_disjoint, "range_is_disjoint", NOTHING, false, false},
+    {check_range, "check_range", NOTHING, false, true},
+    {message, "error_message", STRING, true, false},
+    {is_empty, "range_is_empty", NOTHING, false, false},
+    {lowest_version, "range_lowest_version", STRING, true, false},
+    {print, "range_to_string", STRING, true, false},
     {make_list, "comparators_of_range", LIST, true, true},
     {print_list, "comparators_to_string", STRING, true, false},
 };
 
 static void free_made(int makes, outputs *made) {
     switch (makes) {
-    case STRING: semver_parser_string_free(made->string); break;
-    case SET: semver_parser_set_free(made->set); break;
+    case STRING: semver_parser_free(made->string); break;
+    case SET: semver_parser_range_free(made->set); break;
     case LIST: semver_parser_comparators_free(made->list); break;
     default: break;
     }
@@ -286,23 +292,23 @@ static void errors_by(int dialect) {
     for (size_t at = 0; at < sizeof rows / sizeof *rows; at++) {
         arguments with;
         memset(&with, 0, sizeof with);
-        with.options.dialect = (semver_parser_dialect)dialect;
-        with.options.pre_releases = SEMVER_PARSER_INCLUDED;
+        with.options.dialect = dialect;
+        with.options.pre_releases = SEMVER_PARSER_PRE_RELEASES_INCLUDED;
         with.strings[0] = semver_parser_str(rows[at].version);
         with.strings[1] = semver_parser_str(rows[at].range);
-        semver_parser_status made = semver_parser_set_of_range(
+        semver_parser_status made = semver_parser_range_parse(
             semver_parser_str("*"), with.options, &with.sets[0], NULL);
         check(made == SEMVER_PARSER_OK, "no set", "*", 0);
         for (size_t which = 0; which < sizeof functions / sizeof *functions; which++) {
             calling *call = functions[which].call;
             bool is_of_version = call == parse || call == contains || call == order;
-            bool is_of_range = call == make_set || call == make_list;
+            bool is_of_range = call == make_set || call == make_list || call == check_range;
             bool is_version = rows[at].status == SEMVER_PARSER_INVALID_VERSION;
             if (call == satisfies || (is_version ? is_of_version : is_of_range)) {
                 call_all(which, &with, rows[at].status);
             }
         }
-        semver_parser_set_free(with.sets[0]);
+        semver_parser_range_free(with.sets[0]);
     }
 }
 
@@ -311,25 +317,21 @@ static void functions_by(int dialect, const char *range, const char *other) {
     const semver_parser_string versions[] = {
         {"1.2.3", 5}, {"1.2.3-rc.1.0/", 13}, {NULL, 0}, {"1.2.4", 5}};
     arguments with;
-    char *bytes = NULL;
     memset(&with, 0, sizeof with);
-    with.options.dialect = (semver_parser_dialect)dialect;
-    with.options.pre_releases = SEMVER_PARSER_INCLUDED;
+    with.options.dialect = dialect;
+    with.options.pre_releases = SEMVER_PARSER_PRE_RELEASES_INCLUDED;
     with.strings[0] = semver_parser_str("1.2.3-rc.2");
     with.strings[1] = semver_parser_str(range);
     with.versions = versions;
-    bool is_made = semver_parser_set_of_range(with.strings[1], with.options, &with.sets[0], NULL)
+    bool is_made = semver_parser_range_parse(with.strings[1], with.options, &with.sets[0], NULL)
                        == SEMVER_PARSER_OK
-                   && semver_parser_set_of_range(semver_parser_str(other), with.options,
+                   && semver_parser_range_parse(semver_parser_str(other), with.options,
                                                  &with.sets[1], NULL)
                           == SEMVER_PARSER_OK
                    && semver_parser_comparators_of_range(with.strings[1], with.options.dialect,
                                                          true, &with.list, NULL)
-                          == SEMVER_PARSER_OK
-                   && semver_parser_set_save(with.sets[0], &bytes, &with.saved_length)
                           == SEMVER_PARSER_OK;
     check(is_made, "not made", range, 0);
-    with.saved = bytes;
     for (size_t which = 0; is_made && which < sizeof functions / sizeof *functions; which++) {
         if (functions[which].call == order) {
             with.strings[1] = semver_parser_str("1.2.3-rc.10");
@@ -337,10 +339,9 @@ static void functions_by(int dialect, const char *range, const char *other) {
         call_all(which, &with, SEMVER_PARSER_OK);
         with.strings[1] = semver_parser_str(range);
     }
-    semver_parser_set_free(with.sets[0]);
-    semver_parser_set_free(with.sets[1]);
+    semver_parser_range_free(with.sets[0]);
+    semver_parser_range_free(with.sets[1]);
     semver_parser_comparators_free(with.list);
-    semver_parser_string_free(bytes);
 }
 
 int main(void) {
@@ -352,9 +353,9 @@ int main(void) {
         length = strlen(others);
         snprintf(others + length, sizeof others - length, " || =0.1.%d-rc.%d.abcdef", 2 * at, at);
     }
-    for (int dialect = SEMVER_PARSER_CARGO; dialect <= SEMVER_PARSER_CRATE_NPM; dialect++) {
+    for (int dialect = SEMVER_PARSER_DIALECT_CARGO; dialect <= SEMVER_PARSER_DIALECT_CRATE_NPM; dialect++) {
         functions_by(dialect, "^1.2.3-rc.1", ">=1.4.0-a");
-        if (dialect != SEMVER_PARSER_CARGO) {
+        if (dialect != SEMVER_PARSER_DIALECT_CARGO) {
             functions_by(dialect, many, others);
         }
         errors_by(dialect);

@@ -82,13 +82,6 @@ static bool say_version_text(text *to, const row *of, int dialect, int rule) {
     return say_printed(to, &of->of, dialect) || say_version_error(to, of);
 }
 
-static const char *reason_words(semver_parser_reason reason) {
-    static const char *const words[] = {
-        "no reason",   "empty",     "not three numbers", "leading zero", "empty identifier",
-        "unexpected character", "too large", "too long", "text after the version"};
-    return (size_t)reason < sizeof words / sizeof *words ? words[reason] : "another reason";
-}
-
 static bool say_refused(text *to, const row *of, int dialect, int rule) {
     semver_parser_version parsed;
     outcome told = parse(&of->of, dialect, &parsed);
@@ -96,7 +89,7 @@ static bool say_refused(text *to, const row *of, int dialect, int rule) {
     if (told.status == SEMVER_PARSER_OK) {
         text_say(to, "a version");
     } else {
-        text_say(to, "%zu: %s", told.offset, reason_words(told.reason));
+        text_say(to, "%zu: %s", told.offset, semver_parser_reason_name(told.reason));
     }
     return true;
 }
@@ -191,22 +184,14 @@ static bool say_report(text *to, const row *of, int dialect, int rule) {
 }
 
 static bool say_refused_range(text *to, const row *of, int dialect, int rule) {
-    static const char *const words[] = {
-        "not UTF-8", "leading zero", "three numbers", "commas", "wildcard alone",
-        "no bars to Cargo", "no v to Cargo", "no hyphen range to Cargo", "lengths of npm",
-        "no comma to npm", "no comma to the crate", "no v to the crate", "limit", "limit of npm"};
-    semver_parser_comparators *list = NULL;
-    outcome told = comparators_of(&of->of, dialect, false, &list);
+    outcome told = check_range(&of->of, dialect);
     (void)rule;
     if (told.status == SEMVER_PARSER_OK) {
         text_say(to, "a range");
-        semver_parser_comparators_free(list);
         return true;
     }
-    text_say(to, "%zu: %s", told.offset, range_error(told.status, BY_SENTENCE));
-    if (told.reason != SEMVER_PARSER_REASON_NONE) {
-        text_say(to, ", %s", words[told.reason - SEMVER_PARSER_REASON_NOT_UTF8]);
-    }
+    text_say(to, "%zu: %s, %s", told.offset, range_error(told.status, BY_SENTENCE),
+             semver_parser_reason_name(told.reason));
     return true;
 }
 
@@ -234,13 +219,13 @@ static bool is_too_large(const text *version, int dialect) {
 
 static bool say_satisfying(text *to, const row *of, int dialect, int rule) {
     text version;
-    semver_parser_set *set = NULL;
+    semver_parser_range *set = NULL;
     outcome told = set_of(&of->of, dialect, rule, &set);
     if (told.status != SEMVER_PARSER_OK) {
         text_say(to, "%s", range_error(told.status, BY_SENTENCE));
         return true;
     }
-    semver_parser_set_free(set);
+    semver_parser_range_free(set);
     for (const char *list = of->steps.bytes; next_version(&list, &version); text_free(&version)) {
         bool answer = false;
         told = satisfies(&version, &of->of, dialect, rule, &answer);
@@ -312,16 +297,16 @@ static bool say_meant(text *to, const row *of, int dialect, int rule) {
 
 /* ---- sets */
 
-static void say_lowest_or_none(text *to, const semver_parser_set *set) {
-    if (semver_parser_set_is_empty(set)) {
+static void say_lowest_or_none(text *to, const semver_parser_range *set) {
+    if (semver_parser_range_is_empty(set)) {
         text_say(to, "none");
     }
     say_lowest(to, set);
 }
 
 /* The set of a range, or its error. */
-static semver_parser_set *read_set(text *to, const text *range, int dialect, int rule) {
-    semver_parser_set *set = NULL;
+static semver_parser_range *read_set(text *to, const text *range, int dialect, int rule) {
+    semver_parser_range *set = NULL;
     outcome told = set_of(range, dialect, rule, &set);
     if (told.status != SEMVER_PARSER_OK) {
         text_say(to, "%s", range_error(told.status, BY_SENTENCE));
@@ -330,7 +315,7 @@ static semver_parser_set *read_set(text *to, const text *range, int dialect, int
 }
 
 static bool say_set(text *to, const row *of, int dialect, int rule) {
-    semver_parser_set *set = read_set(to, &of->of, dialect, rule);
+    semver_parser_range *set = read_set(to, &of->of, dialect, rule);
     if (set == NULL) {
         return true;
     }
@@ -338,21 +323,21 @@ static bool say_set(text *to, const row *of, int dialect, int rule) {
     text_say(to, ", least ");
     say_lowest_or_none(to, set);
     text_say(to, ", least release ");
-    semver_parser_set *releases = made_of(of->of.bytes, dialect, EXCLUDED);
+    semver_parser_range *releases = made_of(of->of.bytes, dialect, EXCLUDED);
     say_lowest_or_none(to, releases);
-    text_say(to, ", empty %s", semver_parser_set_is_empty(set) ? "true" : "false");
-    semver_parser_set_free(releases);
-    semver_parser_set_free(set);
+    text_say(to, ", empty %s", semver_parser_range_is_empty(set) ? "true" : "false");
+    semver_parser_range_free(releases);
+    semver_parser_range_free(set);
     return true;
 }
 
 /* What two sets have: the first alone, the second alone, and both. */
 static const char *const part_names[] = {"lost ", "gained ", "shared "};
 typedef struct {
-    semver_parser_set *of[5];
+    semver_parser_range *of[5];
 } parts;
 
-static parts parts_of(semver_parser_set *first, semver_parser_set *second) {
+static parts parts_of(semver_parser_range *first, semver_parser_range *second) {
     parts made = {{combined(first, '-', second), combined(second, '-', first),
                    combined(first, '&', second), first, second}};
     return made;
@@ -360,7 +345,7 @@ static parts parts_of(semver_parser_set *first, semver_parser_set *second) {
 
 static void free_parts(parts *made) {
     for (int at = 0; at < 5; at++) {
-        semver_parser_set_free(made->of[at]);
+        semver_parser_range_free(made->of[at]);
     }
 }
 
@@ -369,10 +354,10 @@ static const char *word_of(bool holds) {
 }
 
 static bool say_pair(text *to, const row *of, int dialect, int rule) {
-    semver_parser_set *first = read_set(to, &of->of, dialect, rule);
-    semver_parser_set *second = first == NULL ? NULL : read_set(to, &of->steps, dialect, rule);
+    semver_parser_range *first = read_set(to, &of->of, dialect, rule);
+    semver_parser_range *second = first == NULL ? NULL : read_set(to, &of->steps, dialect, rule);
     if (second == NULL) {
-        semver_parser_set_free(first);
+        semver_parser_range_free(first);
         return true;
     }
     parts made = parts_of(first, second);
@@ -382,27 +367,27 @@ static bool say_pair(text *to, const row *of, int dialect, int rule) {
     }
     bool within = false;
     bool same = false;
-    check(semver_parser_set_is_subset(first, second, &within) == SEMVER_PARSER_OK
-              && semver_parser_set_equal(first, second, &same) == SEMVER_PARSER_OK,
+    check(semver_parser_range_is_subset(first, second, &within) == SEMVER_PARSER_OK
+              && semver_parser_range_equal(first, second, &same) == SEMVER_PARSER_OK,
           "not compared", of->of.bytes);
     text_say(to, ", within %s, overlaps %s, same %s", word_of(within),
-             word_of(!semver_parser_set_is_empty(made.of[2])), word_of(same));
+             word_of(!semver_parser_range_is_empty(made.of[2])), word_of(same));
     free_parts(&made);
     return true;
 }
 
-static void say_whole_set(text *to, const semver_parser_set *set) {
+static void say_whole_set(text *to, const semver_parser_range *set) {
     say_releases(to, set);
     text_say(to, ", pre-releases ");
     say_pre_releases(to, set);
 }
 
 static bool say_whole(text *to, const row *of, int dialect, int rule) {
-    semver_parser_set *set = read_set(to, &of->of, dialect, rule);
+    semver_parser_range *set = read_set(to, &of->of, dialect, rule);
     if (set != NULL) {
         say_whole_set(to, set);
     }
-    semver_parser_set_free(set);
+    semver_parser_range_free(set);
     return true;
 }
 
@@ -418,7 +403,7 @@ static bool say_whole_pair(text *to, const row *of, int dialect, int rule) {
 }
 
 static bool say_highest(text *to, const row *of, int dialect, int rule) {
-    semver_parser_set *set = read_set(to, &of->of, dialect, rule);
+    semver_parser_range *set = read_set(to, &of->of, dialect, rule);
     if (set == NULL) {
         return true;
     }
@@ -432,7 +417,7 @@ static bool say_highest(text *to, const row *of, int dialect, int rule) {
         at += next.length;
     }
     size_t index = 0;
-    check(semver_parser_set_highest(set, versions, count, &index, NULL) == SEMVER_PARSER_OK,
+    check(semver_parser_range_highest_of(set, versions, count, true, &index, NULL) == SEMVER_PARSER_OK,
           "no highest version", of->of.bytes);
     if (index == count) {
         text_say(to, "none");
@@ -440,7 +425,7 @@ static bool say_highest(text *to, const row *of, int dialect, int rule) {
         text_add(to, versions[index].data, versions[index].length);
     }
     free(versions);
-    semver_parser_set_free(set);
+    semver_parser_range_free(set);
     return true;
 }
 

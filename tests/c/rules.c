@@ -16,11 +16,11 @@ static int told_of(const text *version, const text *range, int dialect, int rule
     outcome told = satisfies(version, range, dialect, rule, &answer);
     switch ((int)told.status) {
     case OK: return answer ? YES : NO;
-    case INVALID_RANGE: check(told.argument == 1, "an error of a range", range->bytes);
+    case INVALID_RANGE: check(told.index == 1, "an error of a range", range->bytes);
         return BAD_RANGE;
-    case NUMBER_TOO_LARGE: check(told.argument == 1, "an error of a range", range->bytes);
+    case NUMBER_TOO_LARGE: check(told.index == 1, "an error of a range", range->bytes);
         return TOO_LARGE;
-    case INVALID_VERSION: check(told.argument == 0, "an error of a version", version->bytes);
+    case INVALID_VERSION: check(told.index == 0, "an error of a version", version->bytes);
         return BAD_VERSION;
     default: return -1;
     }
@@ -254,9 +254,9 @@ static void many(int dialect) {
     }
     versions[0].data = NULL;
     versions[0].length = 0;
-    semver_parser_set *set = made_of("^1.1000", dialect, EXCLUDED);
+    semver_parser_range *set = made_of("^1.1000", dialect, EXCLUDED);
     size_t index = 0;
-    check(semver_parser_set_contains_each(set, versions, MANY, contains, statuses, NULL)
+    check(semver_parser_range_contains_each(set, versions, MANY, contains, statuses)
               == SEMVER_PARSER_OK,
           "no answers of many", "^1.1000");
     for (int at = 0; at < MANY; at++) {
@@ -264,15 +264,17 @@ static void many(int dialect) {
         check((int)statuses[at] == (at == 0 ? (int)INVALID_VERSION : (int)OK),
               "another status of many", strings[at]);
     }
-    check(semver_parser_set_highest(set, versions, MANY, &index, NULL) == SEMVER_PARSER_OK
+    check(semver_parser_range_highest_of(set, versions, MANY, true, &index, NULL)
+                  == SEMVER_PARSER_OK
               && index == MANY - 1,
           "another highest of many", "^1.1000");
-    check(semver_parser_set_lowest(set, versions, MANY, &index, NULL) == SEMVER_PARSER_OK
+    check(semver_parser_range_lowest_of(set, versions, MANY, true, &index, NULL)
+                  == SEMVER_PARSER_OK
               && index == 1000,
           "another lowest of many", "^1.1000");
-    check(semver_parser_set_contains_each(set, NULL, 0, NULL, NULL, NULL) == SEMVER_PARSER_OK,
+    check(semver_parser_range_contains_each(set, NULL, 0, NULL, NULL) == SEMVER_PARSER_OK,
           "no answer of none", "^1.1000");
-    semver_parser_set_free(set);
+    semver_parser_range_free(set);
 }
 
 /* INVALID_ARGUMENT comes first: of a number that is no dialect, or no rule. */
@@ -285,7 +287,7 @@ static void no_such_options(void) {
             text of = string(strings[which]);
             text printed = string("");
             bool answer;
-            int order;
+            int32_t order;
             semver_parser_version parsed;
             int number = numbers[at];
             check(satisfies(&of, &of, NPM, number, &answer).status

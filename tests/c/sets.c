@@ -1,14 +1,14 @@
-/* Sets: what is printed of them, two of them combined and compared, saved and loaded ones, bytes
- * that are no set, sets of other options, and the highest and lowest version of a list. What is
- * expected follows from docs/MEANING.md. */
+/* Ranges that were read: what is printed of them, two of them combined and compared, ranges of other
+ * options, and the highest and lowest version of a list. What is expected follows from
+ * docs/MEANING.md. */
 #include "calls.h"
 
 #include <stdlib.h>
 #include <string.h>
 
-typedef void printing(text *to, const semver_parser_set *set);
+typedef void printing(text *to, const semver_parser_range *set);
 
-static void prints(const semver_parser_set *set, printing *print, const char *wanted) {
+static void prints(const semver_parser_range *set, printing *print, const char *wanted) {
     text printed = string("");
     print(&printed, set);
     check(strcmp(printed.bytes, wanted) == 0, "printed otherwise", wanted);
@@ -17,9 +17,9 @@ static void prints(const semver_parser_set *set, printing *print, const char *wa
 
 static void set_prints(const char *range, int dialect, int rule, printing *print,
                        const char *wanted) {
-    semver_parser_set *set = made_of(range, dialect, rule);
+    semver_parser_range *set = made_of(range, dialect, rule);
     prints(set, print, wanted);
-    semver_parser_set_free(set);
+    semver_parser_range_free(set);
 }
 
 /* ---- the lowest version */
@@ -111,7 +111,7 @@ static void reads_back(void) {
     static const char *const ranges[] = {"^1.2.3", ">1.0.0-rc.1", "=3.0.0-a || >5", "<*", ">2 <1",
                                          "*", ">=0.0.0-0", "<0.0.0-a.1 || =1.2.3-rc.0.b"};
     for (int at = 0; at < (int)(sizeof ranges / sizeof *ranges) * RULES; at++) {
-        semver_parser_set *set = made_of(ranges[at / RULES], CRATE_NPM, at % RULES);
+        semver_parser_range *set = made_of(ranges[at / RULES], CRATE_NPM, at % RULES);
         text releases = string("");
         text pre_releases = string("");
         say_releases(&releases, set);
@@ -123,7 +123,7 @@ static void reads_back(void) {
         }
         text_free(&releases);
         text_free(&pre_releases);
-        semver_parser_set_free(set);
+        semver_parser_range_free(set);
     }
 }
 
@@ -178,30 +178,38 @@ static const struct {
     {CARGO, {"*", ">=0.0.0-a"}, {{"", "", "0.0.0"}, {"", "0.0.0-a", "0.0.0"}, {NULL, NULL, NULL}}},
 };
 
-static void compared_is(const semver_parser_set *one, const semver_parser_set *other, bool within,
+static void compared_is(const semver_parser_range *one, const semver_parser_range *other, bool within,
                         bool same, const char *of) {
     bool is_subset = !within;
     bool equal = !same;
-    check(semver_parser_set_is_subset(one, other, &is_subset) == SEMVER_PARSER_OK
+    check(semver_parser_range_is_subset(one, other, &is_subset) == SEMVER_PARSER_OK
               && is_subset == within,
           "another subset", of);
-    check(semver_parser_set_equal(one, other, &equal) == SEMVER_PARSER_OK && equal == same,
+    check(semver_parser_range_equal(one, other, &equal) == SEMVER_PARSER_OK && equal == same,
           "another equality", of);
+}
+
+static void disjoint_is(const semver_parser_range *one, const semver_parser_range *other,
+                        bool disjoint, const char *of) {
+    bool is_disjoint = !disjoint;
+    check(semver_parser_range_is_disjoint(one, other, &is_disjoint) == SEMVER_PARSER_OK
+              && is_disjoint == disjoint,
+          "disjoint, or not", of);
 }
 
 /* Whether what an operation makes of two sets has a lowest version, and is a set of the same
  * options. */
-static void combined_is(const semver_parser_set *one, char operation,
-                        const semver_parser_set *other, const char *wanted) {
-    semver_parser_set *made = combined(one, operation, other);
+static void combined_is(const semver_parser_range *one, char operation,
+                        const semver_parser_range *other, const char *wanted) {
+    semver_parser_range *made = combined(one, operation, other);
     check(made != NULL, "not combined", wanted);
     prints(made, say_lowest, wanted);
-    check(semver_parser_set_is_empty(made) == (wanted[0] == 0), "another emptiness", wanted);
-    semver_parser_options options = semver_parser_set_options(made);
-    semver_parser_options before = semver_parser_set_options(one);
+    check(semver_parser_range_is_empty(made) == (wanted[0] == 0), "another emptiness", wanted);
+    semver_parser_options options = semver_parser_range_options(made);
+    semver_parser_options before = semver_parser_range_options(one);
     check(options.dialect == before.dialect && options.pre_releases == before.pre_releases,
           "other options", wanted);
-    semver_parser_set_free(made);
+    semver_parser_range_free(made);
 }
 
 static void two_sets(void) {
@@ -209,8 +217,8 @@ static void two_sets(void) {
         for (int rule = 0; rule < RULES && pairs[at].wanted[rule][0] != NULL; rule++) {
             const char *const *wanted = pairs[at].wanted[rule];
             const char *of = pairs[at].ranges[0];
-            semver_parser_set *one = made_of(of, pairs[at].dialect, rules[rule]);
-            semver_parser_set *other =
+            semver_parser_range *one = made_of(of, pairs[at].dialect, rules[rule]);
+            semver_parser_range *other =
                 made_of(pairs[at].ranges[1], pairs[at].dialect, rules[rule]);
             combined_is(one, '-', other, wanted[0]);
             combined_is(other, '-', one, wanted[1]);
@@ -218,186 +226,63 @@ static void two_sets(void) {
             compared_is(one, other, wanted[0][0] == 0, wanted[0][0] + wanted[1][0] == 0, of);
             compared_is(other, one, wanted[1][0] == 0, wanted[0][0] + wanted[1][0] == 0, of);
             compared_is(one, one, true, true, of);
-            semver_parser_set_free(one);
-            semver_parser_set_free(other);
+            disjoint_is(one, other, wanted[2][0] == 0, of);
+            disjoint_is(other, one, wanted[2][0] == 0, of);
+            disjoint_is(one, one, semver_parser_range_is_empty(one), of);
+            semver_parser_range_free(one);
+            semver_parser_range_free(other);
         }
     }
 }
 
-static void releases_are(const semver_parser_set *one, char operation,
-                         const semver_parser_set *other, const char *wanted) {
-    semver_parser_set *made = combined(one, operation, other);
+static void releases_are(const semver_parser_range *one, char operation,
+                         const semver_parser_range *other, const char *wanted) {
+    semver_parser_range *made = combined(one, operation, other);
     prints(made, say_releases, wanted);
-    semver_parser_set_free(made);
+    semver_parser_range_free(made);
 }
 
 static void whole_sets(void) {
-    semver_parser_set *one = made_of(">=1.0.0 <1.5.0", CRATE_CARGO, EXCLUDED);
-    semver_parser_set *other = made_of(">=1.2.0 <2.0.0", CRATE_CARGO, EXCLUDED);
+    semver_parser_range *one = made_of(">=1.0.0 <1.5.0", CRATE_CARGO, EXCLUDED);
+    semver_parser_range *other = made_of(">=1.2.0 <2.0.0", CRATE_CARGO, EXCLUDED);
     releases_are(one, '|', other, ">=1.0.0 <2.0.0");
     releases_are(one, '&', other, ">=1.2.0 <1.5.0");
     releases_are(one, '-', other, ">=1.0.0 <1.2.0");
     releases_are(other, '-', one, ">=1.5.0 <2.0.0");
-    semver_parser_set_free(one);
-    semver_parser_set_free(other);
+    semver_parser_range_free(one);
+    semver_parser_range_free(other);
 }
 
 /* Sets of other options are neither combined nor compared, also if they have the same versions. */
 static void other_options(void) {
-    semver_parser_set *sets[DIALECTS * RULES];
+    semver_parser_range *sets[DIALECTS * RULES];
     for (int at = 0; at < DIALECTS * RULES; at++) {
         sets[at] = made_of("=1.2.3", at / RULES, at % RULES);
     }
     for (int at = 0; at < DIALECTS * RULES * DIALECTS * RULES; at++) {
-        const semver_parser_set *one = sets[at / (DIALECTS * RULES)];
-        const semver_parser_set *other = sets[at % (DIALECTS * RULES)];
+        const semver_parser_range *one = sets[at / (DIALECTS * RULES)];
+        const semver_parser_range *other = sets[at % (DIALECTS * RULES)];
         semver_parser_status wanted =
             one == other ? SEMVER_PARSER_OK : SEMVER_PARSER_INVALID_ARGUMENT;
-        bool answers[2] = {false, false};
-        check(semver_parser_set_equal(one, other, &answers[0]) == wanted
-                  && semver_parser_set_is_subset(one, other, &answers[1]) == wanted
-                  && answers[0] == (one == other) && answers[1] == (one == other),
+        bool answers[3] = {false, false, true};
+        check(semver_parser_range_equal(one, other, &answers[0]) == wanted
+                  && semver_parser_range_is_subset(one, other, &answers[1]) == wanted
+                  && semver_parser_range_is_disjoint(one, other, &answers[2]) == wanted
+                  && answers[0] == (one == other) && answers[1] == (one == other)
+                  && answers[2] == (one != other),
               "other options are compared", "=1.2.3");
         for (int operation = 0; operation < 3; operation++) {
-            semver_parser_set *made = combined(one, "|&-"[operation], other);
+            semver_parser_range *made = combined(one, "|&-"[operation], other);
             check((made != NULL) == (one == other), "other options are combined", "=1.2.3");
-            semver_parser_set_free(made);
+            semver_parser_range_free(made);
         }
     }
     for (int at = 0; at < DIALECTS * RULES; at++) {
-        semver_parser_set_free(sets[at]);
+        semver_parser_range_free(sets[at]);
     }
-    semver_parser_set_free(NULL);
+    semver_parser_range_free(NULL);
     semver_parser_comparators_free(NULL);
-    semver_parser_string_free(NULL);
-}
-
-/* ---- saved sets */
-
-/* The bytes of a set in a block of their own. */
-static char *saved(const semver_parser_set *set, size_t *length) {
-    char *bytes = NULL;
-    check(semver_parser_set_save(set, &bytes, length) == SEMVER_PARSER_OK, "not saved", "a set");
-    char *alone = (char *)malloc(*length);
-    if (alone == NULL) {
-        exit(2);
-    }
-    memcpy(alone, bytes, *length);
-    semver_parser_string_free(bytes);
-    return alone;
-}
-
-/* Loads bytes from a block of that length. A set that is loaded is saved as the same bytes. */
-static bool is_loaded(const char *bytes, size_t length) {
-    char *alone = (char *)malloc(length != 0 ? length : 1);
-    semver_parser_set *set = NULL;
-    if (alone == NULL) {
-        exit(2);
-    }
-    memcpy(alone, bytes, length);
-    semver_parser_status status = semver_parser_set_load(alone, length, &set);
-    check(status == (set != NULL ? SEMVER_PARSER_OK : SEMVER_PARSER_INVALID_ARGUMENT),
-          "another status of bytes", "a saved set");
-    if (set != NULL) {
-        size_t again_length = 0;
-        char *again = saved(set, &again_length);
-        check(again_length == length && memcmp(again, bytes, length) == 0, "saved otherwise",
-              "a saved set");
-        text printed_set = string("");
-        say_lowest(&printed_set, set);
-        say_releases(&printed_set, set);
-        say_pre_releases(&printed_set, set);
-        text_free(&printed_set);
-        compared_is(set, set, true, true, "a saved set");
-        free(again);
-    }
-    free(alone);
-    semver_parser_set_free(set);
-    return set != NULL;
-}
-
-/* Each bit changed and each length cut: no function reads beyond a set, and what is no set isn't
- * loaded. */
-static void changed(const char *range) {
-    semver_parser_set *set = made_of(range, CRATE_CARGO, INCLUDED);
-    semver_parser_set *loaded = NULL;
-    size_t length = 0;
-    char *bytes = saved(set, &length);
-    check(is_loaded(bytes, length), "not loaded", range);
-    check(semver_parser_set_load(bytes, length, &loaded) == SEMVER_PARSER_OK, "not loaded", range);
-    compared_is(set, loaded, true, true, range);
-    int sets = 0;
-    for (size_t at = 0; at < length; at++) {
-        check(!is_loaded(bytes, at), "a part is loaded", range);
-        for (int bit = 0; bit < 8; bit++) {
-            bytes[at] = (char)(bytes[at] ^ (1 << bit));
-            bool is_set = is_loaded(bytes, length);
-            /* The mark, and a dialect or rule that there isn't. */
-            check(!is_set || (at >= 6 && !((at == 6 || at == 7) && bit >= 2)),
-                  "another head is loaded", range);
-            sets += is_set;
-            bytes[at] = (char)(bytes[at] ^ (1 << bit));
-        }
-    }
-    check(sets > 0, "no number may be another", range);
-    char *longer = (char *)malloc(length + 1);
-    if (longer == NULL) {
-        exit(2);
-    }
-    memcpy(longer, bytes, length);
-    longer[length] = 0;
-    check(!is_loaded(longer, length + 1), "a byte more is loaded", range);
-    free(longer);
-    free(bytes);
-    semver_parser_set_free(loaded);
-    semver_parser_set_free(set);
-}
-
-static void put_number(char *to, uint64_t number) {
-    for (int at = 0; at < 8; at++) {
-        to[at] = (char)(unsigned char)(number >> (8 * at));
-    }
-}
-
-/* Numbers of switches that are too large: with as many bytes as are left then, by numbers of 64
- * bits, where there are less than none. */
-static void wrong_counts(void) {
-    static const uint64_t counts[] = {0, 1, 2, 4, 5, 100, UINT64_MAX / 48, UINT64_MAX / 48 + 1,
-                                      (uint64_t)1 << 61, (uint64_t)1 << 63, UINT64_MAX};
-    semver_parser_set *set = made_of("^1.2.3-rc.1", CRATE_CARGO, EXCLUDED);
-    size_t length = 0;
-    char *bytes = saved(set, &length);
-    /* The head, two numbers, and three switches of six numbers. */
-    check(length == 8 + 2 * 8 + 3 * 48, "another length", "^1.2.3-rc.1");
-    for (size_t at = 0; at < sizeof counts / sizeof *counts; at++) {
-        put_number(bytes + 8, counts[at]);
-        put_number(bytes + 16, 3 * 48 - 48 * counts[at]);
-        check(!is_loaded(bytes, length), "another number of switches is loaded", "^1.2.3-rc.1");
-    }
-    free(bytes);
-    semver_parser_set_free(set);
-}
-
-/* Equal sets have equal bytes, and others haven't. */
-static void equal_bytes(void) {
-    static const char *const ranges[] = {"^1.2.3", ">=1.2.3 <2.0.0-0", "^1.2.4"};
-    char *bytes[3];
-    size_t lengths[3];
-    for (int at = 0; at < 3; at++) {
-        semver_parser_set *set = made_of(ranges[at], CRATE_NPM, INCLUDED);
-        bytes[at] = saved(set, &lengths[at]);
-        semver_parser_set_free(set);
-    }
-    check(lengths[0] == lengths[1] && memcmp(bytes[0], bytes[1], lengths[0]) == 0,
-          "equal sets have other bytes", ranges[0]);
-    check(lengths[0] != lengths[2] || memcmp(bytes[0], bytes[2], lengths[0]) != 0,
-          "other sets have equal bytes", ranges[0]);
-    for (int at = 0; at < 3; at++) {
-        free(bytes[at]);
-    }
-    semver_parser_set *set = NULL;
-    check(semver_parser_set_load(NULL, 0, &set) == SEMVER_PARSER_INVALID_ARGUMENT && set == NULL,
-          "nothing is loaded", "");
+    semver_parser_free(NULL);
 }
 
 /* ---- the highest and the lowest of a list */
@@ -426,9 +311,42 @@ static const struct {
     {CRATE_CARGO, INCLUDED, ">2 <1", {"1.0.0", "3.0.0", ""}, 2, 2},
 };
 
+/* Unless they are skipped, the first invalid version is the error, with its index. */
+static void first_invalid_is(const semver_parser_range *set, const semver_parser_string *list,
+                             size_t count) {
+    semver_parser_dialect dialect = semver_parser_range_options(set).dialect;
+    semver_parser_version parsed;
+    semver_parser_error wanted = no_error;
+    size_t first = 0;
+    while (first < count
+           && semver_parser_parse_version(list[first], dialect, &parsed, &wanted)
+                  == SEMVER_PARSER_OK) {
+        first++;
+    }
+    for (int lowest_one = 0; lowest_one < 2; lowest_one++) {
+        semver_parser_error error = no_error;
+        size_t index = SIZE_MAX;
+        size_t skipping = SIZE_MAX;
+        semver_parser_status status =
+            lowest_one ? semver_parser_range_lowest_of(set, list, count, false, &index, &error)
+                       : semver_parser_range_highest_of(set, list, count, false, &index, &error);
+        semver_parser_status skipped =
+            lowest_one ? semver_parser_range_lowest_of(set, list, count, true, &skipping, NULL)
+                       : semver_parser_range_highest_of(set, list, count, true, &skipping, NULL);
+        const char *of = first < count ? list[first].data : "no invalid version";
+        check(skipped == SEMVER_PARSER_OK, "not skipped", of);
+        check(first == count ? status == SEMVER_PARSER_OK && index == skipping
+                             : status == SEMVER_PARSER_INVALID_VERSION && index == SIZE_MAX
+                                   && error.status == status && error.index == first
+                                   && error.offset == wanted.offset
+                                   && error.reason == wanted.reason,
+              "another invalid version", of);
+    }
+}
+
 static void highest_and_lowest(void) {
     for (size_t at = 0; at < sizeof lists / sizeof *lists; at++) {
-        semver_parser_set *set = made_of(lists[at].range, lists[at].dialect, lists[at].rule);
+        semver_parser_range *set = made_of(lists[at].range, lists[at].dialect, lists[at].rule);
         semver_parser_string versions[8];
         size_t count = 0;
         for (; lists[at].versions[count][0] != 0; count++) {
@@ -436,14 +354,45 @@ static void highest_and_lowest(void) {
         }
         size_t index = 77;
         semver_parser_string *list = count == 0 ? NULL : versions;
-        check(semver_parser_set_highest(set, list, count, &index, NULL) == SEMVER_PARSER_OK
+        check(semver_parser_range_highest_of(set, list, count, true, &index, NULL)
+                      == SEMVER_PARSER_OK
                   && index == lists[at].highest,
               "another highest version", lists[at].versions[0]);
-        check(semver_parser_set_lowest(set, list, count, &index, NULL) == SEMVER_PARSER_OK
+        check(semver_parser_range_lowest_of(set, list, count, true, &index, NULL)
+                      == SEMVER_PARSER_OK
                   && index == lists[at].lowest,
               "another lowest version", lists[at].versions[0]);
-        semver_parser_set_free(set);
+        first_invalid_is(set, list, count);
+        semver_parser_range_free(set);
     }
+}
+
+/* More versions than are compared at once, with an invalid one at an index, or with none: the
+ * highest is at `last`, and the lowest is after it. */
+static void many_versions(size_t count, size_t invalid) {
+    semver_parser_range *set = made_of("*", CARGO, DEFAULT);
+    semver_parser_string *list = (semver_parser_string *)malloc(count * sizeof *list);
+    size_t index = 77;
+    semver_parser_error error;
+    for (size_t at = 0; list != NULL && at < count; at++) {
+        list[at] = semver_parser_str(at == invalid ? "1.0" : at % 2 == 0 ? "1.2.0" : "1.10.0+b");
+    }
+    bool skips = invalid < count;
+    check(list != NULL
+              && semver_parser_range_highest_of(set, list, count, skips, &index, &error)
+                     == SEMVER_PARSER_OK
+              && index == (invalid == 1 ? 3 : 1),
+          "another highest of many", "1.10.0+b");
+    check(list != NULL
+              && semver_parser_range_lowest_of(set, list, count, skips, &index, &error)
+                     == SEMVER_PARSER_OK
+              && index == (invalid == 0 ? 2 : 0),
+          "another lowest of many", "1.2.0");
+    if (list != NULL) {
+        first_invalid_is(set, list, count);
+    }
+    free(list);
+    semver_parser_range_free(set);
 }
 
 int main(void) {
@@ -453,11 +402,10 @@ int main(void) {
     two_sets();
     whole_sets();
     other_options();
-    changed(">=1.2.0-rc.1 <2.0.0 || =3.0.0-a.01x || 5");
-    changed("1.2.3");
-    changed(">2 <1");
-    wrong_counts();
-    equal_bytes();
     highest_and_lowest();
+    for (size_t count = 4; count < 200; count++) {
+        many_versions(count, count);
+        many_versions(count, count % 7);
+    }
     return finish("sets");
 }

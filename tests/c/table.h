@@ -2,7 +2,7 @@
 #ifndef TABLE_H
 #define TABLE_H
 
-#include "../../crates/semver_parser_c/include/semver_parser.h"
+#include "../../rust/capi/include/semver_parser.h"
 #include "texts.h"
 
 /* The files of the table, and where the next row begins in each. */

@@ -1,17 +1,18 @@
 /* Uses all that the header has, as a program in C or in C++ does: it is compiled by each standard
  * of both, with all warnings as errors. And two threads that read one set and one list. */
-#include "../../crates/semver_parser_c/include/semver_parser.h"
+#include "../../rust/capi/include/semver_parser.h"
 
 #include <pthread.h>
 #include <stdio.h>
 #include <string.h>
 
-#if SEMVER_PARSER_VERSION_MAJOR != 1 || SEMVER_PARSER_VERSION_MINOR < 0                            \
+#if SEMVER_PARSER_VERSION_NUMBER < 1000000 || SEMVER_PARSER_VERSION_NUMBER >= 2000000              \
+    || SEMVER_PARSER_VERSION_MAJOR != 1 || SEMVER_PARSER_VERSION_MINOR < 0                            \
     || SEMVER_PARSER_VERSION_PATCH < 0
 #error "the version of another library"
 #endif
 
-static const semver_parser_options npm = {SEMVER_PARSER_NPM, SEMVER_PARSER_DEFAULT};
+static semver_parser_options npm;
 
 static bool is_string(semver_parser_string string, const char *wanted) {
     return string.length == strlen(wanted) && memcmp(string.data, wanted, string.length) == 0;
@@ -20,16 +21,30 @@ static bool is_string(semver_parser_string string, const char *wanted) {
 /* Whether a made string is as wanted, which is freed. */
 static bool is_made(semver_parser_status status, char *made, const char *wanted) {
     bool is_same = status == SEMVER_PARSER_OK && strcmp(made, wanted) == 0;
-    semver_parser_string_free(made);
+    semver_parser_free(made);
     return is_same;
+}
+
+static bool use_error(const semver_parser_error *error) {
+    char *message = NULL;
+    semver_parser_status status =
+        semver_parser_error_message(error, semver_parser_str("1.2.03"), false, &message);
+    return is_made(status, message,
+                   "invalid version \"1.2.03\", at byte 5: a number or an identifier of digits has "
+                   "no leading zero")
+           && strcmp(semver_parser_status_text(error->status), "invalid version") == 0
+           && strcmp(semver_parser_reason_name(error->reason), "leading-zero") == 0
+           && strlen(semver_parser_reason_text(error->reason)) > 0
+           && strcmp(semver_parser_dialect_name(npm.dialect), "npm") == 0
+           && strcmp(semver_parser_pre_releases_name(npm.pre_releases), "default") == 0;
 }
 
 static bool use_versions(void) {
     semver_parser_version version;
     semver_parser_error error;
     bool is_in = false;
-    int order = 0;
-    if (semver_parser_parse_version(semver_parser_str("1.2.3-rc.1+b5"), SEMVER_PARSER_CARGO,
+    int32_t order = 0;
+    if (semver_parser_parse_version(semver_parser_str("1.2.3-rc.1+b5"), SEMVER_PARSER_DIALECT_CARGO,
                                     &version, NULL)
             != SEMVER_PARSER_OK
         || version.major != 1 || version.minor != 2 || version.patch != 3
@@ -37,7 +52,7 @@ static bool use_versions(void) {
         return false;
     }
     if (semver_parser_compare_versions(semver_parser_str("1.0.0-rc"), semver_parser_str("1.0.0"),
-                                       SEMVER_PARSER_CRATE_NPM, &order, &error)
+                                       SEMVER_PARSER_DIALECT_CRATE_NPM, &order, &error)
             != SEMVER_PARSER_OK
         || order != -1) {
         return false;
@@ -51,14 +66,15 @@ static bool use_versions(void) {
     return semver_parser_satisfies(semver_parser_str("1.2.03"), semver_parser_str("^1.2"), npm,
                                    &is_in, &error)
                == SEMVER_PARSER_INVALID_VERSION
-           && error.status == SEMVER_PARSER_INVALID_VERSION && error.argument == 0
+           && error.status == SEMVER_PARSER_INVALID_VERSION && error.index == 0
            && error.offset == 5 && error.reason == SEMVER_PARSER_REASON_LEADING_ZERO
-           && strlen(semver_parser_status_text(error.status)) > 0
-           && strlen(semver_parser_reason_text(error.reason)) > 0;
+           && use_error(&error)
+           && semver_parser_check_range(semver_parser_str("^1"), npm.dialect, NULL)
+                  == SEMVER_PARSER_OK;
 }
 
 /* What one can ask of a set alone. */
-static bool use_set(const semver_parser_set *set) {
+static bool use_set(const semver_parser_range *set) {
     const semver_parser_string versions[] = {{"1.2.0", 5}, {NULL, 0}, {"1.9.0", 5}};
     semver_parser_status statuses[3];
     bool contains[3] = {false, false, false};
@@ -66,46 +82,46 @@ static bool use_set(const semver_parser_set *set) {
     size_t lowest = 7;
     bool is_in = false;
     char *string = NULL;
-    semver_parser_status status = semver_parser_set_lowest_version(set, &string);
+    semver_parser_status status = semver_parser_range_lowest_version(set, &string);
     if (!is_made(status, string, "1.2.0")) {
         return false;
     }
-    status = semver_parser_set_to_string(set, false, &string);
+    status = semver_parser_range_to_string(set, false, &string);
     if (!is_made(status, string, ">=1.2.0 <2.0.0")) {
         return false;
     }
-    return semver_parser_set_options(set).dialect == SEMVER_PARSER_NPM
-           && !semver_parser_set_is_empty(set)
-           && semver_parser_set_contains(set, versions[0], &is_in, NULL) == SEMVER_PARSER_OK
+    return semver_parser_range_options(set).dialect == SEMVER_PARSER_DIALECT_NPM
+           && !semver_parser_range_is_empty(set)
+           && semver_parser_range_contains(set, versions[0], &is_in, NULL) == SEMVER_PARSER_OK
            && is_in
-           && semver_parser_set_contains_each(set, versions, 3, contains, statuses, NULL)
+           && semver_parser_range_contains_each(set, versions, 3, contains, statuses)
                   == SEMVER_PARSER_OK
            && contains[0] && !contains[1] && contains[2]
            && statuses[1] == SEMVER_PARSER_INVALID_VERSION
-           && semver_parser_set_highest(set, versions, 3, &highest, NULL) == SEMVER_PARSER_OK
-           && semver_parser_set_lowest(set, versions, 3, &lowest, NULL) == SEMVER_PARSER_OK
+           && semver_parser_range_highest_of(set, versions, 3, true, &highest, NULL)
+                  == SEMVER_PARSER_OK
+           && semver_parser_range_lowest_of(set, versions, 3, true, &lowest, NULL)
+                  == SEMVER_PARSER_OK
            && highest == 2 && lowest == 0;
 }
 
-static bool use_two_sets(const semver_parser_set *set) {
-    semver_parser_set *made[4] = {NULL, NULL, NULL, NULL};
-    char *bytes = NULL;
-    size_t length = 0;
+static bool use_two_sets(const semver_parser_range *set) {
+    semver_parser_range *made[3] = {NULL, NULL, NULL};
     bool equal = false;
     bool is_subset = false;
-    bool are_made = semver_parser_set_union(set, set, &made[0]) == SEMVER_PARSER_OK
-                    && semver_parser_set_intersection(set, set, &made[1]) == SEMVER_PARSER_OK
-                    && semver_parser_set_difference(set, set, &made[2]) == SEMVER_PARSER_OK
-                    && semver_parser_set_save(set, &bytes, &length) == SEMVER_PARSER_OK
-                    && semver_parser_set_load(bytes, length, &made[3]) == SEMVER_PARSER_OK
-                    && semver_parser_set_equal(made[0], made[3], &equal) == SEMVER_PARSER_OK
-                    && semver_parser_set_is_subset(made[1], set, &is_subset) == SEMVER_PARSER_OK
-                    && semver_parser_set_is_empty(made[2]);
-    for (int at = 0; at < 4; at++) {
-        semver_parser_set_free(made[at]);
+    bool is_disjoint = false;
+    bool are_made = semver_parser_range_union(set, set, &made[0]) == SEMVER_PARSER_OK
+                    && semver_parser_range_intersection(set, set, &made[1]) == SEMVER_PARSER_OK
+                    && semver_parser_range_difference(set, set, &made[2]) == SEMVER_PARSER_OK
+                    && semver_parser_range_equal(made[0], set, &equal) == SEMVER_PARSER_OK
+                    && semver_parser_range_is_disjoint(made[2], set, &is_disjoint)
+                           == SEMVER_PARSER_OK
+                    && semver_parser_range_is_subset(made[1], set, &is_subset) == SEMVER_PARSER_OK
+                    && semver_parser_range_is_empty(made[2]);
+    for (int at = 0; at < 3; at++) {
+        semver_parser_range_free(made[at]);
     }
-    semver_parser_string_free(bytes);
-    return are_made && equal && is_subset;
+    return are_made && equal && is_subset && is_disjoint;
 }
 
 static bool use_list(const semver_parser_comparators *list) {
@@ -115,12 +131,12 @@ static bool use_list(const semver_parser_comparators *list) {
     return is_made(status, string, ">=1.2.0 <2.0.0-0 || >=3.0.0 <4.0.0-0")
            && semver_parser_comparators_count(list) == 4
            && semver_parser_comparators_get(list, 3, &last) == SEMVER_PARSER_OK && last.range == 1
-           && last.op == SEMVER_PARSER_LESS && last.major == 4 && is_string(last.pre, "0")
+           && last.op == SEMVER_PARSER_OP_LESS && last.major == 4 && is_string(last.pre, "0")
            && semver_parser_comparators_get(list, 4, &last) == SEMVER_PARSER_INVALID_ARGUMENT;
 }
 
 /* What both threads read, and whether each was right. */
-static semver_parser_set *shared_set;
+static semver_parser_range *shared_set;
 static semver_parser_comparators *shared_list;
 
 static void *use_shared(void *right) {
@@ -136,12 +152,13 @@ static void *use_shared(void *right) {
 int main(void) {
     bool right[2] = {false, false};
     pthread_t other;
+    npm = semver_parser_options_of(SEMVER_PARSER_DIALECT_NPM);
     bool passed =
         strcmp(semver_parser_library_version(), SEMVER_PARSER_VERSION) == 0
         && semver_parser_library_version_number() >= 1000000
-        && semver_parser_set_of_range(semver_parser_str("^1.2"), npm, &shared_set, NULL)
+        && semver_parser_range_parse(semver_parser_str("^1.2"), npm, &shared_set, NULL)
                == SEMVER_PARSER_OK
-        && semver_parser_comparators_of_range(semver_parser_str("^1.2 || 3.x"), SEMVER_PARSER_NPM,
+        && semver_parser_comparators_of_range(semver_parser_str("^1.2 || 3.x"), SEMVER_PARSER_DIALECT_NPM,
                                               false, &shared_list, NULL)
                == SEMVER_PARSER_OK
         && pthread_create(&other, NULL, use_shared, &right[0]) == 0;
@@ -149,7 +166,7 @@ int main(void) {
         use_shared(&right[1]);
         passed = pthread_join(other, NULL) == 0 && right[0] && right[1];
     }
-    semver_parser_set_free(shared_set);
+    semver_parser_range_free(shared_set);
     semver_parser_comparators_free(shared_list);
     printf("uses: %s\n", passed ? "passed" : "failed");
     return passed ? 0 : 1;

@@ -14,21 +14,30 @@ use proved::{AllocError, Compat, Dialect, Meaning, Op, PreReleases, RangeError, 
 type Answer<'a, T> = Result<T, Problem<'a>>;
 
 /// Reads the version that is the string of this index.
+#[inline(always)]
 fn version(bytes: &[u8], dialect: Dialect, index: usize) -> Answer<'_, Outline<'_>> {
     outline_in(bytes, dialect.grammar()).ok_or(Problem::Version { bytes, dialect, index })
 }
 
-/// What is asked of the range that is the string of this index.
+/// The text of the range that is the string of this index. For speed it is first tried as ASCII.
+#[inline(always)]
+fn text(bytes: &[u8], index: usize) -> Answer<'_, &str> {
+    if bytes.is_ascii() {
+        // SAFETY: ASCII is UTF-8.
+        return Ok(unsafe { str::from_utf8_unchecked(bytes) });
+    }
+    str::from_utf8(bytes).map_err(|error| Problem::NotUtf8 { offset: error.valid_up_to(), index })
+}
+
+/// What was answered of the range that is the string of this index.
+#[inline(always)]
 fn of_range<T>(
-    bytes: &[u8],
+    answer: Result<T, RangeError>,
+    range: &str,
     dialect: Dialect,
     index: usize,
-    ask: impl FnOnce(&str) -> Result<T, RangeError>,
 ) -> Answer<'_, T> {
-    match str::from_utf8(bytes) {
-        Ok(range) => ask(range).map_err(|error| Problem::Range { error, range, dialect, index }),
-        Err(error) => Err(Problem::NotUtf8 { offset: error.valid_up_to(), index }),
-    }
+    answer.map_err(|error| Problem::Range { error, range, dialect, index })
 }
 
 fn made<'a, T>(value: T) -> Answer<'a, *mut T> {
@@ -37,15 +46,18 @@ fn made<'a, T>(value: T) -> Answer<'a, *mut T> {
 
 // ---------------------------------------------------------------- versions, and ranges as strings
 
+#[inline(always)]
 pub fn satisfies<'a>(bytes: &'a [u8], range: &'a [u8], options: Options) -> Answer<'a, bool> {
     let meaning = options.meaning()?;
     let outline = version(bytes, meaning.dialect, 0)?;
-    of_range(range, meaning.dialect, 1, |range| meaning::meets(meaning, range, &outline))
+    let range = text(range, 1)?;
+    of_range(meaning::meets(meaning, range, &outline), range, meaning.dialect, 1)
 }
 
 pub fn check_range(range: &[u8], number: i32) -> Answer<'_, ()> {
     let meaning = Meaning { dialect: dialect(number)?, pre_releases: PreReleases::Default };
-    of_range(range, meaning.dialect, 0, |range| meaning::check(meaning, range))
+    let range = text(range, 0)?;
+    of_range(meaning::check(meaning, range), range, meaning.dialect, 0)
 }
 
 pub fn parse_version(bytes: &[u8], number: i32) -> Answer<'_, Version> {
@@ -71,7 +83,8 @@ pub struct Range {
 
 pub fn parse_range(range: &[u8], options: Options) -> Answer<'_, *mut Range> {
     let meaning = options.meaning()?;
-    let set = of_range(range, meaning.dialect, 0, |range| sets::read(meaning, range))?;
+    let range = text(range, 0)?;
+    let set = of_range(sets::read(meaning, range), range, meaning.dialect, 0)?;
     made(Range { set, meaning })
 }
 
@@ -80,6 +93,7 @@ impl Range {
         Options::of(self.meaning)
     }
 
+    #[inline(always)]
     pub fn contains<'a>(&self, bytes: &'a [u8], index: usize) -> Answer<'a, bool> {
         Ok(self.set.has_outline(&version(bytes, self.meaning.dialect, index)?))
     }
@@ -163,11 +177,13 @@ pub struct Comparators {
 
 pub fn comparators(bytes: &[u8], number: i32, exact: bool) -> Answer<'_, *mut Comparators> {
     let dialect = dialect(number)?;
-    let set = of_range(bytes, dialect, 0, |range| match dialect {
+    let range = text(bytes, 0)?;
+    let read = match dialect {
         Dialect::CrateCargo if !exact => RangeSet::try_parse(range, Compat::Cargo),
         Dialect::CrateNpm if !exact => RangeSet::try_parse(range, Compat::Npm),
         _ => sets::comparators(dialect, range),
-    })?;
+    };
+    let set = of_range(read, range, dialect, 0)?;
     let mut made_of = Comparators { set, listed: Vec::new(), printed: Vec::new() };
     made_of.list()?;
     made(made_of)

@@ -55,7 +55,7 @@ macro_rules! given {
 functions! {
     semver_parser_free(string: *mut c_char) => () = heap::free_string;
     semver_parser_dialect_name(dialect: i32) => *const c_char = message::dialect_name;
-    semver_parser_pre_releases_name(rule: i32) => *const c_char = message::pre_releases_name;
+    semver_parser_pre_releases_name(pre_releases: i32) => *const c_char = message::pre_releases_name;
     semver_parser_status_text(status: Status) => *const c_char = message::status_text;
     semver_parser_reason_text(reason: i32) => *const c_char = message::reason_text;
     semver_parser_reason_name(reason: i32) => *const c_char = message::reason_name;

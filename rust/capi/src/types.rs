@@ -1,7 +1,8 @@
 //! The types of the header, and what they are in Rust.
 
 use crate::errors::Problem;
-use core::{ptr, slice};
+use core::ptr::NonNull;
+use core::slice;
 use proved::{Dialect, Meaning, PreReleases};
 
 /// semver_parser_string.
@@ -14,7 +15,8 @@ pub struct StringView {
 
 impl StringView {
     pub fn of(text: &[u8]) -> StringView {
-        let data = if text.is_empty() { ptr::null() } else { text.as_ptr() };
+        // One that may be read, also of no bytes: the slice's own may be any address.
+        let data = if text.is_empty() { c"".as_ptr().cast() } else { text.as_ptr() };
         StringView { data, length: text.len() }
     }
 }
@@ -104,13 +106,12 @@ macro_rules! given_as_they_are {
 given_as_they_are! { bool i32 usize Options *mut core::ffi::c_char }
 given_as_they_are! { *mut crate::Range *mut crate::Comparators }
 
-/// The items of an array. SAFETY: as of `FromC`; with a count of 0 the pointer may be any.
+/// The items of an array. SAFETY: as of `FromC`. In place of null, which no slice has, is another
+/// address where nothing is: if there are items in spite of null, reading them ends the program.
 unsafe fn items<'a, T>(pointer: *const T, count: usize) -> &'a [T] {
-    if count == 0 {
-        return &[];
-    }
+    let pointer = NonNull::new(pointer.cast_mut()).unwrap_or(NonNull::dangling());
     // SAFETY: as the caller owes.
-    unsafe { slice::from_raw_parts(pointer, count) }
+    unsafe { slice::from_raw_parts(pointer.as_ptr(), count) }
 }
 
 /// An array of strings, all of them valid.

@@ -1,4 +1,4 @@
-use Rattle.std.proofs.Common.{inl, inr, refl}
+use Rattle.std.proofs.Common.{Err, ap, inl, inr, refl}
 use Rattle.semver_parser.specs.Outlines.{version_of}
 use Rattle.tool_ranges.proofs.SatisfiesErrors.{refused_range}
 use Rattle.tool_ranges.proofs.satisfying.satisfies.Goals as goal
@@ -20,6 +20,7 @@ returns-in-Err c = record {
   answer = inr (
     version_of c.in-Some.outline,
     rw c.grammar.ensures.grammar at c.in-Some.ensures.version,
-    refused_range c.args.meaning _ _ c.in-Err.error c.in-Err.ensures.refusals c.in-Err.ensures.no_memory,
+    refused_range c.args.meaning (version_of c.in-Some.outline) c.args.range.now c.in-Err.error c.in-Err.ensures.refusals
+    (λ h. c.in-Err.ensures.no_memory (ap Err h)),
   );
 }

@@ -1,0 +1,47 @@
+//! What the C functions of bench/c/times.c are timed beside: the same ranges and versions by the crate
+//! `semver`, in a table of the same form.
+
+use semver::{Version, VersionReq};
+use std::hint::black_box;
+use std::time::Instant;
+
+const PASSES: usize = 100;
+const CALLS: u32 = 1000;
+const RANGES: [&str; 3] = ["^1.2.3", ">=1.2.3, <2", "~1.2.3-rc.1"];
+const VERSIONS: [&str; 6] = ["1.4.0", "1.2.2", "2.0.0", "1.9.12", "0.8.1", "1.2.3"];
+
+/// How many of the versions match a requirement that is parsed once.
+fn ask_requirement(range: &str, versions: &[&str]) -> usize {
+    let requirement = VersionReq::parse(range).expect("a requirement");
+    let matches = |version: &&&str| requirement.matches(&Version::parse(version).expect("a version"));
+    versions.iter().filter(matches).count()
+}
+
+/// How many match one that is parsed for each.
+fn ask_each(range: &str, versions: &[&str]) -> usize {
+    versions.iter().map(|&version| ask_requirement(range, &[version])).sum()
+}
+
+/// Nanoseconds that it takes at best.
+fn time_of(ask: fn(&str, &[&str]) -> usize, range: &str, versions: &[&str]) -> u128 {
+    let pass = |_| {
+        let begun = Instant::now();
+        for _ in 0..CALLS {
+            black_box(ask(black_box(range), black_box(versions)));
+        }
+        begun.elapsed().as_nanos() / u128::from(CALLS)
+    };
+    (0..PASSES).map(pass).min().expect("a pass")
+}
+
+fn main() {
+    for range in RANGES {
+        for (ask, how) in [(ask_requirement as fn(&str, &[&str]) -> usize, "parsed once"), (ask_each, "parsed for each")] {
+            print!("| `{range}` by `semver`, {how} |");
+            for count in 1..=VERSIONS.len() {
+                print!(" {} |", time_of(ask, range, &VERSIONS[..count]));
+            }
+            println!();
+        }
+    }
+}
