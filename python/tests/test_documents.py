@@ -19,7 +19,7 @@ def named(body: List[ast.stmt]) -> Iterator[Tuple[str, ast.stmt, ast.stmt]]:
     """What has a name among some statements: the name, its statement, and the one after that."""
     for it, after in zip(body, [*body[1:], ast.Pass()]):
         if isinstance(it, (ast.ClassDef, ast.FunctionDef)):
-            if not any(isinstance(by, ast.Name) and by.id == "overload" for by in it.decorator_list):
+            if "overload" not in map(ast.unparse, it.decorator_list):
                 yield it.name, it, after
         elif isinstance(it, ast.Assign) and isinstance(it.targets[0], ast.Name):
             yield it.targets[0].id, it, after
