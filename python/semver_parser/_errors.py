@@ -40,7 +40,7 @@ class _Explanation(NamedTuple):
     status: int
     offset: int
     reason: Reason
-    hint: str
+    sentence: str
 
 
 class SemverError(ValueError):
@@ -51,10 +51,10 @@ class SemverError(ValueError):
     - `index`: which of many versions it is, or of two ranges, 0 for the old one and 1 for the new
       one; else None.
     - `offset`: the index in `string` of the first character that no version or range has there, or
-      the length of `string` if something is missing at its end. If a number is too large, the end
-      of the first number of the version, or term of the range, above the limit.
+      the length of `string` if something is missing at its end. If a number of a range is too
+      large, the end of the first term above the limit.
     - `reason`: why, as a word for programs.
-    - `hint`: why, as an English sentence.
+    - `sentence`: why, as an English sentence.
 
     The last three are found when they are used, so an error that is ignored costs little.
     """
@@ -104,20 +104,20 @@ class SemverError(ValueError):
         return self._explained().reason
 
     @property
-    def hint(self) -> str:
+    def sentence(self) -> str:
         """Why it is, as an English sentence."""
-        return self._explained().hint
+        return self._explained().sentence
 
     def __str__(self) -> str:
         explained = self._explanation()
         status = self._STATUS if explained is None else explained.status
-        sentence = LIBRARY.semver_parser_status_text(status).decode("utf-8")
+        what = LIBRARY.semver_parser_status_text(status).decode("utf-8")
         index = "" if self.index is None else f", index {self.index}"
         shown = repr(self.string)
         if len(shown) > _LONGEST_SHOWN:
             shown = f"{shown[:_LONGEST_SHOWN]}... (length {len(self.string)})"
-        where = "" if explained is None else f" (offset {explained.offset}: {explained.hint})"
-        return f"{sentence}{index}: {shown}{where}"
+        where = "" if explained is None else f" (offset {explained.offset}: {explained.sentence})"
+        return f"{what}{index}: {shown}{where}"
 
 
 class VersionError(SemverError):
@@ -127,7 +127,7 @@ class VersionError(SemverError):
     >>> try:
     ...     Version.parse("1.2.03", dialect="cargo")
     ... except VersionError as error:
-    ...     error.offset, error.reason, error.hint
+    ...     error.offset, error.reason, error.sentence
     (5, 'leading-zero', 'a number or an identifier of digits has no leading zero')
     """
 
@@ -148,7 +148,7 @@ class RangeError(SemverError):
     >>> try:
     ...     Range("1.2 || 3", dialect="cargo")
     ... except RangeError as error:
-    ...     error.offset, error.reason, error.hint
+    ...     error.offset, error.reason, error.sentence
     (4, 'cargo-bars', 'Cargo takes no ||; npm does')
     """
 

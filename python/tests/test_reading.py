@@ -120,7 +120,7 @@ class ByDialect(unittest.TestCase):
             with self.subTest(text=text), self.assertRaises(VersionError) as caught:
                 Version.parse(text, dialect=dialect)
             self.assertEqual((caught.exception.offset, caught.exception.reason), (offset, reason))
-            self.assertIn(caught.exception.hint, str(caught.exception))
+            self.assertIn(caught.exception.sentence, str(caught.exception))
 
     def test_sizes(self) -> None:
         many = ".".join(["a", "1"] * 50_000)
@@ -374,7 +374,7 @@ class Errors(unittest.TestCase):
                 self.assertEqual((error.string, error.index), (text, None))
                 self.assertIs(error.dialect, dialect)
                 self.assertIn(error.reason, reasons)
-                self.assertTrue(error.hint)
+                self.assertTrue(error.sentence)
 
     def test_versions(self) -> None:
         for text in ("", "1.2", "1.2.3-", " ", "01.0.0", "a /", "vv1.2.3", "/", "a/", "1.2.3\0"):
@@ -408,14 +408,14 @@ class Errors(unittest.TestCase):
                 call("1.2 || 3", dialect="cargo")
             self.assertEqual(caught.exception.offset, 4)
             self.assertEqual(caught.exception.reason, "cargo-bars")
-            self.assertEqual(caught.exception.hint, "Cargo takes no ||; npm does")
+            self.assertEqual(caught.exception.sentence, "Cargo takes no ||; npm does")
         with self.assertRaises(RangeError) as caught:
             satisfies("1.2.3", "1 2", dialect="cargo")
         self.assertEqual(caught.exception.offset, 2)
         with self.assertRaises(RangeError) as caught:
             compare_ranges("1", "1 2", dialect="cargo")
         again = pickle.loads(pickle.dumps(caught.exception))
-        self.assertEqual((again.index, again.offset, again.hint), (1, 2, caught.exception.hint))
+        self.assertEqual((again.index, again.offset, again.sentence), (1, 2, caught.exception.sentence))
 
     def test_not_utf8(self) -> None:
         for text, offset in (
@@ -474,7 +474,7 @@ class Errors(unittest.TestCase):
                 )
                 self.assertEqual((again.offset, str(again)), (error.offset, str(error)))
         for fine in (VersionError("1.2.3", "npm"), RangeError("1", "npm", 0)):
-            for name in ("offset", "reason", "hint"):
+            for name in ("offset", "reason", "sentence"):
                 with self.assertRaisesRegex(ValueError, "^the string is valid: '1"):
                     getattr(fine, name)
 
