@@ -114,18 +114,40 @@ class Loading(unittest.TestCase):
         said = self.refused(SEMVER_PARSER_LIBRARY=path)
         self.assertTrue(said.startswith(f"{path} doesn't report its version"), said)
 
-    def test_lacking_option(self) -> None:
-        """A library that has another dialect in the place of one."""
+    def test_names_by_platform(self) -> None:
+        """The name by which cargo has it there, and on Linux the soname."""
+        names = {
+            "linux": "libsemver_parser.so.1",
+            "freebsd14": "libsemver_parser.so.1",
+            "darwin": "libsemver_parser.dylib",
+            "win32": "semver_parser.dll",
+        }
+        for platform, name in names.items():
+            code = f"import ctypes, sys; sys.platform = {platform!r}\n"
+            code += "from semver_parser import _library; print(_library.NAME)"
+            ended = self.run_python(code, SEMVER_PARSER_LIBRARY=self.library)
+            self.assertEqual((ended.stdout, ended.stderr), (f"{name}\n", ""))
+
+    def numbers(self, *names: str) -> str:
+        """What the numbers of dialects are with a library that has these names for them."""
         code = (
             "import semver_parser._library as library\n"
-            "names = [b'cargo', b'npm', b'crate-cargo', b'other', None]\n"
+            f"names = [*(it.encode() for it in {names!r}), None]\n"
             "library.LIBRARY.semver_parser_dialect_name = names.__getitem__\n"
-            "try: from semver_parser import Range\n"
+            "try: from semver_parser import Dialect\n"
             "except ImportError as error: print(error)\n"
+            "else: print([Dialect(it.decode())._number for it in names[:-2]])\n"
         )
         ended = self.run_python(code, SEMVER_PARSER_LIBRARY=self.library)
+        self.assertEqual(ended.stderr, "")
+        return ended.stdout
+
+    def test_numbers_by_name(self) -> None:
+        """Of a library with more dialects, whatever their order, and of one that lacks one."""
+        numbers = self.numbers("npm", "crate-npm", "cargo", "crate-cargo", "another")
+        self.assertEqual(numbers, "[0, 1, 2, 3]\n")
         said = "the library of semver_parser has no Dialect 'crate-npm'\n"
-        self.assertEqual((ended.stdout, ended.stderr), (said, ""))
+        self.assertEqual(self.numbers("cargo", "npm", "crate-cargo", "another"), said)
 
     def test_without_a_library(self) -> None:
         """The package itself can be imported, so that the programs have their help; its names

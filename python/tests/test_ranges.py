@@ -321,6 +321,7 @@ class Keeping(unittest.TestCase):
                 one = Range(string, dialect="npm")
                 self.assertTrue(pickle.loads(pickle.dumps(one & one)) and str(one - one))
                 self.assertTrue(one.comparators)
+                self.assertTrue(all(one.printed_releases for _ in range(20)))
 
         make(5)
         before = pages()
