@@ -43,8 +43,10 @@ run() {
     built=$top/out/cargo/release/$1
     is_built "$built" || {
         [ -e "$built" ] || echo "building $1, which can take a minute" >&2
-        begin && (build -p semver-parser-proved --bins) >&2 && let_go
-    } || exit 2
+        begin
+        build -p semver-parser-proved --bins >&2
+        let_go
+    }
     shift
     exec "$built" "$@"
 }
