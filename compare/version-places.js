@@ -51,11 +51,11 @@ const byCargo = byGrammar(new RegExp(`^${NUMBERS}${parts(PRE, PART)}$`))
 const byCrate = byGrammar(new RegExp(`^[ \\t\\n\\r]*${NUMBERS}${parts(RUNS, RUNS)}[ \\t\\n\\r]*$`))
 const byNpm = semverWithin()
 
-// Whether a text is a version to each tool, and whether one of any length.
+// Whether a text is a version to each tool, whether one of any length, and the reason of a number above its limit.
 const TOOLS = {
-  crate: { isVersion: byCrate, isLong: byCrate },
-  cargo: { isVersion: byCargo, isLong: byCargo },
-  npm: { isVersion: byNpm, isLong: semverWithin(1 << 20) }
+  crate: { isVersion: byCrate, isLong: byCrate, tooLarge: 'too-large' },
+  cargo: { isVersion: byCargo, isLong: byCargo, tooLarge: 'too-large' },
+  npm: { isVersion: byNpm, isLong: semverWithin(1 << 20), tooLarge: 'npm-too-large' }
 }
 
 const isPrefix = (isVersion, of, completions) => completions.some((completion) => isVersion(of + completion))
@@ -65,21 +65,22 @@ const isWhite = (of) => /^[\t-\r ]/.test(of)
 const begun = (character) => WHITE.find((white) => Buffer.from(white)[0] === Buffer.from(character)[0]) ?? character
 
 // The reason by the table.
-function reason ({ isVersion, isLong }, prefix, next) {
+function reason ({ isVersion, isLong, tooLarge }, prefix, next) {
   const takesLetter = isLong(prefix + 'a')
   const takesZero = isLong(prefix + '0')
-  const identifier = takesZero ? 'empty identifier' : 'leading zero'
+  const identifier = takesZero ? 'empty-identifier' : 'leading-zero'
+  const missing = /\d$/.test(prefix) ? 'not-three-numbers' : 'number-expected'
   if (next === undefined) {
     if (!/[\dv]/.test(prefix)) return 'empty'
-    return takesLetter ? identifier : 'not three numbers'
+    return takesLetter ? identifier : missing
   }
   const longer = prefix + begun(next)
-  if (isPrefix(isLong, longer, COMPLETIONS) && !isPrefix(isVersion, longer, COMPLETIONS)) return 'too long'
-  if (/\d/.test(next) && /\d$/.test(prefix) && !takesLetter) return /(^|\D)0$/.test(prefix) ? 'leading zero' : 'too large'
-  if (isLong(prefix)) return isWhite(next) || !/[0-9A-Za-z-]$/.test(prefix) ? 'text after the version' : 'unexpected character'
-  if (!/[.+-]/.test(next) && !isWhite(next)) return 'unexpected character'
+  if (isPrefix(isLong, longer, COMPLETIONS) && !isPrefix(isVersion, longer, COMPLETIONS)) return 'too-long'
+  if (/\d/.test(next) && /\d$/.test(prefix) && !takesLetter) return /(^|\D)0$/.test(prefix) ? 'leading-zero' : tooLarge
+  if (isLong(prefix)) return isWhite(next) || !/[0-9A-Za-z-]$/.test(prefix) ? 'text-after' : 'unexpected-character'
+  if (!/[.+-]/.test(next) && !isWhite(next)) return 'unexpected-character'
   if (takesLetter) return identifier
-  return /\d/.test(prefix) ? 'not three numbers' : 'unexpected character'
+  return /\d/.test(prefix) ? missing : 'unexpected-character'
 }
 
 // Where and why a text is no version, in bytes of UTF-8.

@@ -7,7 +7,7 @@ import re
 PROMISES = '''## The promises
 
 Every function returns on every input, without a panic, an overflow or an access out of bounds. Contracts determine every
-result, but for thirteen calls ([which](#one-answer-for-each-call)).
+result, but for eleven calls ([which](#one-answer-for-each-call)).
 
 Caution: `RangeSet::parse` turns `^1.2.3` into `>=1.2.3 <2.0.0`, which admits 2.0.0-alpha; `parse_exact` uses `<2.0.0-0`.
 
@@ -17,7 +17,7 @@ Caution: `RangeSet::parse` turns `^1.2.3` into `>=1.2.3 <2.0.0`, which admits 2.
 | `semver_tokens` | each step of a parser is a function of its state, unless memory runs out | [`Parser`](../crates/semver_tokens/src/parser.rt): `step`, `answer` | [`ParserSteps`](../crates/semver_tokens/specs/ParserSteps.antt) |
 | `semver_versions` | a version is read exactly if the text spells it | [`version::read`](../crates/semver_versions/src/version.rt): `exact`, `none` | [`VersionGrammar`](../crates/semver_texts/specs/VersionGrammar.antt) |
 | `semver_versions` | the same for Cargo's and npm's versions, without allocating | [`version::outline_in`](../crates/semver_versions/src/version.rt): `outlined`, `none`, `version` | [`ToolVersions`](../crates/semver_texts/specs/ToolVersions.antt) |
-| `text_prefixes` | where and why a text is an invalid version | [`refused`](../crates/text_prefixes/src/reasons.rt): `version`, `offset`, `reason` | [`VersionPrefixes`](../crates/text_prefixes/specs/VersionPrefixes.antt), [`Reasons`](../crates/text_prefixes/specs/Reasons.antt) |
+| `text_prefixes` | where and why a text is an invalid version | [`refusals::explain`](../crates/text_prefixes/src/refusals.rt): `version`, `offset`, `reason` | [`VersionPrefixes`](../crates/text_prefixes/specs/VersionPrefixes.antt), [`Reasons`](../crates/text_prefixes/specs/Reasons.antt) |
 | `semver_ranges` | errors of a range are exact | [`RangeSet::parse`](../crates/semver_ranges/src/range_set.rt): `refusals` | [`RangeTexts`](../crates/semver_ranges/specs/RangeTexts.antt), [`RangeTree`](../crates/semver_ranges/specs/RangeTree.antt) |
 | `semver_ranges` | the comparators mean the text, but for pre-releases of raised bounds | [`RangeSet::parse`](../crates/semver_ranges/src/range_set.rt): `meaning` | [`OwnMeaning`](../crates/semver_ranges/specs/OwnMeaning.antt), [`Meeting`](../crates/semver_ranges/specs/Meeting.antt) |
 | `semver_ranges` | exact bounds mean the text, and print to a text that reads back | [`RangeSet::parse_exact`](../crates/semver_ranges/src/range_set.rt): `meaning`, `reads_back` | [`ExactBounds`](../crates/semver_ranges/specs/ExactBounds.antt) |
@@ -28,13 +28,11 @@ Caution: `RangeSet::parse` turns `^1.2.3` into `>=1.2.3 <2.0.0`, which admits 2.
 | `tool_ranges` | a requirement means what Cargo's grammar and meaning say | [`cargo::read`](../crates/tool_ranges/src/cargo/reading.rt): `refusals`, `meaning` | [`CargoGrammar`](../crates/tool_ranges/specs/CargoGrammar.antt), [`CargoMeaning`](../crates/tool_ranges/specs/CargoMeaning.antt) |
 | `tool_ranges` | a range means what npm's grammar and meaning say | [`npm::read`](../crates/tool_ranges/src/npm/reading.rt): `refusals`, `meaning` | [`NpmGrammar`](../crates/tool_ranges/specs/NpmGrammar.antt), [`NpmMeaning`](../crates/tool_ranges/specs/NpmMeaning.antt) |
 | `tool_ranges` | one version is checked without allocating | [`meaning::meets`](../crates/tool_ranges/src/meaning.rt): `meaning`, `no_memory` | [`Meanings`](../crates/tool_ranges/specs/Meanings.antt) |
+| `tool_ranges` | a version satisfies a range, both texts, or the first that is invalid is reported | [`satisfying::satisfies`](../crates/tool_ranges/src/satisfying.rt): `answer` | [`Satisfying`](../crates/tool_ranges/specs/Satisfying.antt) |
 | `tool_ranges` | where a text stops being a range | [`refusals::refused`](../crates/tool_ranges/src/refusals.rt): `refused` | [`Refusals`](../crates/tool_ranges/specs/Refusals.antt), [`TooLarge`](../crates/tool_ranges/specs/TooLarge.antt) |
 | `release_filter` | exactly the wanted lines of a text in pieces are appended | [`Lines::push`, `Lines::finish`](../crates/release_filter/src/lines.rt): `takes`, `stops`, `finishes` | [`Pieces`](../crates/release_filter/specs/Pieces.antt), [`Verdicts`](../crates/release_filter/specs/Verdicts.antt) |
 | `command_line` | dialect options mean what they say | [`MeaningOptions`](../crates/command_line/src/options.rt): `dialect`, `npm`, `rule` | [`Options`](../crates/command_line/specs/Options.antt) |
 | `answer_laws` | two results of a call are equal, or one is out of memory | [`one_of_text`](../crates/answer_laws/src/sets.rt): `one` | [`OneAnswer`](../crates/answer_laws/specs/OneAnswer.antt) |
-| `plain_calls` | the functions of C and JavaScript return what the dialect and rule mean, or the error | [`versions::parse_version`](../crates/plain_calls/src/versions.rt): `parses`, `parts` | [`Outcomes`](../crates/plain_calls/specs/Outcomes.antt), [`Versions`](../crates/plain_calls/specs/Versions.antt) |
-| `semver_parser_c` | so do those that only C has | [`semver_parser_proved_comparators`](../crates/semver_parser_c/src/ranges.rt): `lists`, `pre_releases` | [`Outcomes`](../crates/semver_parser_c/specs/Outcomes.antt), [`Ranges`](../crates/semver_parser_c/specs/Ranges.antt) |
-| `semver_parser_wasm` | the WebAssembly module has the contracts of `plain_calls` | [`parse_version`](../crates/semver_parser_wasm/src/lib.rt): `parses`, `parts` | [`Versions`](../crates/plain_calls/specs/Versions.antt) |
 
 Below these is `semver_texts`. Programs: `semver_parser_main`, `release_filter_main`, `compare_ranges_main`. Tests:
 `library_tests`, `replayed_cases`.
@@ -44,11 +42,11 @@ Below these is `semver_texts`. Programs: `semver_parser_main`, `release_filter_m
 - **Not guaranteed**: stack depth, speed, how much memory a call takes at once, debug texts, texts
   under width and fill flags.
 - **Only tested** ([TESTED](TESTED.md)): that calls succeed if memory is there; that writing fails only
-  if the writer does; the programs' `main`, other options and hints; reading and writing by
+  if the writer does; the programs' `main`, other options and the reasons of invalid ranges; reading and writing by
   `release-filter`; the lines of C, Python and shell; derived orders and clones; that the definitions
   say what was meant.
-- **Trusted**: the toolchain, the C library, for the Rust crate its [erasure](ERASURE.md#what-is-trusted) and rustc, the kit's `thiserror`, `crates/semver_parser_c/c`, `js/src`,
-  callers from C and JavaScript, and binaryen, which lowers the WebAssembly module to 32-bit memory.
+- **Trusted**: the toolchain, the C library, for the Rust crate its [erasure](ERASURE.md#what-is-trusted) and rustc, the kit's `thiserror`; in C, Python and
+  JavaScript the layers over it (`rust/capi`, `rust/wasm`) and their callers.
 '''
 
 HEAD = '''# What is proved, and where
@@ -58,12 +56,12 @@ definitions, by the names of their files in `specs/`, and a proof imports lemmas
 
 `semver_parser` passes on the calls of the layers below it under the Rust crate's paths. The rest of `specs/Steps` is a
 means of proof: it says what the code does step by step, and no clause of a call for users cites it, but for the views of
-`Lexer`, `VersionSet`, `FlatSet` and `Lines`.
+`Lexer`, `VersionSet` and `Lines`.
 
 ''' + PROMISES + '''
 ## One answer for each call
 
-Can a wrong body be proved? A public call rules that out in one of four ways, which the comment `// Answer: ..` above it
+Can a wrong body be proved? A public call rules that out in one of three ways, which the comment `// Answer: ..` above it
 names:
 
 - **equation**: a clause gives what the call returns and leaves as a function of what it was given, always, or if it
@@ -71,16 +69,14 @@ names:
 - **a law** by its name: a function that makes the call twice with the same arguments. Its clause says that both results
   are equal, or that one is out of memory. Its proof sees the clauses of the call only. Some say less: if a text is
   refused as a version, memory may run out before the error is found (`one_version_of_parser`, `one_version_parse`,
-  `one_parse_by_tokens`), and which hint there is may be open (`one_range_explanation`). A law doesn't say when memory runs out: a clause of the
-  call does, if it has one (`out_of_memory`, `no_memory`).
-- **as** another function: its contract is that function's, to the letter, which `tests/documents` compares.
+  `one_parse_by_tokens`), and which reason an invalid range has is open (`one_refusal`). A law doesn't say when memory
+  runs out: a clause of the call does, if it has one (`out_of_memory`, `no_memory`).
 - **free**: what the clauses leave open, and the mutant that they still reject, or the file of tests that shows it.
 
-Eleven calls are free, and two more leave something open if memory ran out: how many tokens `Parser::version` took, and how
+Nine calls are free, and two more leave something open if memory ran out: how many tokens `Parser::version` took, and how
 much of a piece `Lines::push` did. What is left then is an end part of the tokens (`out_of_memory`; of
 `Parser::identifier` the law fixes it), and what `Lines::push` appended is what that much ends. The clauses of `Lines`
-don't speak of a reader or a writer: they are functions of the bytes. The sort is `Vec::sort_unstable_by` of the kit. In C
-a clause lists a function's outcomes: each status, and what it leaves (`Outcomes`).
+don't speak of a reader or a writer: they are functions of the bytes. The sort is `Vec::sort_unstable_by` of the kit.
 '''
 
 
@@ -153,7 +149,7 @@ def row(top, crate, path, lines, at, name, comment, answer):
     folder = '/'.join(([] if module in ('lib', 'main') else [module]) + parts)
     known = imports('\n'.join(lines), crate)
     shown = ', '.join(clauses(head))
-    by = f'`{answer}`' if answer and not answer.startswith(('equation', 'as ', 'free')) else answer or ''
+    by = f'`{answer}`' if answer and not answer.startswith(('equation', 'free')) else answer or ''
     cells = [
         f'`{name}`', first_sentence(comment), by, shown, ', '.join(f'`{it}`' for it in cited(head, known)),
         ', '.join(f'`{it}`' for it in lemmas(top, crate, folder)),
@@ -194,7 +190,7 @@ def rows_of(top, crate, path, lines, public, exported, traits, answer_of):
         begins = re.match(r'impl(?:<[^>]*>)? (?:.* for )?(\w+)', line)
         if begins:
             inside = begins.group(1) + '::'
-        call = re.match(r' *pub (?:extern "C" )?fn (\w+)', line)
+        call = re.match(r' *pub fn (\w+)', line)
         shown = re.match(traits, line)
         if call and public(crate, path, line):
             yield row(top, crate, path, lines, at, (inside if line.startswith(' ') else '') + call.group(1), comment, answer)
@@ -209,8 +205,8 @@ def rows_of(top, crate, path, lines, public, exported, traits, answer_of):
             yield '| ' + ' | '.join(cells) + ' |'
         found = answer_of.fullmatch(bare)
         if found:
-            law, same = found.group(2), found.group(1).startswith('as ')
-            answer = found.group(1) if same else law.split('::')[-1] if law else 'equation' if not found.group(4) else f'free: {found.group(3)} (`{os.path.basename(found.group(4))}`)'
+            law = found.group(2)
+            answer = law.split('::')[-1] if law else 'equation' if not found.group(4) else f'free: {found.group(3)} (`{os.path.basename(found.group(4))}`)'
         elif bare.startswith('///'):
             comment.append(bare)
         elif not bare.startswith(('#[', '// ')):

@@ -1,4 +1,4 @@
--- serves: text_prefixes::reasons::refused
+-- serves: text_prefixes::refusals::explain
 -- Texts that are no longer than any dialect allows.
 use Rattle.std.proofs.Common.{◌+◌, ◌≤◌, ◌++◌, arith, length, length-append, rules}
 use Rattle.std.proofs.lemmas.List.Elements.{All-contains, All-from_recursion}

@@ -1,16 +1,15 @@
 -- serves: text_prefixes::laws::prefixes_begin_prefixes
 -- What begins versions, where they end and why: each once.
-use Rattle.std.proofs.Common.{◌≡◌, ℕ, ◌++◌, ◌∙◌, [], ⊎_elim, Bool, true, false, ap, append-nil, append_assoc, refl, subst, sym, take}
-use Rattle.std.specs.Prelude.{◌↔◌, IsTrue, MatchOption, Option, Some, None}
+use Rattle.std.proofs.Common.{◌≡◌, ℕ, ◌++◌, ◌∙◌, [], ⊎_elim, Bool, true, false, append-nil, append_assoc, refl, subst, sym}
+use Rattle.std.specs.Prelude.{◌↔◌, IsTrue, Option}
 use Rattle.std.proofs.lemmas.Bool.{cases_order}
 use Rattle.semver_texts.specs.Texts.{Text}
 use Rattle.semver_texts.specs.ToolVersions.{IsVersionTextIn}
 use Rattle.semver_texts.specs.declared.grammar.Grammar.{Grammar}
-use Rattle.text_prefixes.specs.Reasons.{IsReason, byte_at, reason_by}
+use Rattle.text_prefixes.specs.Reasons.{IsReason, reason_by}
 use Rattle.text_prefixes.specs.VersionCompletions.{version_completions}
 use Rattle.text_prefixes.specs.VersionPrefixes.{IsLongestVersionPrefix, IsPrefixIn, IsWholePrefixIn}
 use Rattle.text_prefixes.specs.declared.reasons.Reason.{Reason}
-use Rattle.text_prefixes.specs.declared.refusals.Refusal.{Refusal}
 use Rattle.text_prefixes.proofs.LongestPrefixes.{whole_from}
 use Rattle.text_prefixes.proofs.VersionPrefixes.{known}
 
@@ -45,20 +44,3 @@ one_reason d prefix next x y a b =
     (same_test a.zero b.zero _ a.takes_zero b.takes_zero i)
     (same_test a.too_long b.too_long _ a.is_too_long b.is_too_long i) prefix next)
     ∙ sym b.is
-
--- what `refused` returns
-pub record IsAnswer (d : Grammar) (t : Text) (r : Option Refusal) : Type 0 where
-  pub version : MatchOption r (IsVersionTextIn d t) (λ r. ¬ (IsVersionTextIn d t))
-  pub offset : MatchOption r (Unit {0}) (λ r. IsLongestVersionPrefix d t r.offset)
-  pub reason : MatchOption r (Unit {0}) (λ r. IsReason d (take r.offset t) (byte_at t r.offset) r.reason)
-
-pub one_answer : (d : Grammar) (t : Text) (r s : Option Refusal) → IsAnswer d t r → IsAnswer d t s → r ≡ s
-one_answer d t None None a b = refl
-one_answer d t None (Some s) a b = absurd (b.version a.version)
-one_answer d t (Some r) None a b = absurd (a.version b.version)
-one_answer d t (Some r) (Some s) a b =
-    let offset : r.offset ≡ s.offset = one_longest d t r.offset s.offset a.offset b.offset in
-    let reason : r.reason ≡ s.reason =
-    one_reason d (take s.offset t) (byte_at t s.offset) r.reason s.reason
-    (subst (λ n. IsReason d (take n t) (byte_at t n) r.reason) offset a.reason) b.reason in
-    ap Some (λ i. record { offset = offset i; reason = reason i })

@@ -1,4 +1,4 @@
--- serves: tool_ranges::meaning::meets
+-- serves: tool_ranges::satisfying::satisfies
 -- What a term that was read says of a version is what the term of the tree says.
 use Rattle.std.proofs.Common.{◌≡◌, ℕ, Bool, true, ◌&&◌, List, [], sym, ◌∙◌, rules}
 use Rattle.std.specs.List.{list_all}

@@ -1,6 +1,6 @@
--- serves: tool_ranges::satisfying::satisfies
+-- serves: tool_ranges::laws::one_satisfies
 -- What is refused of a range, as it is answered, and that there is one answer.
-use Rattle.std.proofs.Common.{◌≡◌, ◌≢◌, ◌∙◌, Bool, Ok, Err, ap, inl, inr, refl, subst, sym, true≢false}
+use Rattle.std.proofs.Common.{◌≡◌, ◌∙◌, Bool, Ok, Err, ap, inl, inr, refl, subst, sym, true≢false}
 use Rattle.std.specs.Prelude.{Result}
 use Rattle.semver_parser.specs.ToolVersions.{SpellsIn}
 use Rattle.semver_ranges.specs.declared.range_set.RangeError.{RangeError}
@@ -17,7 +17,7 @@ use Rattle.tool_ranges.specs.declared.satisfying.SatisfiesError.TheVariants.{Inv
 use Rattle.tool_ranges.proofs.ReadingLaws.{one_tree}
 
 pub refused_range : (m : Meaning) (v : VersionValue) (t : Text) (e : RangeError) → RefusesAs {A = Bool} m.dialect t (Err e)
-    → (Err {A = Bool} e ≢ Err OutOfMemory) → AnswersOf m v t (Err (InvalidRange e))
+    → (e ≡ OutOfMemory → ⊥) → AnswersOf m v t (Err (InvalidRange e))
 refused_range m v t NotARange by kept = by.not_a_range.0 refl
 refused_range m v t NumberTooLarge by kept = by.too_large.0 refl
 refused_range m v t OutOfMemory by kept = kept refl
@@ -28,20 +28,20 @@ not_both d t (tree, spells, fit) (other, spelled, large) =
 
 module _ (m : Meaning) (v : VersionValue) (t : Text) where
   one_of : (r s : Result Bool SatisfiesError) → AnswersOf m v t r → AnswersOf m v t s → r ≡ s
-  one_of (Ok a) (Ok b) (set, p) (_, q) = ap Ok (p set.0 set.1.0 ∙ sym (q set.0 set.1.0))
+  one_of (Ok a) (Ok b) (set, p) (_, q) = ap Ok (p set.0 set.1 ∙ sym (q set.0 set.1))
   one_of (Ok a) (Err InvalidVersion) p q = absurd q
-  one_of (Ok a) (Err (InvalidRange NotARange)) (set, _) q = absurd (q (set.0, set.1.0))
+  one_of (Ok a) (Err (InvalidRange NotARange)) (set, _) q = absurd (q (set.0, set.1))
   one_of (Ok a) (Err (InvalidRange NumberTooLarge)) (set, _) q = absurd (not_both m.dialect t set q)
   one_of (Ok a) (Err (InvalidRange OutOfMemory)) p q = absurd q
   one_of (Err InvalidVersion) s p q = absurd p
-  one_of (Err (InvalidRange NotARange)) (Ok b) p (set, _) = absurd (p (set.0, set.1.0))
+  one_of (Err (InvalidRange NotARange)) (Ok b) p (set, _) = absurd (p (set.0, set.1))
   one_of (Err (InvalidRange NotARange)) (Err InvalidVersion) p q = absurd q
   one_of (Err (InvalidRange NotARange)) (Err (InvalidRange NotARange)) p q = refl
-  one_of (Err (InvalidRange NotARange)) (Err (InvalidRange NumberTooLarge)) p q = absurd (p (q.0, q.1.0))
+  one_of (Err (InvalidRange NotARange)) (Err (InvalidRange NumberTooLarge)) p q = absurd (p (q.0, q.1))
   one_of (Err (InvalidRange NotARange)) (Err (InvalidRange OutOfMemory)) p q = absurd q
   one_of (Err (InvalidRange NumberTooLarge)) (Ok b) p (set, _) = absurd (not_both m.dialect t set p)
   one_of (Err (InvalidRange NumberTooLarge)) (Err InvalidVersion) p q = absurd q
-  one_of (Err (InvalidRange NumberTooLarge)) (Err (InvalidRange NotARange)) p q = absurd (q (p.0, p.1.0))
+  one_of (Err (InvalidRange NumberTooLarge)) (Err (InvalidRange NotARange)) p q = absurd (q (p.0, p.1))
   one_of (Err (InvalidRange NumberTooLarge)) (Err (InvalidRange NumberTooLarge)) p q = refl
   one_of (Err (InvalidRange NumberTooLarge)) (Err (InvalidRange OutOfMemory)) p q = absurd q
   one_of (Err (InvalidRange OutOfMemory)) s p q = absurd p

@@ -1,4 +1,4 @@
--- serves: tool_ranges::refusals::refused_in
+-- serves: tool_ranges::refusals::refused
 -- Which terms of a range text fit, from the left, as the loops over its events and comparators count them; and where a word ends.
 use Rattle.std.proofs.Common.{◌≡◌, ℕ, zero, suc, ◌+◌, ◌≤◌, Bool, true, false, List, [], ◌∷◌, ◌++◌, Option, Some, None, length, refl, sym}
 use Rattle.std.proofs.Common.{ap, ◌∙◌, arith}

@@ -41,7 +41,7 @@ pub struct Refusal {
     pub reason: Reason,
 }
 
-// Answer: free, the reason of `NotARange` (else law answer_laws::ranges::one_refusal): ../replayed_cases/stdin.
+// Answer: free, the reason (else law answer_laws::ranges::one_refusal): ../replayed_cases/stdin.
 /// Returns where and why a text gives no range by a dialect, or `None` if it gives one.
 ///
 /// `1.2 || 3` by Cargo's is `NotARange` at 4, since Cargo takes no `||`.

@@ -39,7 +39,7 @@ pub fn satisfies(
     range: &str,
     meaning: Meaning,
 ) -> Result<bool, SatisfiesError>
-    ensures { Satisfies meaning version.now range.now result }
+    ensures answer { Satisfies meaning version.now range.now result }
 {
     let Some(outline) = outline_in(version, meaning.dialect.grammar()) else {
         return Err(SatisfiesError::InvalidVersion);

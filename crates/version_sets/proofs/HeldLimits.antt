@@ -1,4 +1,4 @@
--- serves: version_sets::flat_sets::FlatSet::to_set
+-- serves: version_sets::of_comparators::VersionSet::of_set_by
 -- What holds of where spans begin and end holds of their switches.
 use Rattle.std.proofs.Common.{arith, ◌≡◌, Bool, true, false, not, ◌&&◌, cond, List, [], ◌∷◌, ◌++◌, map, refl, sym, ap, ◌∙◌, is_ge, is_lt}
 use Rattle.std.proofs.lemmas.Bool.{and_parts}

@@ -86,10 +86,8 @@ module _ (lowest : Bool) (g : Grammar) (set : SetValue) (texts : List (Bor Text)
   -- the string at the place is no member
   pub skipped : (at found : ℕ) (best : Option PlainVersion) → ((v : PlainVersion) → IsMember g set texts at v → ⊥) → IsBest at found best
       → IsBest (at + 1) found best
-  skipped at found None none is = (
-    λ k v member within. ⊎_elim (is k v member) (λ e. none v (subst (λ n. IsMember g set texts n v) e
-        member)) (less_one k at within),
-  )
+  skipped at found None none is = λ k v member within. ⊎_elim (is k v member)
+      (λ e. none v (subst (λ n. IsMember g set texts n v) e member)) (less_one k at within)
   skipped at found (Some best) none (before, one, all) = (
     grind arith,
     one,

@@ -1,4 +1,4 @@
--- serves: version_sets::flat_sets::FlatSet::to_set, out_of_memory
+-- serves: version_sets::set_ranges::VersionSet::release_ranges
 -- What is right above a release and above a pre-release, and that none of a kind is below its lowest.
 use Rattle.std.proofs.Common.{arith, ◌≡◌, Bool, true, false, List, [], ◌∷◌, refl, sym, ap, ◌∙◌}
 use Rattle.std.proofs.Common.{Equal, is_ge, is_gt}

@@ -1,4 +1,4 @@
--- serves: version_sets::flat_sets::FlatSet::to_set
+-- serves: version_sets::of_comparators::VersionSet::of_set_by
 -- Bounds narrowed by a comparator hold those of the versions that meet it, too.
 use Rattle.std.proofs.Common.{arith, ◌≡◌, Bool, true, false, [], ◌∷◌, not, ◌&&◌, ◌||◌, refl, ap, ap₂, ◌∙◌}
 use Rattle.std.proofs.Common.{Ordering, Equal, is_ge, is_lt, is_eq}

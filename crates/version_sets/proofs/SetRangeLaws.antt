@@ -1,4 +1,4 @@
--- serves: version_sets::flat_sets::FlatSet::to_set, out_of_memory
+-- serves: version_sets::set_ranges::VersionSet::release_ranges, out_of_memory
 -- The ranges of a set are met by its versions, its text reads back, and there is one only where a version of the kind is in the set.
 use Rattle.std.proofs.Common.{arith, ◌≡◌, ◌<◌, not, List, [], ◌∷◌, map, length, IsTrue, sym, ◌∙◌, subst}
 use Rattle.std.specs.List.{list_all}

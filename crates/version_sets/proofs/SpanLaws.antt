@@ -1,4 +1,4 @@
--- serves: version_sets::flat_sets::FlatSet::to_set
+-- serves: version_sets::of_comparators::VersionSet::of_set_by
 -- The switches of ascending spans increase, and switch what is in some span.
 use Rattle.std.proofs.Common.{arith, ◌≡◌, Bool, true, false, ◌&&◌, ◌||◌, cond, List, [], ◌∷◌, ◌++◌, refl, sym, ap, ◌∙◌, subst}
 use Rattle.std.proofs.Common.{map, add-one, get_or, suc, Bor}

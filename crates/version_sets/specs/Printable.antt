@@ -1,5 +1,5 @@
 -- Which identifiers can be read back from their texts.
-use Rattle.std.specs.Prelude.{Bool, true, not, ◌&&◌, ◌||◌, IsTrue}
+use Rattle.std.specs.Prelude.{Bool, List, true, not, ◌&&◌, ◌||◌, IsTrue}
 use Rattle.std.specs.List.{list_all}
 use Rattle.semver_texts.specs.Texts.{is_large}
 use Rattle.semver_texts.specs.declared.grammar.Digits.{Digits}

@@ -94,28 +94,7 @@ impl Reason {
     /// assert_eq!(Reason::LeadingZero.number(), 3);
     /// ```
     pub fn number(self) -> i32 {
-        match self {
-            Reason::Empty => 1,
-            Reason::NotThreeNumbers => 2,
-            Reason::LeadingZero => 3,
-            Reason::EmptyIdentifier => 4,
-            Reason::UnexpectedCharacter => 5,
-            Reason::TooLarge => 6,
-            Reason::TooLong => 7,
-            Reason::TextAfter => 8,
-            Reason::NotUtf8 => 9,
-            Reason::NumberExpected => 10,
-            Reason::UnexpectedEnd => 11,
-            Reason::CargoCommas => 12,
-            Reason::CargoWildcard => 13,
-            Reason::CargoBars => 14,
-            Reason::CargoV => 15,
-            Reason::CargoHyphen => 16,
-            Reason::NpmComma => 17,
-            Reason::CrateComma => 18,
-            Reason::CrateV => 19,
-            Reason::NpmTooLarge => 20,
-        }
+        self.row().0
     }
 
     /// Returns the reason of a number, or `None` if no reason has it.
@@ -160,28 +139,7 @@ impl Reason {
     /// assert_eq!(Reason::LeadingZero.name(), "leading-zero");
     /// ```
     pub fn name(self) -> &'static str {
-        match self {
-            Reason::Empty => "empty",
-            Reason::NotThreeNumbers => "not-three-numbers",
-            Reason::LeadingZero => "leading-zero",
-            Reason::EmptyIdentifier => "empty-identifier",
-            Reason::UnexpectedCharacter => "unexpected-character",
-            Reason::TooLarge => "too-large",
-            Reason::TooLong => "too-long",
-            Reason::TextAfter => "text-after",
-            Reason::NotUtf8 => "not-utf8",
-            Reason::NumberExpected => "number-expected",
-            Reason::UnexpectedEnd => "unexpected-end",
-            Reason::CargoCommas => "cargo-commas",
-            Reason::CargoWildcard => "cargo-wildcard",
-            Reason::CargoBars => "cargo-bars",
-            Reason::CargoV => "cargo-v",
-            Reason::CargoHyphen => "cargo-hyphen",
-            Reason::NpmComma => "npm-comma",
-            Reason::CrateComma => "crate-comma",
-            Reason::CrateV => "crate-v",
-            Reason::NpmTooLarge => "npm-too-large",
-        }
+        self.row().1
     }
 
     /// Returns its sentence for people, without a full stop.
@@ -192,29 +150,56 @@ impl Reason {
     /// assert_eq!(Reason::CargoBars.sentence(), "Cargo takes no ||; npm does");
     /// ```
     pub fn sentence(self) -> &'static str {
+        self.row().2
+    }
+
+    /// Its number, its name and its sentence.
+    fn row(self) -> (i32, &'static str, &'static str) {
         match self {
-            Reason::Empty => "the string is empty",
-            Reason::NotThreeNumbers => "there are fewer than three numbers",
-            Reason::LeadingZero => "a number or an identifier of digits has no leading zero",
-            Reason::EmptyIdentifier => "an identifier is empty",
-            Reason::UnexpectedCharacter => "unexpected character",
-            Reason::TooLarge => "numbers and raised bounds are at most 2^64 - 1",
-            Reason::TooLong => {
-                "npm takes no version above 256 characters, and no build identifier above 250"
-            }
-            Reason::TextAfter => "text follows the version",
-            Reason::NotUtf8 => "the string isn't UTF-8",
-            Reason::NumberExpected => "a number is expected",
-            Reason::UnexpectedEnd => "something is missing",
-            Reason::CargoCommas => "Cargo separates comparators by commas",
-            Reason::CargoWildcard => "Cargo takes * without numbers before it only alone",
-            Reason::CargoBars => "Cargo takes no ||; npm does",
-            Reason::CargoV => "Cargo takes no leading v; npm does",
-            Reason::CargoHyphen => "Cargo takes no hyphen ranges; npm does",
-            Reason::NpmComma => "npm separates comparators by spaces; Cargo takes commas",
-            Reason::CrateComma => "the crate takes no commas; Cargo does",
-            Reason::CrateV => "the crate takes no leading v; npm does",
-            Reason::NpmTooLarge => "npm's numbers and raised bounds are at most 2^53 - 1",
+            Reason::Empty => (1, "empty", "the string is empty"),
+            Reason::NotThreeNumbers => (
+                2,
+                "not-three-numbers",
+                "there are fewer than three numbers",
+            ),
+            Reason::LeadingZero => (
+                3,
+                "leading-zero",
+                "a number or an identifier of digits has no leading zero",
+            ),
+            Reason::EmptyIdentifier => (4, "empty-identifier", "an identifier is empty"),
+            Reason::UnexpectedCharacter => (5, "unexpected-character", "unexpected character"),
+            Reason::TooLarge => (6, "too-large", "numbers and raised bounds are at most 2^64 - 1"),
+            Reason::TooLong => (
+                7,
+                "too-long",
+                "npm takes no version above 256 characters, and no build identifier above 250",
+            ),
+            Reason::TextAfter => (8, "text-after", "text follows the version"),
+            Reason::NotUtf8 => (9, "not-utf8", "the string isn't UTF-8"),
+            Reason::NumberExpected => (10, "number-expected", "a number is expected"),
+            Reason::UnexpectedEnd => (11, "unexpected-end", "something is missing"),
+            Reason::CargoCommas => (12, "cargo-commas", "Cargo separates comparators by commas"),
+            Reason::CargoWildcard => (
+                13,
+                "cargo-wildcard",
+                "Cargo takes * without numbers before it only alone",
+            ),
+            Reason::CargoBars => (14, "cargo-bars", "Cargo takes no ||; npm does"),
+            Reason::CargoV => (15, "cargo-v", "Cargo takes no leading v; npm does"),
+            Reason::CargoHyphen => (16, "cargo-hyphen", "Cargo takes no hyphen ranges; npm does"),
+            Reason::NpmComma => (
+                17,
+                "npm-comma",
+                "npm separates comparators by spaces; Cargo takes commas",
+            ),
+            Reason::CrateComma => (18, "crate-comma", "the crate takes no commas; Cargo does"),
+            Reason::CrateV => (19, "crate-v", "the crate takes no leading v; npm does"),
+            Reason::NpmTooLarge => (
+                20,
+                "npm-too-large",
+                "npm's numbers and raised bounds are at most 2^53 - 1",
+            ),
         }
     }
 }

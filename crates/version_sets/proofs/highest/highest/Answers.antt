@@ -38,9 +38,16 @@ loop-at-preserved c =
       | else-is_above b ↦ rw (b.found-is, b.best-is) (step.1 b.if-is_above.false)
     ]
 
-pub returns : goal.returns
-returns c =
+pub returns-in-Some-best : goal.returns-in-Some-best
+returns-in-Some-best c =
     let all : c.loop-at.at ≡ length c.args.versions.now = grind (arith, c.loop-at-test.false, c.loop-at.auto.at-end) in
-    whole c.args.lowest c.args.grammar c.args.set.now c.args.versions.now c.loop-at.found _ (inside _ _ _)
+    rw c.in-Some-best.is at (whole c.args.lowest c.args.grammar c.args.set.now c.args.versions.now c.loop-at.found _ (inside _ _ _)
     (subst (λ n. IsBest c.args.lowest c.args.grammar c.args.set.now c.args.versions.now n c.loop-at.found
-    (option_map (λ (o : OutlineValue). (version_of o).plain) c.loop-at.best)) all c.loop-at.invariant)
+    (option_map (λ (o : OutlineValue). (version_of o).plain) c.loop-at.best)) all c.loop-at.invariant))
+
+pub returns-in-None : goal.returns-in-None
+returns-in-None c =
+    let all : c.loop-at.at ≡ length c.args.versions.now = grind (arith, c.loop-at-test.false, c.loop-at.auto.at-end) in
+    rw c.in-None.is at (whole c.args.lowest c.args.grammar c.args.set.now c.args.versions.now c.loop-at.found _ (inside _ _ _)
+    (subst (λ n. IsBest c.args.lowest c.args.grammar c.args.set.now c.args.versions.now n c.loop-at.found
+    (option_map (λ (o : OutlineValue). (version_of o).plain) c.loop-at.best)) all c.loop-at.invariant))

@@ -8,5 +8,5 @@ returns-then-not-has_outline c = λ is.
     let (v, spells, member) = is in
     let read = c.in_ok-outline.ensures.version in
     let same = c.one_version_in.ensures.same_version _ v _ _ spells read in
-    true≢false (sym member ∙ ap (λ (w : VersionValue). has c.args.set.now w.plain) same ∙ sym c.has_outline.ensures.has
+    true≢false (sym member ∙ ap (λ (w : VersionValue). has c.args.set.now w.plain) same ∙ sym c.has_outline.ensures.of_version
     ∙ c.if-not-has_outline.true)

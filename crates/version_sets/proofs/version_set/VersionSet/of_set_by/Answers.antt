@@ -4,6 +4,7 @@ use Rattle.semver_parser.specs.declared.Range.{Range}
 use Rattle.semver_parser.specs.Meeting.{meets_range}
 use Rattle.semver_parser.specs.RangeViews.{range_of}
 use Rattle.semver_texts.specs.declared.grammar.Digits.{Digits}
+use Rattle.semver_texts.specs.declared.grammar.Digits.TheVariants.{Kept, AnySize}
 use Rattle.std.proofs.lemmas.Bool.{and_parts}
 use Rattle.version_sets.specs.DigitViews.{range_by, set_by}
 use Rattle.version_sets.specs.Steps.Places.{pre_release_place}
@@ -18,7 +19,6 @@ use Rattle.version_sets.specs.Steps.RangeRules.{meets_range_with}
 use Rattle.version_sets.specs.declared.rules.PreReleases.{PreReleases}
 use Rattle.version_sets.specs.declared.rules.PreReleases.TheVariants.{Excluded, Default, Included}
 use Rattle.version_sets.proofs.BoundLaws.{and_true}
-use Rattle.version_sets.proofs.FlatTexts.{one_way}
 use Rattle.version_sets.proofs.Lists.{list_all-map, list_any-map}
 use Rattle.version_sets.proofs.SetLaws.{has-release, has-pre_release}
 use Rattle.version_sets.proofs.WalkLaws.{by_test}
@@ -43,6 +43,14 @@ released Default v r e =
 released Included v r e = refl
 
 -- what is read back one way can be in one of both
+one_way : (d : Digits) (v : PlainVersion) → prints_by d v ≡ true → is_printable_switch v ≡ true
+one_way Kept v e = rw e refl
+one_way AnySize v e = rw e (or_true (prints_by Kept v))
+  where
+    or_true : (b : Bool) → (b || true) ≡ true
+    or_true true = refl
+    or_true false = refl
+
 each_prints : (d : Digits) (vs : List PlainVersion) → list_all (prints_by d) vs ≡ true → list_all is_printable_switch vs ≡ true
 each_prints d [] e = refl
 each_prints d (v ∷ vs) e =
