@@ -122,6 +122,7 @@ stage stage-python: all out/man/made
 install install-python:
 	$(begin)
 	may_write "$$to"
+	may_ask || :
 	if [ $@ = install-python ]; then
 		[ -e python/semver_parser ] || refuse "there is no directory $$top/python/semver_parser"
 		PACKAGES=$$(python3 -c 'import site, sys, sysconfig
