@@ -98,7 +98,7 @@ stage stage-python: all out/man/made
 		> "$$to/$(LIBDIR)/pkgconfig/semver_parser.pc"
 	if [ $@ = stage-python ]; then
 		modules=$$to/$$PACKAGES
-		for file in $$(cd python && find semver_* -name '*.py' -o -name py.typed); do
+		for file in $$(cd python && find semver_parser -name '*.py' -o -name py.typed); do
 			install -D -m 644 python/$$file "$$modules/$$file"
 		done
 		up=../$$(echo "$$PACKAGES" | sed 's:[^/][^/]*:..:g')
@@ -122,6 +122,7 @@ stage stage-python: all out/man/made
 install install-python:
 	$(begin)
 	may_write "$$to"
+	may_ask || :
 	if [ $@ = install-python ]; then
 		[ -e python/semver_parser ] || refuse "there is no directory $$top/python/semver_parser"
 		PACKAGES=$$(python3 -c 'import site, sys, sysconfig

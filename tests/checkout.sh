@@ -1,6 +1,6 @@
 # What the tests of the scripts share. Reading this file makes a checkout that nobody edits,
-# `checkout`, in a folder with a blank in its name, and goes there: the scripts, and what is built
-# of the programs and the library. It proves nothing: in place of `rt` stands a script.
+# `checkout`, in a directory with a blank in its name, and goes there; cargo builds anew what is built
+# there. `stub` has scripts run in place of commands.
 work=$(mktemp -d)
 trap 'rm -rf "$work"' EXIT
 trap 'exit 2' HUP INT TERM
@@ -9,24 +9,16 @@ chmod 755 "$work"
 unset DESTDIR SOURCE_DATE_EPOCH CC
 checkout="$work/a checkout"
 
-# What is built is copied last, so it is newest.
 copy_checkout() {
-    mkdir -p "$checkout/crates/semver_parser_c/src" "$checkout/crates/semver_parser_c/specs" "$checkout/crates/semver_parser_c/proofs" "$work/bin"
-    cp -R crates.txt VERSION LICENSE-APACHE LICENSE-MIT Makefile completions debian compare-ranges release-filter semver-parser man tests tools "$checkout"
-    cp -R crates/semver_parser_c/c crates/semver_parser_c/include "$checkout/crates/semver_parser_c"
-    cp -R python "$checkout"
-    copy_built
+    mkdir -p "$checkout" "$work/bin"
+    cp -R Cargo.toml crates.txt VERSION LICENSE-APACHE LICENSE-MIT Makefile completions debian compare-ranges release-filter semver-parser man \
+        python rust tests tools "$checkout"
 }
 
-copy_built() {
-    mkdir -p "$checkout/out/built"
-    for file in semver-parser release-filter compare-ranges libsemver_parser_c.a; do cp "$top/out/built/$file" "$checkout/out/built/$file"; done
-}
-
-# stub BODY: what runs as `rt` from now on.
+# stub COMMAND BODY: what runs as the command from now on.
 stub() {
-    printf '#!/bin/sh\n%s\n' "$1" > "$work/bin/rt"
-    chmod +x "$work/bin/rt"
+    printf '#!/bin/sh\n%s\n' "$2" > "$work/bin/$1"
+    chmod +x "$work/bin/$1"
 }
 
 # fail WHAT: says what is wrong, and what was written last.
@@ -102,8 +94,8 @@ npm: >=1.2.0 <2.0.0' stdout
     ends 0 env -i "$1/compare-ranges" --npm '^1.2' '>=1.2.0 <2.0.0'
 }
 
-# stopped_while_compiling FOLDER COMMAND..: the command is stopped while a file of C is compiled. It
-# ends by the signal, leaves no temporary file, and puts nothing into the folder.
+# stopped_while_compiling FOLDER COMMAND..: the command is stopped while the shared library is linked.
+# It ends by the signal, leaves no temporary file, and puts nothing into the directory.
 stopped_while_compiling() {
     folder=$1
     shift
@@ -121,15 +113,20 @@ stopped_while_compiling() {
 
 # functions_of_header: the functions that the header declares and doesn't define itself.
 functions_of_header() {
-    sed -n '/^static inline/!s/^[a-z].*\(semver_parser_[a-z0-9_]*\)(.*/\1/p' crates/semver_parser_c/include/semver_parser.h |
+    sed -n '/^static inline/!s/^[a-z].*\(semver_parser_[a-z0-9_]*\)(.*/\1/p' rust/capi/include/semver_parser.h |
         LC_ALL=C sort
+}
+
+# manuals FOLDER ENDING: the pages of the functions, one for each that the header has.
+manuals() {
+    sed -n 's/^[a-z].*\(semver_parser_[a-z0-9_]*\)(.*/\1/p' rust/capi/include/semver_parser.h | LC_ALL=C sort | sed "s:.*:$1/&.$2:"
 }
 
 # same_calls NM-FLAGS..: the names that a library shows are those that the header declares.
 same_calls() {
     functions_of_header > "$work/calls"
     [ -s "$work/calls" ] || fail 'the header declares no call'
-    nm -g --defined-only "$@" | sed -n 's/^[0-9a-f]* [A-Za-z] //p' | LC_ALL=C sort | diff -u "$work/calls" -
+    nm -g --defined-only "$@" | sed -n 's/^[0-9a-f]* [B-Zb-z] //p' | sed 's/@.*//' | LC_ALL=C sort | diff -u "$work/calls" -
 }
 
 top=$PWD

@@ -43,8 +43,10 @@ run() {
     built=$top/out/cargo/release/$1
     is_built "$built" || {
         [ -e "$built" ] || echo "building $1, which can take a minute" >&2
-        begin && (build -p semver-parser-proved --bins) >&2 && let_go
-    } || exit 2
+        begin
+        build -p semver-parser-proved --bins >&2
+        let_go
+    }
     shift
     exec "$built" "$@"
 }
@@ -57,11 +59,7 @@ is_built() {
 # build ARGUMENT..: has cargo build what the arguments say. The files don't depend on the directories
 # of the repository and of the toolchain: their paths aren't in them.
 build() {
-    if ! is_owner || [ ! -w "$top" ]; then
-        is_built "$top/out/cargo/release/semver-parser" || may_build 'the Rust crate'
-        return 0
-    fi
-    may_build 'the Rust crate'
+    may_ask || return 0
     may_cargo
     unset MAKEFLAGS MFLAGS
     flags=$(printf '%s\037' ${RUSTFLAGS-} "--remap-path-prefix=$top=." \
@@ -72,6 +70,12 @@ build() {
 
 may_cargo() {
     command -v cargo > /dev/null || refuse 'needs the command cargo (Debian: apt-get install cargo)'
+}
+
+# may_ask: whether cargo may write to the repository. If not, what isn't built is refused.
+may_ask() {
+    is_owner && [ -w "$top" ] || is_built "$top/out/cargo/release/semver-parser" || may_build 'the Rust crate'
+    is_owner && [ -w "$top" ]
 }
 
 # Root builds nothing in a checkout of another user.

@@ -25,14 +25,15 @@ enum { HOLDS = 0, DOES_NOT_HOLD = 1, INVALID = 2, STOPPED = 3 };
 /* A dialect, and which pre-releases satisfy a range. */
 typedef struct {
     const char *name;
-    semver_parser_options options;
+    semver_parser_dialect dialect;
+    semver_parser_pre_releases pre_releases;
 } dialect_by_name;
 
 static const dialect_by_name dialects[] = {
-    {"npm", {SEMVER_PARSER_DIALECT_NPM, SEMVER_PARSER_PRE_RELEASES_DEFAULT}},
-    {"cargo", {SEMVER_PARSER_DIALECT_CARGO, SEMVER_PARSER_PRE_RELEASES_DEFAULT}},
-    {"crate-npm", {SEMVER_PARSER_DIALECT_CRATE_NPM, SEMVER_PARSER_PRE_RELEASES_INCLUDED}},
-    {"crate-cargo", {SEMVER_PARSER_DIALECT_CRATE_CARGO, SEMVER_PARSER_PRE_RELEASES_INCLUDED}},
+    {"npm", SEMVER_PARSER_DIALECT_NPM, SEMVER_PARSER_PRE_RELEASES_DEFAULT},
+    {"cargo", SEMVER_PARSER_DIALECT_CARGO, SEMVER_PARSER_PRE_RELEASES_DEFAULT},
+    {"crate-npm", SEMVER_PARSER_DIALECT_CRATE_NPM, SEMVER_PARSER_PRE_RELEASES_INCLUDED},
+    {"crate-cargo", SEMVER_PARSER_DIALECT_CRATE_CARGO, SEMVER_PARSER_PRE_RELEASES_INCLUDED},
 };
 
 static int output_error(unsigned long number) {
@@ -48,12 +49,13 @@ static int print(const char *line, size_t length, unsigned long number) {
     return DOES_NOT_HOLD;
 }
 
-/* Reports an error: "line 1: invalid range, at byte 2: Cargo takes no ||; npm does". */
-static int report(const semver_parser_error *error, unsigned long number) {
-    const char *reason = semver_parser_reason_text(error->reason);
-    fprintf(stderr, "line %lu: %s, at byte %zu%s%s\n", number,
-            semver_parser_status_text(error->status), error->offset, *reason != '\0' ? ": " : "",
-            reason);
+/* Reports an error: "line 1: invalid range "1 || 2", at byte 2: Cargo takes no ||; npm does". */
+static int report(const semver_parser_error *error, semver_parser_string of, unsigned long number) {
+    char *message = NULL;
+    semver_parser_status status = semver_parser_error_message(error, of, false, &message);
+    fprintf(stderr, "line %lu: %s\n", number,
+            status == SEMVER_PARSER_OK ? message : semver_parser_status_text(status));
+    semver_parser_free(message);
     return INVALID;
 }
 
@@ -73,7 +75,7 @@ static int check(
     semver_parser_error error;
     if (semver_parser_satisfies(version, range, options, &satisfies, &error)
         != SEMVER_PARSER_OK) {
-        return report(&error, number);
+        return report(&error, error.index == 0 ? version : range, number);
     }
     return satisfies ? HOLDS : print(line, length, number);
 }
@@ -114,7 +116,9 @@ int main(int count, char **arguments) {
     const char *name = count == 1 ? "npm" : arguments[1];
     for (size_t at = 0; count <= 2 && at < sizeof dialects / sizeof *dialects; at++) {
         if (strcmp(name, dialects[at].name) == 0) {
-            return check_all(dialects[at].options);
+            semver_parser_options options = semver_parser_options_of(dialects[at].dialect);
+            options.pre_releases = dialects[at].pre_releases;
+            return check_all(options);
         }
     }
     fprintf(stderr, "check-ranges [npm|cargo|crate-npm|crate-cargo] < lines\n");
