@@ -4,6 +4,9 @@
 // writes them, so no code of a caller runs between the first byte that is written and the result.
 import { EMBEDDED, WHERE } from './module.mjs'
 
+/** What a call returns if memory ran out. */
+export const OUT_OF_MEMORY = -3
+
 const encoder = new TextEncoder()
 const decoder = new TextDecoder()
 
@@ -140,7 +143,9 @@ export function bestOf(address, versions, isLowest) {
   if (end > capacity) reserve(end)
   if (bytes.length === 0) refresh()
   new Uint32Array(bytes.buffer, buffer, lengths.length).set(lengths)
-  return call(address, buffer, lengths.length, buffer + begin, isLowest ? 1 : 0)
+  const index = call(address, buffer, lengths.length, buffer + begin, isLowest ? 1 : 0)
+  if (index < 0) throw new RangeError('out of memory')
+  return index
 }
 
 /** A number of 64 bits that a call handed back, by its index: a BigInt. */

@@ -1,5 +1,5 @@
 // Comparators, and the form in which node-semver writes them.
-import { callWith, stringBack } from './calls.mjs'
+import { OUT_OF_MEMORY, callWith, stringBack } from './calls.mjs'
 import { noString } from './errors.mjs'
 import { isSameMeaning, meaningOf } from './options.mjs'
 import { ReadRange } from './ranges.mjs'
@@ -78,7 +78,9 @@ function written(comparators, meaning) {
  */
 export function rangesOf(string, meaning) {
   const { dialect, rule } = meaning
-  if (callWith('range_comparators', string, dialect, rule) !== 0) return null
+  const status = callWith('range_comparators', string, dialect, rule)
+  if (status === OUT_OF_MEMORY) throw new RangeError('out of memory')
+  if (status !== 0) return null
   const all = stringBack().split(' || ').map((range) => written(range.split(' '), meaning))
   const some = all.filter(([first]) => first !== NO_VERSION)
   const any = some.find(([first]) => first === '')

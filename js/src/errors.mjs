@@ -19,6 +19,7 @@ function indexOf(string, offset) {
 export function explained(call, string, { dialect }) {
   const number = callWith(call, string, dialect)
   if (number === 0) return null
+  if (number < 0) throw new RangeError('out of memory')
   const offset = indexOf(string, numberAt(0))
   return { offset, reason: reasonOf(number), sentence: sentenceOf(number) }
 }
@@ -43,8 +44,12 @@ export class SemverError extends TypeError {
 export const invalidVersion = (string, meaning) =>
   new SemverError('Invalid Version', string, explained('version_refused', string, meaning))
 
-export const invalidRange = (string, meaning) =>
-  new SemverError('Invalid SemVer Range', string, explained('range_refused', string, meaning))
+/** Why a string wasn't read as a range: it is invalid, or memory ran out. */
+export function invalidRange(string, meaning) {
+  const explanation = explained('range_refused', string, meaning)
+  if (explanation === null) return new RangeError('out of memory')
+  return new SemverError('Invalid SemVer Range', string, explanation)
+}
 
 export const noString = (what, value) =>
   new TypeError(`Invalid ${what}. Must be a string. Got type "${typeof value}".`)

@@ -4,12 +4,13 @@ use crate::versions::{outline, refused};
 use crate::{bytes, state, status};
 use alloc::alloc::{alloc, Layout};
 use alloc::boxed::Box;
+use alloc::string::String;
 use alloc::vec::Vec;
-use core::fmt::Write;
+use core::fmt::{self, Write};
 use core::ptr::null_mut;
 use semver_parser::refusals::{self, Reason};
 use semver_parser::sets::{self, VersionSet};
-use semver_parser::{satisfies, Dialect, Meaning, PreReleases, SatisfiesError};
+use semver_parser::{satisfies_bytes, Dialect, Meaning, PreReleases, RangeError, SatisfiesError};
 
 /// A range that was read.
 pub struct Range {
@@ -43,18 +44,20 @@ pub unsafe extern "C" fn range_satisfied(
     dialect: i32,
     rule: i32,
 ) -> i32 {
-    let Some(meaning) = meaning(dialect, rule) else { return status::INVALID_RANGE };
-    let (range, version) = unsafe { (string(range, range_len), string(at, len)) };
-    let Some(range) = range else { return status::INVALID_RANGE };
-    match version.map(|version| satisfies(version, range, meaning)) {
-        Some(Ok(answer)) => answer.into(),
-        None | Some(Err(SatisfiesError::InvalidVersion)) => status::INVALID_VERSION,
-        Some(Err(SatisfiesError::InvalidRange(_))) => status::INVALID_RANGE,
+    let (Some(meaning), Some(range)) =
+        (meaning(dialect, rule), unsafe { string(range, range_len) })
+    else {
+        return status::INVALID_RANGE;
+    };
+    match satisfies_bytes(unsafe { bytes(at, len) }, range, meaning) {
+        Ok(answer) => answer.into(),
+        Err(SatisfiesError::InvalidVersion) => status::INVALID_VERSION,
+        Err(SatisfiesError::InvalidRange(_)) => status::INVALID_RANGE,
     }
 }
 
-/// Returns the number of the reason for which a string isn't a range, 0 if it is one. The first
-/// number handed back is the offset in bytes.
+/// Returns the number of the reason for which a string isn't a range, 0 if it is one, or that
+/// memory ran out. The first number handed back is the offset in bytes.
 ///
 /// # Safety
 /// There are so many bytes at the address.
@@ -64,17 +67,29 @@ pub unsafe extern "C" fn range_refused(at: *const u8, len: usize, dialect: i32) 
     else {
         return Reason::NotUtf8.number();
     };
-    match refusals::of_range(range, dialect) {
-        Some(refusal) => refused(refusal.offset, refusal.reason),
-        None => 0,
+    match refusals::try_of_range(range, dialect) {
+        Ok(Some(refusal)) => refused(refusal.offset, refusal.reason),
+        Ok(None) => 0,
+        Err(_) => status::OUT_OF_MEMORY,
+    }
+}
+
+/// What is written to it grows the string, if memory suffices.
+struct Growing<'a>(&'a mut String);
+
+impl Write for Growing<'_> {
+    fn write_str(&mut self, part: &str) -> fmt::Result {
+        self.0.try_reserve(part.len()).map_err(|_| fmt::Error)?;
+        self.0.push_str(part);
+        Ok(())
     }
 }
 
 /// Hands back what is displayed as a string. Returns 0, or the status that memory ran out.
-fn show(shown: impl core::fmt::Display) -> i32 {
+fn show(shown: impl fmt::Display) -> i32 {
     state::with(|state| {
         state.text.clear();
-        if write!(state.text, "{shown}").is_err() {
+        if write!(Growing(&mut state.text), "{shown}").is_err() {
             return status::OUT_OF_MEMORY;
         }
         state.numbers[0] = state.text.as_ptr() as u64;
@@ -99,6 +114,7 @@ pub unsafe extern "C" fn range_comparators(
     };
     match sets::comparators(meaning.dialect, range) {
         Ok(set) => show(set),
+        Err(RangeError::OutOfMemory) => status::OUT_OF_MEMORY,
         Err(_) => status::INVALID_RANGE,
     }
 }
@@ -155,7 +171,7 @@ pub unsafe extern "C" fn range_has(range: &Range, at: *const u8, len: usize) -> 
 }
 
 /// Returns the index of the highest of versions, or of the lowest, that is in a range, the first of
-/// equal ones; `count` if none is, or memory ran out. Invalid ones are skipped.
+/// equal ones; `count` if none is, and `usize::MAX` if memory ran out. Invalid ones are skipped.
 ///
 /// # Safety
 /// At the addresses are so many lengths, and the bytes of all versions, one after the other.
@@ -170,7 +186,7 @@ pub unsafe extern "C" fn range_best(
     let lengths = unsafe { core::slice::from_raw_parts(lengths, count) };
     let mut versions = Vec::new();
     if versions.try_reserve_exact(count).is_err() {
-        return count;
+        return usize::MAX;
     }
     let mut at = at;
     for len in lengths {

@@ -1,9 +1,9 @@
 //! Versions: what one consists of, why a string is none, and how two compare.
 
-use crate::state::State;
 use crate::{bytes, state, status};
+use semver_parser::refusals::{self, Reason};
 use semver_parser::version::{outline_in, Outline};
-use semver_parser::{refusals, Dialect};
+use semver_parser::Dialect;
 
 /// The outline of a string that is a version of a dialect. None either if the number is no dialect's.
 pub fn outline(string: &[u8], dialect: i32) -> Option<Outline<'_>> {
@@ -48,26 +48,23 @@ pub unsafe extern "C" fn version_compare(
     }
 }
 
-/// Returns the number of the reason for which a string isn't a version, 0 if it is one. The first
-/// number handed back is the offset in bytes.
+/// Returns the number of the reason for which a string isn't a version, 0 if it is one, or that
+/// memory ran out. The first number handed back is the offset in bytes.
 ///
 /// # Safety
 /// There are so many bytes at the address.
 #[no_mangle]
 pub unsafe extern "C" fn version_refused(at: *const u8, len: usize, dialect: i32) -> i32 {
-    let (Some(dialect), Ok(string)) =
-        (Dialect::of_number(dialect), core::str::from_utf8(unsafe { bytes(at, len) }))
-    else {
-        return refusals::Reason::NotUtf8.number();
-    };
-    match refusals::of_version(string, dialect) {
-        Some(refusal) => refused(refusal.offset, refusal.reason),
-        None => 0,
+    let Some(dialect) = Dialect::of_number(dialect) else { return status::INVALID_VERSION };
+    match refusals::try_of_version(unsafe { bytes(at, len) }, dialect) {
+        Ok(Some(refusal)) => refused(refusal.offset, refusal.reason),
+        Ok(None) => 0,
+        Err(_) => status::OUT_OF_MEMORY,
     }
 }
 
 /// Hands back an offset. Returns the number of the reason.
-pub fn refused(offset: usize, reason: refusals::Reason) -> i32 {
-    state::with(|State { numbers, .. }| numbers[0] = offset as u64);
+pub fn refused(offset: usize, reason: Reason) -> i32 {
+    state::with(|state| state.numbers[0] = offset as u64);
     reason.number()
 }
