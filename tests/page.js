@@ -1,12 +1,14 @@
-// Types into the page in Chromium, by its protocol for developers, and compares what the page shows.
+// Types into the page in Chromium, by its protocol for developers, and compares what the page shows;
+// and loads the package's file for browsers, also where a policy forbids to compile.
 //
-//     node tests/page.js PAGE PROFILE [PICTURE]
+//     node tests/page.js PAGE PACKAGE PROFILE [PICTURE]
 'use strict';
 const { spawn } = require('child_process');
 const fs = require('fs');
+const http = require('http');
 const path = require('path');
 
-const [page, profile, picture] = process.argv.slice(2);
+const [page, package_, profile, picture] = process.argv.slice(2);
 
 // Chromium with two pipes of its own, one for what it is asked and one for what it answers.
 const chromium = spawn('chromium', [
@@ -136,12 +138,54 @@ async function main() {
     expect('requests', await value("performance.getEntriesByType('resource').length"), 0);
 
     await ask('Emulation.setEmulatedMedia', { features: [] });
+    await openPackage(ask, value);
     if (picture) {
         await open('#range=1.2.3&other=%5E1.2.4&versions=1.2.2%0A1.2.3%0A1.2.4%0A1.3.0-rc.1%0Av1.2.3&preReleases=default&dialect=cargo');
         await ask('Emulation.setDeviceMetricsOverride', { width: 860, height: 1000, deviceScaleFactor: 1, mobile: false });
         const { data } = await ask('Page.captureScreenshot', { format: 'png' });
         fs.writeFileSync(picture, Buffer.from(data, 'base64'));
     }
+}
+
+// What is served beside the package: a page that compiles its module, and one that may not, by its
+// policy, and gets it from a worker that may.
+const SERVED = {
+    '/compiles.html': '<script type="module" src="/compiles.mjs"></script>',
+    '/compiles.mjs': `import { ready, satisfies } from '/browser.mjs'
+        await ready()
+        document.title = satisfies('1.9.0', '^1.2')`,
+    '/forbidden.html': '<script type="module" src="/forbidden.mjs"></script>',
+    '/forbidden.mjs': `import { init, ready, valid } from '/browser.mjs'
+        const refused = await ready().then(() => '', (error) => error.name)
+        const worker = new Worker('/worker.mjs', { type: 'module' })
+        worker.onmessage = ({ data }) => {
+            init(data)
+            document.title = refused + ' ' + valid('v1.2.3')
+        }`,
+    '/worker.mjs': "postMessage(await WebAssembly.compileStreaming(fetch('/semver_parser.wasm')))",
+};
+const TYPES = { '.html': 'text/html', '.mjs': 'text/javascript', '.wasm': 'application/wasm' };
+
+function serve({ url }, response) {
+    const policy = url === '/forbidden.html' ? { 'Content-Security-Policy': "default-src 'self'" } : {};
+    const file = path.join(package_, path.basename(url));
+    const body = SERVED[url] ?? (fs.existsSync(file) ? fs.readFileSync(file) : null);
+    const type = TYPES[path.extname(url)] ?? 'text/plain';
+    response.writeHead(body === null ? 404 : 200, { 'Content-Type': type, ...policy });
+    response.end(body ?? '');
+}
+
+async function openPackage(ask, value) {
+    const server = http.createServer(serve);
+    await new Promise((resolve) => server.listen(0, '127.0.0.1', resolve));
+    const { port } = server.address();
+    for (const [name, right] of [['compiles', 'true'], ['forbidden', 'CompileError 1.2.3']]) {
+        await ask('Page.navigate', { url: 'about:blank' });
+        await ask('Page.navigate', { url: `http://127.0.0.1:${port}/${name}.html` });
+        for (let tries = 0; tries < 100 && await value('document.title') === ''; tries += 1) await sleep(100);
+        expect(`the file for browsers, ${name}`, await value('document.title'), right);
+    }
+    server.close();
 }
 
 // In the page: how many elements have text of their own, and which of them have a contrast below 4.5
