@@ -54,6 +54,7 @@ export declare class SemVer<N extends number | bigint = number> {
   /** The same as `version`. */
   format(): string
   toString(): string
+  /** All fields; of a `bigint` its digits. */
   toJSON(): object
   /** -1, 0 or 1 by precedence. */
   compare(other: AnyVersion): -1 | 0 | 1

@@ -2,7 +2,7 @@
 import { OUT_OF_MEMORY, callWith, stringBack } from './calls.mjs'
 import { noString } from './errors.mjs'
 import { isSameMeaning, meaningOf } from './options.mjs'
-import { ReadRange } from './ranges.mjs'
+import { readRange } from './ranges.mjs'
 import { SemVer, cmp, parse, valid } from './versions.mjs'
 
 const ANY = Symbol('SemVer ANY')
@@ -57,7 +57,7 @@ export class Comparator {
   intersects(other, options) {
     if (!(other instanceof Comparator)) throw new TypeError('a Comparator is required')
     const meaning = options === undefined ? this.#meaning : meaningOf(options)
-    const [one, two] = [this, other].map(({ value }) => new ReadRange(value, meaning))
+    const [one, two] = [this, other].map(({ value }) => readRange(value, meaning))
     return one.beside(two, 'range_overlaps') === 1
   }
 }

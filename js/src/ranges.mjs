@@ -12,31 +12,32 @@ const owners = []
 const addresses = []
 let next = 0
 
-/** A string that was read as a range. */
-export class ReadRange {
+/** A string that is read as a range. */
+class ReadRange {
   #place = -1
 
   constructor(string, meaning) {
     this.string = string
     this.meaning = meaning
-    this.#read()
   }
 
-  #read() {
+  /** Whether it is read: it may be invalid. */
+  read() {
     const { dialect, rule } = this.meaning
     const address = callWith('range_read', this.string, dialect, rule)
-    if (address === 0) throw invalidRange(this.string, this.meaning)
+    if (address === 0) return false
     if (owners[next]) calls().range_free(addresses[next])
     owners[next] = this
     addresses[next] = address
     this.#place = next
     next = (next + 1) % PLACES
+    return true
   }
 
   /** Where it is in the memory of the module, until another range is read. */
   get address() {
-    if (owners[this.#place] !== this) this.#read()
-    return addresses[this.#place]
+    if (owners[this.#place] === this || this.read()) return addresses[this.#place]
+    throw invalidRange(this.string, this.meaning)
   }
 
   /** Whether a version is in it; an invalid one isn't. */
@@ -135,30 +136,35 @@ export class Range {
   }
 }
 
-/** The string of a range, which may be one that was read, also by another copy of the package. */
+// Whether a value is a range that was read, also by another copy of the package.
+function isRange(range) {
+  if (range === null || typeof range !== 'object') return false
+  if (range instanceof Comparator || readOf(range) !== null) return true
+  const { raw, range: string } = range
+  return typeof raw === 'string' && typeof string === 'string'
+}
+
+/** The string of a range, which may be one that was read. */
 export function rangeStringOf(range) {
   if (typeof range === 'string') return range
-  if (range instanceof Comparator) return range.value
-  const read = readOf(range)
-  if (read !== null) return read.string
-  const { raw, range: text } = range ?? {}
-  if (typeof raw === 'string' && typeof text === 'string') return raw
-  throw noString('range', range)
+  if (!isRange(range)) throw noString('range', range)
+  return range instanceof Comparator ? range.value : readOf(range)?.string ?? `${range.raw}`
 }
 
 /** A range that was read: it may have been before. Throws if it is invalid. */
 export function readRange(range, meaning) {
   const read = readOf(range)
   if (read !== null && isSameMeaning(read.meaning, meaning)) return read
-  return new ReadRange(rangeStringOf(range), meaning)
+  const found = new ReadRange(rangeStringOf(range), meaning)
+  if (found.read()) return found
+  throw invalidRange(found.string, meaning)
 }
 
-/** The same, but null if it is invalid. */
+/** The same, but null if it is invalid, or no range at all. */
 export function readRangeOrNull(range, meaning) {
-  try {
-    return readRange(range, meaning)
-  } catch (error) {
-    if (error instanceof TypeError) return null
-    throw error
-  }
+  if (typeof range !== 'string' && !isRange(range)) return null
+  const read = readOf(range)
+  if (read !== null && isSameMeaning(read.meaning, meaning)) return read
+  const found = new ReadRange(rangeStringOf(range), meaning)
+  return found.read() ? found : null
 }

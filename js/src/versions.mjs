@@ -70,15 +70,19 @@ export class SemVer {
   format() { return this.#version }
   toString() { return this.#version }
 
-  toJSON() {
+  #fields([major, minor, patch]) {
     const { options, loose, includePrerelease, raw, prerelease, build, version } = this
-    const [major, minor, patch] = this.#numbers
     const parts = { major, minor, patch, prerelease, build }
     return { options, loose, includePrerelease, raw, ...parts, version }
   }
 
+  // JSON has no bigint.
+  toJSON() {
+    return this.#fields(this.#numbers.map((it) => (typeof it === 'bigint' ? `${it}` : it)))
+  }
+
   [Symbol.for('nodejs.util.inspect.custom')](depth, options, inspect) {
-    return `SemVer ${inspect(this.toJSON(), options)}`
+    return `SemVer ${inspect(this.#fields(this.#numbers), options)}`
   }
 
   #with(other) {

@@ -3,6 +3,7 @@ import assert from 'node:assert/strict'
 import { cpSync, readFileSync } from 'node:fs'
 import { createRequire } from 'node:module'
 import { test } from 'node:test'
+import { inspect } from 'node:util'
 import { Worker } from 'node:worker_threads'
 import * as semver from 'semver-parser-proved'
 
@@ -77,6 +78,8 @@ test("Cargo's dialect", () => {
   const large = semver.parse('18446744073709551615.0.9007199254740992', cargo)
   assert.deepEqual([large.major, large.minor, large.patch], [18446744073709551615n, 0n, 9007199254740992n])
   assert.equal(semver.major('1.2.3', cargo), 1n)
+  assert.equal(JSON.parse(JSON.stringify(large)).minor, '0')
+  assert.match(inspect(large), /^SemVer \{[^]*minor: 0n,/)
   assert.equal(semver.major('1.2.3'), 1)
   assert.equal(semver.inc('18446744073709551614.0.1', 'major', cargo), '18446744073709551615.0.0')
   assert.equal(semver.inc('18446744073709551615.0.1', 'major', cargo), null)
