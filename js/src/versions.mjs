@@ -174,7 +174,7 @@ export function explainVersion(version, options) {
 
 // ---- precedence
 
-export function comparedOrThrow(version, other, meaning) {
+function comparedOrThrow(version, other, meaning) {
   const order = compareOnce(version, other, meaning.dialect)
   if (order !== null) return order
   const isFirst = readVersion(version, meaning.dialect) < 0
