@@ -1,7 +1,7 @@
-"""npm with the JavaScript package in the place of `semver`: npm_on_it.py PACKAGE COUNT SEED runs its
-commands in COUNT projects over a registry on the loopback address, once as it is and once in a copy
-of npm's tree that has the package, and compares what they write and leave. The status is 1 if
-something differs, but where node-semver reads strings by `loose`."""
+"""npm with the JavaScript package in the place of `semver`: npm_on_it.py PACKAGE COUNT SEED runs
+its commands in COUNT projects over a registry on the loopback address, once as it is and once in a
+copy of npm's tree that has the package, and compares what they write and leave. The status is 1 if
+something differs, but where node-semver reads strings by `loose`: in each tenth project."""
 
 import json
 import os
@@ -122,7 +122,7 @@ def loosen(world: World, chance: random.Random) -> None:
 def main(package: Path, count: int, seed: int) -> int:
     """Compares the commands in so many projects. The status."""
     registry, differences, loose, ran, failed = Registry(), 0, 0, 0, 0
-    with tempfile.TemporaryDirectory() as made, ThreadPoolExecutor() as it:
+    with tempfile.TemporaryDirectory() as made, ThreadPoolExecutor() as pool:
         top = Path(made)
         trees = [npm_itself(), copy_of_npm(top, package)]
         for number in range(count):
@@ -136,7 +136,7 @@ def main(package: Path, count: int, seed: int) -> int:
             folders = [top / tree.name / f"project-{number}" for tree in trees]
             for folder in folders:
                 write_project(folder, world)
-            beside = [it.submit(run, *each, registry, top) for each in zip(trees, folders)]
+            beside = [pool.submit(run, *each, registry, top) for each in zip(trees, folders)]
             results = [each.result() for each in beside]
             for (command, theirs), (_, ours) in zip(*results):
                 ran += 1
