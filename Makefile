@@ -236,7 +236,7 @@ crate:
 	mkdir -p "$$OUT" && to=$$OUT put "$$work/target/package" "./$$name"
 	echo "made $$OUT/$$name"
 
-# All that is published; the Debian packages are built in a copy of what git has.
+# All that is published; the Debian packages are built in a copy of what git has, by any cargo (-d).
 release:
 	$(begin)
 	may_write "$$OUT"
@@ -251,7 +251,7 @@ release:
 	for goal in crate wheel js archive; do again $$goal; done
 	git ls-files -z | tar --null -T - -cf - | tar -C "$$work/source" -xf -
 	cd "$$work/source"
-	beside dpkg-buildpackage -b -us -uc > "$$work/notes" 2>&1 || { cat "$$work/notes" >&2; exit 2; }
+	beside dpkg-buildpackage -b -us -uc -d > "$$work/notes" 2>&1 || { cat "$$work/notes" >&2; exit 2; }
 	mv "$$work"/*.deb "$$made"
 	(cd "$$made" && LC_ALL=C sha256sum -- * > "$$work/sums" && mv "$$work/sums" SHA256SUMS)
 	cd "$$top" && mkdir -p "$$out" && to=$$out
