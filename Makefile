@@ -16,6 +16,8 @@ LIBDIR ?= lib
 ZSHDIR ?= share/zsh/site-functions
 OUT ?= out
 export PREFIX OUT ZSHDIR
+# cargo has no use for the jobs of this make.
+unexport MAKEFLAGS MFLAGS
 MAKEFLAGS += -r -j$(shell nproc) --no-print-directory
 .ONESHELL .SILENT .DELETE_ON_ERROR:
 .SHELLFLAGS := -euc
