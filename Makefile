@@ -251,7 +251,7 @@ release:
 	export OUT="$$made"
 	mkdir "$$made" "$$work/source"
 	for goal in crate wheel js archive; do again $$goal; done
-	git ls-files -z | tar --null -T - -cf - | tar -C "$$work/source" -xf -
+	git ls-files -z | tar --null -T - --mtime="@$$SOURCE_DATE_EPOCH" -cf - | tar -C "$$work/source" -xf -
 	cd "$$work/source"
 	beside dpkg-buildpackage -b -us -uc -d > "$$work/notes" 2>&1 || { cat "$$work/notes" >&2; exit 2; }
 	mv "$$work"/*.deb "$$made"
