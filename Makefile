@@ -100,7 +100,7 @@ stage stage-python: all out/man/made
 		> "$$to/$(LIBDIR)/pkgconfig/semver_parser.pc"
 	if [ $@ = stage-python ]; then
 		modules=$$to/$$PACKAGES
-		for file in $$(cd python && find semver_* -name '*.py' -o -name py.typed); do
+		for file in $$(cd python && find semver_parser -name '*.py' -o -name py.typed); do
 			install -D -m 644 python/$$file "$$modules/$$file"
 		done
 		up=../$$(echo "$$PACKAGES" | sed 's:[^/][^/]*:..:g')

@@ -20,9 +20,9 @@ TOP = os.path.dirname(os.path.dirname(os.path.abspath(__file__)))
 CASES = os.path.join(TOP, "python", "cases")
 sys.path.insert(0, os.path.join(TOP, "python"))
 
-from semver_checks import check_lock_file, checking, compare_requirements, comparing  # noqa: E402, F401
-from semver_checks.files import Refusal  # noqa: E402
-from semver_checks.program import Misuse, outcome_of  # noqa: E402
+from semver_parser.checks import check_lock_file, checking, compare_requirements, comparing  # noqa: E402, F401
+from semver_parser.checks.files import Refusal  # noqa: E402
+from semver_parser.checks.program import Misuse, outcome_of  # noqa: E402
 
 MANIFESTS = ("package.json", "Cargo.toml", "pnpm-workspace.yaml", ".npmrc")
 FORMATS = ("text", "tsv", "json", "github")

@@ -7,8 +7,8 @@ from typing import Any, Dict, List, NamedTuple, Set, Tuple
 
 TOP = os.path.dirname(os.path.dirname(os.path.dirname(os.path.abspath(__file__))))
 sys.path.insert(0, os.path.join(TOP, "python"))
-from semver_checks.findings import PROJECT, Finding, Kind, Scope  # noqa: E402
-from semver_checks.reports import report_on  # noqa: E402
+from semver_parser.checks.findings import PROJECT, Finding, Kind, Scope  # noqa: E402
+from semver_parser.checks.reports import report_on  # noqa: E402
 
 Edge = Tuple[str, str]
 """Who requires which name. The project is empty."""

@@ -12,8 +12,8 @@ from projects import environment, write_project
 from registry import Registry
 from worlds import Maker, World
 
-from semver_checks.findings import Kind, Scope
-from semver_checks.reports import report_on
+from semver_parser.checks.findings import Kind, Scope
+from semver_parser.checks.reports import report_on
 
 HERE = os.path.dirname(os.path.abspath(__file__))
 LOCK = "yarn.lock"

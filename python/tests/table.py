@@ -12,17 +12,16 @@ from pathlib import Path
 from typing import Callable, Dict, Iterator, List, NamedTuple, Optional, Tuple
 
 from semver_parser import (
+    Comparators,
     Dialect,
     Identifier,
     PreReleases,
     Range,
     RangeError,
-    RangeSet,
     Version,
     VersionError,
     compare_ranges,
-    parse_range,
-    parse_version,
+    crate_comparators,
 )
 
 CASES = Path(__file__).resolve().parents[2] / "crates" / "replayed_cases"
@@ -133,34 +132,33 @@ def fields_of_version(version: Version) -> str:
     return f"{version.major} {version.minor} {version.patch} pre{pre} build{build}"
 
 
-def _fields_of_set(answered: RangeSet) -> str:
-    ranges = [
-        " ".join(
-            f"{it.op}{it.major}.{it.minor}.{it.patch}{_kinds(it.pre)}" for it in them.comparator_set
-        )
-        for them in answered.ranges
-    ]
-    assert all(them.compat is answered.compat for them in answered.ranges)
-    return f"{answered.compat.name.title()} " + " || ".join(ranges)
+def _fields_of_comparators(comparators: Comparators) -> str:
+    return " || ".join(
+        " ".join(f"{it.op}{it.major}.{it.minor}.{it.patch}{_kinds(it.pre)}" for it in them)
+        for them in comparators
+    )
 
 
 def is_too_large(error: RangeError) -> bool:
     """Whether a number of a range is too large."""
-    return error.reason in ("limit", "npm-limit")
+    return error.reason in ("too-large", "npm-too-large")
 
 
 def _of_version(text: str, show: Callable[[Version], str], no_version: str) -> str:
     try:
-        return show(parse_version(text, dialect="crate-cargo"))
+        return show(Version.parse(text, dialect="crate-cargo"))
     except VersionError:
         return no_version
 
 
 def _of_range(
-    text: str, npm: bool, exact: bool, show: Callable[[RangeSet], str], errors: Dict[bool, str]
+    text: str, npm: bool, exact: bool, show: Callable[[Comparators], str], errors: Dict[bool, str]
 ) -> str:
+    dialect = _dialect(npm)
     try:
-        return show(parse_range(text, dialect=_dialect(npm), exact=exact))
+        if exact:
+            return show(Range(text, dialect=dialect).comparators)
+        return show(crate_comparators(text, dialect=dialect))
     except RangeError as error:
         return errors[is_too_large(error)]
 
@@ -187,7 +185,7 @@ def _of_chosen(
         chosen = Range(text, dialect=dialect, pre_releases=pre_releases)
     except RangeError as error:
         return _SENTENCES[is_too_large(error)]
-    return show(chosen, [parse_version(it, dialect=dialect) for it in steps.split(" ") if it])
+    return show(chosen, [Version.parse(it, dialect=dialect) for it in steps.split(" ") if it])
 
 
 def _filtered(chosen: Range, versions: List[Version]) -> str:
@@ -215,7 +213,7 @@ def _of_set(call: str, text: str, steps: str) -> str:
         if what == "whole":
             return _whole(of)
         if what == "set":
-            filtered = _filtered(of, [parse_version(it, dialect=dialect) for it in steps.split()])
+            filtered = _filtered(of, [Version.parse(it, dialect=dialect) for it in steps.split()])
             release = Range(text, dialect=dialect, pre_releases="excluded")
             return (
                 f"{filtered}, least {_lowest_of(of)}, least release {_lowest_of(release)}, "
@@ -246,7 +244,9 @@ def answer(call: str, text: str, steps: str) -> Optional[str]:
     if call == "version-text":
         return _of_version(text, str, _NO_VERSION)
     if call in ("cargo", "npm"):
-        return _of_range(text, npm, False, _fields_of_set, _NAMES)
+        answered = _of_range(text, npm, False, _fields_of_comparators, _NAMES)
+        # The table has the mode of the crate's range set, too.
+        return answered if answered in _NAMES.values() else f"{call.title()} {answered}"
     if call in ("cargo-text", "npm-text", "from-str", "cargo-exact", "npm-exact"):
         return _of_range(text, npm, last == "exact", str, _SENTENCES)
     if call == "report":

@@ -190,13 +190,13 @@ class Comparing(unittest.TestCase):
     def test_errors(self) -> None:
         raised_bound = f"<={MOST}"
         for old, new, index, reasons in [
-            ("^", "^1", 0, (None,)),
-            ("^1", "^", 1, (None,)),
-            ("^", "|", 0, (None,)),
+            ("^", "^1", 0, ("number-expected",)),
+            ("^1", "^", 1, ("number-expected",)),
+            ("^", "|", 0, ("number-expected",)),
             (b"\xff", "^1", 0, ("not-utf8",)),
             ("^1", "\ud800", 1, ("not-utf8",)),
-            (raised_bound, b"\xff", 0, ("limit", "npm-limit")),
-            ("*", raised_bound, 1, ("limit", "npm-limit")),
+            (raised_bound, b"\xff", 0, ("too-large", "npm-too-large")),
+            ("*", raised_bound, 1, ("too-large", "npm-too-large")),
         ]:
             for dialect in Dialect:
                 with self.assertRaises(RangeError) as raised:
@@ -248,7 +248,7 @@ class LowestVersion(unittest.TestCase):
         for dialect in (Dialect.CARGO, Dialect.CRATE_CARGO, Dialect.NPM):
             with self.assertRaises(RangeError) as raised:
                 Range("0.0.18446744073709551615", dialect=dialect)
-            self.assertIn(raised.exception.reason, ("limit", "npm-limit"))
+            self.assertIn(raised.exception.reason, ("too-large", "npm-too-large"))
         crate = Range("0.0.18446744073709551615", dialect="crate-npm")
         self.assertEqual(crate.lowest_version, Version(0, 0, 2**64 - 1))
         npm = Range("0.0.9007199254740991", dialect="npm")

@@ -3,7 +3,6 @@ public name says what it is, in the words of the project."""
 
 import ast
 import doctest
-import importlib
 import inspect
 import re
 import unittest
@@ -11,7 +10,7 @@ from pathlib import Path
 from typing import Iterator, List, Tuple
 
 import semver_parser
-from semver_parser import library
+from semver_parser import _library
 
 TOP = Path(__file__).resolve().parents[2]
 
@@ -20,7 +19,8 @@ def named(body: List[ast.stmt]) -> Iterator[Tuple[str, ast.stmt, ast.stmt]]:
     """What has a name among some statements: the name, its statement, and the one after that."""
     for it, after in zip(body, [*body[1:], ast.Pass()]):
         if isinstance(it, (ast.ClassDef, ast.FunctionDef)):
-            yield it.name, it, after
+            if "overload" not in map(ast.unparse, it.decorator_list):
+                yield it.name, it, after
         elif isinstance(it, ast.Assign) and isinstance(it.targets[0], ast.Name):
             yield it.targets[0].id, it, after
         elif isinstance(it, ast.AnnAssign) and isinstance(it.target, ast.Name):
@@ -37,13 +37,14 @@ def is_described(name: str, it: ast.stmt, after: ast.stmt, around: str) -> bool:
 
 class Documents(unittest.TestCase):
     def test_examples(self) -> None:
-        count = 0
-        for file in (TOP / "python" / "semver_parser").glob("*.py"):
-            name = "semver_parser" if file.stem == "__init__" else f"semver_parser.{file.stem}"
-            failed, tried = doctest.testmod(importlib.import_module(name))
-            self.assertEqual(failed, 0, name)
-            count += tried
-        self.assertGreater(count, 25)
+        finder, runner = doctest.DocTestFinder(), doctest.DocTestRunner()
+        public = [("semver_parser", semver_parser)]
+        public += [(name, getattr(semver_parser, name)) for name in semver_parser.__all__]
+        for name, it in public:
+            for test in finder.find(it, name, module=False, globs=vars(semver_parser).copy()):
+                runner.run(test)
+        self.assertEqual(runner.summarize(), (0, runner.tries))
+        self.assertGreater(runner.tries, 25)
         document = TOP / "python" / "README.md"
         failed, tried = doctest.testfile(str(document), module_relative=False)
         self.assertEqual((failed, tried > 0), (0, True), document)
@@ -92,11 +93,11 @@ class Documents(unittest.TestCase):
         self.assertEqual(semver_parser.__version__, version)
         major, minor, _ = map(int, version.split("."))
         fitting = (major, minor) if major == 0 else (major,)
-        self.assertEqual(library.FITTING, fitting)
+        self.assertEqual(_library.FITTING, fitting)
 
     def test_name_of_the_library(self) -> None:
         python = TOP / "python"
         package = python / "semver_parser" / "__init__.py"
         for file in (python / "README.md", python / "pyproject.toml", package, TOP / ".gitignore"):
             named = re.findall(r"libsemver_parser\.so[.0-9]*[0-9]", file.read_text())
-            self.assertEqual(set(named), {library.NAME}, file)
+            self.assertEqual(set(named), {_library.NAME}, file)

@@ -14,7 +14,8 @@ from pathlib import Path
 
 PACKAGE = Path(__file__).resolve().parents[1] / "semver_parser"
 VARIABLE = "SEMVER_PARSER_LIBRARY"
-NAME = "libsemver_parser.so.1"
+NAMES = {"win32": "semver_parser.dll", "darwin": "libsemver_parser.dylib"}
+NAME = NAMES.get(sys.platform, "libsemver_parser.so.1")
 
 
 @unittest.skipUnless(os.environ.get(VARIABLE), f"{VARIABLE} names no library")
@@ -44,7 +45,7 @@ class Loading(unittest.TestCase):
         self.assertEqual((ended.stdout, ended.stderr, ended.returncode), ("True\n", "", 0))
 
     def refused(self, **variables: str) -> str:
-        code = "try: import semver_parser\nexcept ImportError as error: print(error)"
+        code = "try: from semver_parser import Range\nexcept ImportError as error: print(error)"
         ended = self.run_python(code, **variables)
         self.assertEqual((ended.stderr, ended.returncode), ("", 0))
         return ended.stdout
@@ -112,3 +113,53 @@ class Loading(unittest.TestCase):
         path = self.make_library("other.so", "int other;")
         said = self.refused(SEMVER_PARSER_LIBRARY=path)
         self.assertTrue(said.startswith(f"{path} doesn't report its version"), said)
+
+    def test_names_by_platform(self) -> None:
+        """The name by which cargo has it there, and on Linux the soname."""
+        names = {
+            "linux": "libsemver_parser.so.1",
+            "freebsd14": "libsemver_parser.so.1",
+            "darwin": "libsemver_parser.dylib",
+            "win32": "semver_parser.dll",
+        }
+        for platform, name in names.items():
+            code = f"import ctypes, sys; sys.platform = {platform!r}\n"
+            code += "from semver_parser import _library; print(_library.NAME)"
+            ended = self.run_python(code, SEMVER_PARSER_LIBRARY=self.library)
+            self.assertEqual((ended.stdout, ended.stderr), (f"{name}\n", ""))
+
+    def numbers(self, *names: str) -> str:
+        """What the numbers of dialects are with a library that has these names for them."""
+        code = (
+            "import semver_parser._library as library\n"
+            f"names = [*(it.encode() for it in {names!r}), None]\n"
+            "library.LIBRARY.semver_parser_dialect_name = names.__getitem__\n"
+            "try: from semver_parser import Dialect\n"
+            "except ImportError as error: print(error)\n"
+            "else: print([Dialect(it.decode())._number for it in names[:-2]])\n"
+        )
+        ended = self.run_python(code, SEMVER_PARSER_LIBRARY=self.library)
+        self.assertEqual(ended.stderr, "")
+        return ended.stdout
+
+    def test_numbers_by_name(self) -> None:
+        """Of a library with more dialects, whatever their order, and of one that lacks one."""
+        numbers = self.numbers("npm", "crate-npm", "cargo", "crate-cargo", "another")
+        self.assertEqual(numbers, "[0, 1, 2, 3]\n")
+        said = "the library of semver_parser has no Dialect 'crate-npm'\n"
+        self.assertEqual(self.numbers("cargo", "npm", "crate-cargo", "another"), said)
+
+    def test_without_a_library(self) -> None:
+        """The package itself can be imported, so that the programs have their help; its names
+        can't be used, each time."""
+        code = (
+            "import semver_parser as it\n"
+            "print(it.__version__, 'Range' in dir(it), hasattr(it, 'other'))\n"
+            "for _ in range(2):\n"
+            "    try: it.Range\n"
+            "    except ImportError as error: print(str(error).split(',')[0])\n"
+        )
+        ended = self.run_python(code, SEMVER_PARSER_LIBRARY="/nowhere/lib.so")
+        said = 2 * "semver_parser needs its shared library\n"
+        version = (PACKAGE.parents[1] / "VERSION").read_text().strip()
+        self.assertEqual((ended.stdout, ended.stderr), (f"{version} True False\n{said}", ""))

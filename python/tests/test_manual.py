@@ -5,7 +5,7 @@ import unittest
 from pathlib import Path
 from typing import List
 
-from semver_parser import Dialect, PreReleases, Range, RangeError, VersionError, parse_version
+from semver_parser import Dialect, PreReleases, Range, RangeError, Version, VersionError
 
 MANUAL = Path(__file__).resolve().parents[2] / "man" / "semver-ranges.7"
 DIALECTS = (Dialect.CARGO, Dialect.NPM, Dialect.CRATE_CARGO, Dialect.CRATE_NPM)
@@ -48,7 +48,7 @@ def expected(cells: List[str], string: str) -> List[str]:
 def is_read(string: str, dialect: Dialect) -> str:
     """Whether a string is a version of a dialect, in the words of the manual."""
     try:
-        parse_version(string, dialect=dialect)
+        Version.parse(string, dialect=dialect)
     except VersionError:
         return "refused"
     return "read"

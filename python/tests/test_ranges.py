@@ -1,4 +1,4 @@
-"""Ranges as sets: what two have, how they compare, and how they are printed, copied and kept."""
+"""Ranges as sets: what two have, how they compare, and how they are printed, copied and pickled."""
 
 import copy
 import gc
@@ -10,16 +10,13 @@ import unittest
 from typing import Tuple
 
 from semver_parser import (
-    Compat,
+    Comparators,
     Dialect,
     PreReleases,
     Range,
     RangeError,
-    RangeSet,
     Version,
     VersionError,
-    parse_range,
-    parse_version,
 )
 
 NPM, CRATE = Dialect.NPM, Dialect.CRATE_CARGO
@@ -87,7 +84,7 @@ class Combining(unittest.TestCase):
         self.assertEqual((first, hash(first)), (second, hash(second)))
         self.assertTrue(first <= second and second <= first)
         self.assertFalse(first < second or first > second)
-        for other in ("1", None, 1, parse_range("1", dialect=CRATE)):
+        for other in ("1", None, 1, first.comparators):
             self.assertNotEqual(first, other)
         self.assertTrue(first)
         self.assertFalse(first - second)
@@ -125,7 +122,7 @@ class Combining(unittest.TestCase):
 
     def test_other_types(self) -> None:
         one = Range("1", dialect="npm")
-        for other in ("1", None, 1, parse_range("1", dialect="npm")):
+        for other in ("1", None, 1, one.comparators):
             for call in (
                 lambda: one | other,
                 lambda: one & other,
@@ -161,7 +158,7 @@ class Containing(unittest.TestCase):
             (" v1.9.0", True),
             (b"1.2.3-rc.1", False),
             ("1.3.0-rc", False),
-            (parse_version("1.2.3-rc.2", dialect="npm"), True),
+            (Version.parse("1.2.3-rc.2", dialect="npm"), True),
         ]:
             self.assertIs(version in made, wanted)
         with self.assertRaises(VersionError) as caught:
@@ -190,12 +187,20 @@ class Printing(unittest.TestCase):
 
     def test_string(self) -> None:
         for string in ("^1.2", " 1.x  ||2 ", "=1.2.3-a"):
-            self.assertEqual(str(Range(string, dialect="npm")), string)
-            self.assertEqual(str(Range(string.encode(), dialect="npm")), string)
-        self.assertEqual(str(Range("\u00a01".encode(), dialect="npm")), "\u00a01")
+            for made in (Range(string, dialect="npm"), Range(string.encode(), dialect="npm")):
+                self.assertEqual((str(made), made.string), (string, string))
+        self.assertEqual(Range("\u00a01".encode(), dialect="npm").string, "\u00a01")
         one = Range("=1.2.3-a", dialect=CRATE)
         self.assertEqual(str(one & one), "<0.0.0-0, pre-releases =1.2.3-a")
         self.assertEqual(str(one - one), "<0.0.0-0")
+        self.assertIsNone((one & one).string)
+
+    def test_formats(self) -> None:
+        one = Range("^1.2", dialect="npm")
+        self.assertEqual(f"{one:>6}|{one:<6}|{one}", "  ^1.2|^1.2  |^1.2")
+        self.assertEqual(f"{one & one:*^18}", "**>=1.2.0 <2.0.0**")
+        self.assertEqual(f"{one.comparators:>18}", "  >=1.2.0 <2.0.0-0")
+        self.assertEqual(f"{one.comparators[0][0]:>9}", "  >=1.2.0")
 
     def test_repr(self) -> None:
         for made, wanted in (
@@ -231,19 +236,12 @@ class Printing(unittest.TestCase):
         self.assertEqual(repr(one & one), wanted)
 
     def test_comparators(self) -> None:
-        """Of a string its own, and of a combined range those of its releases."""
-        for dialect in Dialect:
-            for string in ("^1.2", "=1.2.3-a", "*"):
-                made = Range(string, dialect=dialect)
-                wanted = parse_range(string, dialect=dialect, exact=True)
-                self.assertEqual(made.comparators, wanted)
+        """Of a combined range those of its releases."""
         cargo = Range("^1.2", dialect="cargo") - Range("=1.4.2", dialect="cargo")
         self.assertEqual(str(cargo.comparators), ">=1.2.0 <1.4.2 || >=1.4.3 <2.0.0")
-        self.assertIs(cargo.comparators.compat, Compat.CARGO)
-        self.assertIs(cargo.comparators.ranges[0].compat, Compat.CARGO)
         npm = Range("*", dialect="npm")
         self.assertEqual(str((npm & npm).comparators), ">=0.0.0")
-        self.assertIsInstance((npm - npm).comparators, RangeSet)
+        self.assertIsInstance((npm - npm).comparators, Comparators)
 
 
 class Keeping(unittest.TestCase):
@@ -260,25 +258,51 @@ class Keeping(unittest.TestCase):
                 self.assertEqual(again.pre_releases, one.pre_releases)
                 self.assertEqual(again.lowest_version, one.lowest_version)
 
+    def test_pickles_of_this_version(self) -> None:
+        """A pickle that was written before still loads: it names public classes and a function."""
+        stored = (
+            b"csemver_parser\n_unpickled_range\n"
+            b"(Vnpm\nVdefault\n(V^1.2\nV>=1.4.0\n(V&\nI0\nI1\ntttR."
+        )
+        one, other = Range("^1.2", dialect="npm"), Range(">=1.4.0", dialect="npm")
+        self.assertEqual(pickle.loads(stored), one & other)
+        self.assertEqual(str(pickle.loads(stored)), ">=1.4.0 <2.0.0")
+        for named in (one & other, Version(1, 2, 3), one.comparators, Dialect.NPM):
+            pickled = pickle.dumps(named, 0).decode("ascii")
+            self.assertIn("csemver_parser\n", pickled)
+            self.assertNotIn("semver_parser._", pickled)
+
+    def test_pickles_of_many(self) -> None:
+        """Of many combinations, of which some are used again and again."""
+        made = Range("=0.0.0", dialect="cargo")
+        for at in range(1, 3000):
+            made = made | Range(f"={at}.0.0", dialect="cargo")
+        self.assertEqual(pickle.loads(pickle.dumps(made)), made)
+        for _ in range(60):
+            made = made & (made - Range("=7.0.0", dialect="cargo")) | made
+        again = pickle.loads(pickle.dumps(made))
+        self.assertEqual((again, "7.0.0" in again), (made, True))
+
     def test_other_pickles(self) -> None:
-        load, (data, string) = Range("^1.2", dialect="npm").__reduce__()
-        self.assertEqual(str(load(data, string)), "^1.2")
-        for wrong in (b"", data[:-1], data + b"\0", b"x" + data[1:], data[:6] + b"\x09" + data[7:]):
-            with self.assertRaisesRegex(ValueError, "^no saved range$"):
-                load(wrong, string)
+        load, arguments = Range("^1.2", dialect="npm").__reduce__()
+        self.assertEqual(str(load(*arguments)), "^1.2")
+        for wrong in (("npm", "default", ("v",)), ("nmp", "default", ("1",))):
+            with self.assertRaises(ValueError):
+                load(*wrong)
 
     def test_copies(self) -> None:
         for one in (Range("^1", dialect="npm"), *combinations()):
             for again in (copy.copy(one), copy.deepcopy(one), copy.deepcopy([one])[0]):
                 self.assertIs(again, one)
         with self.assertRaises(TypeError):
-            pickle.dumps(one._set)
+            pickle.dumps(one._handle)
         with self.assertRaises(TypeError):
-            copy.copy(one._set)
+            copy.copy(one._handle)
 
     def test_immutable(self) -> None:
         made = Range("^1", dialect="npm")
-        for name in ("dialect", "pre_releases", "lowest_version", "comparators", "another"):
+        names = ("dialect", "pre_releases", "string", "lowest_version", "comparators", "another")
+        for name in names:
             with self.assertRaises(AttributeError):
                 setattr(made, name, None)
         made.__init__("^2", dialect="cargo")
@@ -296,7 +320,8 @@ class Keeping(unittest.TestCase):
             for _ in range(count):
                 one = Range(string, dialect="npm")
                 self.assertTrue(pickle.loads(pickle.dumps(one & one)) and str(one - one))
-                self.assertTrue(one.comparators.ranges)
+                self.assertTrue(one.comparators)
+                self.assertTrue(all(one.printed_releases for _ in range(20)))
 
         make(5)
         before = pages()
@@ -307,12 +332,12 @@ class Keeping(unittest.TestCase):
         """A range that there is no memory for."""
         self.check_run(
             "import resource\n"
-            "from semver_parser import Range, compare_ranges, parse_range\n"
+            "from semver_parser import Range, crate_comparators\n"
             "string = ' || '.join(f'={at}.0.0' for at in range(300_000))\n"
             "size = int(open('/proc/self/statm').read().split()[0]) * resource.getpagesize()\n"
             "resource.setrlimit(resource.RLIMIT_AS, 2 * (size + 20_000_000,))\n"
-            "for call in (Range, parse_range):\n"
-            "    try: call(string, dialect='npm')\n"
+            "for call in (Range, crate_comparators):\n"
+            "    try: call(string, dialect='crate-npm')\n"
             "    except MemoryError: pass\n"
             "    else: print('too much memory')\n"
             "print('1.2.3' in Range('^1', dialect='npm'))\n"

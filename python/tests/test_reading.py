@@ -3,32 +3,32 @@
 import copy
 import dataclasses
 import pickle
+import re
 import unittest
 from functools import partial
-from typing import Iterable, List, Optional, Tuple
+from pathlib import Path
+from typing import Iterable, List, Optional, Tuple, get_args
 from unittest.mock import patch
 
 from semver_parser import (
     Comparator,
-    ComparatorSet,
-    Compat,
+    Comparators,
     Dialect,
     Op,
     Range,
     RangeError,
-    RangeSet,
+    Reason,
+    SemverError,
     String,
     Version,
     VersionError,
+    _errors,
+    _interface,
     compare_ranges,
-    errors,
-    parse_range,
-    parse_version,
+    crate_comparators,
     satisfies,
 )
-from semver_parser.interface import OUT_OF_MEMORY
-from semver_parser.library import LIBRARY
-from semver_parser.statuses import check
+from semver_parser._library import LIBRARY, check
 
 MOST = 2**64 - 1
 
@@ -89,11 +89,11 @@ class ByDialect(unittest.TestCase):
             for dialect, wanted in zip(Dialect, (by_cargo, by_npm, by_crate, by_crate)):
                 with self.subTest(text=text, dialect=dialect):
                     if wanted is not None:
-                        self.assertEqual(parse_version(text, dialect=dialect), wanted)
-                        self.assertEqual(parse_version(str(wanted), dialect=dialect), wanted)
+                        self.assertEqual(Version.parse(text, dialect=dialect), wanted)
+                        self.assertEqual(Version.parse(str(wanted), dialect=dialect), wanted)
                         continue
                     with self.assertRaises(VersionError) as caught:
-                        parse_version(text, dialect=dialect)
+                        Version.parse(text, dialect=dialect)
                     self.assertEqual(caught.exception.string, text)
                     self.assertIs(caught.exception.dialect, dialect)
 
@@ -105,7 +105,11 @@ class ByDialect(unittest.TestCase):
             ("1.2.03", Dialect.CARGO, 5, "leading-zero"),
             ("1.2.3-a..b", Dialect.NPM, 8, "empty-identifier"),
             ("1.2.x", Dialect.CARGO, 4, "unexpected-character"),
-            ("9007199254740992.0.0", Dialect.NPM, 15, "too-large"),
+            ("1.2.", Dialect.CARGO, 4, "number-expected"),
+            ("1-2-3", Dialect.CARGO, 1, "not-three-numbers"),
+            ("1.2.3_", Dialect.CARGO, 5, "unexpected-character"),
+            (f"{MOST + 1}.0.0", Dialect.CARGO, 19, "too-large"),
+            ("9007199254740992.0.0", Dialect.NPM, 15, "npm-too-large"),
             ("1.0.0-" + 251 * "a", Dialect.NPM, 256, "too-long"),
             ("\u30001.2.3\u3000x", Dialect.NPM, 7, "text-after"),
             ("\u30001.2.3\u3000x".encode(), Dialect.NPM, 11, "text-after"),
@@ -114,19 +118,20 @@ class ByDialect(unittest.TestCase):
             ("1.2.3--1", Dialect.CRATE_CARGO, 6, "empty-identifier"),
         ):
             with self.subTest(text=text), self.assertRaises(VersionError) as caught:
-                parse_version(text, dialect=dialect)
+                Version.parse(text, dialect=dialect)
             self.assertEqual((caught.exception.offset, caught.exception.reason), (offset, reason))
+            self.assertIn(caught.exception.sentence, str(caught.exception))
 
     def test_sizes(self) -> None:
         many = ".".join(["a", "1"] * 50_000)
-        read = parse_version(f"1.2.3-{many}+{many}", dialect="cargo")
+        read = Version.parse(f"1.2.3-{many}+{many}", dialect="cargo")
         self.assertEqual((read.pre, read.build), (("a", 1) * 50_000, ("a", 1) * 50_000))
         hyphens = "-" * 100_000
-        self.assertEqual(parse_version(f"1.2.3-{hyphens}", dialect="cargo").pre, (hyphens,))
+        self.assertEqual(Version.parse(f"1.2.3-{hyphens}", dialect="cargo").pre, (hyphens,))
         spaces = " " * 251
-        self.assertEqual(parse_version(f"{spaces}1.2.3", dialect="npm"), Version(1, 2, 3))
+        self.assertEqual(Version.parse(f"{spaces}1.2.3", dialect="npm"), Version(1, 2, 3))
         with self.assertRaises(VersionError):
-            parse_version(f"{spaces}1.2.30", dialect="npm")
+            Version.parse(f"{spaces}1.2.30", dialect="npm")
 
 
 class Versions(unittest.TestCase):
@@ -134,26 +139,26 @@ class Versions(unittest.TestCase):
 
     def test_fields(self) -> None:
         for dialect in CRATE:
-            self.assertEqual(parse_version("1.2.3", dialect=dialect), Version(1, 2, 3, (), ()))
+            self.assertEqual(Version.parse("1.2.3", dialect=dialect), Version(1, 2, 3, (), ()))
             self.assertEqual(
-                parse_version("1.2.3-rc.1.07+b5.5", dialect=dialect),
+                Version.parse("1.2.3-rc.1.07+b5.5", dialect=dialect),
                 Version(1, 2, 3, ("rc", 1, "07"), ("b5", 5)),
             )
-            read = parse_version(f"{MOST}.{MOST}.{MOST}", dialect=dialect)
+            read = Version.parse(f"{MOST}.{MOST}.{MOST}", dialect=dialect)
             self.assertEqual(read, Version(MOST, MOST, MOST))
 
     def test_kinds_of_identifiers(self) -> None:
-        read = parse_version(f"0.0.0-0.00.{MOST}.{MOST + 1}.1a.1-2", dialect=Dialect.CRATE_CARGO)
+        read = Version.parse(f"0.0.0-0.00.{MOST}.{MOST + 1}.1a.1-2", dialect=Dialect.CRATE_CARGO)
         self.assertEqual(read.pre, (0, "00", MOST, str(MOST + 1), "1a", "1-2"))
 
     def test_white_space_and_bytes(self) -> None:
         wanted = Version(1, 2, 3, ("a",), ("b",))
         for text in (" \t\r\n1.2.3-a+b \n", b"1.2.3-a+b", b"  1.2.3-a+b"):
-            self.assertEqual(parse_version(text, dialect=Dialect.CRATE_CARGO), wanted)
+            self.assertEqual(Version.parse(text, dialect=Dialect.CRATE_CARGO), wanted)
 
     def test_printed(self) -> None:
         for text in ("1.2.3", "1.2.3-rc.1.07+b5.5", "0.0.0-0", "1.2.3+a-b.0"):
-            self.assertEqual(str(parse_version(f" {text} ", dialect=Dialect.CRATE_NPM)), text)
+            self.assertEqual(str(Version.parse(f" {text} ", dialect=Dialect.CRATE_NPM)), text)
 
     def refuses_parts(self, kind: type, part: object) -> None:
         """As a pre-release and as build metadata."""
@@ -174,12 +179,12 @@ class Versions(unittest.TestCase):
                     for dialect in Dialect:
                         if identifier in of_tools and dialect in CRATE:
                             with self.assertRaises(VersionError):
-                                parse_version(str(made), dialect=dialect)
+                                Version.parse(str(made), dialect=dialect)
                         else:
-                            self.assertEqual(parse_version(str(made), dialect=dialect), made)
+                            self.assertEqual(Version.parse(str(made), dialect=dialect), made)
         for made in (Version(MOST, 0, MOST, ("a",)), Version(1, 2, 3, ("a", "00"), ("00",))):
             for dialect in CRATE:
-                self.assertEqual(parse_version(str(made), dialect=dialect), made)
+                self.assertEqual(Version.parse(str(made), dialect=dialect), made)
 
     def test_no_version(self) -> None:
         for wrong in (-1, MOST + 1):
@@ -197,41 +202,56 @@ class Versions(unittest.TestCase):
             self.refuses_parts(TypeError, (wrong,))
         for wrong in (["a"], "a", None, 1):
             self.refuses_parts(TypeError, wrong)
-        with self.assertRaises(ValueError):
-            dataclasses.replace(Version(1, 2, 3), major=-1)
 
     def test_plain_data(self) -> None:
-        version = parse_version("1.2.3-rc+b", dialect="cargo")
+        version = Version.parse("1.2.3-rc+b", dialect="cargo")
         self.assertEqual(hash(version), hash(Version(1, 2, 3, ("rc",), ("b",))))
-        self.assertNotEqual(version, parse_version("1.2.3-rc+c", dialect="cargo"))
-        with self.assertRaises(dataclasses.FrozenInstanceError):
-            version.major = 2
-        self.assertEqual(pickle.loads(pickle.dumps(version)), version)
+        self.assertNotEqual(version, Version.parse("1.2.3-rc+c", dialect="cargo"))
+        for name in ("major", "minor", "patch", "pre", "build", "is_prerelease", "another"):
+            with self.assertRaises(AttributeError):
+                setattr(version, name, 2)
+        version.__init__(2, 0, 0)
+        self.assertEqual(str(version), "1.2.3-rc+b")
+        for protocol in range(pickle.HIGHEST_PROTOCOL + 1):
+            again = pickle.loads(pickle.dumps(version, protocol))
+            self.assertEqual((again, hash(again)), (version, hash(version)))
         self.assertEqual(copy.deepcopy(version), version)
+        self.assertEqual(eval(repr(version)), version)
+        self.assertEqual(
+            repr(version), "Version(major=1, minor=2, patch=3, pre=('rc',), build=('b',))"
+        )
+        fields = (1, 2, 3, ("rc",), ("b",))
+        self.assertEqual(tuple(getattr(version, it) for it in Version.__match_args__), fields)
+
+    def test_prereleases(self) -> None:
+        for text, wanted in (("1.2.3", False), ("1.2.3-0", True), ("1.2.3+a-b", False)):
+            self.assertIs(Version.parse(text, dialect="npm").is_prerelease, wanted)
+
+    def test_formats(self) -> None:
+        version = Version.parse("v1.2.3-rc", dialect="npm")
+        wanted = "    1.2.3-rc|1.2.3-rc    |1.2.3-rc"
+        self.assertEqual(f"{version:>12}|{version:<12}|{version}", wanted)
+        with self.assertRaises(ValueError):
+            format(version, "d")
 
     def test_sizes(self) -> None:
         many = ".".join(["a", "1"] * 50_000)
-        read = parse_version(f"1.2.3-{many}+{many}", dialect=Dialect.CRATE_NPM)
+        read = Version.parse(f"1.2.3-{many}+{many}", dialect=Dialect.CRATE_NPM)
         self.assertEqual(read.pre, ("a", 1) * 50_000)
         self.assertEqual(read.build, read.pre)
         nines = "9" * 100_000
-        self.assertEqual(parse_version(f"1.2.3-{nines}", dialect=Dialect.CRATE_CARGO).pre, (nines,))
+        self.assertEqual(Version.parse(f"1.2.3-{nines}", dialect=Dialect.CRATE_CARGO).pre, (nines,))
 
 
 class Ranges(unittest.TestCase):
     def test_fields(self) -> None:
-        npm = Compat.NPM
-        wanted = RangeSet(
-            (
-                ComparatorSet((Comparator(Op.GTE, 1, 2, 0), Comparator(Op.LT, 2, 0, 0, (0,))), npm),
-                ComparatorSet((Comparator(Op.EQ, 1, 2, 3, ("b", 7)),), npm),
-            ),
-            npm,
-        )
-        answered = parse_range("^1.2 || 1.2.3-b.007+c", dialect=Dialect.CRATE_NPM, exact=True)
-        self.assertEqual(answered, wanted)
-        self.assertEqual(parse_range("^1.2 || 1.2.3-b.7+c", dialect=Dialect.NPM), wanted)
-        self.assertEqual(str(wanted), ">=1.2.0 <2.0.0-0 || =1.2.3-b.7")
+        both = (Comparator(Op.GTE, 1, 2, 0), Comparator(Op.LT, 2, 0, 0, (0,)))
+        wanted = (both, (Comparator(Op.EQ, 1, 2, 3, ("b", 7)),))
+        for string, dialect in (("1.2.3-b.007+c", "crate-npm"), ("1.2.3-b.7+c", "npm")):
+            comparators = Range(f"^1.2 || {string}", dialect=dialect).comparators
+            self.assertEqual(comparators, wanted)
+            self.assertEqual(str(comparators), ">=1.2.0 <2.0.0-0 || =1.2.3-b.7")
+            self.assertIs(type(comparators), Comparators)
 
     def test_dialects(self) -> None:
         """What man/semver-ranges.7 has of each range, with exact bounds."""
@@ -240,77 +260,81 @@ class Ranges(unittest.TestCase):
                 with self.subTest(text=text, dialect=dialect):
                     if set_text is None:
                         with self.assertRaises(RangeError) as caught:
-                            parse_range(text, dialect=dialect, exact=True)
-                        self.assertNotIn(caught.exception.reason, ("limit", "npm-limit"))
+                            Range(text, dialect=dialect)
+                        self.assertNotIn(caught.exception.reason, ("too-large", "npm-too-large"))
                     else:
-                        answered = parse_range(text, dialect=dialect, exact=True)
+                        answered = Range(text, dialect=dialect).comparators
                         self.assertEqual(str(answered), set_text)
-                        self.assertIs(answered.compat, dialect.compat)
 
-    def test_compat(self) -> None:
-        wanted = [Compat.CARGO, Compat.NPM, Compat.CARGO, Compat.NPM]
-        self.assertEqual([dialect.compat for dialect in Dialect], wanted)
+    def test_bounds(self) -> None:
+        """They are exact, and by `crate_comparators` those of the crate."""
+        for string, exact, of_crate in (
+            ("<=1.2", "<1.3.0-0", "<1.3.0"),
+            ("^1.2.3", ">=1.2.3 <2.0.0-0", ">=1.2.3 <2.0.0"),
+            ("<2.0.0", "<2.0.0", "<2.0.0"),
+        ):
+            for dialect in Dialect:
+                self.assertEqual(str(Range(string, dialect=dialect).comparators), exact)
+            for dialect in CRATE:
+                for given in (dialect, dialect.value):
+                    self.assertEqual(str(crate_comparators(string, dialect=given)), of_crate)
 
-    def test_exact_bounds(self) -> None:
-        for dialect in Dialect:
-            for string, wanted in (
-                ("<=1.2", "<1.3.0-0"),
-                ("^1.2.3", ">=1.2.3 <2.0.0-0"),
-                ("<2.0.0", "<2.0.0"),
-            ):
-                self.assertEqual(str(parse_range(string, dialect=dialect, exact=True)), wanted)
-                self.assertEqual(str(Range(string, dialect=dialect).comparators), wanted)
-        for dialect in (Dialect.CRATE_CARGO, Dialect.CRATE_NPM):
-            self.assertEqual(str(parse_range("<=1.2", dialect=dialect)), "<1.3.0")
-            self.assertEqual(str(parse_range("^1.2.3", dialect=dialect)), ">=1.2.3 <2.0.0")
-        for dialect in (Dialect.CARGO, Dialect.NPM):
-            self.assertEqual(str(parse_range("<=1.2", dialect=dialect)), "<1.3.0-0")
-            self.assertEqual(str(parse_range("^1.2.3", dialect=dialect)), ">=1.2.3 <2.0.0-0")
+    def test_crate_comparators_are_the_crate_s(self) -> None:
+        for dialect in (Dialect.CARGO, Dialect.NPM, "cargo", "npm"):
+            with self.assertRaisesRegex(ValueError, "^dialect is 'crate-cargo' or 'crate-npm'"):
+                crate_comparators("1", dialect=dialect)
+        for wrong in (None, 1):
+            with self.assertRaises(TypeError):
+                crate_comparators("1", dialect=wrong)
+            with self.assertRaises(TypeError):
+                crate_comparators(wrong, dialect="crate-npm")
+        with self.assertRaises(RangeError) as caught:
+            crate_comparators("1, 2", dialect="crate-cargo")
+        self.assertEqual((caught.exception.offset, caught.exception.reason), (1, "crate-comma"))
 
     def test_operators(self) -> None:
         text = "<1.0.0, <=1.0.0, >1.0.0, >=1.0.0, =1.0.0"
-        comparators = parse_range(text, dialect="cargo").ranges[0].comparator_set
+        (comparators,) = Range(text, dialect="cargo").comparators
         self.assertEqual([it.op for it in comparators], [Op.LT, Op.LTE, Op.GT, Op.GTE, Op.EQ])
         self.assertEqual([str(it.op) for it in comparators], ["<", "<=", ">", ">=", "="])
 
     def test_plain_data(self) -> None:
-        answered = parse_range("^1.2.3-rc", dialect="cargo")
-        again = parse_range(b"^1.2.3-rc ", dialect="cargo")
+        answered = Range("^1.2.3-rc", dialect="cargo").comparators
+        again = Range(b"^1.2.3-rc ", dialect="cargo").comparators
         self.assertEqual((answered, hash(answered)), (again, hash(again)))
-        for value in (answered, answered.ranges[0], answered.ranges[0].comparator_set[0]):
-            self.assertEqual(pickle.loads(pickle.dumps(value)), value)
-            with self.assertRaises(dataclasses.FrozenInstanceError):
-                value.compat = Compat.NPM
+        for protocol in range(pickle.HIGHEST_PROTOCOL + 1):
+            for value in (answered, answered[0], answered[0][0], Op.LT):
+                self.assertEqual(pickle.loads(pickle.dumps(value, protocol)), value)
+        self.assertIs(type(pickle.loads(pickle.dumps(answered))), Comparators)
+        with self.assertRaises(dataclasses.FrozenInstanceError):
+            answered[0][0].op = Op.LT
+        with self.assertRaises(ValueError):
+            f"{answered:d}"
 
     def test_counts(self) -> None:
         """Of many comparators, and of long pre-releases."""
         for count in (*range(1, 40), 1000):
             text = "||".join(["^1.2.3-rc.1"] * count)
             both = (Comparator(Op.GTE, 1, 2, 3, ("rc", 1)), Comparator(Op.LT, 2, 0, 0))
-            one = ComparatorSet(both, NPM)
-            wanted = RangeSet((one,) * count, NPM)
-            self.assertEqual(parse_range(text, dialect=Dialect.CRATE_NPM), wanted)
+            self.assertEqual(crate_comparators(text, dialect="crate-npm"), (both,) * count)
         for length in range(40, 100):
-            answered = parse_range("=1.2.3-" + "a" * length, dialect="cargo")
-            self.assertEqual(answered.ranges[0].comparator_set[0].pre, ("a" * length,))
+            answered = Range("=1.2.3-" + "a" * length, dialect="cargo").comparators
+            self.assertEqual(answered[0][0].pre, ("a" * length,))
 
     def test_sizes(self) -> None:
         for dialect in (Dialect.NPM, Dialect.CRATE_CARGO, Dialect.CRATE_NPM):
-            self.assertEqual(len(parse_range("||" * 99_999, dialect=dialect).ranges), 100_000)
-            comparators = parse_range("* " * 100_000, dialect=dialect).ranges[0].comparator_set
-            self.assertEqual(len(comparators), 100_000)
-        most = parse_range(",".join(["1"] * 32), dialect="cargo")
-        self.assertEqual(len(most.ranges[0].comparator_set), 64)
+            self.assertEqual(len(Range("||" * 99_999, dialect=dialect).comparators), 100_000)
+            self.assertEqual(len(Range("* " * 100_000, dialect=dialect).comparators[0]), 100_000)
+        most = Range(",".join(["1"] * 32), dialect="cargo").comparators
+        self.assertEqual(len(most[0]), 64)
         with self.assertRaises(RangeError):
-            parse_range(",".join(["1"] * 33), dialect="cargo")
-        many = parse_range("=1.2.3-" + ".".join(["a", "1"] * 50_000), dialect="cargo")
-        self.assertEqual(many.ranges[0].comparator_set[0].pre, ("a", 1) * 50_000)
+            Range(",".join(["1"] * 33), dialect="cargo")
+        many = Range("=1.2.3-" + ".".join(["a", "1"] * 50_000), dialect="cargo").comparators
+        self.assertEqual(many[0][0].pre, ("a", 1) * 50_000)
         string = "=1.2.3-" + ".".join(["a", "01"] * 50_000)
-        many = parse_range(string, dialect="crate-cargo")
-        self.assertEqual(many.ranges[0].comparator_set[0].pre, ("a", 1) * 50_000)
+        many = Range(string, dialect="crate-cargo").comparators
+        self.assertEqual(many[0][0].pre, ("a", 1) * 50_000)
 
-
-NPM = Compat.NPM
 
 # A string, and what it is rewritten to by each dialect, or None if it is no range: Cargo's, npm's,
 # and the crate's in Cargo mode and in npm mode.
@@ -335,20 +359,22 @@ class Errors(unittest.TestCase):
     def refuses_version(self, text: String, dialects: Iterable[Dialect] = Dialect) -> None:
         for dialect in dialects:
             with self.assertRaises(VersionError) as caught:
-                parse_version(text, dialect=dialect)
+                Version.parse(text, dialect=dialect)
             self.assertEqual((caught.exception.string, caught.exception.index), (text, None))
             self.assertIs(caught.exception.dialect, dialect)
 
-    def refuses_range(self, text: String, *reasons: Optional[str]) -> None:
+    def refuses_range(self, text: String, *reasons: str) -> None:
         """By each dialect, for one of some reasons."""
         for dialect in Dialect:
-            for call in (parse_range, Range, partial(satisfies, "1.0.0")):
+            calls = [Range, partial(satisfies, "1.0.0")]
+            for call in calls if dialect not in CRATE else [*calls, crate_comparators]:
                 with self.assertRaises(RangeError) as caught:
                     call(text, dialect=dialect)
                 error = caught.exception
                 self.assertEqual((error.string, error.index), (text, None))
                 self.assertIs(error.dialect, dialect)
                 self.assertIn(error.reason, reasons)
+                self.assertTrue(error.sentence)
 
     def test_versions(self) -> None:
         for text in ("", "1.2", "1.2.3-", " ", "01.0.0", "a /", "vv1.2.3", "/", "a/", "1.2.3\0"):
@@ -359,36 +385,37 @@ class Errors(unittest.TestCase):
             self.refuses_version(text, CRATE)
 
     def test_ranges(self) -> None:
-        others = ("cargo-commas", "npm-comma", "crate-comma", "cargo-bars", None)
+        others = ("cargo-commas", "npm-comma", "crate-comma", "cargo-bars", "unexpected-character")
+        others += ("number-expected", "unexpected-end")
         for text in ("1.2.3 -4", ">=1.0.0, <2.0.0 || 3", "v 1.2.3", "|", "V1", "*\0"):
             self.refuses_range(text, *others, "cargo-v", "crate-v", "cargo-hyphen")
         for text in (">=1.0.0, <2.0.0", "v1.2.3", "1\n"):
             for dialect in CRATE:
                 with self.assertRaises(RangeError):
-                    parse_range(text, dialect=dialect)
+                    Range(text, dialect=dialect)
         for text in (f"{MOST + 1}", f"<={MOST}"):
-            self.refuses_range(text, "limit", "npm-limit")
+            self.refuses_range(text, "too-large", "npm-too-large")
 
     def test_offsets_of_ranges(self) -> None:
         """The offset counts characters of a `str`, and bytes of `bytes`."""
         for text, offset in (("\u3000>\u3000v\u2070", 4), ("\u3000>\u3000v\u2070".encode(), 8)):
             with self.assertRaises(RangeError) as caught:
-                parse_range(text, dialect="npm")
+                Range(text, dialect="npm")
             error = caught.exception
-            self.assertEqual((error.offset, error.reason, error.hint), (offset, None, None))
-        for call in (parse_range, Range, partial(satisfies, "1.2.3"), partial(compare_ranges, "1")):
+            self.assertEqual((error.offset, error.reason), (offset, "number-expected"))
+        for call in (Range, partial(satisfies, "1.2.3"), partial(compare_ranges, "1")):
             with self.assertRaises(RangeError) as caught:
                 call("1.2 || 3", dialect="cargo")
             self.assertEqual(caught.exception.offset, 4)
             self.assertEqual(caught.exception.reason, "cargo-bars")
-            self.assertEqual(caught.exception.hint, "Cargo takes no ||; npm does")
+            self.assertEqual(caught.exception.sentence, "Cargo takes no ||; npm does")
         with self.assertRaises(RangeError) as caught:
             satisfies("1.2.3", "1 2", dialect="cargo")
         self.assertEqual(caught.exception.offset, 2)
         with self.assertRaises(RangeError) as caught:
             compare_ranges("1", "1 2", dialect="cargo")
         again = pickle.loads(pickle.dumps(caught.exception))
-        self.assertEqual((again.index, again.offset, again.hint), (1, 2, caught.exception.hint))
+        self.assertEqual((again.index, again.offset, again.sentence), (1, 2, caught.exception.sentence))
 
     def test_not_utf8(self) -> None:
         for text, offset in (
@@ -407,7 +434,7 @@ class Errors(unittest.TestCase):
         for error, message in (
             (
                 VersionError("1.2", "npm"),
-                "invalid version: '1.2' (offset 3: a version has three numbers)",
+                "invalid version: '1.2' (offset 3: there are fewer than three numbers)",
             ),
             (
                 VersionError(b"x", "cargo", 7),
@@ -417,10 +444,10 @@ class Errors(unittest.TestCase):
                 RangeError(b"v1", "cargo"),
                 "invalid range: b'v1' (offset 0: Cargo takes no leading v; npm does)",
             ),
-            (RangeError("^", "npm"), "invalid range: '^' (offset 1)"),
+            (RangeError("^", "npm"), "invalid range: '^' (offset 1: a number is expected)"),
             (
                 RangeError(f"={MOST + 1}", "cargo", 1),
-                f"a number of the range is too large, index 1: '={MOST + 1}' "
+                f"number too large in range, index 1: '={MOST + 1}' "
                 "(offset 21: numbers and raised bounds are at most 2^64 - 1)",
             ),
             (VersionError("1.2.3", "cargo"), "invalid version: '1.2.3'"),
@@ -429,7 +456,7 @@ class Errors(unittest.TestCase):
             self.assertEqual(str(error), message)
         message = r"^invalid range: 'v{79}\.\.\. \(length 100000\) \("
         with self.assertRaisesRegex(ValueError, message):
-            parse_range("v" * 100_000, dialect="cargo")
+            Range("v" * 100_000, dialect="cargo")
 
     def test_errors_are_values(self) -> None:
         for error in (
@@ -446,8 +473,33 @@ class Errors(unittest.TestCase):
                     (error.string, error.dialect, error.index),
                 )
                 self.assertEqual((again.offset, str(again)), (error.offset, str(error)))
-        fine = VersionError("1.2.3", "npm")
-        self.assertEqual((fine.offset, fine.reason, fine.hint), (None, None, None))
+        for fine in (VersionError("1.2.3", "npm"), RangeError("1", "npm", 0)):
+            for name in ("offset", "reason", "sentence"):
+                with self.assertRaisesRegex(ValueError, "^the string is valid: '1"):
+                    getattr(fine, name)
+
+    def test_base(self) -> None:
+        """One class has both, and is a `ValueError`."""
+        for call in (partial(Version.parse, "1.2"), partial(Range, "v1")):
+            with self.assertRaises(SemverError) as caught:
+                call(dialect="cargo")
+            self.assertIsInstance(caught.exception, ValueError)
+
+    def test_reasons(self) -> None:
+        """The type names those of the library, in their order, and no others."""
+        names: List[str] = []
+        while name := LIBRARY.semver_parser_reason_name(len(names) + 1):
+            names.append(name.decode("ascii"))
+            self.assertTrue(LIBRARY.semver_parser_reason_text(len(names)))
+        self.assertEqual(tuple(names), get_args(Reason))
+
+    def test_statuses(self) -> None:
+        """Their numbers are those of the header."""
+        header = Path(__file__).resolve().parents[2] / "rust/capi/include/semver_parser.h"
+        numbers = dict(re.findall(r"^ *SEMVER_PARSER_(\w+) = (\d+),?$", header.read_text(), re.M))
+        names = ("OK", "INVALID_RANGE", "NUMBER_TOO_LARGE", "INVALID_VERSION", "OUT_OF_MEMORY")
+        for name in names:
+            self.assertEqual(getattr(_interface, name), int(numbers[name]), name)
 
     def test_explained_when_asked_for(self) -> None:
         """The library isn't asked where and why a string is wrong before an error is."""
@@ -458,21 +510,22 @@ class Errors(unittest.TestCase):
                 asked.append(name.removeprefix("semver_parser_"))
                 return getattr(LIBRARY, name)
 
-        with patch.object(errors, "LIBRARY", Watched()):
+        with patch.object(_errors, "LIBRARY", Watched()):
             with self.assertRaises(VersionError) as of_version:
                 Range("*", dialect="npm").filter(["1.0.0", "latest"])
             with self.assertRaises(RangeError) as of_range:
                 compare_ranges("1", "1 2", dialect="cargo")
             self.assertEqual(asked, [])
             self.assertEqual((of_version.exception.offset, of_range.exception.offset), (0, 2))
-            self.assertEqual(len(asked), 4)
+            of_reason = ["reason_name", "reason_text"]
+            self.assertEqual(asked, ["parse_version", *of_reason, "check_range", *of_reason])
 
     def test_out_of_memory(self) -> None:
         with self.assertRaises(MemoryError):
-            check(OUT_OF_MEMORY)
+            check(_interface.OUT_OF_MEMORY)
 
     def test_other_types(self) -> None:
         for value in (None, 1, bytearray(b"1.2.3"), Version(1, 2, 3)):
-            for call in (parse_version, parse_range):
+            for call in (Version.parse, Range):
                 with self.assertRaises(TypeError):
                     call(value, dialect="npm")

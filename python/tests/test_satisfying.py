@@ -1,14 +1,16 @@
 """Which versions satisfy a range by each dialect and each rule for pre-releases, in order and with
 repeats, and the highest and lowest of them."""
 
+import ctypes
 import operator
+import random
+import re
 import threading
 import unittest
 from functools import partial
 from typing import List, Optional, Tuple
 
 from semver_parser import (
-    Compat,
     Dialect,
     PreReleases,
     Range,
@@ -16,15 +18,15 @@ from semver_parser import (
     Version,
     VersionError,
     compare_ranges,
-    parse_range,
-    parse_version,
+    crate_comparators,
     precedence,
     satisfies,
 )
-from semver_parser.interface import INVALID_ARGUMENT, OK, COptions
-from semver_parser.library import LIBRARY
-from semver_parser.options import c_options, dialect_number
-from semver_parser.strings import c_string
+from semver_parser._interface import OK, COptions, CString
+from semver_parser._library import LIBRARY
+from semver_parser._options import c_options
+from semver_parser._strings import c_string
+from tests.table import rows
 
 # The versions of the standard's section 11, from the lowest to the highest.
 ORDERED = [
@@ -91,7 +93,7 @@ class Satisfying(unittest.TestCase):
                         by = {"dialect": dialect, "pre_releases": rule}
                         self.assertIs(satisfies(version, string, **by), is_wanted)
                         chosen = Range(string, **by)
-                        parsed = parse_version(version, dialect=dialect)
+                        parsed = Version.parse(version, dialect=dialect)
                         for one in (version, version.encode(), parsed):
                             self.assertIs(one in chosen, is_wanted)
                             self.assertEqual(chosen.filter([one]), [one] if is_wanted else [])
@@ -131,8 +133,10 @@ class Satisfying(unittest.TestCase):
         for string, version, wanted in BY_DIALECT:
             for dialect, is_wanted in zip(DIALECTS, wanted):
                 if is_wanted is not None and "-" not in version:
-                    for exact in (False, True):
-                        printed = str(parse_range(string, dialect=dialect, exact=exact))
+                    rewritten = [Range(string, dialect=dialect).comparators]
+                    if dialect in (Dialect.CRATE_CARGO, Dialect.CRATE_NPM):
+                        rewritten.append(crate_comparators(string, dialect=dialect))
+                    for printed in map(str, rewritten):
                         self.assertIs(satisfies(version, printed, dialect="crate-npm"), is_wanted)
 
     def test_errors(self) -> None:
@@ -174,7 +178,7 @@ class Options(unittest.TestCase):
         partial(Range, "^1"),
         partial(compare_ranges, "^1", "^1.2"),
     )
-    OF_DIALECT = (partial(parse_version, "1.2.3"), partial(parse_range, "^1"), *CALLS)
+    OF_DIALECT = (partial(Version.parse, "1.2.3"), *CALLS)
 
     def test_each(self) -> None:
         for dialect in Dialect:
@@ -206,7 +210,7 @@ class Options(unittest.TestCase):
 
     def test_other_dialects(self) -> None:
         for call in self.OF_DIALECT:
-            for wrong in (1, True, None, b"npm", Compat.NPM, PreReleases.DEFAULT):
+            for wrong in (1, True, None, b"npm", ["npm"], PreReleases.DEFAULT):
                 with self.assertRaisesRegex(TypeError, "^dialect is a Dialect or one of 'cargo', "):
                     call(dialect=wrong)
             for wrong in ("", "NPM", "yarn", "cargo "):
@@ -215,7 +219,7 @@ class Options(unittest.TestCase):
 
     def test_other_rules(self) -> None:
         for call in self.CALLS:
-            for wrong in (1, True, None, b"default", Dialect.NPM):
+            for wrong in (1, True, None, b"default", [], Dialect.NPM):
                 with self.assertRaisesRegex(TypeError, "^pre_releases is a PreReleases or one of "):
                     call(dialect="npm", pre_releases=wrong)
             for wrong in ("", "stated", "Default"):
@@ -228,10 +232,10 @@ class Options(unittest.TestCase):
             for rule in PreReleases:
                 self.assertEqual(self.status(c_options(dialect, rule)), OK)
             for number in (-1, len(PreReleases)):
-                options = COptions(dialect_number(dialect), number)
-                self.assertEqual(self.status(options), INVALID_ARGUMENT)
+                self.assertNotEqual(self.status(COptions(dialect._number, number)), OK)
         for number in (-1, len(Dialect)):
-            self.assertEqual(self.status(COptions(number, 0)), INVALID_ARGUMENT)
+            self.assertNotEqual(self.status(COptions(number, 0)), OK)
+        self.assertNotEqual(self.status(COptions(0, 0, (0, 0, 0, 0, 0, 1))), OK)
 
     def status(self, options: COptions) -> int:
         """The status that the library returns."""
@@ -328,7 +332,7 @@ class Filtered(unittest.TestCase):
             self.assertEqual(chosen.filter(given), [canary, given[2]])
             self.assertEqual(chosen.highest(given), canary)
             self.assertEqual(chosen.lowest(given), given[2])
-            made = [parse_version(it, dialect=dialect) for it in given]
+            made = [Version.parse(it, dialect=dialect) for it in given]
             self.assertEqual(chosen.highest(made), made[1])
             self.assertEqual(chosen.highest([*given, "6.2.0"]), "6.2.0")
             self.assertEqual(Range("^6.2.0", dialect=dialect).filter(given), [])
@@ -383,7 +387,7 @@ class Highest(unittest.TestCase):
 
 class Precedence(unittest.TestCase):
     def test_precedence(self) -> None:
-        versions = [parse_version(it, dialect="cargo") for it in ORDERED]
+        versions = [Version.parse(it, dialect="cargo") for it in ORDERED]
         self.assertEqual(sorted(reversed(versions), key=precedence), versions)
         for lower, higher in zip(versions, versions[1:]):
             self.assertLess(precedence(lower), precedence(higher))
@@ -392,7 +396,7 @@ class Precedence(unittest.TestCase):
         """The order of the keys is that of the comparators."""
         versions = [f"1.2.3{end}" for end in ends]
         for dialect in dialects:
-            keys = {it: precedence(parse_version(it, dialect=dialect)) for it in versions}
+            keys = {it: precedence(Version.parse(it, dialect=dialect)) for it in versions}
             for one in versions:
                 for other in versions:
                     if "-01" in other or "+" in other:
@@ -409,31 +413,91 @@ class Precedence(unittest.TestCase):
         self.goes_as_comparators([*ends, largest, "-01"], of_crate)
         self.goes_as_comparators([*ends, largest, *hyphens], (Dialect.CARGO, Dialect.NPM))
 
+    def test_precedence_is_the_one_of_comparing(self) -> None:
+        """Versions of the table are ordered as the library compares them, each with its neighbours
+        by the key, and with others at random. By the crate's dialects identifiers of more than 64
+        bits are strings to the library."""
+        found = {row.text for row in rows() if row.call.startswith("version")}
+        for dialect in Dialect:
+            of_tool = dialect in (Dialect.CARGO, Dialect.NPM)
+            texts = (it for it in sorted(found) if of_tool or not re.search(r"[-.]\d{20}", it))
+            keys = {it: self.key_of(it, dialect) for it in texts}
+            valid = sorted((it for it in keys if keys[it]), key=lambda it: keys[it])
+            self.assertGreater(len(valid), 60)
+            shuffled = random.Random(1).sample(valid, len(valid))
+            for one, other in (*zip(valid, valid[1:]), *zip(valid, shuffled)):
+                wanted = (keys[one] > keys[other]) - (keys[one] < keys[other])
+                self.assertEqual(self.compared(one, other, dialect), wanted, (one, other))
+
+    def key_of(self, version: str, dialect: Dialect) -> object:
+        """The key of a version, or None."""
+        try:
+            return precedence(version, dialect=dialect)
+        except VersionError:
+            return None
+
+    def compared(self, one: str, other: str, dialect: Dialect) -> int:
+        """What the library says of two versions."""
+        compare, order = LIBRARY.semver_parser_compare_versions, ctypes.c_int32(7)
+        compare.argtypes = [CString, CString, ctypes.c_int32, *2 * (ctypes.c_void_p,)]
+        strings = (c_string(one), c_string(other))
+        self.assertEqual(compare(*strings, dialect._number, ctypes.byref(order), None), OK)
+        return order.value
+
     def test_numbers_of_any_size(self) -> None:
         """Identifiers of digits are numbers, and below others, as section 11 has it."""
         numbers = ["9", str(2**64 - 1), str(2**64), "9" * 20, "1" + "0" * 20, "1" + "0" * 5000]
         strings = [f"1.2.3-{it}" for it in (*numbers, "0a", "a")]
-        versions = [parse_version(it, dialect="cargo") for it in strings]
+        versions = [Version.parse(it, dialect="cargo") for it in strings]
         self.assertEqual(sorted(reversed(versions)), versions)
+
+    def test_key_is_made_once(self) -> None:
+        for version in (Version(1, 2, 3, ("a",), ("b",)), Version.parse("1.2.3", dialect="npm")):
+            key = version._key()
+            self.assertEqual((precedence(version), version < version), (key[:5], False))
+            self.assertIs(version._key(), key)
+
+    def test_strings(self) -> None:
+        for string in ("v1.2.3-rc.1", b"1.2.3-rc.1+b"):
+            key = precedence(string, dialect="npm")
+            self.assertEqual(key, precedence(Version(1, 2, 3, ("rc", 1))))
+        self.assertEqual(sorted(reversed(ORDERED), key=partial(precedence, dialect="npm")), ORDERED)
+        mixed = [Version(2, 0, 0), "1.0.0", b"3.0.0"]
+        mixed.sort(key=partial(precedence, dialect="cargo"))
+        self.assertEqual(mixed, ["1.0.0", Version(2, 0, 0), b"3.0.0"])
+        with self.assertRaises(VersionError) as caught:
+            precedence("v1.2.3", dialect="cargo")
+        self.assertEqual(caught.exception.string, "v1.2.3")
 
     def test_other_types(self) -> None:
         for value in ("1.2.3", b"1.2.3", (1, 2, 3), 1, None):
-            with self.assertRaises(TypeError):
+            with self.assertRaisesRegex(TypeError, "^precedence takes a Version, or a string "):
                 precedence(value)
             with self.assertRaises(TypeError):
                 sorted([Version(1, 2, 3), value], key=precedence)
+        for value in ((1, 2, 3), 1, None):
+            with self.assertRaises(TypeError):
+                precedence(value, dialect="npm")
 
-    def test_build_metadata_is_ignored(self) -> None:
-        one, other = Version(1, 0, 0, ("a",), (1,)), Version(1, 0, 0, ("a",), (2,))
-        self.assertEqual(precedence(one), precedence(other))
-        self.assertTrue(one <= other and other <= one and one >= other and other >= one)
-        self.assertFalse(one < other or one > other or one == other)
-        self.assertIs(min(one, other), one)
-        self.assertIs(max(other, one), other)
-        self.assertEqual(sorted([other, one]), [other, one])
+    def test_build_metadata_ends_the_order(self) -> None:
+        """By precedence it is ignored. By `<` two versions are equal only if all fields are."""
+        builds = [(), (1,), (2,), (2, 0), (10,), (2**64 - 1,), ("05",), ("1a",), ("B",), ("a",)]
+        builds += [("a", 1), ("a", "b"), ("ab",)]
+        versions = [Version(1, 0, 0, ("a",), build) for build in builds]
+        for at, one in enumerate(versions):
+            self.assertEqual(precedence(one), precedence(versions[0]))
+            for after, other in enumerate(versions):
+                self.assertIs(one < other, at < after, (one, other))
+                self.assertIs(one <= other, at <= after)
+                self.assertIs(one > other, at > after)
+                self.assertIs(one >= other, at >= after)
+                self.assertIs(one == other, at == after)
+        self.assertEqual(sorted(reversed(versions)), versions)
+        lower, higher = Version(1, 0, 0, ("0",)[:0]), Version(1, 0, 0, (), ("a",))
+        self.assertTrue(versions[-1] < lower < higher < Version(1, 0, 1, ("a",)))
 
     def test_order(self) -> None:
-        versions = [parse_version(it, dialect="npm") for it in ORDERED]
+        versions = [Version.parse(it, dialect="npm") for it in ORDERED]
         self.assertEqual(sorted(reversed(versions)), versions)
         self.assertEqual((min(versions), max(versions)), (versions[0], versions[-1]))
         for at, one in enumerate(versions):
@@ -472,7 +536,7 @@ class Threads(unittest.TestCase):
                 chosen = Range(string, dialect="crate-npm", pre_releases="included")
                 if chosen.filter(mine) != mine[10:] or chosen.highest(mine) != mine[-1]:
                     wrong.append(number)
-                if [str(parse_version(it, dialect="crate-npm")) for it in mine] != mine:
+                if [str(Version.parse(it, dialect="crate-npm")) for it in mine] != mine:
                     wrong.append(number)
 
         self.run_all([threading.Thread(target=call, args=(number,)) for number in range(1, 9)])

@@ -2,13 +2,12 @@
 
 import ctypes
 
-from .errors import RangeError, VersionError
-from .interface import INVALID_RANGE, INVALID_VERSION, NUMBER_TOO_LARGE
-from .library import LIBRARY
-from .options import AnyDialect, AnyPreReleases, c_options, dialect_of, pre_releases_of
-from .statuses import check
-from .strings import String, c_string
-from .versions import AnyVersion, string_of
+from ._errors import RangeError, VersionError
+from ._interface import INVALID_RANGE, INVALID_VERSION, NUMBER_TOO_LARGE
+from ._library import LIBRARY, check
+from ._options import AnyDialect, AnyPreReleases, c_options, dialect_of, pre_releases_of
+from ._strings import String, c_string
+from ._versions import AnyVersion, string_of
 
 
 def satisfies(

@@ -2,10 +2,10 @@
 
 from dataclasses import dataclass
 
-from .errors import RangeError
-from .options import AnyDialect, AnyPreReleases, dialect_of, pre_releases_of
-from .ranges import Range
-from .strings import String, encoded
+from ._errors import RangeError
+from ._options import AnyDialect, AnyPreReleases, dialect_of, pre_releases_of
+from ._ranges import Range
+from ._strings import String, encoded
 
 
 @dataclass(frozen=True)

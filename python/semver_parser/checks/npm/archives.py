@@ -1,11 +1,10 @@
 """The name and the version in the name of a package's archive, as npm's `versionFromTgz` has it."""
 
 import re
-from dataclasses import replace
 from functools import lru_cache
 from typing import NamedTuple, Optional
 
-from semver_parser import Dialect, VersionError, parse_version
+from semver_parser import Dialect, Version, VersionError
 
 # What parts the scope of a package, which begins with `@`, from its name.
 SLASH = re.compile("/|%2f", re.I)
@@ -47,7 +46,7 @@ def archive_of(path: str, file: str) -> Optional[Archive]:
 def without_build(text: str) -> Optional[str]:
     """A version without its build metadata; None if it is none to npm."""
     try:
-        version = parse_version(text, dialect=Dialect.NPM)
+        version = Version.parse(text, dialect=Dialect.NPM)
     except VersionError:
         return None
-    return str(replace(version, build=()))
+    return str(Version(version.major, version.minor, version.patch, version.pre))

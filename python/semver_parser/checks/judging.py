@@ -4,14 +4,14 @@ file has most of them again and again."""
 from functools import lru_cache
 from typing import Optional
 
-from semver_parser import Dialect, Range, RangeError, VersionError, parse_version, satisfies
+from semver_parser import Dialect, Range, RangeError, Version, VersionError, satisfies
 
 
 @lru_cache(maxsize=None)
 def is_version(text: str, dialect: Dialect) -> bool:
     """Whether a text is a version to a tool."""
     try:
-        parse_version(text, dialect=dialect)
+        Version.parse(text, dialect=dialect)
     except VersionError:
         return False
     return True

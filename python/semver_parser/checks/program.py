@@ -1,13 +1,13 @@
 """The frame of a program: its arguments, what it writes, and its status."""
 
-import importlib.util
+import io
 import json
 import os
-import re
 import signal
 import sys
 from typing import Callable, Dict, List, NamedTuple, Tuple
 
+from .. import __version__
 from .files import STANDARD_INPUT, Refusal
 
 
@@ -33,7 +33,8 @@ def open_output() -> None:
     sys.stdout = sys.stdout or open(os.devnull, "w")
     sys.stderr = sys.stderr or open(os.devnull, "w")
     for stream in (sys.stdout, sys.stderr):
-        stream.reconfigure(encoding="utf-8", errors="backslashreplace", newline="\n")
+        if isinstance(stream, io.TextIOWrapper):
+            stream.reconfigure(encoding="utf-8", errors="backslashreplace", newline="\n")
 
 
 # ---- a program and its arguments
@@ -121,24 +122,13 @@ def run(program: Program, arguments: List[str]) -> int:
     return 2
 
 
-def version() -> str:
-    """The version of the package, which is read from the text of `semver_parser`: that can't be
-    imported without the library."""
-    found = importlib.util.find_spec("semver_parser")
-    if found is None or found.origin is None:
-        raise ImportError("No module named 'semver_parser'")
-    with open(found.origin, encoding="utf-8") as file:
-        stated = re.search(r'^__version__ = "(.*)"$', file.read(), re.M)
-    return "" if stated is None else stated.group(1)
-
-
 def outcome_of(program: Program, arguments: List[str]) -> Outcome:
     """What a program does by its arguments."""
     files, given = read_arguments(arguments, program.options)
     if "--help" in given:
         return Outcome([program.page], [], 0)
     if "--version" in given:
-        return Outcome([f"{program.name} {version()}"], [], 0)
+        return Outcome([f"{program.name} {__version__}"], [], 0)
     if not program.takes(Options(files, given)):
         return Outcome([], [program.page.partition("\n")[0]], 2)
     return program.run(Options(files, given))

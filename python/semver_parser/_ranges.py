@@ -1,17 +1,17 @@
 """Ranges that are read once."""
 
 import ctypes
-from typing import Any, Callable, Iterable, List, Literal, Optional, Tuple, TypeVar, final
+from typing import Any, Callable, Iterable, List, Literal, Optional, Sequence, Tuple, TypeVar, final
 
-from . import sets
-from .comparators import RangeSet, parse_range
-from .errors import RangeError, VersionError
-from .interface import INVALID_VERSION, OK, CString
-from .library import LIBRARY
-from .options import AnyDialect, AnyPreReleases, Dialect, PreReleases, dialect_of, pre_releases_of
-from .statuses import check
-from .strings import String, c_string, c_strings
-from .versions import AnyVersion, Version, string_of, version_of
+from . import _handles as handles
+from ._comparators import Comparators, comparators_of
+from ._errors import RangeError, VersionError
+from ._interface import INVALID_VERSION, OK, CError
+from ._library import LIBRARY, check
+from ._options import AnyDialect, AnyPreReleases, Dialect, PreReleases, dialect_of, pre_releases_of
+from ._origins import Combination, Origin, Step, steps_to
+from ._strings import Printed, String, c_string, c_strings, printed
+from ._versions import AnyVersion, Version, fields_of_printed, string_of
 
 Invalid = Literal["raise", "skip"]
 """What is done with strings that are no version: `raise` raises `VersionError`, `skip` skips
@@ -21,9 +21,15 @@ _Given = TypeVar("_Given", bound=AnyVersion)
 
 _NOTHING = "<0.0.0-0"
 
+_COMBINING = {
+    "|": LIBRARY.semver_parser_range_union,
+    "&": LIBRARY.semver_parser_range_intersection,
+    "-": LIBRARY.semver_parser_range_difference,
+}
+
 
 @final
-class Range:
+class Range(Printed):
     """The versions that satisfy a range, by a dialect and by which pre-releases do.
 
     >>> npm = Range("^1.2 || 3.x", dialect="npm")
@@ -47,18 +53,20 @@ class Range:
     Raises `RangeError` if the string is no range of the dialect.
     """
 
-    __slots__ = ("_set", "_dialect", "_pre_releases", "_string", "__weakref__")
+    __slots__ = ("_handle", "_dialect", "_pre_releases", "_origin", "__weakref__")
 
-    _set: sets.Set
+    _handle: handles.Handle
     _dialect: Dialect
     _pre_releases: PreReleases
-    _string: Optional[str]
+    _origin: Origin
 
     def __new__(
         cls, range: String, *, dialect: AnyDialect, pre_releases: AnyPreReleases = "default"
     ) -> "Range":
-        made = sets.set_of_range(range, dialect_of(dialect), pre_releases_of(pre_releases))
-        return _of_set(made, range.decode("utf-8") if isinstance(range, bytes) else range)
+        chosen, rule = dialect_of(dialect), pre_releases_of(pre_releases)
+        handle = handles.parsed(range, chosen, rule)
+        string = range.decode("utf-8") if isinstance(range, bytes) else range
+        return _range_of(handle, chosen, rule, string)
 
     @property
     def dialect(self) -> Dialect:
@@ -70,12 +78,19 @@ class Range:
         """Which pre-releases satisfy the range."""
         return self._pre_releases
 
+    @property
+    def string(self) -> Optional[str]:
+        """The string that the range was read from; None if it was combined of others."""
+        return self._origin if isinstance(self._origin, str) else None
+
     # ---- which versions are in it
 
     def __contains__(self, version: AnyVersion) -> bool:
         """Returns whether a version is in the range. Raises `VersionError` if it is invalid."""
         string, contains = string_of(version), ctypes.c_bool()
-        status = LIBRARY.semver_parser_set_contains(self._set, c_string(string), contains, None)
+        status = LIBRARY.semver_parser_range_contains(
+            self._handle, c_string(string), contains, None
+        )
         if status == INVALID_VERSION:
             raise VersionError(string, self._dialect)
         check(status)
@@ -88,8 +103,17 @@ class Range:
         `invalid="skip"` it isn't in the range. A value of another type raises `TypeError`.
         """
         is_skipping, given = _is_skipping(invalid), _listed(versions)
-        strings = _strings(given)
-        contains = self._contains_each(strings, c_strings(strings), is_skipping)
+        strings, count = _strings(given), len(given)
+        contains = (ctypes.c_bool * count)()
+        statuses = None if is_skipping else (ctypes.c_int32 * count)()
+        check(
+            LIBRARY.semver_parser_range_contains_each(
+                self._handle, c_strings(strings), count, contains, statuses
+            )
+        )
+        for index, status in enumerate(statuses or ()):
+            if status != OK:
+                raise VersionError(strings[index], self._dialect, index)
         return [it for it, is_in in zip(given, contains) if is_in]
 
     def highest(
@@ -97,38 +121,24 @@ class Range:
     ) -> Optional[_Given]:
         """Returns the highest of the versions that are in the range, by precedence and the first of
         equal ones, or None if none is. Invalid versions are treated as in `filter`."""
-        return self._found(LIBRARY.semver_parser_set_highest, versions, invalid)
+        return self._found(LIBRARY.semver_parser_range_highest_of, versions, invalid)
 
     def lowest(self, versions: Iterable[_Given], *, invalid: Invalid = "raise") -> Optional[_Given]:
         """Returns the lowest of them, as `highest` the highest."""
-        return self._found(LIBRARY.semver_parser_set_lowest, versions, invalid)
+        return self._found(LIBRARY.semver_parser_range_lowest_of, versions, invalid)
 
     def _found(
         self, function: Callable[..., int], versions: Iterable[_Given], invalid: Invalid
     ) -> Optional[_Given]:
-        """What a function finds among versions, after those that are invalid are refused."""
-        is_skipping, given, index = _is_skipping(invalid), _listed(versions), ctypes.c_size_t()
-        strings = _strings(given)
+        """What a function finds among versions."""
+        is_skipping, given = _is_skipping(invalid), _listed(versions)
+        strings, index, error = _strings(given), ctypes.c_size_t(), CError()
         array = c_strings(strings)
-        if not is_skipping:
-            self._contains_each(strings, array, is_skipping)
-        check(function(self._set, array, len(array), index, None))
+        status = function(self._handle, array, len(array), is_skipping, index, error)
+        if status == INVALID_VERSION:
+            raise VersionError(strings[error.index], self._dialect, error.index)
+        check(status)
         return given[index.value] if index.value < len(given) else None
-
-    def _contains_each(
-        self, strings: List[String], array: "ctypes.Array[CString]", is_skipping: bool
-    ) -> Iterable[bool]:
-        """Whether each of some versions, which the array has too, is in the range."""
-        contains, statuses = (ctypes.c_bool * len(array))(), (ctypes.c_int * len(array))()
-        check(
-            LIBRARY.semver_parser_set_contains_each(
-                self._set, array, len(array), contains, statuses, None
-            )
-        )
-        if not is_skipping and any(statuses):
-            index = next(at for at, status in enumerate(statuses) if status != OK)
-            raise VersionError(strings[index], self._dialect, index)
-        return contains
 
     @property
     def lowest_version(self) -> Optional[Version]:
@@ -138,45 +148,48 @@ class Range:
         >>> str(Range(">1.2", dialect="npm").lowest_version)
         '1.3.0'
         """
-        printed = sets.printed(LIBRARY.semver_parser_set_lowest_version, self._set)
-        return version_of(printed) if printed else None
+        lowest = printed(LIBRARY.semver_parser_range_lowest_version, self._handle)
+        return Version(*fields_of_printed(lowest)) if lowest else None
 
     # ---- two ranges
 
     def _has_options_of(self, other: "Range") -> bool:
         return (self._dialect, self._pre_releases) == (other._dialect, other._pre_releases)
 
-    def _set_beside(self, other: "Range") -> sets.Set:
-        """The set of another range of the same options."""
+    def _handle_beside(self, other: "Range") -> handles.Handle:
+        """The handle of another range of the same options."""
         if not self._has_options_of(other):
             raise ValueError(
                 f"two ranges of different options: {_options_text(self)}; {_options_text(other)}"
             )
-        return other._set
+        return other._handle
 
-    def _combined(self, function: Callable[..., int], other: object) -> "Range":
+    def _combined(self, operator: str, other: object) -> "Range":
         if not isinstance(other, Range):
             return NotImplemented
-        return _of_set(sets.combined(function, self._set, self._set_beside(other)), None)
+        beside = self._handle_beside(other)
+        handle = handles.combined(_COMBINING[operator], self._handle, beside)
+        origin = Combination(operator, self._origin, other._origin)
+        return _range_of(handle, self._dialect, self._pre_releases, origin)
 
     def __or__(self, other: object) -> "Range":
         """Returns the range of the versions of one or the other."""
-        return self._combined(LIBRARY.semver_parser_set_union, other)
+        return self._combined("|", other)
 
     def __and__(self, other: object) -> "Range":
         """Returns the range of the versions of both."""
-        return self._combined(LIBRARY.semver_parser_set_intersection, other)
+        return self._combined("&", other)
 
     def __sub__(self, other: object) -> "Range":
         """Returns the range of the versions that only the first has."""
-        return self._combined(LIBRARY.semver_parser_set_difference, other)
+        return self._combined("-", other)
 
     def __le__(self, other: object) -> bool:
         """Returns whether each version of the range is in the other."""
         if not isinstance(other, Range):
             return NotImplemented
-        is_subset = LIBRARY.semver_parser_set_is_subset
-        return sets.holds(is_subset, self._set, self._set_beside(other))
+        is_subset = LIBRARY.semver_parser_range_is_subset
+        return handles.holds(is_subset, self._handle, self._handle_beside(other))
 
     def __ge__(self, other: object) -> bool:
         """Returns whether each version of the other is in the range."""
@@ -200,11 +213,12 @@ class Range:
         """Returns whether no version is in both."""
         if not isinstance(other, Range):
             raise TypeError(f"expected a Range, not {type(other).__name__}")
-        return not self & other
+        is_disjoint = LIBRARY.semver_parser_range_is_disjoint
+        return handles.holds(is_disjoint, self._handle, self._handle_beside(other))
 
     def __bool__(self) -> bool:
         """Returns whether some version is in the range."""
-        return not LIBRARY.semver_parser_set_is_empty(self._set)
+        return not LIBRARY.semver_parser_range_is_empty(self._handle)
 
     def __eq__(self, other: object) -> bool:
         """Returns whether both have the same options and the same versions."""
@@ -212,26 +226,27 @@ class Range:
             return NotImplemented
         if not self._has_options_of(other):
             return False
-        return sets.holds(LIBRARY.semver_parser_set_equal, self._set, other._set)
+        return handles.holds(LIBRARY.semver_parser_range_equal, self._handle, other._handle)
 
     def __hash__(self) -> int:
-        return hash(sets.saved(self._set))
+        options = (self._dialect, self._pre_releases)
+        return hash((*options, self.printed_releases, self.printed_pre_releases))
 
     # ---- how it is printed, copied and pickled
 
     @property
-    def comparators(self) -> RangeSet:
-        """The plain comparators to which the range is rewritten, with exact bounds; of a combined
-        range those of its releases. For pre-releases ask the range.
+    def comparators(self) -> Comparators:
+        """The plain comparators to which the range is rewritten, with exact bounds: of a raised
+        bound they have the lowest pre-release, `<2.0.0-0`. Of a combined range those of its
+        releases. For pre-releases ask the range.
 
         >>> str(Range("^1.2", dialect="npm").comparators)
         '>=1.2.0 <2.0.0-0'
         """
-        if self._string is not None:
-            return parse_range(self._string, dialect=self._dialect, exact=True)
+        if isinstance(self._origin, str):
+            return comparators_of(self._origin, self._dialect, True)
         # By this dialect each printed range has the releases that it was printed of.
-        found = parse_range(self.printed_releases, dialect=Dialect.CRATE_NPM, exact=True)
-        return found.with_compat(self._dialect.compat)
+        return comparators_of(self.printed_releases, Dialect.CRATE_NPM, True)
 
     @property
     def printed_releases(self) -> str:
@@ -240,7 +255,7 @@ class Range:
         >>> Range("^1.2", dialect="cargo").printed_releases
         '>=1.2.0 <2.0.0'
         """
-        return sets.printed(LIBRARY.semver_parser_set_to_string, self._set, False)
+        return printed(LIBRARY.semver_parser_range_to_string, self._handle, False)
 
     @property
     def printed_pre_releases(self) -> str:
@@ -249,13 +264,13 @@ class Range:
         >>> Range("^1.2.3-rc", dialect="cargo").printed_pre_releases
         '>=1.2.3-rc <1.2.4-0'
         """
-        return sets.printed(LIBRARY.semver_parser_set_to_string, self._set, True)
+        return printed(LIBRARY.semver_parser_range_to_string, self._handle, True)
 
     def __str__(self) -> str:
-        """Returns the string that the range was made of. A combined range has its releases, and its
-        pre-releases if there are some."""
-        if self._string is not None:
-            return self._string
+        """Returns the string that the range was read from. A combined range has its releases, and
+        its pre-releases if there are some."""
+        if isinstance(self._origin, str):
+            return self._origin
         pre_releases = self.printed_pre_releases
         if pre_releases == _NOTHING:
             return self.printed_releases
@@ -265,9 +280,9 @@ class Range:
         """Returns an expression for the range. A combined range may have none, and then it is
         between `<` and `>`."""
         string = str(self)
-        if self._string is None and self._dialect is Dialect.CARGO:
+        if self.string is None and self._dialect is Dialect.CARGO:
             string = string.replace(" ", ", ")
-        if self._string is not None or self._is_range_of(string):
+        if self.string is not None or self._is_range_of(string):
             return f"Range({string!r}, {_options_text(self)})"
         return f"<Range {str(self)!r}, {_options_text(self)}>"
 
@@ -286,20 +301,33 @@ class Range:
         return self
 
     def __reduce__(self) -> Tuple[Any, ...]:
-        return _loaded, (sets.saved(self._set), self._string)
+        steps = steps_to(self._origin)
+        return _unpickled_range, (self._dialect.value, self._pre_releases.value, steps)
 
 
-def _of_set(made: sets.Set, string: Optional[str]) -> Range:
-    """The range of a set."""
+def _range_of(
+    handle: handles.Handle, dialect: Dialect, pre_releases: PreReleases, origin: Origin
+) -> Range:
+    """The range that the library has, by the options by which it was made."""
     range = object.__new__(Range)
-    range._set, range._string = made, string
-    range._dialect, range._pre_releases = sets.options_of(made)
+    range._handle, range._origin = handle, origin
+    range._dialect, range._pre_releases = dialect, pre_releases
     return range
 
 
-def _loaded(data: bytes, string: Optional[str]) -> Range:
-    """The range of a pickle."""
-    return _of_set(sets.loaded(data), string)
+def _unpickled_range(
+    dialect: AnyDialect, pre_releases: AnyPreReleases, steps: Sequence[Step]
+) -> Range:
+    """The range of a pickle. Those of each version 1 of the package name this function, with these
+    arguments."""
+    made: List[Range] = []
+    for step in steps:
+        if isinstance(step, str):
+            made.append(Range(step, dialect=dialect, pre_releases=pre_releases))
+        else:
+            operator, first, second = step
+            made.append(made[first]._combined(operator, made[second]))
+    return made[-1]
 
 
 def _options_text(range: Range) -> str:

@@ -1,10 +1,10 @@
 """Strings of versions and ranges, and those that the library makes."""
 
 import ctypes
-from typing import List, Union
+from typing import Any, Callable, List, Union
 
-from .interface import CString
-from .library import LIBRARY
+from ._interface import CString
+from ._library import LIBRARY, check
 
 String = Union[str, bytes]
 """A version or a range as a string; `bytes` are UTF-8."""
@@ -41,9 +41,20 @@ def index_of(string: String, offset: int) -> int:
     return len(encoded(string)[:offset].decode("utf-8", "surrogatepass"))
 
 
-def taken(printed: ctypes.c_char_p) -> str:
-    """Returns a string that the library made, and frees that; of null an empty one."""
+def printed(function: Callable[..., int], *arguments: Any) -> str:
+    """Returns what a function prints, or an empty string if that is nothing."""
+    string = ctypes.c_char_p()
+    check(function(*arguments, string))
     try:
-        return (printed.value or b"").decode("ascii")
+        return (string.value or b"").decode("ascii")
     finally:
-        LIBRARY.semver_parser_string_free(printed)
+        LIBRARY.semver_parser_free(string)
+
+
+class Printed:
+    """What is formatted as its string is: `f"{version:>12}"`."""
+
+    __slots__ = ()
+
+    def __format__(self, specification: str) -> str:
+        return format(str(self), specification)

@@ -1,5 +1,6 @@
-"""Two programs over the package `semver_parser`: `check-lock-file` lists the versions of a lock
-file outside their ranges, and `compare-requirements` what changed requirements lose and gain.
+"""Two programs: `check-lock-file` lists the versions of a lock file outside their ranges, and
+`compare-requirements` what changed requirements lose and gain. The programs are public, and these
+modules aren't.
 
 A directory for each family of formats has what it reads: `npm`, `yarn`, `pnpm` and `cargo`. They
 share the files (`files`), the judgement of a version (`judging`), what there is to say

@@ -1,19 +1,10 @@
 """Whose rules apply, and which pre-releases satisfy a range."""
 
 import enum
-from typing import Literal, Type, TypeVar, Union
+from typing import Callable, Dict, List, Literal, Optional, Type, TypeVar, Union
 
-from .interface import COptions
-
-
-class Compat(enum.Enum):
-    """The mode of a `RangeSet`, as in the Rust crate: how a bare version of three numbers was
-    read."""
-
-    CARGO = "cargo"
-    """As with a caret: `1.2.3` is `>=1.2.3 <2.0.0`."""
-    NPM = "npm"
-    """As this version alone: `1.2.3` is `=1.2.3`."""
+from ._interface import COptions
+from ._library import LIBRARY
 
 
 class Dialect(enum.Enum):
@@ -36,11 +27,7 @@ class Dialect(enum.Enum):
     CRATE_NPM = "crate-npm"
     """The same crate in its npm mode, which isn't npm's dialect: `>1.2` is `>1.2.0`."""
 
-    @property
-    def compat(self) -> Compat:
-        """The mode of the range sets of this dialect."""
-        is_npm = self in (Dialect.NPM, Dialect.CRATE_NPM)
-        return Compat.NPM if is_npm else Compat.CARGO
+    _number: int
 
 
 class PreReleases(enum.Enum):
@@ -58,6 +45,8 @@ class PreReleases(enum.Enum):
     EXCLUDED = "excluded"
     """None."""
 
+    _number: int
+
 
 AnyDialect = Union[Dialect, Literal["cargo", "npm", "crate-cargo", "crate-npm"]]
 """A dialect, or its value."""
@@ -65,48 +54,52 @@ AnyDialect = Union[Dialect, Literal["cargo", "npm", "crate-cargo", "crate-npm"]]
 AnyPreReleases = Union[PreReleases, Literal["default", "included", "excluded"]]
 """Which pre-releases satisfy a range, or the value of that."""
 
-_Option = TypeVar("_Option", bound=enum.Enum)
-
-_DIALECTS = tuple(Dialect)
-_PRE_RELEASES = tuple(PreReleases)
-_NUMBERS = {dialect: number for number, dialect in enumerate(_DIALECTS)}
-_C_OPTIONS = {
-    (dialect, pre_releases): COptions(_NUMBERS[dialect], number)
-    for dialect in _DIALECTS
-    for number, pre_releases in enumerate(_PRE_RELEASES)
-}
+_Option = TypeVar("_Option", Dialect, PreReleases)
 
 
-def _option(kind: Type[_Option], value: object, name: str) -> _Option:
-    """The option of a value."""
-    if isinstance(value, kind):
-        return value
-    try:
-        if isinstance(value, str):
-            return kind(value)
-    except ValueError:
-        pass
+def _numbered(kind: Type[_Option], name_of: Callable[[int], Optional[bytes]]) -> Dict[str, _Option]:
+    """The options of a kind by their values. Each gets its number, by the names that the library
+    has for its numbers, which count from 0."""
+    names: List[str] = []
+    while (name := name_of(len(names))) is not None:
+        names.append(name.decode("ascii"))
+    for it in kind:
+        if it.value not in names:
+            raise ImportError(f"the library of semver_parser has no {kind.__name__} {it.value!r}")
+        it._number = names.index(it.value)
+    return {it.value: it for it in kind}
+
+
+_DIALECTS = _numbered(Dialect, LIBRARY.semver_parser_dialect_name)
+_PRE_RELEASES = _numbered(PreReleases, LIBRARY.semver_parser_pre_releases_name)
+
+
+def _refusal(kind: Type[_Option], value: object, name: str) -> Exception:
+    """What is raised for a value that is no option."""
     values = ", ".join(repr(it.value) for it in kind)
     if isinstance(value, str):
-        raise ValueError(f"{name} is one of {values}, not {value!r}")
-    raise TypeError(f"{name} is a {kind.__name__} or one of {values}, not {value!r}")
+        return ValueError(f"{name} is one of {values}, not {value!r}")
+    return TypeError(f"{name} is a {kind.__name__} or one of {values}, not {value!r}")
 
 
 def dialect_of(dialect: AnyDialect) -> Dialect:
     """Returns the dialect that is given. Raises `TypeError` or `ValueError` for anything else."""
-    return _option(Dialect, dialect, "dialect")
+    if isinstance(dialect, Dialect):
+        return dialect
+    if isinstance(dialect, str) and dialect in _DIALECTS:
+        return _DIALECTS[dialect]
+    raise _refusal(Dialect, dialect, "dialect")
 
 
 def pre_releases_of(pre_releases: AnyPreReleases) -> PreReleases:
     """Returns what is given, as `dialect_of`."""
-    return _option(PreReleases, pre_releases, "pre_releases")
-
-
-def dialect_number(dialect: Dialect) -> int:
-    """Returns the number that the library has for a dialect."""
-    return _NUMBERS[dialect]
+    if isinstance(pre_releases, PreReleases):
+        return pre_releases
+    if isinstance(pre_releases, str) and pre_releases in _PRE_RELEASES:
+        return _PRE_RELEASES[pre_releases]
+    raise _refusal(PreReleases, pre_releases, "pre_releases")
 
 
 def c_options(dialect: Dialect, pre_releases: PreReleases) -> COptions:
     """Returns the options as the library takes them."""
-    return _C_OPTIONS[dialect, pre_releases]
+    return COptions(dialect._number, pre_releases._number)

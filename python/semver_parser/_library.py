@@ -1,15 +1,18 @@
-"""The shared library: where it is looked for, and whether it fits."""
+"""The shared library: where it is looked for, whether it fits, and what its statuses raise."""
 
 import ctypes
 import os
+import sys
 from typing import List, Tuple
 
-from .interface import declare
+from ._interface import OK, OUT_OF_MEMORY, declare
 
 FITTING = (1,)
 """The first numbers of the versions of the libraries that fit."""
 
-NAME = "libsemver_parser.so." + ".".join(map(str, FITTING))
+_NAMES = {"win32": "semver_parser.dll", "darwin": "libsemver_parser.dylib"}
+
+NAME = _NAMES.get(sys.platform, "libsemver_parser.so." + ".".join(map(str, FITTING)))
 """The name by which the system has the library, and the package beside its modules."""
 
 VARIABLE = "SEMVER_PARSER_LIBRARY"
@@ -63,3 +66,17 @@ def _refuse_another_version(library: ctypes.CDLL, path: str) -> None:
 
 LIBRARY = load()
 """The library of this process."""
+
+
+def failure(status: int) -> Exception:
+    """Returns what a status raises that isn't about a string: `MemoryError` if an allocation
+    failed. Others can't be."""
+    if status == OUT_OF_MEMORY:
+        return MemoryError()
+    return AssertionError(f"the library returned status {status}")
+
+
+def check(status: int) -> None:
+    """Raises the failure of a status, if it is none of success."""
+    if status != OK:
+        raise failure(status)

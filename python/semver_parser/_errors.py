@@ -1,0 +1,160 @@
+"""The errors of strings that are an invalid version or an invalid range."""
+
+from typing import Literal, NamedTuple, Optional, cast
+
+from ._interface import INVALID_RANGE, INVALID_VERSION, OK, CError, CVersion
+from ._library import LIBRARY, check
+from ._options import AnyDialect, Dialect, dialect_of
+from ._strings import String, c_string, index_of
+
+Reason = Literal[
+    "empty",
+    "not-three-numbers",
+    "leading-zero",
+    "empty-identifier",
+    "unexpected-character",
+    "too-large",
+    "too-long",
+    "text-after",
+    "not-utf8",
+    "number-expected",
+    "unexpected-end",
+    "cargo-commas",
+    "cargo-wildcard",
+    "cargo-bars",
+    "cargo-v",
+    "cargo-hyphen",
+    "npm-comma",
+    "crate-comma",
+    "crate-v",
+    "npm-too-large",
+]
+"""Why a string is refused. A later minor version of the library may have more reasons."""
+
+_LONGEST_SHOWN = 80
+
+
+class _Explanation(NamedTuple):
+    """What the library says of a string: its status, and where and why it is refused."""
+
+    status: int
+    offset: int
+    reason: Reason
+    sentence: str
+
+
+class SemverError(ValueError):
+    """A string that is refused: a `VersionError` or a `RangeError`.
+
+    - `string`: the string, as it was given.
+    - `dialect`: the dialect by which it is invalid.
+    - `index`: which of many versions it is, or of two ranges, 0 for the old one and 1 for the new
+      one; else None.
+    - `offset`: the index in `string` of the first character that no version or range has there, or
+      the length of `string` if something is missing at its end. If a number of a range is too
+      large, the end of the first term above the limit.
+    - `reason`: why, as a word for programs.
+    - `sentence`: why, as an English sentence.
+
+    The last three are found when they are used, so an error that is ignored costs little.
+    """
+
+    _STATUS = OK
+
+    def __init__(self, string: String, dialect: AnyDialect, index: Optional[int] = None) -> None:
+        super().__init__(string, dialect, index)
+        self.string = string
+        self.dialect: Dialect = dialect_of(dialect)
+        self.index = index
+
+    def _explain(self, error: CError) -> int:
+        """Fills the error of the string. Returns the status."""
+        raise NotImplementedError
+
+    def _explanation(self) -> Optional[_Explanation]:
+        """What the library says of the string; nothing if it is valid after all."""
+        error = CError()
+        status = self._explain(error)
+        if status == OK:
+            return None
+        if not error.reason:
+            check(status)
+        return _Explanation(
+            status,
+            index_of(self.string, error.offset),
+            cast(Reason, LIBRARY.semver_parser_reason_name(error.reason).decode("ascii")),
+            LIBRARY.semver_parser_reason_text(error.reason).decode("utf-8"),
+        )
+
+    def _explained(self) -> _Explanation:
+        """The same. Raises `ValueError` if the error was made of a string that is valid."""
+        explanation = self._explanation()
+        if explanation is None:
+            raise ValueError(f"the string is valid: {self.string!r}")
+        return explanation
+
+    @property
+    def offset(self) -> int:
+        """Where the string is wrong."""
+        return self._explained().offset
+
+    @property
+    def reason(self) -> Reason:
+        """Why it is, as a word for programs."""
+        return self._explained().reason
+
+    @property
+    def sentence(self) -> str:
+        """Why it is, as an English sentence."""
+        return self._explained().sentence
+
+    def __str__(self) -> str:
+        explained = self._explanation()
+        status = self._STATUS if explained is None else explained.status
+        what = LIBRARY.semver_parser_status_text(status).decode("utf-8")
+        index = "" if self.index is None else f", index {self.index}"
+        shown = repr(self.string)
+        if len(shown) > _LONGEST_SHOWN:
+            shown = f"{shown[:_LONGEST_SHOWN]}... (length {len(self.string)})"
+        where = "" if explained is None else f" (offset {explained.offset}: {explained.sentence})"
+        return f"{what}{index}: {shown}{where}"
+
+
+class VersionError(SemverError):
+    """A string is an invalid version in a dialect.
+
+    >>> from semver_parser import Version
+    >>> try:
+    ...     Version.parse("1.2.03", dialect="cargo")
+    ... except VersionError as error:
+    ...     error.offset, error.reason, error.sentence
+    (5, 'leading-zero', 'a number or an identifier of digits has no leading zero')
+    """
+
+    _STATUS = INVALID_VERSION
+
+    def _explain(self, error: CError) -> int:
+        number = self.dialect._number
+        status: int = LIBRARY.semver_parser_parse_version(
+            c_string(self.string), number, CVersion(), error
+        )
+        return status
+
+
+class RangeError(SemverError):
+    """A string is an invalid range in a dialect, or a number of it is too large.
+
+    >>> from semver_parser import Range
+    >>> try:
+    ...     Range("1.2 || 3", dialect="cargo")
+    ... except RangeError as error:
+    ...     error.offset, error.reason, error.sentence
+    (4, 'cargo-bars', 'Cargo takes no ||; npm does')
+    """
+
+    _STATUS = INVALID_RANGE
+
+    def _explain(self, error: CError) -> int:
+        number = self.dialect._number
+        status: int = LIBRARY.semver_parser_check_range(c_string(self.string), number, error)
+        return status

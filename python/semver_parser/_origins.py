@@ -1,0 +1,38 @@
+"""What ranges are made of, by which they are pickled."""
+
+from typing import Dict, List, NamedTuple, Tuple, Union
+
+Step = Union[str, Tuple[str, int, int]]
+"""The string of a range, or an operator and the indices of the two steps that it combines."""
+
+
+class Combination(NamedTuple):
+    """The operator by which a range was made of two, and what these were made of."""
+
+    operator: str
+    first: "Origin"
+    second: "Origin"
+
+
+Origin = Union[str, Combination]
+"""What a range was made of: its string, or two others."""
+
+
+def steps_to(origin: Origin) -> Tuple[Step, ...]:
+    """Returns the steps that make a range, each once and after those that it needs."""
+    steps: List[Step] = []
+    indices: Dict[int, int] = {}
+    waiting = [origin]
+    while waiting:
+        it = waiting[-1]
+        needed = () if isinstance(it, str) else (it.first, it.second)
+        missing = [each for each in needed if id(each) not in indices]
+        waiting += missing
+        if missing or id(waiting.pop()) in indices:
+            continue
+        indices[id(it)] = len(steps)
+        if isinstance(it, str):
+            steps.append(it)
+        else:
+            steps.append((it.operator, indices[id(it.first)], indices[id(it.second)]))
+    return tuple(steps)
