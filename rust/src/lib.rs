@@ -56,7 +56,7 @@ pub use proved::tool_ranges::dialect::Dialect;
 pub use proved::tool_ranges::meaning::Meaning;
 pub use proved::version_sets::PreReleases;
 pub use rattle_std::AllocError;
-pub use satisfying::{satisfies, SatisfiesError};
+pub use satisfying::{satisfies, satisfies_bytes, SatisfiesError};
 
 #[cfg(all(doctest, feature = "std"))]
 #[doc = include_str!("../README.md")]

@@ -39,6 +39,29 @@ pub fn satisfies(
     satisfying::satisfies(version.as_bytes(), range, meaning.into())
 }
 
+/// Returns what [`satisfies`] does, of a version in bytes, which needn't be UTF-8.
+///
+/// # Errors
+///
+/// Those of [`satisfies`].
+///
+/// ```
+/// use semver_parser::{satisfies_bytes, Dialect, SatisfiesError};
+///
+/// assert!(satisfies_bytes(b"1.9.0", "^1.2", Dialect::Npm)?);
+/// let refused = satisfies_bytes(b"1.9.\xff", "^1.2", Dialect::Npm);
+/// assert_eq!(refused, Err(SatisfiesError::InvalidVersion));
+/// # Ok::<(), SatisfiesError>(())
+/// ```
+#[inline]
+pub fn satisfies_bytes(
+    version: &[u8],
+    range: &str,
+    meaning: impl Into<Meaning>,
+) -> Result<bool, SatisfiesError> {
+    satisfying::satisfies(version, range, meaning.into())
+}
+
 impl From<Dialect> for Meaning {
     /// The dialect with its default rule for pre-releases.
     fn from(dialect: Dialect) -> Meaning {

@@ -39,6 +39,23 @@ pub fn read(meaning: impl Into<Meaning>, range: &str) -> Result<VersionSet, Rang
     meaning::read(meaning.into(), range)
 }
 
+/// Checks that a string is a range of a dialect whose numbers fit. It does not allocate.
+///
+/// # Errors
+///
+/// Those of [`read`], without `OutOfMemory`. [`refusals::of_range`](crate::refusals::of_range) says
+/// where and why.
+///
+/// ```
+/// use semver_parser::{sets, Dialect, RangeError};
+///
+/// assert_eq!(sets::check(Dialect::Npm, "1 || 2"), Ok(()));
+/// assert_eq!(sets::check(Dialect::Cargo, "1 || 2"), Err(RangeError::NotARange));
+/// ```
+pub fn check(dialect: Dialect, range: &str) -> Result<(), RangeError> {
+    meaning::check(dialect.into(), range)
+}
+
 /// Rewrites a range string of a dialect into plain comparators with exact bounds: a release
 /// satisfies them exactly if it satisfies the range.
 ///

@@ -80,12 +80,7 @@ fn refused_in(dialect: Dialect, text: &str, buffer: &mut [u8]) -> Option<Refusal
 }
 
 /// The offset of an error of a text, and the reason.
-fn explained(
-    dialect: Dialect,
-    text: &str,
-    error: &RangeError,
-    buffer: &mut [u8],
-) -> (usize, Reason)
+fn explained(dialect: Dialect, text: &str, error: &RangeError, buffer: &mut [u8]) -> (usize, Reason)
     requires { error.now ≢ NumberTooLarge → length text.now + 8 ≤ length buffer.old }
     ensures offset { error.now ≡ NotARange → IsLongestPrefix (BeginsAs dialect) text.now result.0 }
     ensures limit { error.now ≡ NumberTooLarge → (tree : TreeOf dialect)

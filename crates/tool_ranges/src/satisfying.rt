@@ -34,11 +34,7 @@ pub enum SatisfiesError {
 /// `InvalidVersion` if the version isn't one in the dialect, or else `InvalidRange` if the range
 /// isn't, or one of its numbers is too large.
 #[inline(always)]
-pub fn satisfies(
-    version: &[u8],
-    range: &str,
-    meaning: Meaning,
-) -> Result<bool, SatisfiesError>
+pub fn satisfies(version: &[u8], range: &str, meaning: Meaning) -> Result<bool, SatisfiesError>
     ensures answer { Satisfies meaning version.now range.now result }
 {
     let Some(outline) = outline_in(version, meaning.dialect.grammar()) else {

@@ -1,7 +1,7 @@
 -- serves: version_sets::highest::VersionSet::highest_of
 -- The highest of the members of a set among the first of many strings.
 use Rattle.std.proofs.Common.{◌≡◌, ◌≢◌, ◌↔◌, ◌⊎◌, ◌∙◌, ◌<◌, ◌+◌, ℕ, Bool, true, false, List, Option, Some, None, MatchOption, option_map}
-use Rattle.std.proofs.Common.{true≢false, arith, inl, inr}
+use Rattle.std.proofs.Common.{true≢false, arith}
 use Rattle.std.proofs.Common.{rules, sym, ap, subst, ⊎_elim, length, get_or, Less, Greater}
 use Rattle.std.proofs.lemmas.Option.{get_or_from_slice_get, slice_get_within}
 use Rattle.std.specs.Borrow.{Bor}
@@ -13,7 +13,7 @@ use Rattle.semver_parser.specs.ToolVersions.{SpellsIn}
 use Rattle.semver_parser.specs.Versions.{PlainVersion, VersionValue}
 use Rattle.semver_texts.specs.declared.grammar.Grammar.{Grammar}
 use Rattle.version_sets.specs.VersionSets.{SetValue, has}
-use Rattle.version_sets.specs.Highest.{FindsHighest, IsHighest, IsMember, IsMemberText, order_for}
+use Rattle.version_sets.specs.Highest.{IsHighest, IsMember, IsMemberText, order_for}
 
 pub total_for : (lowest : Bool) → IsTotalOrder (order_for lowest)
 total_for true = back_total precedence_total

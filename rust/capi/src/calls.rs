@@ -5,11 +5,11 @@ use crate::message::printed;
 use crate::types::{dialect, Comparator, Options, StringView, Strings, Version};
 use alloc::{string::String, vec::Vec};
 use core::{ffi::c_char, ptr, str};
-use proved::proved::tool_ranges::meaning;
 use proved::rattle_std::{FalliblePush, FallibleToString};
 use proved::sets::{self, VersionSet};
 use proved::version::{outline_in, Grammar, Outline};
-use proved::{AllocError, Compat, Dialect, Meaning, Op, PreReleases, RangeError, RangeSet};
+use proved::{satisfies_bytes, SatisfiesError};
+use proved::{AllocError, Compat, Dialect, Meaning, Op, RangeError, RangeSet};
 
 type Answer<'a, T> = Result<T, Problem<'a>>;
 
@@ -49,15 +49,18 @@ fn made<'a, T>(value: T) -> Answer<'a, *mut T> {
 #[inline(always)]
 pub fn satisfies<'a>(bytes: &'a [u8], range: &'a [u8], options: Options) -> Answer<'a, bool> {
     let meaning = options.meaning()?;
-    let outline = version(bytes, meaning.dialect, 0)?;
-    let range = text(range, 1)?;
-    of_range(meaning::meets(meaning, range, &outline), range, meaning.dialect, 1)
+    let dialect = meaning.dialect;
+    let range = text(range, 1).or_else(|problem| version(bytes, dialect, 0).and(Err(problem)))?;
+    satisfies_bytes(bytes, range, meaning).map_err(|error| match error {
+        SatisfiesError::InvalidVersion => Problem::Version { bytes, dialect, index: 0 },
+        SatisfiesError::InvalidRange(error) => Problem::Range { error, range, dialect, index: 1 },
+    })
 }
 
 pub fn check_range(range: &[u8], number: i32) -> Answer<'_, ()> {
-    let meaning = Meaning { dialect: dialect(number)?, pre_releases: PreReleases::Default };
+    let dialect = dialect(number)?;
     let range = text(range, 0)?;
-    of_range(meaning::check(meaning, range), range, meaning.dialect, 0)
+    of_range(sets::check(dialect, range), range, dialect, 0)
 }
 
 pub fn parse_version(bytes: &[u8], number: i32) -> Answer<'_, Version> {

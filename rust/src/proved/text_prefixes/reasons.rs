@@ -169,7 +169,11 @@ impl Reason {
             ),
             Reason::EmptyIdentifier => (4, "empty-identifier", "an identifier is empty"),
             Reason::UnexpectedCharacter => (5, "unexpected-character", "unexpected character"),
-            Reason::TooLarge => (6, "too-large", "numbers and raised bounds are at most 2^64 - 1"),
+            Reason::TooLarge => (
+                6,
+                "too-large",
+                "numbers and raised bounds are at most 2^64 - 1",
+            ),
             Reason::TooLong => (
                 7,
                 "too-long",

@@ -64,12 +64,7 @@ fn refused_in(dialect: Dialect, text: &str, buffer: &mut [u8]) -> Option<Refusal
 }
 
 /// The offset of an error of a text, and the reason.
-fn explained(
-    dialect: Dialect,
-    text: &str,
-    error: &RangeError,
-    buffer: &mut [u8],
-) -> (usize, Reason) {
+fn explained(dialect: Dialect, text: &str, error: &RangeError, buffer: &mut [u8]) -> (usize, Reason) {
     match error {
         RangeError::NumberTooLarge => {
             let offset = limit_offset(dialect, text);

@@ -42,11 +42,7 @@ impl crate::rattle_std::Error for SatisfiesError {}
 /// `InvalidVersion` if the version isn't one in the dialect, or else `InvalidRange` if the range
 /// isn't, or one of its numbers is too large.
 #[inline(always)]
-pub fn satisfies(
-    version: &[u8],
-    range: &str,
-    meaning: Meaning,
-) -> Result<bool, SatisfiesError> {
+pub fn satisfies(version: &[u8], range: &str, meaning: Meaning) -> Result<bool, SatisfiesError> {
     let Some(outline) = outline_in(version, meaning.dialect.grammar()) else {
         return Err(SatisfiesError::InvalidVersion);
     };

@@ -21,6 +21,6 @@ returns-in-Err c = record {
     version_of c.in-Some.outline,
     rw c.grammar.ensures.grammar at c.in-Some.ensures.version,
     refused_range c.args.meaning (version_of c.in-Some.outline) c.args.range.now c.in-Err.error c.in-Err.ensures.refusals
-    (λ h. c.in-Err.ensures.no_memory (ap Err h)),
+        (λ h. c.in-Err.ensures.no_memory (ap Err h)),
   );
 }
