@@ -16,6 +16,8 @@ LIBDIR ?= lib
 ZSHDIR ?= share/zsh/site-functions
 OUT ?= out
 export PREFIX OUT ZSHDIR
+# cargo has no use for the jobs of this make.
+unexport MAKEFLAGS MFLAGS
 MAKEFLAGS += -r -j$(shell nproc) --no-print-directory
 .ONESHELL .SILENT .DELETE_ON_ERROR:
 .SHELLFLAGS := -euc
@@ -198,7 +200,7 @@ crate:
 	mkdir -p "$$OUT" && to=$$OUT put "$$work/target/package" "./$$name"
 	echo "made $$OUT/$$name"
 
-# All that is published; the Debian packages are built in a copy of what git has.
+# All that is published; the Debian packages are built in a copy of what git has, by any cargo (-d).
 release:
 	$(begin)
 	may_write "$$OUT"
@@ -211,9 +213,9 @@ release:
 	export OUT="$$made"
 	mkdir "$$made" "$$work/source"
 	for goal in crate wheel js archive; do again $$goal; done
-	git ls-files -z | tar --null -T - -cf - | tar -C "$$work/source" -xf -
+	git ls-files -z | tar --null -T - --mtime="@$$SOURCE_DATE_EPOCH" -cf - | tar -C "$$work/source" -xf -
 	cd "$$work/source"
-	beside dpkg-buildpackage -b -us -uc > "$$work/notes" 2>&1 || { cat "$$work/notes" >&2; exit 2; }
+	beside dpkg-buildpackage -b -us -uc -d > "$$work/notes" 2>&1 || { cat "$$work/notes" >&2; exit 2; }
 	mv "$$work"/*.deb "$$made"
 	(cd "$$made" && LC_ALL=C sha256sum -- * > "$$work/sums" && mv "$$work/sums" SHA256SUMS)
 	cd "$$top" && mkdir -p "$$out" && to=$$out

@@ -1,14 +1,18 @@
-//! Writes the texts of the crate's numbers as C needs them: the table of an enumeration has the text
-//! of number N, with a zero at its end, at index N.
+//! Writes the texts of the crate's numbers as C needs them: the table of an enumeration has the
+//! text of number N, with a zero at its end, at index N.
 
 use proved::{refusals::Reason, Dialect, PreReleases};
 use std::{env, fs};
 
-fn table(name: &str, zero: Option<&'static str>, of_number: fn(i32) -> Option<&'static str>) -> String {
+fn table(
+    name: &str,
+    zero: Option<&'static str>,
+    of_number: fn(i32) -> Option<&'static str>,
+) -> String {
     let first = i32::from(zero.is_some());
     let texts = zero.into_iter().chain((first..).map_while(of_number));
     let items: Vec<String> = texts.map(|text| format!("{:?}", format!("{text}\0"))).collect();
-    format!("static {name}: [&str; {}] = [{}];\n", items.len(), items.join(", "))
+    format!("pub static {name}: [&str; {}] = [{}];\n", items.len(), items.join(", "))
 }
 
 fn main() {
@@ -22,7 +26,9 @@ fn main() {
         table("REASON_NAMES", Some("none"), reason_name),
         table("REASON_TEXTS", Some("no reason"), reason_text),
         table("DIALECT_NAMES", None, |number| Dialect::of_number(number).map(Dialect::name)),
-        table("PRE_RELEASES_NAMES", None, |rule| PreReleases::of_number(rule).map(PreReleases::name)),
+        table("PRE_RELEASES_NAMES", None, |rule| {
+            PreReleases::of_number(rule).map(PreReleases::name)
+        }),
         format!("pub const VERSION_NUMBER: u32 = {number};\n"),
     ];
     let out = env::var("OUT_DIR").expect("cargo sets it");

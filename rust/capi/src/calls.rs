@@ -1,8 +1,9 @@
 //! The calls of the proved crate that answer the functions.
 
 use crate::errors::Problem;
+use crate::heap::moved;
 use crate::message::printed;
-use crate::types::{dialect, Comparator, Options, StringView, Strings, Version};
+use crate::types::{dialect, Comparator, Options, StringView, Version};
 use alloc::{string::String, vec::Vec};
 use core::{ffi::c_char, ptr, str};
 use proved::rattle_std::{FalliblePush, FallibleToString};
@@ -29,22 +30,14 @@ fn text(bytes: &[u8], index: usize) -> Answer<'_, &str> {
     str::from_utf8(bytes).map_err(|error| Problem::NotUtf8 { offset: error.valid_up_to(), index })
 }
 
-/// What was answered of the range that is the string of this index.
-#[inline(always)]
-fn of_range<T>(
-    answer: Result<T, RangeError>,
-    range: &str,
+/// What is wrong with the range that is the string of this index.
+fn refused<'a>(
+    range: &'a str,
     dialect: Dialect,
     index: usize,
-) -> Answer<'_, T> {
-    answer.map_err(|error| Problem::Range { error, range, dialect, index })
+) -> impl Fn(RangeError) -> Problem<'a> {
+    move |error| Problem::Range { error, range, dialect, index }
 }
-
-fn made<'a, T>(value: T) -> Answer<'a, *mut T> {
-    crate::heap::moved(value).ok_or(Problem::Memory)
-}
-
-// ---------------------------------------------------------------- versions, and ranges as strings
 
 #[inline(always)]
 pub fn satisfies<'a>(bytes: &'a [u8], range: &'a [u8], options: Options) -> Answer<'a, bool> {
@@ -60,7 +53,7 @@ pub fn satisfies<'a>(bytes: &'a [u8], range: &'a [u8], options: Options) -> Answ
 pub fn check_range(range: &[u8], number: i32) -> Answer<'_, ()> {
     let dialect = dialect(number)?;
     let range = text(range, 0)?;
-    of_range(sets::check(dialect, range), range, dialect, 0)
+    sets::check(dialect, range).map_err(refused(range, dialect, 0))
 }
 
 pub fn parse_version(bytes: &[u8], number: i32) -> Answer<'_, Version> {
@@ -76,33 +69,23 @@ pub fn compare_versions<'a>(bytes: &'a [u8], other: &'a [u8], number: i32) -> An
     Ok(outline.compare(&version(other, dialect, 1)?) as i32)
 }
 
-// ---------------------------------------------------------------- ranges that were read
-
 /// semver_parser_range: what a range means, and by which options.
 pub struct Range {
-    set: VersionSet,
-    meaning: Meaning,
+    pub set: VersionSet,
+    pub meaning: Meaning,
 }
 
 pub fn parse_range(range: &[u8], options: Options) -> Answer<'_, *mut Range> {
     let meaning = options.meaning()?;
     let range = text(range, 0)?;
-    let set = of_range(sets::read(meaning, range), range, meaning.dialect, 0)?;
-    made(Range { set, meaning })
+    let set = sets::read(meaning, range).map_err(refused(range, meaning.dialect, 0))?;
+    Ok(moved(Range { set, meaning })?)
 }
 
 impl Range {
-    pub fn options(&self) -> Options {
-        Options::of(self.meaning)
-    }
-
     #[inline(always)]
     pub fn contains<'a>(&self, bytes: &'a [u8], index: usize) -> Answer<'a, bool> {
         Ok(self.set.has_outline(&version(bytes, self.meaning.dialect, index)?))
-    }
-
-    pub fn is_empty(&self) -> bool {
-        self.set.is_empty()
     }
 
     pub fn lowest_version(&self) -> Answer<'_, *mut c_char> {
@@ -115,34 +98,36 @@ impl Range {
     }
 
     fn set_beside<'a>(&'a self, other: &'a Range) -> Answer<'a, &'a VersionSet> {
-        if self.meaning == other.meaning { Ok(&self.set) } else { Err(Problem::Argument) }
+        if self.meaning == other.meaning {
+            Ok(&self.set)
+        } else {
+            Err(Problem::Argument)
+        }
     }
 }
 
 /// How many versions are compared at once, beside the one that was found before.
 const AT_ONCE: usize = 32;
 
-/// The index of the highest or lowest version that is in a range. It does not allocate: the one that
-/// was found comes first among the next ones, and what isn't filled is an invalid version.
+/// The index of the highest or lowest version that is in a range. It does not allocate: the one
+/// that was found comes first among the next ones, and what isn't filled is an invalid version.
 pub fn outermost<'a>(
     range: &Range,
-    strings: Strings<'a>,
+    strings: &'a [StringView],
     skip_invalid: bool,
     which: impl Fn(&VersionSet, &[&[u8]], Grammar) -> Option<usize>,
 ) -> Answer<'a, usize> {
     let (set, dialect) = (&range.set, range.meaning.dialect);
-    if !skip_invalid {
-        strings.all().enumerate().try_for_each(|(at, it)| version(it, dialect, at).map(drop))?;
+    for (at, string) in strings.iter().enumerate().filter(|_| !skip_invalid) {
+        version(string.bytes(), dialect, at)?;
     }
-    let count = strings.all().len();
-    let (mut found, mut index): (&[u8], usize) = (b"", count);
-    for begin in (0..count).step_by(AT_ONCE) {
+    let (mut found, mut index): (&[u8], usize) = (b"", strings.len());
+    for (chunk, next) in strings.chunks(AT_ONCE).enumerate() {
         let mut compared: [&[u8]; AT_ONCE + 1] = [b""; AT_ONCE + 1];
         compared[0] = found;
-        let next = strings.all().skip(begin);
-        compared[1..].iter_mut().zip(next).for_each(|(to, version)| *to = version);
+        compared[1..].iter_mut().zip(next).for_each(|(to, version)| *to = version.bytes());
         if let Some(at @ 1..) = which(set, &compared, dialect.grammar()) {
-            (found, index) = (compared[at], begin + at - 1);
+            (found, index) = (compared[at], chunk * AT_ONCE + at - 1);
         }
     }
     Ok(index)
@@ -154,7 +139,7 @@ pub fn combine<'a>(
     combined: impl Fn(&VersionSet, &VersionSet) -> Result<VersionSet, AllocError>,
 ) -> Answer<'a, *mut Range> {
     let set = combined(range.set_beside(other)?, &other.set)?;
-    made(Range { set, meaning: range.meaning })
+    Ok(moved(Range { set, meaning: range.meaning })?)
 }
 
 pub fn compare<'a>(
@@ -165,17 +150,11 @@ pub fn compare<'a>(
     Ok(holds(range.set_beside(other)?, &other.set))
 }
 
-pub fn are_disjoint(set: &VersionSet, other: &VersionSet) -> bool {
-    !set.overlaps(other)
-}
-
-// ---------------------------------------------------------------- comparators
-
 /// semver_parser_comparators: ranges, their comparators, and each as it is printed.
 pub struct Comparators {
     set: RangeSet,
-    listed: Vec<Comparator>,
-    printed: Vec<String>,
+    pub listed: Vec<Comparator>,
+    _printed: Vec<String>,
 }
 
 pub fn comparators(bytes: &[u8], number: i32, exact: bool) -> Answer<'_, *mut Comparators> {
@@ -186,32 +165,23 @@ pub fn comparators(bytes: &[u8], number: i32, exact: bool) -> Answer<'_, *mut Co
         Dialect::CrateNpm if !exact => RangeSet::try_parse(range, Compat::Npm),
         _ => sets::comparators(dialect, range),
     };
-    let set = of_range(read, range, dialect, 0)?;
-    let mut made_of = Comparators { set, listed: Vec::new(), printed: Vec::new() };
-    made_of.list()?;
-    made(made_of)
+    let set = read.map_err(refused(range, dialect, 0))?;
+    let (mut listed, mut printed) = (Vec::new(), Vec::new());
+    for (range, one) in set.ranges.iter().enumerate() {
+        for it in &one.comparator_set {
+            // A pre-release is what is printed after the first hyphen.
+            let text = it.fallible_to_string()?;
+            let pre = text.split_once('-').map_or("", |(_, pre)| pre);
+            let (op, pre) = (number_of(&it.op), StringView::of(pre.as_bytes()));
+            let (major, minor, patch) = (it.major, it.minor, it.patch);
+            listed.fallible_push(Comparator { range, op, major, minor, patch, pre })?;
+            printed.fallible_push(text)?;
+        }
+    }
+    Ok(moved(Comparators { set, listed, _printed: printed })?)
 }
 
 impl Comparators {
-    /// A pre-release is what is printed after the first hyphen.
-    fn list(&mut self) -> Result<(), AllocError> {
-        for (range, one) in self.set.ranges.iter().enumerate() {
-            for it in &one.comparator_set {
-                let printed = it.fallible_to_string()?;
-                let pre = printed.split_once('-').map_or("", |(_, pre)| pre);
-                let (op, pre) = (number_of(&it.op), StringView::of(pre.as_bytes()));
-                let (major, minor, patch) = (it.major, it.minor, it.patch);
-                self.listed.fallible_push(Comparator { range, op, major, minor, patch, pre })?;
-                self.printed.fallible_push(printed)?;
-            }
-        }
-        Ok(())
-    }
-
-    pub fn count(&self) -> usize {
-        self.listed.len()
-    }
-
     pub fn get(&self, index: usize) -> Answer<'_, Comparator> {
         self.listed.get(index).copied().ok_or(Problem::Argument)
     }

@@ -41,60 +41,55 @@ impl Problem<'_> {
     pub fn status(&self) -> Status {
         match self {
             Problem::Argument => INVALID_ARGUMENT,
-            Problem::Memory | Problem::Range { error: RangeError::OutOfMemory, .. } => OUT_OF_MEMORY,
+            Problem::Memory | Problem::Range { error: RangeError::OutOfMemory, .. } => {
+                OUT_OF_MEMORY
+            }
             Problem::Version { .. } => INVALID_VERSION,
             Problem::Range { error: RangeError::NumberTooLarge, .. } => NUMBER_TOO_LARGE,
             Problem::NotUtf8 { .. } | Problem::Range { .. } => INVALID_RANGE,
         }
     }
 
-    /// The reason, offset and index. They are found only if they are asked for.
-    fn place(&self) -> Result<Option<(Reason, usize, usize)>, AllocError> {
-        Ok(match *self {
+    /// What is reported. The reason and the offset are found only if they are asked for.
+    fn error(&self) -> Result<Error, AllocError> {
+        let (found, index) = match *self {
             Problem::Version { bytes, dialect, index } => {
-                refusals::try_of_version(bytes, dialect)?
-                    .map(|refusal| (refusal.reason, refusal.offset, index))
+                let refusal = refusals::try_of_version(bytes, dialect)?;
+                (refusal.map(|it| (it.reason, it.offset)), index)
             }
-            Problem::NotUtf8 { offset, index } => Some((Reason::NotUtf8, offset, index)),
+            Problem::NotUtf8 { offset, index } => (Some((Reason::NotUtf8, offset)), index),
             Problem::Range { range, dialect, index, .. } if self.status() != OUT_OF_MEMORY => {
-                refusals::try_of_range(range, dialect)?
-                    .map(|refusal| (refusal.reason, refusal.offset, index))
+                let refusal = refusals::try_of_range(range, dialect)?;
+                (refusal.map(|it| (it.reason, it.offset)), index)
             }
-            _ => None,
-        })
-    }
-
-    fn error(&self) -> Error {
-        match self.place() {
-            Ok(Some((reason, offset, index))) => {
-                let (status, reason) = (self.status(), reason.number());
-                Error { status, reason, offset, index, ..Error::default() }
-            }
-            Ok(None) => Error { status: self.status(), ..Error::default() },
-            Err(AllocError) => Problem::Memory.error(),
-        }
+            _ => (None, 0),
+        };
+        let (reason, offset) = found.map_or((0, 0), |(reason, at)| (reason.number(), at));
+        Ok(Error { status: self.status(), reason, offset, index, reserved: [0; 4] })
     }
 }
 
 /// Writes what a call made, or what is wrong with it, and returns its status. SAFETY: `out` may be
 /// written, and so may `error` if it isn't null.
+#[inline(always)]
 pub unsafe fn finish<T>(made: Result<T, Problem<'_>>, out: *mut T, error: *mut Error) -> Status {
     match made {
+        Ok(made) => {
+            // SAFETY: as the caller owes.
+            unsafe { out.write(made) };
+            OK
+        }
+        Err(problem) if error.is_null() => problem.status(),
         // SAFETY: as the caller owes.
-        Ok(made) => unsafe { out.write(made) },
-        // SAFETY: as the caller owes.
-        Err(problem) => return unsafe { report(problem, error) },
+        Err(problem) => unsafe { report(problem, error) },
     }
-    OK
 }
 
-/// SAFETY: as of `finish`.
+/// SAFETY: the error may be written.
 #[cold]
 unsafe fn report(problem: Problem<'_>, error: *mut Error) -> Status {
-    if error.is_null() {
-        return problem.status();
-    }
-    let found = problem.error();
+    let memory = Error { status: OUT_OF_MEMORY, ..Error::default() };
+    let found = problem.error().unwrap_or(memory);
     let status = found.status;
     // SAFETY: as the caller owes.
     unsafe { error.write(found) };

@@ -2,14 +2,14 @@
 
 use crate::errors::{Error, Problem};
 use core::ffi::c_char;
-use core::fmt::{self, Debug, Display, Formatter, Write};
+use core::fmt::{self, Display, Formatter, Write};
 use core::{mem::ManuallyDrop, ptr};
 use proved::{rattle_std::FallibleToString, refusals::Reason};
 
 // The tables of build.rs, of the crate's texts.
 include!(concat!(env!("OUT_DIR"), "/texts.rs"));
 
-static STATUS_TEXTS: [&str; 6] = [
+pub static STATUS_TEXTS: [&str; 6] = [
     "no error\0",
     "invalid range\0",
     "number too large in range\0",
@@ -18,27 +18,13 @@ static STATUS_TEXTS: [&str; 6] = [
     "invalid argument\0",
 ];
 
-macro_rules! texts_of_numbers {
-    ($($name:ident = $texts:ident;)*) => {$(
-        pub fn $name(number: i32) -> *const c_char {
-            text_of(&$texts, number).map_or(ptr::null(), |text| text.as_ptr().cast())
-        }
-    )*};
-}
-texts_of_numbers! {
-    dialect_name = DIALECT_NAMES;
-    pre_releases_name = PRE_RELEASES_NAMES;
-    status_text = STATUS_TEXTS;
-    reason_text = REASON_TEXTS;
-    reason_name = REASON_NAMES;
-}
-
 fn text_of(texts: &[&'static str], number: i32) -> Option<&'static str> {
     texts.get(usize::try_from(number).ok()?).copied()
 }
 
-pub fn library_version() -> *const c_char {
-    concat!(env!("CARGO_PKG_VERSION"), "\0").as_ptr().cast()
+/// The zero-terminated text of a number, or null if there is no such number.
+pub fn c_text(texts: &[&'static str], number: i32) -> *const c_char {
+    text_of(texts, number).map_or(ptr::null(), |text| text.as_ptr().cast())
 }
 
 /// Prints a value as a zero-terminated string, which `semver_parser_free` frees.
@@ -72,7 +58,7 @@ impl Display for Message<'_> {
         let left = if begin > 0 { "..." } else { "" };
         let right = if end < self.of.len() { "..." } else { "" };
         let (before, shown) = (Shown(&self.of[begin..at]), Shown(&self.of[begin..end]));
-        write!(f, " {left}{shown:?}{right}, at byte {offset}: {}", reason.sentence())?;
+        write!(f, " {left}\"{shown:#}\"{right}, at byte {offset}: {}", reason.sentence())?;
         if self.caret {
             let column = left.len() + before.characters().count();
             write!(f, "\n    {left}{shown}{right}\n    {:column$}^", "")?;
@@ -87,8 +73,7 @@ fn boundary(bytes: &[u8], offset: usize) -> usize {
     (offset.saturating_sub(3)..=offset).rev().find(|at| !is_within(at)).unwrap_or(offset)
 }
 
-/// Characters: `Debug` escapes and quotes them, `Display` writes each in one column. What isn't
-/// UTF-8 is U+FFFD.
+/// Characters: each in one column, or with `{:#}` escaped. What isn't UTF-8 is U+FFFD.
 struct Shown<'a>(&'a [u8]);
 
 impl Shown<'_> {
@@ -98,23 +83,14 @@ impl Shown<'_> {
     }
 }
 
-impl Debug for Shown<'_> {
-    fn fmt(&self, f: &mut Formatter<'_>) -> fmt::Result {
-        f.write_char('"')?;
-        self.characters().try_for_each(|character| match character {
-            '\'' => f.write_char(character),
-            _ => write!(f, "{}", character.escape_debug()),
-        })?;
-        f.write_char('"')
-    }
-}
-
 impl Display for Shown<'_> {
     fn fmt(&self, f: &mut Formatter<'_>) -> fmt::Result {
-        self.characters().try_for_each(|character| match character {
-            '\\' | '"' | '\'' => f.write_char(character),
-            _ if character.escape_debug().len() > 1 => f.write_char(char::REPLACEMENT_CHARACTER),
-            _ => f.write_char(character),
+        self.characters().try_for_each(|it| match it {
+            '\'' => f.write_char(it),
+            _ if f.alternate() => write!(f, "{}", it.escape_debug()),
+            '\\' | '"' => f.write_char(it),
+            _ if it.escape_debug().len() > 1 => f.write_char(char::REPLACEMENT_CHARACTER),
+            _ => f.write_char(it),
         })
     }
 }

@@ -19,6 +19,11 @@ impl StringView {
         let data = if text.is_empty() { c"".as_ptr().cast() } else { text.as_ptr() };
         StringView { data, length: text.len() }
     }
+
+    pub fn bytes(&self) -> &[u8] {
+        // SAFETY: each is of a caller in C, who keeps it valid, or made by `of`.
+        unsafe { items(self.data, self.length) }
+    }
 }
 
 /// semver_parser_options.
@@ -36,14 +41,20 @@ impl Options {
         Options { dialect, pre_releases, reserved: [0; 6] }
     }
 
+    #[inline(always)]
     pub fn meaning<'a>(&self) -> Result<Meaning, Problem<'a>> {
         let dialect = dialect(self.dialect)?;
         let pre_releases = PreReleases::of_number(self.pre_releases).ok_or(Problem::Argument)?;
         let is_unknown = self.reserved.iter().any(|&field| field != 0);
-        if is_unknown { Err(Problem::Argument) } else { Ok(Meaning { dialect, pre_releases }) }
+        if is_unknown {
+            Err(Problem::Argument)
+        } else {
+            Ok(Meaning { dialect, pre_releases })
+        }
     }
 }
 
+#[inline(always)]
 pub fn dialect<'a>(number: i32) -> Result<Dialect, Problem<'a>> {
     Dialect::of_number(number).ok_or(Problem::Argument)
 }
@@ -70,63 +81,10 @@ pub struct Comparator {
     pub pre: StringView,
 }
 
-/// What a caller in C passes: `Given` is what it is in Rust. SAFETY: as the header says, pointers and
-/// strings are valid, and don't change during the call.
-pub trait FromC<'a> {
-    type Given;
-    unsafe fn given(self) -> Self::Given;
-}
-
-impl<'a> FromC<'a> for StringView {
-    type Given = &'a [u8];
-    unsafe fn given(self) -> &'a [u8] {
-        // SAFETY: as the caller owes.
-        unsafe { items(self.data, self.length) }
-    }
-}
-
-impl<'a, T: 'a> FromC<'a> for *const T {
-    type Given = &'a T;
-    unsafe fn given(self) -> &'a T {
-        // SAFETY: as the caller owes.
-        unsafe { &*self }
-    }
-}
-
-macro_rules! given_as_they_are {
-    ($($type:ty)*) => {$(
-        impl FromC<'_> for $type {
-            type Given = $type;
-            unsafe fn given(self) -> $type {
-                self
-            }
-        }
-    )*};
-}
-given_as_they_are! { bool i32 usize Options *mut core::ffi::c_char }
-given_as_they_are! { *mut crate::Range *mut crate::Comparators }
-
-/// The items of an array. SAFETY: as of `FromC`. In place of null, which no slice has, is another
-/// address where nothing is: if there are items in spite of null, reading them ends the program.
-unsafe fn items<'a, T>(pointer: *const T, count: usize) -> &'a [T] {
+/// The items of an array. SAFETY: it is valid, as the header says. In place of null, which no slice
+/// has, is another address where nothing is: reading items in spite of null ends the program.
+pub unsafe fn items<'a, T>(pointer: *const T, count: usize) -> &'a [T] {
     let pointer = NonNull::new(pointer.cast_mut()).unwrap_or(NonNull::dangling());
     // SAFETY: as the caller owes.
     unsafe { slice::from_raw_parts(pointer.as_ptr(), count) }
-}
-
-/// An array of strings, all of them valid.
-#[derive(Clone, Copy)]
-pub struct Strings<'a>(&'a [StringView]);
-
-impl<'a> Strings<'a> {
-    /// SAFETY: as of `FromC`.
-    pub unsafe fn of(pointer: *const StringView, count: usize) -> Strings<'a> {
-        // SAFETY: as the caller owes.
-        Strings(unsafe { items(pointer, count) })
-    }
-
-    pub fn all(self) -> impl ExactSizeIterator<Item = &'a [u8]> {
-        // SAFETY: they are valid.
-        self.0.iter().map(|string| unsafe { string.given() })
-    }
 }
