@@ -113,8 +113,8 @@ export function coerce(version, options) {
   if (version instanceof SemVer) return version
   const string = typeof version === 'number' ? String(version) : version
   if (typeof string !== 'string') return null
-  const { includePrerelease, rtl } = meaning.options
-  const found = coerced(string, includePrerelease ? COERCED_WHOLE : COERCED, rtl)
+  const { rtl } = meaning.options
+  const found = coerced(string, meaning.isIncluded ? COERCED_WHOLE : COERCED, rtl)
   if (found === null) return null
   const [, major, minor = '0', patch = '0', pre, build] = found
   const text = `${major}.${minor}.${patch}${pre ? `-${pre}` : ''}${build ? `+${build}` : ''}`

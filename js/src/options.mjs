@@ -5,10 +5,16 @@ import { numberOf } from './names.mjs'
 class Meaning {
   constructor(options, dialect, preReleases) {
     this.options = options
+    this.name = dialect
     this.dialect = numberOr('dialect_name', dialect, 'dialect')
     this.rule = numberOr('rule_name', preReleases, 'rule for pre-releases')
     this.isOfNpm = dialect === 'npm'
     this.isIncluded = preReleases === 'included'
+  }
+
+  /** The same dialect with all pre-releases. */
+  included() {
+    return new Meaning(NONE, this.name, 'included')
   }
 }
 

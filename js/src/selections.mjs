@@ -102,9 +102,8 @@ export function outside(version, range, side, options) {
   if (!Object.hasOwn(BEYOND, side)) throw new TypeError('Must provide a hilo val of "<" or ">"')
   const { version: string } = new SemVer(version, meaning)
   const read = readRange(range, meaning)
-  const { options: given } = meaning
-  const included = meaningOf({ dialect: given.dialect, preReleases: 'included' })
-  return read.beside(readRange(BEYOND[side] + string, included), 'range_overlaps') === 0
+  const beyond = readRange(BEYOND[side] + string, meaning.included())
+  return read.beside(beyond, 'range_overlaps') === 0
 }
 
 export const gtr = (version, range, options) => outside(version, range, '>', options)
