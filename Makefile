@@ -50,10 +50,10 @@ clean:
 # cargo is always asked, and knows what is newer: it leaves the time of what it doesn't build anew.
 $(built)/semver-parser: FORCE
 	$(begin)
-	build rust --bins
+	build -p semver-parser-proved --bins
 $(built)/libsemver_parser.a: FORCE
 	$(begin)
-	build $(capi)
+	build -p semver-parser-capi
 
 # Both forms of the C library are one object file, of what the functions of the header need. It
 # needs only the system's C library, and shows the names alone that semver_parser.map has.

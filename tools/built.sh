@@ -44,7 +44,7 @@ run() {
     is_built "$built" || {
         [ -e "$built" ] || echo "building $1, which can take a minute" >&2
         begin
-        build rust --bins >&2
+        build -p semver-parser-proved --bins >&2
         let_go
     }
     shift
@@ -57,7 +57,7 @@ is_built() {
         -type f ! -name Cargo.lock -newer "$1" -print 2> /dev/null) && [ -z "$newer" ]
 }
 
-# build DIRECTORY ARGUMENT..: has cargo build a package. The files don't depend on the
+# build ARGUMENT..: has cargo build what the arguments say. The files don't depend on the
 # directories of the repository and of the toolchain: their paths aren't in them.
 build() {
     may_ask || return 0
@@ -65,10 +65,8 @@ build() {
     unset MAKEFLAGS MFLAGS
     flags=$(printf '%s\037' ${RUSTFLAGS-} "--remap-path-prefix=$top=." \
         "--remap-path-prefix=$(rustc --print sysroot)/lib/rustlib/src/rust=/rust")
-    package=$top/$1
-    shift
     beside env -u RUSTFLAGS CARGO_ENCODED_RUSTFLAGS="${flags%?}" cargo build --quiet --release \
-        --offline --manifest-path "$package/Cargo.toml" --target-dir "$top/out/cargo" "$@" || exit 2
+        --offline --manifest-path "$top/Cargo.toml" --target-dir "$top/out/cargo" "$@" || exit 2
 }
 
 may_cargo() {
