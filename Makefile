@@ -21,8 +21,8 @@ unexport MAKEFLAGS MFLAGS
 MAKEFLAGS += -r -j$(shell nproc) --no-print-directory
 .ONESHELL .SILENT .DELETE_ON_ERROR:
 .SHELLFLAGS := -euc
-.PHONY: all stage stage-python install install-python uninstall archive wheel js page crate release \
-	clean FORCE
+.PHONY: all stage stage-python install install-python uninstall archive wheel js page crate \
+	release clean FORCE
 
 programs := semver-parser release-filter compare-ranges
 checkers := check-lock-file compare-requirements
@@ -55,9 +55,10 @@ $(built)/libsemver_parser.a: FORCE
 	$(begin)
 	build -p semver-parser-capi
 
-# Both forms of the C library are one object file, of what the functions of the header need. It needs
-# only the system's C library, and shows the names alone that semver_parser.map has.
-out/lib/$(shared) out/lib/libsemver_parser.a &: $(built)/libsemver_parser.a $(capi)/semver_parser.map
+# Both forms of the C library are one object file, of what the functions of the header need. It
+# needs only the system's C library, and shows the names alone that semver_parser.map has.
+out/lib/$(shared) out/lib/libsemver_parser.a &: $(built)/libsemver_parser.a \
+		$(capi)/semver_parser.map
 	$(begin)
 	may_build libsemver_parser
 	command -v $(firstword $(CC)) > /dev/null ||
@@ -112,7 +113,8 @@ stage stage-python: all out/man/made
 	fi
 	for page in $(programs:%=%.1) semver_parser.3 semver-ranges.7 \
 			$(if $(filter %-python,$@),$(checkers:%=%.1)); do
-		sed 's/@VERSION@/$(version)/; s/@DATE@/$(date)/' man/$$page > "$$to/share/man/man$${page##*.}/$$page"
+		sed 's/@VERSION@/$(version)/; s/@DATE@/$(date)/' man/$$page \
+			> "$$to/share/man/man$${page##*.}/$$page"
 	done
 	cp -P out/man/*.3 "$$to/share/man/man3"
 	for name in $(filter-out semver-parser,$(programs)) $(if $(filter %-python,$@),$(checkers)); do
@@ -213,7 +215,8 @@ release:
 	export OUT="$$made"
 	mkdir "$$made" "$$work/source"
 	for goal in crate wheel js archive; do again $$goal; done
-	git ls-files -z | tar --null -T - --mtime="@$$SOURCE_DATE_EPOCH" -cf - | tar -C "$$work/source" -xf -
+	git ls-files -z | tar --null -T - --mtime="@$$SOURCE_DATE_EPOCH" -cf - |
+		tar -C "$$work/source" -xf -
 	cd "$$work/source"
 	beside dpkg-buildpackage -b -us -uc -d > "$$work/notes" 2>&1 || { cat "$$work/notes" >&2; exit 2; }
 	mv "$$work"/*.deb "$$made"

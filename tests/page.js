@@ -189,30 +189,30 @@ async function openPackage(ask, value) {
 }
 
 // In the page: how many elements have text of their own, and which of them have a contrast below 4.5
-// (WCAG 2.1, 1.4.3) with what is behind it.
+// (WCAG 2.1, 1.4.3) with what is below it.
 function contrasts() {
     const numbers = (color) => {
         const found = color.match(/[\d.]+(?:e-?\d+)?/g).map(Number);
         const scale = color.startsWith('color(') ? 1 : 255;
         return [...found.slice(0, 3).map((it) => it / scale), found[3] ?? 1];
     };
-    const over = ([...front], behind) => {
+    const over = ([...front], below) => {
         const alpha = front.pop();
-        return [...front.map((it, at) => it * alpha + behind[at] * (1 - alpha)), 1];
+        return [...front.map((it, at) => it * alpha + below[at] * (1 - alpha)), 1];
     };
     const luminance = (color) => {
         const [red, green, blue] = color.map((it) => (it <= 0.04045 ? it / 12.92 : ((it + 0.055) / 1.055) ** 2.4));
         return 0.2126 * red + 0.7152 * green + 0.0722 * blue;
     };
     const isDark = matchMedia('(prefers-color-scheme: dark)').matches;
-    const behind = (element) => {
-        const under = element.parentElement ? behind(element.parentElement) : isDark ? [0, 0, 0, 1] : [1, 1, 1, 1];
+    const below = (element) => {
+        const under = element.parentElement ? below(element.parentElement) : isDark ? [0, 0, 0, 1] : [1, 1, 1, 1];
         return over(numbers(getComputedStyle(element).backgroundColor), under);
     };
     const hasText = (it) => /^(INPUT|TEXTAREA|SELECT)$/.test(it.tagName) || [...it.childNodes].some((node) => node.nodeType === 3 && node.data.trim() !== '');
     const shown = [...document.body.querySelectorAll('*')].filter((it) => hasText(it) && it.getClientRects().length > 0);
     const ratio = (it) => {
-        const ground = behind(it);
+        const ground = below(it);
         const [high, low] = [over(numbers(getComputedStyle(it).color), ground), ground].map(luminance).sort((a, b) => b - a);
         return (high + 0.05) / (low + 0.05);
     };

@@ -53,11 +53,12 @@ run() {
 
 # is_built FILE: whether nothing of the sources in Rust is newer than what cargo built of them.
 is_built() {
-    [ -s "$1" ] && newer=$(find "$top/Cargo.toml" "$top/rust" -newer "$1" 2> /dev/null) && [ -z "$newer" ]
+    [ -s "$1" ] && newer=$(find "$top/Cargo.toml" "$top/rust" -name target -prune -o \
+        -type f ! -name Cargo.lock -newer "$1" -print 2> /dev/null) && [ -z "$newer" ]
 }
 
-# build ARGUMENT..: has cargo build what the arguments say. The files don't depend on the directories
-# of the repository and of the toolchain: their paths aren't in them.
+# build ARGUMENT..: has cargo build what the arguments say. The files don't depend on the
+# directories of the repository and of the toolchain: their paths aren't in them.
 build() {
     may_ask || return 0
     may_cargo
@@ -74,7 +75,8 @@ may_cargo() {
 
 # may_ask: whether cargo may write to the repository. If not, what isn't built is refused.
 may_ask() {
-    is_owner && [ -w "$top" ] || is_built "$top/out/cargo/release/semver-parser" || may_build 'the Rust crate'
+    is_owner && [ -w "$top" ] || is_built "$top/out/cargo/release/semver-parser" ||
+        may_build 'the Rust crate'
     is_owner && [ -w "$top" ]
 }
 

@@ -1,5 +1,5 @@
-/* Times a range that is read once and asked of 1 to 6 versions, and `semver_parser_satisfies` of each:
- * the best of many passes. */
+/* Times a range that is read once and asked of 1 to 6 versions, and `semver_parser_satisfies` of
+ * each: the best of many passes. */
 #define _POSIX_C_SOURCE 200809L
 #include "../../rust/capi/include/semver_parser.h"
 
@@ -27,7 +27,8 @@ static bool ask_range(
     semver_parser_range *set = NULL;
     bool is_ok = semver_parser_range_parse(range, cargo, &set, NULL) == SEMVER_PARSER_OK;
     for (size_t i = 0; is_ok && i < count; i++) {
-        is_ok = semver_parser_range_contains(set, strings[i], &answers[i], NULL) == SEMVER_PARSER_OK;
+        is_ok =
+            semver_parser_range_contains(set, strings[i], &answers[i], NULL) == SEMVER_PARSER_OK;
     }
     semver_parser_range_free(set);
     return is_ok;

@@ -301,7 +301,8 @@ outcome satisfies(const text *version, const text *range, int dialect, int rule,
     semver_parser_range *set = NULL;
     outcome made = set_of(range, dialect, rule, &set);
     outcome checked = check_range(range, dialect);
-    require(is_same(&checked, &made) || (made.status == SEMVER_PARSER_INVALID_ARGUMENT && rule != 0),
+    require(is_same(&checked, &made)
+                || (made.status == SEMVER_PARSER_INVALID_ARGUMENT && rule != 0),
             "another error of a check", range);
     if (made.status != SEMVER_PARSER_OK) {
         bool is_of_version = told.status == SEMVER_PARSER_INVALID_VERSION && told.index == 0;

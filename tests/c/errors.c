@@ -1,5 +1,6 @@
 /* Errors: each status and each reason is returned for some string, with its offset, and has a text
- * and a name of its own; and their sentences. What is expected is in docs/GRAMMAR.md and in rows of crates/replayed_cases. */
+ * and a name of its own; and their sentences. What is expected is in docs/GRAMMAR.md and in rows of
+ * crates/replayed_cases. */
 #include "calls.h"
 
 #include <stdio.h>
@@ -207,7 +208,8 @@ static void names(void) {
     }
     check(strcmp(semver_parser_reason_name(REASON(LEADING_ZERO)), "leading-zero") == 0
               && strcmp(semver_parser_reason_name(REASON(NOT_UTF8)), "not-utf8") == 0
-              && strcmp(semver_parser_reason_text(REASON(CARGO_BARS)), "Cargo takes no ||; npm does")
+              && strcmp(semver_parser_reason_text(REASON(CARGO_BARS)),
+                        "Cargo takes no ||; npm does")
                      == 0,
           "another name of a reason", "leading-zero");
 }
@@ -300,8 +302,8 @@ static void other_messages(void) {
                "leading zero");
     /* Another string than that of the error: the offset is beyond its end. */
     message_of(&error, &empty, true,
-               "invalid version \"\", at byte 5: a number or an identifier of digits has no leading "
-               "zero\n    \n    ^");
+               "invalid version \"\", at byte 5: a number or an identifier of digits has no "
+               "leading zero\n    \n    ^");
     error = no_error;
     message_of(&error, &version, true, "no error");
     error.status = SEMVER_PARSER_OUT_OF_MEMORY;

@@ -185,7 +185,8 @@ static void ends_at_null(void (*call)(void), const char *what) {
 int main(void) {
     sum_before = (uint64_t *)malloc(sizeof *sum_before);
     check(sum_before != NULL, "no memory", "");
-    for (int dialect = SEMVER_PARSER_DIALECT_CARGO; dialect <= SEMVER_PARSER_DIALECT_CRATE_NPM; dialect++) {
+    for (int dialect = SEMVER_PARSER_DIALECT_CARGO; dialect <= SEMVER_PARSER_DIALECT_CRATE_NPM;
+         dialect++) {
         options.dialect = dialect;
         status = semver_parser_range_parse(semver_parser_str("^1.2"), options, &set, NULL);
         check(status == SEMVER_PARSER_OK, "no set", "^1.2");

@@ -417,15 +417,17 @@ static void comparators_are(int dialect, bool exact, const char *bytes,
 }
 
 static void comparators(void) {
-    static const wanted_comparator two_ranges[] = {{0, SEMVER_PARSER_OP_GREATER_EQUAL, {1, 2, 0}, ""},
-                                                   {0, SEMVER_PARSER_OP_LESS, {2, 0, 0}, "0"},
-                                                   {1, SEMVER_PARSER_OP_GREATER_EQUAL, {3, 0, 0}, ""},
-                                                   {1, SEMVER_PARSER_OP_LESS, {4, 0, 0}, "0"}};
+    static const wanted_comparator two_ranges[] = {
+        {0, SEMVER_PARSER_OP_GREATER_EQUAL, {1, 2, 0}, ""},
+        {0, SEMVER_PARSER_OP_LESS, {2, 0, 0}, "0"},
+        {1, SEMVER_PARSER_OP_GREATER_EQUAL, {3, 0, 0}, ""},
+        {1, SEMVER_PARSER_OP_LESS, {4, 0, 0}, "0"}};
     comparators_are(CRATE_NPM, true, "^1.2 || 3.x", two_ranges, 4);
     comparators_are(NPM, false, "^1.2 || 3.x", two_ranges, 4);
-    static const wanted_comparator three[] = {{0, SEMVER_PARSER_OP_GREATER_EQUAL, {1, 2, 3}, "rc.1"},
-                                              {0, SEMVER_PARSER_OP_LESS, {2, 0, 0}, "0"},
-                                              {1, SEMVER_PARSER_OP_LESS, {2, 0, 0}, "a"}};
+    static const wanted_comparator three[] = {
+        {0, SEMVER_PARSER_OP_GREATER_EQUAL, {1, 2, 3}, "rc.1"},
+        {0, SEMVER_PARSER_OP_LESS, {2, 0, 0}, "0"},
+        {1, SEMVER_PARSER_OP_LESS, {2, 0, 0}, "a"}};
     comparators_are(CRATE_CARGO, true, "^1.2.3-rc.1 || <2.0.0-a", three, 3);
     comparators_are(NPM, false, "^1.2.3-rc.1 || <2.0.0-a", three, 3);
     const wanted_comparator one_range[] = {

@@ -353,7 +353,8 @@ int main(void) {
         length = strlen(others);
         snprintf(others + length, sizeof others - length, " || =0.1.%d-rc.%d.abcdef", 2 * at, at);
     }
-    for (int dialect = SEMVER_PARSER_DIALECT_CARGO; dialect <= SEMVER_PARSER_DIALECT_CRATE_NPM; dialect++) {
+    for (int dialect = SEMVER_PARSER_DIALECT_CARGO; dialect <= SEMVER_PARSER_DIALECT_CRATE_NPM;
+         dialect++) {
         functions_by(dialect, "^1.2.3-rc.1", ">=1.4.0-a");
         if (dialect != SEMVER_PARSER_DIALECT_CARGO) {
             functions_by(dialect, many, others);

@@ -417,7 +417,8 @@ static bool say_highest(text *to, const row *of, int dialect, int rule) {
         at += next.length;
     }
     size_t index = 0;
-    check(semver_parser_range_highest_of(set, versions, count, true, &index, NULL) == SEMVER_PARSER_OK,
+    check(semver_parser_range_highest_of(set, versions, count, true, &index, NULL)
+              == SEMVER_PARSER_OK,
           "no highest version", of->of.bytes);
     if (index == count) {
         text_say(to, "none");

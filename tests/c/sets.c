@@ -1,5 +1,5 @@
-/* Ranges that were read: what is printed of them, two of them combined and compared, ranges of other
- * options, and the highest and lowest version of a list. What is expected follows from
+/* Ranges that were read: what is printed of them, two of them combined and compared, ranges of
+ * other options, and the highest and lowest version of a list. What is expected follows from
  * docs/MEANING.md. */
 #include "calls.h"
 
@@ -178,8 +178,8 @@ static const struct {
     {CARGO, {"*", ">=0.0.0-a"}, {{"", "", "0.0.0"}, {"", "0.0.0-a", "0.0.0"}, {NULL, NULL, NULL}}},
 };
 
-static void compared_is(const semver_parser_range *one, const semver_parser_range *other, bool within,
-                        bool same, const char *of) {
+static void compared_is(const semver_parser_range *one, const semver_parser_range *other,
+                        bool within, bool same, const char *of) {
     bool is_subset = !within;
     bool equal = !same;
     check(semver_parser_range_is_subset(one, other, &is_subset) == SEMVER_PARSER_OK

@@ -6,8 +6,8 @@
 #include <stdio.h>
 #include <string.h>
 
-#if SEMVER_PARSER_VERSION_NUMBER < 1000000 || SEMVER_PARSER_VERSION_NUMBER >= 2000000              \
-    || SEMVER_PARSER_VERSION_MAJOR != 1 || SEMVER_PARSER_VERSION_MINOR < 0                            \
+#if SEMVER_PARSER_VERSION_NUMBER < 1000000 || SEMVER_PARSER_VERSION_NUMBER >= 2000000           \
+    || SEMVER_PARSER_VERSION_MAJOR != 1 || SEMVER_PARSER_VERSION_MINOR < 0                         \
     || SEMVER_PARSER_VERSION_PATCH < 0
 #error "the version of another library"
 #endif
@@ -158,8 +158,8 @@ int main(void) {
         && semver_parser_library_version_number() >= 1000000
         && semver_parser_range_parse(semver_parser_str("^1.2"), npm, &shared_set, NULL)
                == SEMVER_PARSER_OK
-        && semver_parser_comparators_of_range(semver_parser_str("^1.2 || 3.x"), SEMVER_PARSER_DIALECT_NPM,
-                                              false, &shared_list, NULL)
+        && semver_parser_comparators_of_range(semver_parser_str("^1.2 || 3.x"), npm.dialect, false,
+                                              &shared_list, NULL)
                == SEMVER_PARSER_OK
         && pthread_create(&other, NULL, use_shared, &right[0]) == 0;
     if (passed) {

@@ -1,5 +1,5 @@
-//! What the C functions of bench/c/times.c are timed beside: the same ranges and versions by the crate
-//! `semver`, in a table of the same form.
+//! What the C functions of bench/c/times.c are timed beside: the same ranges and versions by the
+//! crate `semver`, in a table of the same form.
 
 use semver::{Version, VersionReq};
 use std::hint::black_box;
@@ -13,8 +13,8 @@ const VERSIONS: [&str; 6] = ["1.4.0", "1.2.2", "2.0.0", "1.9.12", "0.8.1", "1.2.
 /// How many of the versions match a requirement that is parsed once.
 fn ask_requirement(range: &str, versions: &[&str]) -> usize {
     let requirement = VersionReq::parse(range).expect("a requirement");
-    let matches = |version: &&&str| requirement.matches(&Version::parse(version).expect("a version"));
-    versions.iter().filter(matches).count()
+    let parse = |version: &&str| Version::parse(version).expect("a version");
+    versions.iter().map(parse).filter(|version| requirement.matches(version)).count()
 }
 
 /// How many match one that is parsed for each.
@@ -23,7 +23,7 @@ fn ask_each(range: &str, versions: &[&str]) -> usize {
 }
 
 /// Nanoseconds that it takes at best.
-fn time_of(ask: fn(&str, &[&str]) -> usize, range: &str, versions: &[&str]) -> u128 {
+fn time_of(ask: Ask, range: &str, versions: &[&str]) -> u128 {
     let pass = |_| {
         let begun = Instant::now();
         for _ in 0..CALLS {
@@ -34,9 +34,12 @@ fn time_of(ask: fn(&str, &[&str]) -> usize, range: &str, versions: &[&str]) -> u
     (0..PASSES).map(pass).min().expect("a pass")
 }
 
+type Ask = fn(&str, &[&str]) -> usize;
+
 fn main() {
+    let ways: [(Ask, &str); 2] = [(ask_requirement, "parsed once"), (ask_each, "parsed for each")];
     for range in RANGES {
-        for (ask, how) in [(ask_requirement as fn(&str, &[&str]) -> usize, "parsed once"), (ask_each, "parsed for each")] {
+        for (ask, how) in ways {
             print!("| `{range}` by `semver`, {how} |");
             for count in 1..=VERSIONS.len() {
                 print!(" {} |", time_of(ask, range, &VERSIONS[..count]));

@@ -16,7 +16,8 @@
  * (man semver_parser_satisfies); semver-ranges(7) says what a range means.
  *
  * STRINGS are UTF-8 with a length in bytes, and need no terminating zero; `data` may be null if
- * `length` is 0. A `char *` that a function makes is zero-terminated; semver_parser_free frees it.
+ * `length` is 0, and so may an array if `count` is. A `char *` that a function makes is
+ * zero-terminated; semver_parser_free frees it.
  *
  * ERRORS. A function returns SEMVER_PARSER_OK or the status of an error. After an error its outputs
  * are as they were, and `error`, which may be null, says more. INVALID_ARGUMENT comes first, then

@@ -96,14 +96,6 @@ impl Range {
         let set = &self.set;
         printed(if pre_releases { set.pre_release_ranges()? } else { set.release_ranges()? })
     }
-
-    fn set_beside<'a>(&'a self, other: &'a Range) -> Answer<'a, &'a VersionSet> {
-        if self.meaning == other.meaning {
-            Ok(&self.set)
-        } else {
-            Err(Problem::Argument)
-        }
-    }
 }
 
 /// How many versions are compared at once, beside the one that was found before.
@@ -133,21 +125,23 @@ pub fn outermost<'a>(
     Ok(index)
 }
 
+/// What is asked of two ranges of the same options.
+pub fn compare<'a, T>(
+    range: &'a Range,
+    other: &'a Range,
+    ask: impl Fn(&VersionSet, &VersionSet) -> T,
+) -> Answer<'a, T> {
+    let is_same = range.meaning == other.meaning;
+    is_same.then(|| ask(&range.set, &other.set)).ok_or(Problem::Argument)
+}
+
 pub fn combine<'a>(
     range: &'a Range,
     other: &'a Range,
     combined: impl Fn(&VersionSet, &VersionSet) -> Result<VersionSet, AllocError>,
 ) -> Answer<'a, *mut Range> {
-    let set = combined(range.set_beside(other)?, &other.set)?;
+    let set = compare(range, other, combined)??;
     Ok(moved(Range { set, meaning: range.meaning })?)
-}
-
-pub fn compare<'a>(
-    range: &'a Range,
-    other: &'a Range,
-    holds: impl Fn(&VersionSet, &VersionSet) -> bool,
-) -> Answer<'a, bool> {
-    Ok(holds(range.set_beside(other)?, &other.set))
 }
 
 /// semver_parser_comparators: ranges, their comparators, and each as it is printed.

@@ -28,11 +28,7 @@ unsafe impl GlobalAlloc for Heap {
     unsafe fn alloc(&self, layout: Layout) -> *mut u8 {
         // SAFETY: any size may be asked for.
         let block = || unsafe { malloc(layout.size()) };
-        if layout.align() > ALIGNMENT {
-            ptr::null_mut()
-        } else {
-            block().cast()
-        }
+        (layout.align() <= ALIGNMENT).then(block).unwrap_or(ptr::null_mut()).cast()
     }
 
     unsafe fn realloc(&self, block: *mut u8, _: Layout, size: usize) -> *mut u8 {

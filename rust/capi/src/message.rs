@@ -1,10 +1,12 @@
 //! Strings that C gets: the texts of numbers, and the sentence of an error.
 
 use crate::errors::{Error, Problem};
+use alloc::string::String;
 use core::ffi::c_char;
-use core::fmt::{self, Display, Formatter, Write};
+use core::fmt::{self, Display, Formatter};
 use core::{mem::ManuallyDrop, ptr};
-use proved::{rattle_std::FallibleToString, refusals::Reason};
+use proved::rattle_std::{FallibleString, FallibleToString};
+use proved::refusals::Reason;
 
 // The tables of build.rs, of the crate's texts.
 include!(concat!(env!("OUT_DIR"), "/texts.rs"));
@@ -33,38 +35,27 @@ pub fn printed<'a>(value: impl Display) -> Result<*mut c_char, Problem<'a>> {
     Ok(ManuallyDrop::new(string).as_mut_ptr().cast())
 }
 
-pub fn of_error<'a>(error: &Error, of: &[u8], caret: bool) -> Result<*mut c_char, Problem<'a>> {
-    printed(Message { error, of, caret })
-}
-
-struct Message<'a> {
-    error: &'a Error,
-    of: &'a [u8],
-    caret: bool,
-}
-
 /// How many bytes before and after the offset are shown of a long string.
 const REACH: usize = 32;
 
-impl Display for Message<'_> {
-    fn fmt(&self, f: &mut Formatter<'_>) -> fmt::Result {
-        let Error { status, reason, offset, .. } = self.error;
-        let status = text_of(&STATUS_TEXTS, *status).unwrap_or("unknown error\0");
-        write!(f, "{}", status.trim_end_matches('\0'))?;
-        let Some(reason) = Reason::of_number(*reason) else { return Ok(()) };
-        let at = self.of.len().min(*offset);
-        let begin = boundary(self.of, at.saturating_sub(REACH));
-        let end = boundary(self.of, self.of.len().min(at + REACH)).max(at);
-        let left = if begin > 0 { "..." } else { "" };
-        let right = if end < self.of.len() { "..." } else { "" };
-        let (before, shown) = (Shown(&self.of[begin..at]), Shown(&self.of[begin..end]));
-        write!(f, " {left}\"{shown:#}\"{right}, at byte {offset}: {}", reason.sentence())?;
-        if self.caret {
-            let column = left.len() + before.characters().count();
-            write!(f, "\n    {left}{shown}{right}\n    {:column$}^", "")?;
-        }
-        Ok(())
+pub fn of_error<'a>(error: &Error, of: &[u8], caret: bool) -> Result<*mut c_char, Problem<'a>> {
+    let status = text_of(&STATUS_TEXTS, error.status).unwrap_or("unknown error\0");
+    let status = status.trim_end_matches('\0');
+    let Some(reason) = Reason::of_number(error.reason) else { return printed(status) };
+    let offset = of.len().min(error.offset);
+    let begin = boundary(of, offset.saturating_sub(REACH));
+    let end = boundary(of, of.len().min(offset + REACH)).max(offset);
+    let left = if begin > 0 { "..." } else { "" };
+    let right = if end < of.len() { "..." } else { "" };
+    let shown = Shown(&of[begin..end]);
+    let column = left.len() + Shown(&of[begin..offset]).characters().count();
+    let mut text = String::new();
+    text.write_fmt(format_args!("{status} {left}\"{shown:#}\"{right}, at byte "))?;
+    text.write_fmt(format_args!("{}: {reason}", error.offset))?;
+    if caret {
+        text.write_fmt(format_args!("\n    {left}{shown}{right}\n    {:column$}^", ""))?;
     }
+    printed(text)
 }
 
 /// The last offset up to this one that isn't within a character.
@@ -86,11 +77,11 @@ impl Shown<'_> {
 impl Display for Shown<'_> {
     fn fmt(&self, f: &mut Formatter<'_>) -> fmt::Result {
         self.characters().try_for_each(|it| match it {
-            '\'' => f.write_char(it),
+            '\'' => write!(f, "{it}"),
             _ if f.alternate() => write!(f, "{}", it.escape_debug()),
-            '\\' | '"' => f.write_char(it),
-            _ if it.escape_debug().len() > 1 => f.write_char(char::REPLACEMENT_CHARACTER),
-            _ => f.write_char(it),
+            '\\' | '"' => write!(f, "{it}"),
+            _ if it.escape_debug().len() > 1 => f.write_str("\u{FFFD}"),
+            _ => write!(f, "{it}"),
         })
     }
 }

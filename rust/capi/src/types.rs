@@ -45,11 +45,9 @@ impl Options {
     pub fn meaning<'a>(&self) -> Result<Meaning, Problem<'a>> {
         let dialect = dialect(self.dialect)?;
         let pre_releases = PreReleases::of_number(self.pre_releases).ok_or(Problem::Argument)?;
-        let is_unknown = self.reserved.iter().any(|&field| field != 0);
-        if is_unknown {
-            Err(Problem::Argument)
-        } else {
-            Ok(Meaning { dialect, pre_releases })
+        match self.reserved {
+            [0, 0, 0, 0, 0, 0] => Ok(Meaning { dialect, pre_releases }),
+            _ => Err(Problem::Argument),
         }
     }
 }
