@@ -210,6 +210,7 @@ release:
 		command -v "$${tool%=*}" > /dev/null ||
 			refuse "needs the command $${tool%=*} (Debian: apt-get install $${tool#*=})"
 	done
+	rust/wasm/build --check
 	export SOURCE_DATE_EPOCH=$${SOURCE_DATE_EPOCH-$$(git log -1 --format=%ct)}
 	out=$$OUT made=$$work/made
 	export OUT="$$made"

@@ -95,37 +95,6 @@ may_build() {
     done
 }
 
-# prove CRATE BELOW..: proves a crate in a copy of it and those below it, since `rt` locks them all,
-# and moves its out/ to its place; `proved` is the program or static library there, or else empty.
-# Files that `rt` replaces and never changes are links.
-prove() {
-    may_build "$1"
-    command -v rt > /dev/null || refuse "$1 isn't built, and cannot be: there is no command rt" \
-        '(README names the kit that has it)'
-    echo "proving $1, which can take some minutes" >&2
-    crate=$1 copy=$work/copy
-    for name in "$@"; do
-        from=$top/crates/$name into=$copy/crates/$name
-        mkdir -p "$into/out"
-        sed -n "s/^\(semver_parser_wasm\) staticlib:/\1 wasm64 memory=4194304:/; /^$name[ :]/p" \
-            "$top/crates.txt" >> "$copy/crates.txt"
-        skip=./out kept=$from/out/rlib && [ "$name" != "$crate" ] || skip=*.oantt kept=$from/out/.
-        [ ! -e "$kept" ] || cp -Rl "$kept" "$into/out" 2> /dev/null || cp -R "$kept" "$into/out"
-        tar -C "$from" --warning=no-file-changed --exclude="$skip" -cf - . | tar -C "$into" -xf -
-    done
-    case $crate in
-    semver_parser_main) set -- run -- 1.2.3 ;;
-    *_main) set -- run -- --help ;;
-    *) set -- lib ;;
-    esac
-    cd "$copy/crates/$crate"
-    beside env TMPDIR="$work" rt "$@" > "$work/notes" 2>&1 || { cat "$work/notes" >&2 && exit 2; }
-    cp "out/$crate" out/proved 2> /dev/null || cp "out/lib$crate.a" out/proved 2> /dev/null ||
-        : > out/proved
-    half=$top/crates/$crate/.out.$$
-    mv out "$half" && rm -rf "$top/crates/$crate/out" && mv "$half" "$top/crates/$crate/out"
-}
-
 # may_write FOLDER: refuses a folder if it, or the nearest one that is there, may not be written to.
 may_write() {
     nearest=$1
@@ -179,18 +148,4 @@ remove_all() {
         case $folder in */semver_[pc]*) rm -rf -- "$folder/__pycache__" ;; esac
         rmdir -- "$to/${folder#./}" 2> /dev/null || :
     done
-}
-
-# lower FROM TO: lowers a WebAssembly module to 32-bit memory, which each engine has, and refuses one
-# that has any other left.
-lower() {
-    for tool in wasm-opt=binaryen wasm-validate=wabt; do
-        command -v "${tool%=*}" > /dev/null ||
-            refuse "needs ${tool%=*} (Debian: apt-get install ${tool#*=})"
-    done
-    wasm-opt --enable-memory64 --enable-bulk-memory --enable-mutable-globals --enable-sign-ext \
-        --enable-nontrapping-float-to-int --enable-multivalue --enable-simd --memory64-lowering \
-        -O3 --flatten --rereloop -O3 --converge --strip-producers --strip-target-features \
-        "$1" -o "$2" || refuse "wasm-opt cannot lower $1"
-    wasm-validate "$2" || refuse "$2 has memory of 64 bits"
 }
