@@ -164,7 +164,7 @@ class Range(Printed):
             )
         return other._handle
 
-    def _combined(self, operator: str, other: object) -> "Range":
+    def _combined(self, operator: str, other: "Range") -> "Range":
         if not isinstance(other, Range):
             return NotImplemented
         beside = self._handle_beside(other)
@@ -172,38 +172,38 @@ class Range(Printed):
         origin = Combination(operator, self._origin, other._origin)
         return _range_of(handle, self._dialect, self._pre_releases, origin)
 
-    def __or__(self, other: object) -> "Range":
+    def __or__(self, other: "Range") -> "Range":
         """Returns the range of the versions of one or the other."""
         return self._combined("|", other)
 
-    def __and__(self, other: object) -> "Range":
+    def __and__(self, other: "Range") -> "Range":
         """Returns the range of the versions of both."""
         return self._combined("&", other)
 
-    def __sub__(self, other: object) -> "Range":
+    def __sub__(self, other: "Range") -> "Range":
         """Returns the range of the versions that only the first has."""
         return self._combined("-", other)
 
-    def __le__(self, other: object) -> bool:
+    def __le__(self, other: "Range") -> bool:
         """Returns whether each version of the range is in the other."""
         if not isinstance(other, Range):
             return NotImplemented
         is_subset = LIBRARY.semver_parser_range_is_subset
         return handles.holds(is_subset, self._handle, self._handle_beside(other))
 
-    def __ge__(self, other: object) -> bool:
+    def __ge__(self, other: "Range") -> bool:
         """Returns whether each version of the other is in the range."""
         if not isinstance(other, Range):
             return NotImplemented
         return other <= self
 
-    def __lt__(self, other: object) -> bool:
+    def __lt__(self, other: "Range") -> bool:
         """Returns whether `<=` holds, and the other has more versions."""
         if not isinstance(other, Range):
             return NotImplemented
         return self <= other and self != other
 
-    def __gt__(self, other: object) -> bool:
+    def __gt__(self, other: "Range") -> bool:
         """Returns whether `>=` holds, and the range has more versions."""
         if not isinstance(other, Range):
             return NotImplemented
@@ -268,13 +268,13 @@ class Range(Printed):
 
     def __str__(self) -> str:
         """Returns the string that the range was read from. A combined range has its releases, and
-        its pre-releases if there are some."""
+        after `pre-releases` its pre-releases if there are some, which no dialect reads back."""
         if isinstance(self._origin, str):
             return self._origin
-        pre_releases = self.printed_pre_releases
+        releases, pre_releases = self.printed_releases, self.printed_pre_releases
         if pre_releases == _NOTHING:
-            return self.printed_releases
-        return f"{self.printed_releases}, pre-releases {pre_releases}"
+            return releases
+        return f"{'' if releases == _NOTHING else releases + ', '}pre-releases {pre_releases}"
 
     def __repr__(self) -> str:
         """Returns an expression for the range. A combined range may have none, and then it is
