@@ -1,26 +1,27 @@
 /* Versions and ranges of Cargo, npm and the Rust crate semver-parser.
  *
  *     semver_parser_options npm = semver_parser_options_of(SEMVER_PARSER_DIALECT_NPM);
- *     semver_parser_string range = semver_parser_str("^1.2");
+ *     semver_parser_string given[] = {semver_parser_str("1.9.0"), semver_parser_str("^1.2")};
  *     bool satisfies;
  *     semver_parser_error error;
  *     char *message;
- *     if (semver_parser_satisfies(semver_parser_str("1.9.0"), range, npm, &satisfies, &error)
- *             != SEMVER_PARSER_OK
- *         && semver_parser_error_message(&error, range, false, &message) == SEMVER_PARSER_OK) {
+ *     if (semver_parser_satisfies(given[0], given[1], npm, &satisfies, &error) != SEMVER_PARSER_OK
+ *         && semver_parser_error_message(&error, given[error.index], false, &message)
+ *             == SEMVER_PARSER_OK) {
  *         fprintf(stderr, "%s\n", message);
  *         semver_parser_free(message);
  *     }
  *
  * Compile with `pkg-config --cflags --libs semver_parser`. Each function has a page of the manual
- * (man semver_parser_satisfies); semver-ranges(7) says what a range means.
+ * (man semver_parser_satisfies); semver-ranges(7) says what a range means. C99 or later, or C++11.
  *
  * STRINGS are UTF-8 with a length in bytes, and need no terminating zero; `data` may be null if
  * `length` is 0, and so may an array if `count` is. A `char *` that a function makes is
  * zero-terminated; semver_parser_free frees it.
  *
  * ERRORS. A function returns SEMVER_PARSER_OK or the status of an error. After an error its outputs
- * are as they were, and `error`, which may be null, says more. INVALID_ARGUMENT comes first, then
+ * are as they were, and `error`, which may be null, says more; after OK it is as it was, too.
+ * INVALID_ARGUMENT comes first, then
  * the errors of the arguments from left to right. OUT_OF_MEMORY comes only of a function that
  * allocates: one that makes or prints something, combines ranges, or fills `error` after another
  * error, in place of that. The others don't allocate.
@@ -71,14 +72,14 @@ typedef struct {
     size_t length;
 } semver_parser_string;
 
-/* Returns a zero-terminated string with its length. */
+/* Makes a string of a zero-terminated one, which it doesn't copy. */
 SEMVER_PARSER_NONNULL(1)
 static inline semver_parser_string semver_parser_str(const char *zero_terminated) {
     semver_parser_string string = {zero_terminated, strlen(zero_terminated)};
     return string;
 }
 
-/* Frees a string that a function made; null is fine. */
+/* Frees a `char *` that a function made; null is fine. */
 void semver_parser_free(void *string);
 
 /* ---- options */
@@ -123,8 +124,8 @@ static inline semver_parser_options semver_parser_options_of(semver_parser_diale
     return options;
 }
 
-/* Returns the name of a dialect ("cargo", "npm", "crate-cargo", "crate-npm") or of a rule
- * ("default", "included", "excluded"), or null if there is no such number. */
+/* Returns the name of a dialect or of a rule for pre-releases: "cargo", "npm", "crate-cargo",
+ * "crate-npm"; "default", "included", "excluded". Numbers count from 0; null if there is none. */
 const char *semver_parser_dialect_name(semver_parser_dialect dialect);
 const char *semver_parser_pre_releases_name(semver_parser_pre_releases pre_releases);
 
@@ -150,7 +151,7 @@ typedef int32_t semver_parser_reason;
 enum {
     /* No string is refused: the status is OK, OUT_OF_MEMORY or INVALID_ARGUMENT. */
     SEMVER_PARSER_REASON_NONE = 0,
-    /* It is empty or white space. */
+    /* It is empty, or white space that the dialect takes there. */
     SEMVER_PARSER_REASON_EMPTY = 1,
     /* There are fewer than three numbers: the version `1.2`, the range `1.2-rc`. */
     SEMVER_PARSER_REASON_NOT_THREE_NUMBERS = 2,
@@ -166,7 +167,7 @@ enum {
     SEMVER_PARSER_REASON_TOO_LONG = 7,
     /* `1.2.3 x` as a version. */
     SEMVER_PARSER_REASON_TEXT_AFTER = 8,
-    /* `offset` is that of the first byte that isn't UTF-8. */
+    /* Of a range: `offset` is that of the first byte that isn't UTF-8. */
     SEMVER_PARSER_REASON_NOT_UTF8 = 9,
     /* `>=`, `^1..2`. */
     SEMVER_PARSER_REASON_NUMBER_EXPECTED = 10,
@@ -200,15 +201,17 @@ typedef struct {
     uint64_t reserved[4];
 } semver_parser_error;
 
-/* Writes an error about a string as an English sentence: `invalid range "1 || 2", at byte 2: Cargo
- * takes no ||; npm does`. With `caret`, two lines more: the string, shortened if it is long, and a
- * caret under the character. */
+/* Makes an English sentence of an error: `invalid range "1 || 2", at byte 2: Cargo takes no ||;
+ * npm does`. `string` is the string of the call that `error->index` names. With `caret` it has
+ * two lines more, indented by four spaces: the string, shortened if it is long and with U+FFFD
+ * for control characters, and a caret under the character. An error that isn't about a string, as
+ * OUT_OF_MEMORY, is its semver_parser_status_text alone. semver_parser_free frees the sentence. */
 SEMVER_PARSER_CHECKED(1, 4)
 semver_parser_status semver_parser_error_message(
     const semver_parser_error *error, semver_parser_string string, bool caret, char **message);
 
-/* Returns an English phrase for a number, and the name of a reason ("leading-zero"), or null if
- * there is no such number. */
+/* Returns an English phrase for a status or a reason, or the name of a reason ("leading-zero"), or
+ * null if there is no such number. */
 const char *semver_parser_status_text(semver_parser_status status);
 const char *semver_parser_reason_text(semver_parser_reason reason);
 const char *semver_parser_reason_name(semver_parser_reason reason);
@@ -240,8 +243,8 @@ typedef struct {
     semver_parser_string build;
 } semver_parser_version;
 
-/* Parses a version: `1.2.3-rc.1+b5` gives 1, 2, 3, `rc.1` and `b5`.
- * INVALID_VERSION. */
+/* Parses a version: `1.2.3-rc.1+b5` gives 1, 2, 3, `rc.1` and `b5`. `pre` and `build` point into
+ * the string that was parsed. INVALID_VERSION. */
 SEMVER_PARSER_CHECKED(3)
 semver_parser_status semver_parser_parse_version(
     semver_parser_string version, semver_parser_dialect dialect, semver_parser_version *parsed,
@@ -258,7 +261,7 @@ semver_parser_status semver_parser_compare_versions(
 
 typedef struct semver_parser_range semver_parser_range;
 
-/* Reads a range. INVALID_RANGE, NUMBER_TOO_LARGE. */
+/* Reads a range. semver_parser_range_free frees it. INVALID_RANGE, NUMBER_TOO_LARGE. */
 SEMVER_PARSER_CHECKED(3)
 semver_parser_status semver_parser_range_parse(
     semver_parser_string string, semver_parser_options options, semver_parser_range **range,
@@ -278,7 +281,8 @@ semver_parser_status semver_parser_range_contains(
     semver_parser_error *error);
 
 /* Whether each of `count` versions is in the range. `statuses`, which may be null, gets OK or
- * INVALID_VERSION for each; an invalid version isn't contained. It does not allocate. */
+ * INVALID_VERSION for each; an invalid version isn't contained. It does not allocate, and the
+ * status is always OK. */
 SEMVER_PARSER_CHECKED(1)
 semver_parser_status semver_parser_range_contains_each(
     const semver_parser_range *range, const semver_parser_string *versions, size_t count,
@@ -297,8 +301,8 @@ semver_parser_status semver_parser_range_lowest_of(
     bool skip_invalid, size_t *index, semver_parser_error *error);
 
 /* Makes the range of the versions that are in one or the other, in both, or in the first alone: the
- * difference of `^1.2` and `>=1.4` contains 1.2.0 and not 1.4.0. Both ranges need the same options,
- * or it is INVALID_ARGUMENT. */
+ * difference of `^1.2` and `>=1.4` contains 1.2.0 and not 1.4.0. semver_parser_range_free frees it.
+ * Both ranges need the same options, or it is INVALID_ARGUMENT. */
 SEMVER_PARSER_CHECKED(1, 2, 3)
 semver_parser_status semver_parser_range_union(
     const semver_parser_range *range, const semver_parser_range *other,
@@ -329,15 +333,16 @@ semver_parser_status semver_parser_range_is_disjoint(
 SEMVER_PARSER_NONNULL(1)
 bool semver_parser_range_is_empty(const semver_parser_range *range);
 
-/* Prints the lowest version of all that are in the range, which is null if it is empty: `^1.2.0`
- * has 1.2.0. */
+/* Makes a string of the lowest version of all that are in the range, null if it is empty: `^1.2.0`
+ * has 1.2.0. semver_parser_free frees it. */
 SEMVER_PARSER_CHECKED(1, 2)
 semver_parser_status semver_parser_range_lowest_version(
     const semver_parser_range *range, char **version);
 
-/* Prints the releases of a range, or its pre-releases, as a range: `>=1.2.0 <2.0.0`, `*` for all,
- * `<0.0.0-0` for none. It reads back by SEMVER_PARSER_DIALECT_CRATE_NPM, except `*` of
- * pre-releases. */
+/* Makes a string of the releases of a range, or of its pre-releases: `>=1.2.0 <2.0.0`, `*` for all,
+ * `<0.0.0-0` for none. Its syntax is npm's in each dialect. By SEMVER_PARSER_DIALECT_CRATE_NPM that
+ * of releases reads back with PRE_RELEASES_EXCLUDED; of that of pre-releases, read with
+ * PRE_RELEASES_INCLUDED, only the pre-releases count. semver_parser_free frees it. */
 SEMVER_PARSER_CHECKED(1, 3)
 semver_parser_status semver_parser_range_to_string(
     const semver_parser_range *range, bool pre_releases, char **string);
@@ -368,7 +373,8 @@ typedef struct {
 
 /* Rewrites a range to plain comparators: `^1.2` gives `>=` 1.2.0 and `<` 2.0.0-0. By the crate's
  * dialects a raised bound is such only if `exact`, and else `<2.0.0`. They say which releases
- * satisfy the range; for pre-releases use semver_parser_range. INVALID_RANGE, NUMBER_TOO_LARGE. */
+ * satisfy the range; for pre-releases use semver_parser_range. semver_parser_comparators_free frees
+ * them. INVALID_RANGE, NUMBER_TOO_LARGE. */
 SEMVER_PARSER_CHECKED(4)
 semver_parser_status semver_parser_comparators_of_range(
     semver_parser_string range, semver_parser_dialect dialect, bool exact,
@@ -377,17 +383,18 @@ semver_parser_status semver_parser_comparators_of_range(
 /* Frees comparators; null is fine. */
 void semver_parser_comparators_free(semver_parser_comparators *comparators);
 
-/* Returns how many there are. */
+/* Returns how many comparators a list has. */
 SEMVER_PARSER_NONNULL(1)
 size_t semver_parser_comparators_count(const semver_parser_comparators *comparators);
 
-/* Gives one of them. An index that is too large is INVALID_ARGUMENT. */
+/* Gives the comparator of an index. An index that is too large is INVALID_ARGUMENT. */
 SEMVER_PARSER_CHECKED(1, 3)
 semver_parser_status semver_parser_comparators_get(
     const semver_parser_comparators *comparators, size_t index,
     semver_parser_comparator *comparator);
 
-/* Prints them: `>=1.2.0 <2.0.0-0 || >=3.0.0 <4.0.0-0`. */
+/* Makes a string of comparators: `>=1.2.0 <2.0.0-0 || >=3.0.0 <4.0.0-0`. semver_parser_free frees
+ * it. */
 SEMVER_PARSER_CHECKED(1, 2)
 semver_parser_status semver_parser_comparators_to_string(
     const semver_parser_comparators *comparators, char **string);
