@@ -298,12 +298,12 @@ static void other_messages(void) {
     semver_parser_version parsed;
     semver_parser_error error = parse(&version, CARGO, &parsed);
     message_of(&error, &version, false,
-               "invalid version \"1.2.03\", at byte 5: a number or an identifier of digits has no "
-               "leading zero");
+               "invalid version \"1.2.03\", at byte 5: numbers and identifiers of digits may not "
+               "have a leading zero");
     /* Another string than that of the error: the offset is beyond its end. */
     message_of(&error, &empty, true,
-               "invalid version \"\", at byte 5: a number or an identifier of digits has no "
-               "leading zero\n    \n    ^");
+               "invalid version \"\", at byte 5: numbers and identifiers of digits may not "
+               "have a leading zero\n    \n    ^");
     error = no_error;
     message_of(&error, &version, true, "no error");
     error.status = SEMVER_PARSER_OUT_OF_MEMORY;
