@@ -3,8 +3,8 @@
 modules aren't.
 
 A directory for each family of formats has what it reads: `npm`, `yarn`, `pnpm` and `cargo`. They
-share the files (`files`), the judgement of a version (`judging`), what there is to say
-(`findings`), the frame of a program (`program`), and how it starts (`starting`).
+share the files (`files`), the judgement of a version (`satisfaction`), what there is to say
+(`findings`), the frame of a program (`program`), and how it starts (`entry_points`).
 
 `check_lock_file` has the options, and `checking` what is done by them: `discovery` finds lock
 files, `lock_files` knows each, `reports` has what a check of one reports, `allowed` takes out known

@@ -6,7 +6,7 @@ import sys
 from contextlib import contextmanager
 from typing import Any, Dict, Iterator, List, NoReturn
 
-from .events import Unusual, documents_of
+from .yaml_events import Unusual, documents_of
 
 Entry = Dict[str, Any]
 

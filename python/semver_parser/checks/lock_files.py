@@ -4,11 +4,11 @@ import os
 import re
 from typing import Callable, Iterator, NamedTuple, Optional, Tuple, TypeVar
 
-from .bun import edges as bun
+from .bun import requirements as bun
 from .bun.lock import tree_of as tree_of_bun
 from .cargo import lock as cargo_lock
 from .cargo import metadata as cargo_metadata
-from .deno import edges as deno
+from .deno import requirements as deno
 from .files import (
     STANDARD_INPUT,
     Entry,
@@ -23,14 +23,14 @@ from .files import (
 )
 from .findings import Finding, Scope, Tally
 from .manifests import MANIFEST, Project, needs_of, project_of
-from .npm import edges as npm
+from .npm import requirements as npm
 from .npm.settings import has_legacy_peers
-from .others import BUN as OF_BUN
-from .others import DENO as OF_DENO
-from .others import refuse_others
-from .pnpm import edges as pnpm
+from .unsupported import BUN as OF_BUN
+from .unsupported import DENO as OF_DENO
+from .unsupported import refuse_others
+from .pnpm import requirements as pnpm
 from .program import Misuse
-from .yarn import edges as yarn
+from .yarn import requirements as yarn
 from .yarn.lock import tree_of
 
 Taken = TypeVar("Taken")

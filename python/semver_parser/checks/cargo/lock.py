@@ -13,7 +13,7 @@ from semver_parser import Dialect
 
 from ..files import Entry, WrongShape, list_at, object_at, text_at
 from ..findings import Finding, Keys, Kind, Scope, Tally
-from ..judging import is_met, is_version
+from ..satisfaction import is_met, is_version
 from .manifests import Manifest, Need, manifests_at
 
 

@@ -20,7 +20,7 @@ from semver_parser import Dialect
 
 from ..files import Entry, WrongShape, list_at, object_at, text_at
 from ..findings import Finding, Kind, Scope, Tally
-from ..judging import is_met, is_version
+from ..satisfaction import is_met, is_version
 
 DependencyKind = Tuple[Optional[str], Optional[str]]
 """A kind of dependency, as `dev`, and a target. A usual one has neither."""

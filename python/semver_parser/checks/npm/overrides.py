@@ -12,7 +12,7 @@ from typing import Dict, Iterator, List, Optional, Set, Tuple
 from semver_parser import Dialect
 
 from ..files import Entry, WrongShape, object_at, text_at
-from ..judging import is_met, is_range
+from ..satisfaction import is_met, is_range
 from .lock import Ask, Package, is_top
 from .specs import may_overlap, name_and_rest, range_of
 

@@ -8,7 +8,7 @@ from urllib.parse import unquote
 from semver_parser import Dialect, Range, RangeError
 
 from ..findings import Kind
-from ..judging import is_met
+from ..satisfaction import is_met
 
 # What npm takes for an address or a path, and for a tag. A tag begins with a letter here, and not
 # as a version does: so a range that isn't read is never taken for one.

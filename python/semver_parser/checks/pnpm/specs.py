@@ -5,7 +5,7 @@ from typing import Tuple
 
 from semver_parser import Dialect, satisfies
 
-from ..judging import is_range, is_version
+from ..satisfaction import is_range, is_version
 from ..npm.specs import name_and_rest
 
 JSR = "jsr:"

@@ -20,7 +20,7 @@ from semver_parser import Dialect
 
 from ..files import Entry, WrongShape, object_at, objects_at, text_at, texts_at
 from ..findings import PROJECT, Finding, Keys, Kind, Scope, Tally
-from ..judging import is_met, is_version
+from ..satisfaction import is_met, is_version
 from ..manifests import (
     FOR_DEVELOPMENT,
     OPTIONAL,

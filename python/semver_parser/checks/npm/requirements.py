@@ -21,7 +21,7 @@ from semver_parser import Dialect
 
 from ..files import Entry
 from ..findings import PROJECT, Finding, Kind, Scope, Tally
-from ..judging import is_met, is_version
+from ..satisfaction import is_met, is_version
 from .archives import archive_at
 from .disk import check_manifest, read_links
 from .lock import (

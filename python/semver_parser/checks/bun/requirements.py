@@ -17,7 +17,7 @@ from semver_parser import Dialect
 
 from ..files import Entry, list_at, objects_at, texts_at
 from ..findings import PROJECT, Finding, Keys, Kind, Scope, Tally
-from ..judging import is_version
+from ..satisfaction import is_version
 from ..manifests import manifest_in
 from ..npm.specs import CATALOG, has_name, is_no_range, reason_of, verdict_by, verdict_on
 from ..pnpm.specs import of_workspace

@@ -20,7 +20,7 @@ from semver_parser import Dialect
 
 from ..files import Entry, texts_at
 from ..findings import PROJECT, Finding, Kind, Scope, Tally
-from ..judging import is_met, is_version
+from ..satisfaction import is_met, is_version
 from ..manifests import KINDS_OF_BERRY, TOP, Project, name_in, version_in
 from ..manifests import needs_of as needs_of_manifest
 from ..npm.specs import (

@@ -14,7 +14,7 @@ from semver_parser import Dialect
 
 from ..files import Entry, Unreadable, list_at, object_at, objects_at, text_at, texts_at
 from ..findings import PROJECT, Finding, Keys, Kind, Tally
-from ..judging import is_version
+from ..satisfaction import is_version
 from ..npm.specs import name_and_rest, reason_of, verdict_on
 
 VERSIONS = ("4", "5")
