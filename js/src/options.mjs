@@ -28,7 +28,7 @@ class Meaning {
   /** What these options say where an object is that was read by others. */
   beside(own) {
     if (this.hasDialect || own === null) return this
-    if (this.hasRule) return own.with(this.preReleases)
+    if (this.hasRule) return own.dialect === this.dialect ? this : own.with(this.preReleases)
     // As node-semver, which reads a range with `includePrerelease` again without.
     return own.isOfNpm && own.isIncluded ? this : own
   }

@@ -132,6 +132,6 @@ export function simplifyRange(versions, range, options) {
     if (is && !isIn[at + 1]) ranges.push(between(list, first, at))
   })
   const simplified = ranges.join(' || ')
-  const original = typeof range === 'string' ? range : rangeStringOf(range)
+  const original = String(range?.raw ?? range)
   return simplified.length < original.length ? simplified : range
 }

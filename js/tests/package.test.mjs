@@ -154,13 +154,18 @@ test('an error says what was refused, and which argument it was', () => {
   for (const [kind, argument, call] of refused) assert.throws(call, { name: 'SemverError', kind, argument }, String(call))
 })
 
-test('what of an invalid range throws not', () => {
+test('what of an invalid range or version throws not', () => {
   const none = { satisfies: false, maxSatisfying: null, minSatisfying: null, simplifyRange: '' }
   for (const [name, right] of Object.entries(none)) {
     const first = name === 'satisfies' ? '1.2.3' : ['1.2.3']
     assert.equal(semver[name](first, 'a b'), right, name)
   }
   assert.equal(semver.validRange('a b'), null)
+  assert.equal(semver.simplifyRange(['1.2.3'], 5), '')
+  for (const name of ['valid', 'parse', 'clean', 'coerce', 'prerelease']) assert.equal(semver[name]('x'), null, name)
+  assert.equal(semver.inc('x', 'major'), null)
+  for (const name of ['maxSatisfying', 'minSatisfying']) assert.equal(semver[name](['x', '1.2.3'], '*'), '1.2.3', name)
+  for (const object of [new semver.Range('*'), new semver.Comparator('>=1.0.0')]) assert.equal(object.test('x'), false)
 })
 
 test('the types name the reasons of the module', () => {
@@ -256,6 +261,7 @@ test('of npm, a range with includePrerelease is read again without', () => {
   assert.equal(semver.maxSatisfying(['1.3.0-a'], range), null)
   assert.notEqual(new semver.Range(range), range)
   assert.equal(new semver.Range(range, { includePrerelease: true }), range)
+  assert.deepEqual(new semver.Range(new semver.Range('^1.2'), { includePrerelease: true }), range)
 })
 
 test('objects are compared by what was read', () => {
