@@ -80,8 +80,8 @@ function written(comparators, meaning) {
 }
 
 /**
- * The ranges of a string as node-semver writes them, each a list of comparators, as strings; null if
- * it is invalid.
+ * The ranges of a string as node-semver writes them, each a list of comparators, as strings; null
+ * if it is invalid.
  */
 export function rangesOf(string, meaning) {
   const { dialect, rule } = meaning

@@ -109,8 +109,9 @@ export function field(object, name, value) {
 }
 
 /**
- * Gives an object of a class the fields of its own by which `assert.deepStrictEqual` compares it. Each
- * takes as long as half a reading, so options are such a field only if they change what is read.
+ * Gives an object of a class the fields of its own by which `assert.deepStrictEqual` compares it.
+ * Each takes a third of the time of `new SemVer`, so options are such a field only if they change
+ * what is read.
  */
 export function identify(object, meaning, name, value) {
   field(object, name, value)
