@@ -51,10 +51,10 @@ const byCargo = byGrammar(new RegExp(`^${NUMBERS}${parts(PRE, PART)}$`))
 const byCrate = byGrammar(new RegExp(`^[ \\t\\n\\r]*${NUMBERS}${parts(RUNS, RUNS)}[ \\t\\n\\r]*$`))
 const byNpm = semverWithin()
 
-// Whether a text is a version to each tool, whether one of any length, and the reason of a number above its limit.
+// Whether a text is a version to each tool, whether one of any length, and the reasons of a number above its limit and of a leading v.
 const TOOLS = {
-  crate: { isVersion: byCrate, isLong: byCrate, tooLarge: 'too-large' },
-  cargo: { isVersion: byCargo, isLong: byCargo, tooLarge: 'too-large' },
+  crate: { isVersion: byCrate, isLong: byCrate, tooLarge: 'too-large', ofMark: 'crate-v' },
+  cargo: { isVersion: byCargo, isLong: byCargo, tooLarge: 'too-large', ofMark: 'cargo-v' },
   npm: { isVersion: byNpm, isLong: semverWithin(1 << 20), tooLarge: 'npm-too-large' }
 }
 
@@ -65,7 +65,7 @@ const isWhite = (of) => /^[\t-\r ]/.test(of)
 const begun = (character) => WHITE.find((white) => Buffer.from(white)[0] === Buffer.from(character)[0]) ?? character
 
 // The reason by the table.
-function reason ({ isVersion, isLong, tooLarge }, prefix, next) {
+function reason ({ isVersion, isLong, tooLarge, ofMark }, prefix, next) {
   const takesLetter = isLong(prefix + 'a')
   const takesZero = isLong(prefix + '0')
   const identifier = takesZero ? 'empty-identifier' : 'leading-zero'
@@ -78,6 +78,7 @@ function reason ({ isVersion, isLong, tooLarge }, prefix, next) {
   if (isPrefix(isLong, longer, COMPLETIONS) && !isPrefix(isVersion, longer, COMPLETIONS)) return 'too-long'
   if (/\d/.test(next) && /\d$/.test(prefix) && !takesLetter) return /(^|\D)0$/.test(prefix) ? 'leading-zero' : tooLarge
   if (isLong(prefix)) return isWhite(next) || !/[0-9A-Za-z-]$/.test(prefix) ? 'text-after' : 'unexpected-character'
+  if (next === 'v' && ofMark !== undefined && !/[\dv]/.test(prefix)) return ofMark
   if (!/[.+-]/.test(next) && !isWhite(next)) return 'unexpected-character'
   if (takesLetter) return identifier
   return /\d/.test(prefix) ? missing : 'unexpected-character'

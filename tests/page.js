@@ -79,8 +79,8 @@ async function main() {
     ]);
     expect('the marked rows', await marked(), ['1.2.4', 'v1.2.3']);
     expect('the errors', await errors(), [
-        'Cargo refuses the version: unexpected character\nv1.2.3\n^',
-        'Cargo refuses the version: a number or an identifier of digits has no leading zero\n1.2.03\n     ^',
+        'Cargo refuses the version: Cargo takes no leading v; npm does\nv1.2.3\n^',
+        'Cargo refuses the version: numbers and identifiers of digits may not have a leading zero\n1.2.03\n     ^',
     ]);
     expect('the comparators', await ranges(), [
         'Cargo: >=1.2.3 <2.0.0-0', 'npm: 1.2.3', 'crate, Cargo mode: >=1.2.3 <2.0.0-0', 'crate, npm mode: 1.2.3',

@@ -114,7 +114,7 @@ test('wrong options are refused', () => {
 
 test('where and why a string is refused', () => {
   assert.deepEqual(semver.explainVersion('1.2.03', cargo),
-    { offset: 5, reason: 'leading-zero', sentence: 'a number or an identifier of digits has no leading zero' })
+    { offset: 5, reason: 'leading-zero', sentence: 'numbers and identifiers of digits may not have a leading zero' })
   assert.deepEqual(semver.explainRange('1.2 || 3', cargo),
     { offset: 4, reason: 'cargo-bars', sentence: 'Cargo takes no ||; npm does' })
   assert.equal(semver.explainVersion('1.2.3'), null)

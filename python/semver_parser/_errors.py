@@ -128,7 +128,7 @@ class VersionError(SemverError):
     ...     Version.parse("1.2.03", dialect="cargo")
     ... except VersionError as error:
     ...     error.offset, error.reason, error.sentence
-    (5, 'leading-zero', 'a number or an identifier of digits has no leading zero')
+    (5, 'leading-zero', 'numbers and identifiers of digits may not have a leading zero')
     """
 
     _STATUS = INVALID_VERSION

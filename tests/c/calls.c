@@ -154,6 +154,8 @@ static void require_error(const call *it, const outcome *error) {
     case SEMVER_PARSER_INVALID_VERSION:
         require(reason <= SEMVER_PARSER_REASON_TEXT_AFTER
                     || reason == SEMVER_PARSER_REASON_NUMBER_EXPECTED
+                    || reason == SEMVER_PARSER_REASON_CARGO_V
+                    || reason == SEMVER_PARSER_REASON_CRATE_V
                     || reason == SEMVER_PARSER_REASON_NPM_TOO_LARGE,
                 "no reason of a version", of);
         break;

@@ -31,7 +31,7 @@ static const struct {
     {CARGO, "1.2.3-", 6, REASON(EMPTY_IDENTIFIER)},
     {CARGO, "1.2.3-a..b", 8, REASON(EMPTY_IDENTIFIER)},
     {CARGO, "1.x", 2, REASON(UNEXPECTED_CHARACTER)},
-    {CARGO, "v1.2.3", 0, REASON(UNEXPECTED_CHARACTER)},
+    {CARGO, "v1.2.3", 0, REASON(CARGO_V)},
     {CARGO, "1.2.3-\xC3\xA9", 6, REASON(UNEXPECTED_CHARACTER)},
     {CRATE_CARGO, "1.2.3\xFF", 5, REASON(UNEXPECTED_CHARACTER)},
     {CARGO, "18446744073709551616.0.0", 19, REASON(TOO_LARGE)},
@@ -298,12 +298,12 @@ static void other_messages(void) {
     semver_parser_version parsed;
     semver_parser_error error = parse(&version, CARGO, &parsed);
     message_of(&error, &version, false,
-               "invalid version \"1.2.03\", at byte 5: a number or an identifier of digits has no "
-               "leading zero");
+               "invalid version \"1.2.03\", at byte 5: numbers and identifiers of digits may not "
+               "have a leading zero");
     /* Another string than that of the error: the offset is beyond its end. */
     message_of(&error, &empty, true,
-               "invalid version \"\", at byte 5: a number or an identifier of digits has no "
-               "leading zero\n    \n    ^");
+               "invalid version \"\", at byte 5: numbers and identifiers of digits may not "
+               "have a leading zero\n    \n    ^");
     error = no_error;
     message_of(&error, &version, true, "no error");
     error.status = SEMVER_PARSER_OUT_OF_MEMORY;

@@ -30,8 +30,8 @@ static bool use_error(const semver_parser_error *error) {
     semver_parser_status status =
         semver_parser_error_message(error, semver_parser_str("1.2.03"), false, &message);
     return is_made(status, message,
-                   "invalid version \"1.2.03\", at byte 5: a number or an identifier of digits has "
-                   "no leading zero")
+                   "invalid version \"1.2.03\", at byte 5: numbers and identifiers of digits may "
+                   "not have a leading zero")
            && strcmp(semver_parser_status_text(error->status), "invalid version") == 0
            && strcmp(semver_parser_reason_name(error->reason), "leading-zero") == 0
            && strlen(semver_parser_reason_text(error->reason)) > 0

@@ -18,6 +18,7 @@ use Rattle.text_prefixes.specs.declared.reasons.Reason.TheVariants.{LeadingZero,
 use Rattle.text_prefixes.specs.declared.reasons.Reason.TheVariants.{UnexpectedCharacter, TooLarge}
 use Rattle.text_prefixes.specs.declared.reasons.Reason.TheVariants.{NpmTooLarge, TooLong}
 use Rattle.text_prefixes.specs.declared.reasons.Reason.TheVariants.{NumberExpected, TextAfter}
+use Rattle.text_prefixes.specs.declared.reasons.Reason.TheVariants.{CargoV, CrateV}
 
 -- ---- the prefix
 
@@ -80,6 +81,14 @@ too_large_in grammar.Crate = TooLarge
 too_large_in grammar.Cargo = TooLarge
 too_large_in grammar.Npm = NpmTooLarge
 
+-- what a byte is that no version has there: a `v` before the numbers, or any other
+abbrev pub unexpected_in : Grammar → Text → ℕ → Reason
+unexpected_in grammar.Cargo prefix b =
+    if (b == code "v") && is_blank prefix then CargoV else UnexpectedCharacter
+unexpected_in grammar.Crate prefix b =
+    if (b == code "v") && is_blank prefix then CrateV else UnexpectedCharacter
+unexpected_in grammar.Npm prefix b = UnexpectedCharacter
+
 -- by whether the prefix is a version of any length, is one with a letter after it, and with a zero;
 -- whether the prefix and the byte are too long; the prefix, and the byte
 abbrev pub reason_by : Grammar → Bool → Bool → Bool → Bool → Text → Option ℕ → Reason
@@ -91,7 +100,7 @@ reason_by g version letter zero too_long prefix (Some b) = if too_long then TooL
     (if ends_in_zero prefix then LeadingZero else too_large_in g)
     else (if version then
     (if is_ascii_white b || not (ends_in_part prefix) then TextAfter else UnexpectedCharacter)
-    else (if not (is_separator b) then UnexpectedCharacter
+    else (if not (is_separator b) then unexpected_in g prefix b
     else (if not letter then (if has_no_digit prefix then UnexpectedCharacter
     else missing_after prefix)
     else (if zero then EmptyIdentifier else LeadingZero)))))

@@ -58,7 +58,7 @@ pub enum Reason {
     CargoWildcard,
     /// Cargo takes no `||`; npm does.
     CargoBars,
-    /// Cargo takes no leading `v`; npm does.
+    /// Cargo takes no leading `v`, of a version or of a range; npm does.
     CargoV,
     /// Cargo takes no hyphen ranges; npm does.
     CargoHyphen,
@@ -66,7 +66,7 @@ pub enum Reason {
     NpmComma,
     /// The crate takes no commas; Cargo does.
     CrateComma,
-    /// The crate takes no leading `v`; npm does.
+    /// The crate takes no leading `v`, of a version or of a range; npm does.
     CrateV,
     /// To npm, a number or a raised bound is above 2^53 - 1.
     NpmTooLarge,
@@ -188,7 +188,7 @@ impl Reason {
             Reason::LeadingZero => (
                 3,
                 "leading-zero",
-                "a number or an identifier of digits has no leading zero",
+                "numbers and identifiers of digits may not have a leading zero",
             ),
             Reason::EmptyIdentifier => (4, "empty-identifier", "an identifier is empty"),
             Reason::UnexpectedCharacter => (5, "unexpected-character", "unexpected character"),

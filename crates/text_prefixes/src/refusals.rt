@@ -9,6 +9,7 @@ ghost use Rattle.text_prefixes.specs.VersionPrefixes.{IsLongestVersionPrefix};
 ghost use Rattle.text_prefixes.specs.Reasons.{IsReason, IsTooLong, byte_at, byte_text, from_end};
 ghost use Rattle.text_prefixes.specs.Reasons.{has_no_digit, is_ascii_white, is_blank};
 ghost use Rattle.text_prefixes.specs.Reasons.{is_separator, missing_after, reason_by};
+ghost use Rattle.text_prefixes.specs.Reasons.{unexpected_in};
 
 use crate::buffers::write;
 use crate::bytes::{Length, begins, is_version};
@@ -91,6 +92,18 @@ fn missing_after(prefix: &[u8]) -> Reason
     }
 }
 
+/// What a byte is that no version has there: a `v` before the numbers, or any other.
+fn unexpected_in(grammar: Grammar, prefix: &[u8], byte: u8) -> Reason
+    ensures { result ≡ unexpected_in grammar prefix.now byte }
+{
+    let is_mark = byte == b'v' && is_blank(prefix);
+    match grammar {
+        Grammar::Cargo if is_mark => Reason::CargoV,
+        Grammar::Crate if is_mark => Reason::CrateV,
+        _ => Reason::UnexpectedCharacter,
+    }
+}
+
 /// The reason, by what the prefix is and takes.
 fn reason_by(
     grammar: Grammar,
@@ -130,7 +143,7 @@ fn reason_by(
             Reason::UnexpectedCharacter
         }
     } else if !is_separator(byte) {
-        Reason::UnexpectedCharacter
+        unexpected_in(grammar, prefix, byte)
     } else if !letter {
         if has_no_digit(prefix) {
             Reason::UnexpectedCharacter

@@ -173,7 +173,7 @@ enum {
     SEMVER_PARSER_REASON_NUMBER_EXPECTED = 10,
     /* A range needs more at its end. */
     SEMVER_PARSER_REASON_UNEXPECTED_END = 11,
-    /* Of ranges that another dialect takes. */
+    /* Another dialect takes it: `1 || 2`; a version or a range with a `v`. */
     SEMVER_PARSER_REASON_CARGO_COMMAS = 12,
     SEMVER_PARSER_REASON_CARGO_WILDCARD = 13,
     SEMVER_PARSER_REASON_CARGO_BARS = 14,

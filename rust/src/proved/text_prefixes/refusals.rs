@@ -71,6 +71,16 @@ fn missing_after(prefix: &[u8]) -> Reason {
     }
 }
 
+/// What a byte is that no version has there: a `v` before the numbers, or any other.
+fn unexpected_in(grammar: Grammar, prefix: &[u8], byte: u8) -> Reason {
+    let is_mark = byte == b'v' && is_blank(prefix);
+    match grammar {
+        Grammar::Cargo if is_mark => Reason::CargoV,
+        Grammar::Crate if is_mark => Reason::CrateV,
+        _ => Reason::UnexpectedCharacter,
+    }
+}
+
 /// The reason, by what the prefix is and takes.
 fn reason_by(
     grammar: Grammar,
@@ -108,7 +118,7 @@ fn reason_by(
             Reason::UnexpectedCharacter
         }
     } else if !is_separator(byte) {
-        Reason::UnexpectedCharacter
+        unexpected_in(grammar, prefix, byte)
     } else if !letter {
         if has_no_digit(prefix) {
             Reason::UnexpectedCharacter
