@@ -1,7 +1,7 @@
 // Compares the package of js/ with node-semver: `node js-with-node-semver.js PACKAGE COUNT SEED` makes
 // COUNT pairs of ranges and versions, by the grammar, changed at a place, and at the limits of lengths
-// and numbers, and makes each call of node-semver with them, with and without `includePrerelease`. It
-// prints the first difference, and then ends with status 1.
+// and numbers, and makes each call of node-semver with them, with and without `includePrerelease`, and
+// some with what was read of them. It prints the first difference, and then ends with status 1.
 //
 // What docs/DIFFERENCES.md and js/README.md list is counted by kind: texts that node-semver reads by
 // accident, digits above 2^53, which it compares as floats, and what it says of two ranges by their
@@ -40,10 +40,16 @@ function version (random) {
   return whole.slice(0, at) + random.of([...'01.-+av= x', '\ud800', 'ä']) + whole.slice(at + random.below(2))
 }
 
+// What each library reads by a class of its own.
+const read = (name, ...values) => ({
+  by: (library) => new library[name](...values), toJSON: () => `new ${name}(${JSON.stringify(values)})`
+})
+
 // What a call returns, or that it throws.
 function result (library, call, values) {
+  const given = (it) => Array.isArray(it) ? it.map(given) : it?.by ? it.by(library) : it
   try {
-    return shown(library[call](...values.map((it) => Array.isArray(it) ? [...it] : it)))
+    return shown(library[call](...values.map(given)))
   } catch (error) {
     return error instanceof TypeError ? 'TypeError' : 'Error'
   }
@@ -68,6 +74,7 @@ const isLarge = (values) => () => LARGE.test(values.join(' ')) && count('digits 
 const never = () => false
 
 const RELEASES = [...semver.RELEASE_TYPES, 'pre', 'x']
+const OPTIONS = [undefined, { includePrerelease: true }]
 const OPERATORS = ['', '=', '==', '!=', '<', '<=', '>', '>=', '===', '!==', '~']
 
 function compareVersions (random, one, other) {
@@ -76,6 +83,11 @@ function compareVersions (random, one, other) {
     compareCall(call, [one, other], isLarge([one, other]))
   }
   compareCall('cmp', [one, random.of(OPERATORS), other], isLarge([one, other]))
+  const objects = [one, other].map((it) => read('SemVer', it))
+  for (const call of ['compare', 'compareBuild', 'gt', 'diff']) {
+    for (const pair of [objects, [one, objects[1]]]) compareCall(call, pair, isLarge([one, other]))
+  }
+  for (const call of ['valid', 'parse', 'major', 'coerce']) compareCall(call, [objects[0], random.of(OPTIONS)], never)
   compareCall('inc', [one, random.of(RELEASES), random.of(['', 'rc', 'a', '1']), random.of([undefined, '0', '1', false])], isLarge([one]))
   for (const call of ['compareIdentifiers', 'rcompareIdentifiers']) {
     const pair = [random.of(IDENTIFIERS), random.of(IDENTIFIERS)]
@@ -98,12 +110,17 @@ function isRead (range, options) {
 function compareRange (random, range) {
   const list = asked(random, range)
   const versions = [...list.slice(0, 6), version(random)]
-  for (const options of [undefined, { includePrerelease: true }]) {
+  for (const options of OPTIONS) {
     if (!isRead(range, options)) continue
     const isKnown = () => plain(range) !== range && count('a build or a `v` beside 0.0.0')
     const known = (wanted, found) => isLarge([range, ...versions])() || isKnown()
     for (const one of versions) compareCall('satisfies', [one, range, options], known)
     for (const call of ['maxSatisfying', 'minSatisfying']) compareCall(call, [versions, range, options], known)
+    for (const others of OPTIONS) {
+      const object = read('Range', range, others)
+      for (const one of versions) compareCall('satisfies', [read('SemVer', one), object, options], known)
+      compareCall('maxSatisfying', [versions, object, options], known)
+    }
     const isLong = () => isKnown() || isLarge([range])()
     if (options === undefined) for (const call of ['validRange', 'toComparators']) compareCall(call, [range], isLong)
     const releases = versions.filter((it) => semver.valid(it) !== null && !/-/.test(it))

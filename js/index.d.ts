@@ -1,12 +1,12 @@
 /** Whose rules strings are read by. `crate-cargo` and `crate-npm` are the modes of the Rust crate `semver-parser`. */
 export type Dialect = 'npm' | 'cargo' | 'crate-npm' | 'crate-cargo'
 
-/** The dialects whose numbers have 64 bits, and are `bigint`. */
-export type DialectOf64Bits = Exclude<Dialect, 'npm'>
+/** The type of a dialect's numbers: those of 64 bits are `bigint`. */
+export type NumberOf<D extends Dialect> = D extends 'npm' ? number : bigint
 
-export interface Options {
-  /** Whose rules; npm's by default. */
-  dialect?: Dialect
+export interface Options<D extends Dialect = Dialect> {
+  /** Whose rules: by default those of the objects that are given, and npm's if none is. */
+  dialect?: D
   /** Whether pre-releases within the bounds satisfy a range: node-semver's option, short for `preReleases: 'included'`. */
   includePrerelease?: boolean
   /** Which pre-releases satisfy a range: those that the tool takes by default, each within the bounds, or none. */
@@ -15,36 +15,28 @@ export interface Options {
   loose?: boolean
 }
 
-/** Options of a dialect whose numbers are `bigint`. */
-export interface OptionsOf64Bits extends Options {
-  dialect: DialectOf64Bits
-}
-
-/** Options of npm's dialect. */
-export interface OptionsOfNpm extends Options {
-  dialect?: 'npm'
-}
-
 /** Options, or `true`, which is short for `{ loose: true }`. */
-export type OptionsOrLoose = Options | boolean | null | undefined
+export type OptionsOrLoose<D extends Dialect = Dialect> = Options<D> | boolean | null | undefined
 
-type OfNpm = OptionsOfNpm | boolean | null | undefined
+/** The same without a dialect: an object keeps its own. */
+type WithoutDialect = (Options & { dialect?: undefined }) | boolean | null | undefined
 
 export type ReleaseType = 'major' | 'premajor' | 'minor' | 'preminor' | 'patch' | 'prepatch' | 'prerelease'
 export type Operator = '===' | '!==' | '' | '=' | '==' | '!=' | '>' | '>=' | '<' | '<='
 
 /** A version. Its numbers are `bigint` in the dialects of 64 bits. */
-export declare class SemVer<N extends number | bigint = number> {
+export declare class SemVer<D extends Dialect = 'npm'> {
   /** Throws a `SemverError` if the version is invalid. */
-  constructor(version: string | SemVer<number> | SemVer<bigint>, options?: OptionsOrLoose)
+  constructor(version: string | SemVer<D>, options?: WithoutDialect)
+  constructor(version: AnyVersion, options: OptionsOrLoose<D>)
   readonly options: Options
   readonly loose: boolean
   readonly includePrerelease: boolean
   /** The string that was read. */
   readonly raw: string
-  readonly major: N
-  readonly minor: N
-  readonly patch: N
+  readonly major: NumberOf<D>
+  readonly minor: NumberOf<D>
+  readonly patch: NumberOf<D>
   /** The pre-release identifiers; those of digits are numbers below 2^53 - 1. */
   readonly prerelease: ReadonlyArray<string | number>
   /** The build identifiers. */
@@ -69,54 +61,67 @@ export declare class SemVer<N extends number | bigint = number> {
 }
 
 /** A version, as a string or read. */
-export type AnyVersion = string | SemVer<number> | SemVer<bigint>
+export type AnyVersion = string | SemVer<Dialect>
 
 /** A comparator: an operator and a version. */
-export declare class Comparator {
+export declare class Comparator<D extends Dialect = 'npm'> {
   /** What a comparator has in place of a version that each version satisfies. */
   static readonly ANY: unique symbol
   /** Throws a `TypeError` if the comparator is invalid. */
-  constructor(comparator: string | Comparator, options?: OptionsOrLoose)
+  constructor(comparator: string | Comparator<D>, options?: WithoutDialect)
+  constructor(comparator: string | Comparator<Dialect>, options: OptionsOrLoose<D>)
   readonly options: Options
   readonly loose: boolean
   readonly operator: '' | '>' | '>=' | '<' | '<='
-  readonly semver: SemVer | typeof Comparator.ANY
+  readonly semver: SemVer<D> | typeof Comparator.ANY
   readonly value: string
   toString(): string
   toJSON(): object
   test(version: AnyVersion | typeof Comparator.ANY): boolean
-  intersects(other: Comparator, options?: OptionsOrLoose): boolean
+  intersects(other: Comparator<Dialect>, options?: OptionsOrLoose): boolean
 }
 
 /** A range that was read. */
-export declare class Range {
+export declare class Range<D extends Dialect = 'npm'> {
   /** Throws a `SemverError` if the range is invalid. */
-  constructor(range: AnyRange, options?: OptionsOrLoose)
+  constructor(range: RangeOf<D>, options?: WithoutDialect)
+  constructor(range: AnyRange, options: OptionsOrLoose<D>)
   readonly options: Options
   readonly loose: boolean
   readonly includePrerelease: boolean
   /** The string that was read, with single spaces. */
   readonly raw: string
   /** The comparators of each range between `||`. */
-  readonly set: ReadonlyArray<readonly Comparator[]>
-  /** The normal form, as `>=1.2.0 <2.0.0-0`. */
+  readonly set: ReadonlyArray<readonly Comparator<D>[]>
+  /** The normal form, as `>=1.2.0 <2.0.0-0`: npm's in each dialect. */
   readonly range: string
   format(): string
   toString(): string
   toJSON(): object
   test(version: AnyVersion | null | undefined): boolean
-  intersects(other: Range, options?: OptionsOrLoose): boolean
+  intersects(other: Range<Dialect>, options?: OptionsOrLoose): boolean
 }
 
+/** A range, as a string or read by a dialect. */
+type RangeOf<D extends Dialect> = string | Range<D> | Comparator<D>
+
 /** A range, as a string or read. */
-export type AnyRange = string | Range | Comparator
+export type AnyRange = RangeOf<Dialect>
+
+/** A word for the reason for which a string is refused. */
+export type Reason =
+  | 'empty' | 'not-three-numbers' | 'leading-zero' | 'empty-identifier' | 'unexpected-character' | 'too-large' | 'too-long'
+  | 'text-after' | 'not-utf8' | 'number-expected' | 'unexpected-end' | 'cargo-commas' | 'cargo-wildcard' | 'cargo-bars'
+  | 'cargo-v' | 'cargo-hyphen' | 'npm-comma' | 'crate-comma' | 'crate-v' | 'npm-too-large'
 
 /** Where and why a string is refused. */
 export interface Explanation {
-  /** The index of the first character that no version, or range, has there; the string's length if something is missing. */
+  /**
+   * An index of the string: of the first character that no version, or range, has there. It is the string's length if
+   * something is missing, and of a number of a range that is too large the end of the term that has it.
+   */
   readonly offset: number
-  /** A word for the reason, as `leading-zero`. */
-  readonly reason: string
+  readonly reason: Reason
   /** A sentence for it. */
   readonly sentence: string
 }
@@ -124,17 +129,26 @@ export interface Explanation {
 /** A version or a range is invalid. */
 export declare class SemverError extends TypeError implements Explanation {
   private constructor()
+  readonly name: 'SemverError'
+  /** What the string should have been. */
+  readonly kind: 'version' | 'range'
+  /** Which of the versions, ranges and lists that the call takes has the string: 0 is the first. */
+  readonly argument: 0 | 1
   /** The string that is refused. */
   readonly input: string
   readonly offset: number
-  readonly reason: string
+  readonly reason: Reason
   readonly sentence: string
 }
 
-/** What is in a range and not in another, as comparators: `<0.0.0-0` is nothing. */
+/** What is in a range and not in another. The comparators are npm's in each dialect; those of a kind say nothing of the other. */
 export interface Part {
-  releases: string
-  preReleases: string
+  /** The releases, null if there are none: read them with `preReleases: 'excluded'`. */
+  releases: string | null
+  /** The pre-releases, null if there are none: read them with `preReleases: 'included'`, and ask for pre-releases alone. */
+  preReleases: string | null
+  /** The lowest version. */
+  lowest: string
 }
 
 export declare const SEMVER_SPEC_VERSION: '2.0.0'
@@ -148,13 +162,13 @@ export declare function init(module: object): void
 /** The version without build metadata, or null if it is invalid. */
 export declare function valid(version: unknown, options?: OptionsOrLoose | number): string | null
 /** The version, or null if it is invalid. */
-export declare function parse(version: unknown, options: OptionsOf64Bits, throwErrors?: boolean): SemVer<bigint> | null
-export declare function parse(version: unknown, options?: OfNpm, throwErrors?: boolean): SemVer | null
-export declare function parse(version: unknown, options?: OptionsOrLoose, throwErrors?: boolean): SemVer | SemVer<bigint> | null
+export declare function parse<D extends Dialect = 'npm'>(version: string | SemVer<D>, options?: WithoutDialect, throwErrors?: boolean): SemVer<D> | null
+export declare function parse<D extends Dialect = 'npm'>(version: unknown, options?: OptionsOrLoose<D>, throwErrors?: boolean): SemVer<D> | null
 /** The version of a string in which it is, after `=`, `v` or white space; null if there is none. */
 export declare function clean(version: string, options?: OptionsOrLoose): string | null
 /** The first version of a string, as `2.3.4` of `v2.3.4.5`, or the last with `rtl`; null if there is none. */
-export declare function coerce(version: string | number | SemVer | null | undefined, options?: Options & { rtl?: boolean }): SemVer | null
+export declare function coerce<D extends Dialect = 'npm'>(version: string | number | SemVer<D> | null | undefined, options?: Options & { dialect?: undefined, rtl?: boolean }): SemVer<D> | null
+export declare function coerce<D extends Dialect = 'npm'>(version: AnyVersion | number | null | undefined, options?: Options<D> & { rtl?: boolean }): SemVer<D> | null
 /** The next version by the kind of release; null if the version is invalid. */
 export declare function inc(version: AnyVersion, release: ReleaseType, options?: OptionsOrLoose, identifier?: string, identifierBase?: '0' | '1' | false): string | null
 export declare function inc(version: AnyVersion, release: ReleaseType, identifier?: string, identifierBase?: '0' | '1' | false): string | null
@@ -163,12 +177,12 @@ export declare function diff(version: AnyVersion, other: AnyVersion): ReleaseTyp
 /** The pre-release identifiers, or null if there are none or the version is invalid. */
 export declare function prerelease(version: unknown, options?: OptionsOrLoose): ReadonlyArray<string | number> | null
 /** A number of a version. Throws a `SemverError` if that is invalid. */
-export declare function major(version: AnyVersion, options: OptionsOf64Bits): bigint
-export declare function major(version: AnyVersion, options?: OfNpm): number
-export declare function minor(version: AnyVersion, options: OptionsOf64Bits): bigint
-export declare function minor(version: AnyVersion, options?: OfNpm): number
-export declare function patch(version: AnyVersion, options: OptionsOf64Bits): bigint
-export declare function patch(version: AnyVersion, options?: OfNpm): number
+export declare function major<D extends Dialect = 'npm'>(version: string | SemVer<D>, options?: WithoutDialect): NumberOf<D>
+export declare function major<D extends Dialect = 'npm'>(version: AnyVersion, options: OptionsOrLoose<D>): NumberOf<D>
+export declare function minor<D extends Dialect = 'npm'>(version: string | SemVer<D>, options?: WithoutDialect): NumberOf<D>
+export declare function minor<D extends Dialect = 'npm'>(version: AnyVersion, options: OptionsOrLoose<D>): NumberOf<D>
+export declare function patch<D extends Dialect = 'npm'>(version: string | SemVer<D>, options?: WithoutDialect): NumberOf<D>
+export declare function patch<D extends Dialect = 'npm'>(version: AnyVersion, options: OptionsOrLoose<D>): NumberOf<D>
 /** Where and why a string is no version, or null if it is one. */
 export declare function explainVersion(version: AnyVersion, options?: OptionsOrLoose): Explanation | null
 
@@ -178,21 +192,22 @@ export declare function satisfies(version: AnyVersion | null | undefined, range:
 export declare function maxSatisfying<T extends AnyVersion>(versions: Iterable<T>, range: AnyRange, options?: OptionsOrLoose): T | null
 /** The lowest version that satisfies a range, the first of equal ones; null if none does. */
 export declare function minSatisfying<T extends AnyVersion>(versions: Iterable<T>, range: AnyRange, options?: OptionsOrLoose): T | null
-/** The versions that satisfy a range, in order, without invalid ones. Throws a `SemverError` if the range is invalid. */
+/** The versions that satisfy a range, in the list's order, without invalid ones. Throws a `SemverError` if the range is invalid. */
 export declare function filter<T extends AnyVersion>(versions: Iterable<T>, range: AnyRange, options?: OptionsOrLoose): T[]
-/** The normal form of a range, as `>=1.2.0 <2.0.0-0`, or null if it is invalid. */
+/** The normal form of a range, npm's in each dialect, as `>=1.2.0 <2.0.0-0`; null if it is invalid. */
 export declare function validRange(range: unknown, options?: OptionsOrLoose): string | null
 /** The comparators of each range between `||`. */
 export declare function toComparators(range: AnyRange, options?: OptionsOrLoose): string[][]
-/** Where and why a string is no range, or has a number that is too large; null if it is a range. */
+/** Where and why a string is no range; null if it is one. */
 export declare function explainRange(range: AnyRange, options?: OptionsOrLoose): Explanation | null
 /** The lowest version that satisfies a range; null if none does. */
-export declare function minVersion(range: AnyRange, options?: OptionsOrLoose): SemVer | null
+export declare function minVersion<D extends Dialect = 'npm'>(range: RangeOf<D>, options?: WithoutDialect): SemVer<D> | null
+export declare function minVersion<D extends Dialect = 'npm'>(range: AnyRange, options: OptionsOrLoose<D>): SemVer<D> | null
 /** Whether a version satisfies both ranges. */
 export declare function intersects(range: AnyRange, other: AnyRange, options?: OptionsOrLoose): boolean
 /** Whether each version that satisfies a range satisfies the other. */
 export declare function subset(range: AnyRange, other: AnyRange, options?: OptionsOrLoose): boolean
-/** What is lost and what is gained if another range takes the place of a range; null if nothing is. */
+/** What is lost and what is gained if another range takes the place of a range; each null if nothing is. */
 export declare function compareRanges(range: AnyRange, other: AnyRange, options?: OptionsOrLoose): { lost: Part | null, gained: Part | null }
 /** Whether a version is above each that satisfies a range. */
 export declare function gtr(version: AnyVersion, range: AnyRange, options?: OptionsOrLoose): boolean
@@ -200,7 +215,7 @@ export declare function gtr(version: AnyVersion, range: AnyRange, options?: Opti
 export declare function ltr(version: AnyVersion, range: AnyRange, options?: OptionsOrLoose): boolean
 /** `gtr` by `>`, and `ltr` by `<`. */
 export declare function outside(version: AnyVersion, range: AnyRange, side: '<' | '>', options?: OptionsOrLoose): boolean
-/** A range that the same versions of a list satisfy, if it is shorter; else the range itself. */
+/** A range that the same versions of a list satisfy, in npm's form, if it is shorter; else the range itself. Of an invalid one it is empty. */
 export declare function simplifyRange<R extends AnyRange>(versions: Iterable<string>, range: R, options?: OptionsOrLoose): string | R
 
 /** -1, 0 or 1 by precedence. Throws a `SemverError` if a version is invalid. */

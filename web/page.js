@@ -5,7 +5,6 @@ const COLUMNS = [
   ['crate-cargo', 'crate, Cargo mode'], ['crate-npm', 'crate, npm mode'],
 ]
 const FIELDS = ['range', 'other', 'versions', 'preReleases', 'dialect']
-const NOTHING = '<0.0.0-0' // comparators that no version satisfies
 
 // So much is shown: of lines, of errors, of the characters of a string, and around an error.
 const MOST_LINES = 1000, MOST_ERRORS = 100, LONGEST = 400, AROUND = 60
@@ -37,8 +36,7 @@ function readIn(dialect, range, preReleases) {
 function shownPart(part) {
   if (part === null) return 'nothing'
   const { releases, preReleases } = part
-  const pre = preReleases === NOTHING ? '' : `pre-releases ${preReleases}`
-  return [releases === NOTHING ? '' : releases, pre].filter((it) => it !== '').join(', ')
+  return [releases, preReleases && `pre-releases ${preReleases}`].filter(Boolean).join(', ')
 }
 
 // ---- the comparators of the range by each dialect, and what another range loses and gains

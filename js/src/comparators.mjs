@@ -1,12 +1,15 @@
 // Comparators, and the form in which node-semver writes them.
 import { OUT_OF_MEMORY, callWith, stringBack } from './calls.mjs'
 import { noString } from './errors.mjs'
-import { isSameMeaning, meaningOf } from './options.mjs'
+import {
+  MEANING, checkDialect, identify, isSameMeaning, meaningFor,
+} from './options.mjs'
 import { readRange } from './ranges.mjs'
 import { SemVer, cmp, parse, valid } from './versions.mjs'
 
 const ANY = Symbol('SemVer ANY')
-const NO_VERSION = '<0.0.0-0'
+/** Comparators that no version satisfies. */
+export const NO_VERSION = '<0.0.0-0'
 const PARTS = /^(<=|>=|<|>|=|)(.*)$/s
 
 /** A comparator of node-semver's class. Its fields can't be written. */
@@ -18,7 +21,7 @@ export class Comparator {
   static get ANY() { return ANY }
 
   constructor(comparator, options) {
-    const meaning = meaningOf(options)
+    const meaning = meaningFor(options, [comparator])
     if (comparator instanceof Comparator) {
       if (isSameMeaning(comparator.#meaning, meaning)) return comparator
       comparator = comparator.value
@@ -29,13 +32,15 @@ export class Comparator {
     this.#operator = operator === '=' ? '' : operator
     this.#semver = operator === '' && version === '' ? ANY : parse(version.trim(), meaning)
     if (this.#semver === null) throw new TypeError(`Invalid comparator: ${comparator}`)
+    const value = this.#semver === ANY ? '' : this.#operator + this.#semver.version
+    identify(this, meaning, 'value', value)
   }
 
+  get [MEANING]() { return this.#meaning }
   get options() { return this.#meaning.options }
   get loose() { return Boolean(this.#meaning.options.loose) }
   get operator() { return this.#operator }
   get semver() { return this.#semver }
-  get value() { return this.#semver === ANY ? '' : this.#operator + this.#semver.version }
 
   toString() { return this.value }
 
@@ -50,14 +55,16 @@ export class Comparator {
 
   test(version) {
     if (this.#semver === ANY || version === ANY) return true
+    checkDialect(this.#meaning, version)
     if (typeof version === 'string' && valid(version, this.#meaning) === null) return false
     return cmp(version, this.#operator, this.#semver, this.#meaning)
   }
 
   intersects(other, options) {
     if (!(other instanceof Comparator)) throw new TypeError('a Comparator is required')
-    const meaning = options === undefined ? this.#meaning : meaningOf(options)
-    const [one, two] = [this, other].map(({ value }) => readRange(value, meaning))
+    const meaning = options === undefined ? this.#meaning : meaningFor(options, [this, other])
+    if (options === undefined) checkDialect(meaning, other)
+    const [one, two] = [this, other].map((it) => readRange(it, meaning))
     return one.beside(two, 'range_overlaps') === 1
   }
 }
@@ -73,8 +80,8 @@ function written(comparators, meaning) {
 }
 
 /**
- * The ranges of a string as node-semver writes them, each a list of comparators, as strings; null if
- * it is invalid.
+ * The ranges of a string as node-semver writes them, each a list of comparators, as strings; null
+ * if it is invalid.
  */
 export function rangesOf(string, meaning) {
   const { dialect, rule } = meaning

@@ -1,6 +1,7 @@
 // Where and why a string is no version or no range.
 import { callWith, numberAt } from './calls.mjs'
 import { reasonOf, sentenceOf } from './names.mjs'
+import { field } from './options.mjs'
 
 // The index in a string of the character at an offset in bytes.
 function indexOf(string, offset) {
@@ -24,31 +25,34 @@ export function explained(call, string, { dialect }) {
   return { offset, reason: reasonOf(number), sentence: sentenceOf(number) }
 }
 
-/** A version or a range is invalid. Its name stays `TypeError`, as node-semver's. */
-export class SemverError extends TypeError {
-  #explanation
+const BEGINS = { version: 'Invalid Version', range: 'Invalid SemVer Range' }
 
-  constructor(what, input, explanation) {
-    const shown = input.length > 80 ? `${input.slice(0, 80)}...` : input
-    const { offset, sentence } = explanation
-    super(`${what}: ${shown} (offset ${offset}: ${sentence})`)
-    this.#explanation = { ...explanation, input }
+/** A version or a range is invalid. */
+export class SemverError extends TypeError {
+  static {
+    Object.defineProperty(this.prototype, 'name', {
+      value: 'SemverError', writable: true, configurable: true,
+    })
   }
 
-  get input() { return this.#explanation.input }
-  get offset() { return this.#explanation.offset }
-  get reason() { return this.#explanation.reason }
-  get sentence() { return this.#explanation.sentence }
+  constructor(kind, argument, input, explanation) {
+    const shown = input.length > 80 ? `${input.slice(0, 80)}...` : input
+    const { offset, sentence } = explanation
+    super(`${BEGINS[kind]}: ${shown} (offset ${offset}: ${sentence})`)
+    const fields = { kind, argument, input, ...explanation }
+    for (const [name, value] of Object.entries(fields)) field(this, name, value)
+  }
 }
 
-export const invalidVersion = (string, meaning) =>
-  new SemverError('Invalid Version', string, explained('version_refused', string, meaning))
+/** Why a string wasn't read as a version. */
+export const invalidVersion = (string, meaning, argument = 0) =>
+  new SemverError('version', argument, string, explained('version_refused', string, meaning))
 
 /** Why a string wasn't read as a range: it is invalid, or memory ran out. */
-export function invalidRange(string, meaning) {
+export function invalidRange(string, meaning, argument = 0) {
   const explanation = explained('range_refused', string, meaning)
   if (explanation === null) return new RangeError('out of memory')
-  return new SemverError('Invalid SemVer Range', string, explanation)
+  return new SemverError('range', argument, string, explanation)
 }
 
 export const noString = (what, value) =>

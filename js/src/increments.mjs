@@ -1,7 +1,7 @@
 // What makes a version of another version or string: by hand, as node-semver's README says, and not
 // proved. That a result is a version, the module says.
 import { SemVer, compare, compareIdentifiers, parse, valid } from './versions.mjs'
-import { meaningOf } from './options.mjs'
+import { meaningFor, meaningOf } from './options.mjs'
 import { noString } from './errors.mjs'
 
 export const SEMVER_SPEC_VERSION = '2.0.0'
@@ -66,7 +66,7 @@ export function incremented(version, release, identifier, identifierBase) {
 
 export function inc(version, release, options, identifier, identifierBase) {
   if (typeof options === 'string') return inc(version, release, undefined, options, identifier)
-  const meaning = meaningOf(options)
+  const meaning = meaningFor(options, [version])
   const found = parse(version, meaning)
   if (found === null) return null
   try {
@@ -77,9 +77,10 @@ export function inc(version, release, options, identifier, identifierBase) {
 }
 
 export function diff(version, other) {
-  const [one, two] = [version, other].map((it) => parse(it, null, true))
-  const order = compare(one, two)
+  const meaning = meaningFor(null, [version, other])
+  const order = compare(version, other, meaning)
   if (order === 0) return null
+  const [one, two] = [version, other].map((it) => parse(it, meaning, true))
   const [high, low] = order > 0 ? [one, two] : [two, one]
   const toRelease = low.prerelease.length > 0 && high.prerelease.length === 0
   if (toRelease) {
@@ -109,8 +110,8 @@ const WHOLE = String.raw`${NUMBERS}(?:-(${PRE}))?(?:\+(${BUILD}))?`
 const COERCED_WHOLE = new RegExp(String.raw`${WHOLE}(?!\d)`, 'g')
 
 export function coerce(version, options) {
-  const meaning = meaningOf(options)
-  if (version instanceof SemVer) return version
+  const meaning = meaningFor(options, [version])
+  if (version instanceof SemVer) return parse(version, meaning)
   const string = typeof version === 'number' ? String(version) : version
   if (typeof string !== 'string') return null
   const { rtl } = meaning.options

@@ -1,8 +1,10 @@
 // Ranges that are read once.
 import { askRange, callWith, calls, stringBack } from './calls.mjs'
 import { invalidRange, noString } from './errors.mjs'
-import { isSameMeaning, meaningOf } from './options.mjs'
-import { Comparator, rangesOf } from './comparators.mjs'
+import {
+  MEANING, checkDialect, identify, isSameMeaning, meaningFor,
+} from './options.mjs'
+import { Comparator, NO_VERSION, rangesOf } from './comparators.mjs'
 import { stringOf } from './versions.mjs'
 
 // The memory of the module has so many ranges, so that it doesn't fill. A range whose place another
@@ -11,6 +13,11 @@ const PLACES = 1000
 const owners = []
 const addresses = []
 let next = 0
+
+function shownOf(address, call) {
+  if (calls()[call](address) !== 0) throw new RangeError('out of memory')
+  return stringBack()
+}
 
 /** A string that is read as a range. */
 class ReadRange {
@@ -53,20 +60,23 @@ class ReadRange {
 
   /** The string that a call returns of it. */
   shown(call) {
-    if (calls()[call](this.address) !== 0) throw new RangeError('out of memory')
-    return stringBack()
+    return shownOf(this.address, call)
   }
 
-  /** What is in this range and not in another, as comparators; null if nothing is. */
+  /** What is in this range and not in another, each kind as comparators; null if nothing is. */
   without(other) {
     const address = this.beside(other, 'range_difference')
     if (address === 0) throw new RangeError('out of memory')
-    const isEmpty = calls().range_is_empty(address) === 1
-    const [releases, preReleases] = ['range_releases', 'range_pre_releases'].map((call) =>
-      (calls()[call](address) === 0 ? stringBack() : null))
-    const found = isEmpty ? null : { releases, preReleases }
-    calls().range_free(address)
-    return found
+    try {
+      if (calls().range_is_empty(address) === 1) return null
+      const [releases, preReleases] = ['range_releases', 'range_pre_releases'].map((call) => {
+        const comparators = shownOf(address, call)
+        return comparators === NO_VERSION ? null : comparators
+      })
+      return { releases, preReleases, lowest: shownOf(address, 'range_lowest') }
+    } finally {
+      calls().range_free(address)
+    }
   }
 }
 
@@ -89,16 +99,17 @@ export class Range {
   }
 
   constructor(range, options) {
-    const meaning = meaningOf(options)
+    const meaning = meaningFor(options, [range])
     const read = readRange(range, meaning)
     if (read === readOf(range)) return range
     this.#read = read
+    identify(this, meaning, 'raw', read.string.trim().replace(/\s+/g, ' '))
   }
 
+  get [MEANING]() { return this.#read.meaning }
   get options() { return this.#read.meaning.options }
   get loose() { return Boolean(this.#read.meaning.options.loose) }
   get includePrerelease() { return this.#read.meaning.isIncluded }
-  get raw() { return this.#read.string.trim().replace(/\s+/g, ' ') }
 
   #written() {
     this.#ranges ??= rangesOf(this.#read.string, this.#read.meaning)
@@ -126,12 +137,15 @@ export class Range {
   }
 
   test(version) {
-    return Boolean(version) && this.#read.has(stringOf(version))
+    if (!version) return false
+    checkDialect(this.#read.meaning, version)
+    return this.#read.has(stringOf(version))
   }
 
   intersects(other, options) {
     if (readOf(other) === null) throw new TypeError('a Range is required')
-    const meaning = options === undefined ? this.#read.meaning : meaningOf(options)
+    const meaning = options === undefined ? this.#read.meaning : meaningFor(options, [this, other])
+    if (options === undefined) checkDialect(meaning, other)
     return readRange(this, meaning).beside(readRange(other, meaning), 'range_overlaps') === 1
   }
 }
@@ -144,20 +158,23 @@ function isRange(range) {
   return typeof raw === 'string' && typeof string === 'string'
 }
 
+// A comparator as a range, in each dialect: Cargo takes a version without operator for `^`.
+const alone = ({ operator, value }) => (operator ? value : value ? `=${value}` : '*')
+
 /** The string of a range, which may be one that was read. */
 export function rangeStringOf(range) {
   if (typeof range === 'string') return range
   if (!isRange(range)) throw noString('range', range)
-  return range instanceof Comparator ? range.value : readOf(range)?.string ?? `${range.raw}`
+  return range instanceof Comparator ? alone(range) : readOf(range)?.string ?? `${range.raw}`
 }
 
 /** A range that was read: it may have been before. Throws if it is invalid. */
-export function readRange(range, meaning) {
+export function readRange(range, meaning, argument = 0) {
   const read = readOf(range)
   if (read !== null && isSameMeaning(read.meaning, meaning)) return read
   const found = new ReadRange(rangeStringOf(range), meaning)
   if (found.read()) return found
-  throw invalidRange(found.string, meaning)
+  throw invalidRange(found.string, meaning, argument)
 }
 
 /** The same, but null if it is invalid, or no range at all. */

@@ -1,10 +1,10 @@
 // Which versions satisfy a range, and what two ranges have in common.
 import { askOnce, bestOf } from './calls.mjs'
 import { explained } from './errors.mjs'
-import { isSameMeaning, meaningOf } from './options.mjs'
+import { isSameMeaning, meaningFor, meaningOf } from './options.mjs'
 import { rangesOf } from './comparators.mjs'
 import { Range, formatted, rangeStringOf, readRange, readRangeOrNull } from './ranges.mjs'
-import { SemVer, compare, stringOf } from './versions.mjs'
+import { SemVer, compareListed, stringOf } from './versions.mjs'
 
 // The string that was asked last as a range. It is read once it is asked again.
 let lastString = ''
@@ -24,7 +24,7 @@ function readAgain(range, meaning) {
 }
 
 export function satisfies(version, range, options) {
-  const meaning = meaningOf(options)
+  const meaning = meaningFor(options, [range, version])
   const string = version ? stringOf(version) : null
   const read = readAgain(range, meaning)
   if (string === null) return false
@@ -33,7 +33,7 @@ export function satisfies(version, range, options) {
 }
 
 export function validRange(range, options) {
-  const meaning = meaningOf(options)
+  const meaning = meaningFor(options, [range])
   const string = typeof range === 'string' ? range : readRangeOrNull(range, meaning)?.string
   const ranges = string === undefined ? null : rangesOf(string, meaning)
   return ranges === null ? null : formatted(ranges) || '*'
@@ -44,26 +44,25 @@ export function toComparators(range, options) {
 }
 
 export function explainRange(range, options) {
-  const meaning = meaningOf(options)
+  const meaning = meaningFor(options, [range])
   return explained('range_refused', rangeStringOf(range), meaning)
 }
 
-// The versions of a list that are any, with their strings.
-function listed(versions) {
+// The versions of a list that are any, with their strings, and what the options say of them.
+function listed(versions, range, options) {
   const some = Array.from(versions).filter(Boolean)
-  return some.map((version) => ({ version, string: stringOf(version) }))
+  const meaning = meaningFor(options, [range, ...some])
+  return [some.map((version) => ({ version, string: stringOf(version) })), meaning]
 }
 
 export function filter(versions, range, options) {
-  const meaning = meaningOf(options)
-  const entries = listed(versions)
-  const read = readRange(range, meaning)
+  const [entries, meaning] = listed(versions, range, options)
+  const read = readRange(range, meaning, 1)
   return entries.filter(({ string }) => read.has(string)).map(({ version }) => version)
 }
 
 function best(versions, range, options, isLowest) {
-  const meaning = meaningOf(options)
-  const entries = listed(versions)
+  const [entries, meaning] = listed(versions, range, options)
   const read = readRangeOrNull(range, meaning)
   if (read === null) return null
   const index = bestOf(read.address, entries.map(({ string }) => string), isLowest)
@@ -74,35 +73,40 @@ export const maxSatisfying = (versions, range, options) => best(versions, range,
 export const minSatisfying = (versions, range, options) => best(versions, range, options, true)
 
 export function minVersion(range, options) {
-  const meaning = meaningOf(options)
+  const meaning = meaningFor(options, [range])
   const lowest = readRange(range, meaning).shown('range_lowest')
   return lowest === '' ? null : new SemVer(lowest, meaning)
 }
 
+// Two ranges that were read: each object by its own rule, unless the options say one.
+function readBoth(range, other, options) {
+  const given = meaningOf(options)
+  return [[range, other], [other, range]].map((pair, at) =>
+    readRange(pair[0], meaningFor(given, pair), at))
+}
+
 // What a call says of two ranges.
 function asked(range, other, options, call) {
-  const meaning = meaningOf(options)
-  const one = readRange(range, meaning)
-  return one.beside(readRange(other, meaning), call) === 1
+  const [one, two] = readBoth(range, other, options)
+  return one.beside(two, call) === 1
 }
 
 export const intersects = (range, other, options) => asked(range, other, options, 'range_overlaps')
 export const subset = (range, other, options) => asked(range, other, options, 'range_is_within')
 
 export function compareRanges(range, other, options) {
-  const meaning = meaningOf(options)
-  const [one, two] = [range, other].map((it) => readRange(it, meaning))
+  const [one, two] = readBoth(range, other, options)
   return { lost: one.without(two), gained: two.without(one) }
 }
 
 const BEYOND = { '>': '>=', '<': '<=' }
 
 export function outside(version, range, side, options) {
-  const meaning = meaningOf(options)
+  const meaning = meaningFor(options, [range, version])
   if (!Object.hasOwn(BEYOND, side)) throw new TypeError('Must provide a hilo val of "<" or ">"')
   const { version: string } = new SemVer(version, meaning)
-  const read = readRange(range, meaning)
-  const beyond = readRange(BEYOND[side] + string, meaning.included())
+  const read = readRange(range, meaning, 1)
+  const beyond = readRange(BEYOND[side] + string, meaning.with('included'))
   return read.beside(beyond, 'range_overlaps') === 0
 }
 
@@ -117,8 +121,9 @@ function between(list, first, last) {
 }
 
 export function simplifyRange(versions, range, options) {
-  const meaning = meaningOf(options)
-  const list = Array.from(versions).sort((one, other) => compare(one, other, meaning))
+  const list = Array.from(versions)
+  const meaning = meaningFor(options, [range, ...list])
+  list.sort((one, other) => compareListed(stringOf(one), stringOf(other), meaning))
   const isIn = list.map((version) => satisfies(version, range, meaning))
   const ranges = []
   let first = 0
@@ -127,6 +132,6 @@ export function simplifyRange(versions, range, options) {
     if (is && !isIn[at + 1]) ranges.push(between(list, first, at))
   })
   const simplified = ranges.join(' || ')
-  const original = typeof range === 'string' ? range : rangeStringOf(range)
+  const original = String(range?.raw ?? range)
   return simplified.length < original.length ? simplified : range
 }

@@ -2,7 +2,9 @@
 import { bigAt, compareOnce, numberAt, partOf, readVersion } from './calls.mjs'
 import { explained, invalidVersion, noString } from './errors.mjs'
 import { incremented } from './increments.mjs'
-import { isSameMeaning, meaningOf } from './options.mjs'
+import {
+  MEANING, checkDialect, identify, isSameMeaning, meaningFor,
+} from './options.mjs'
 
 const identifiersOf = (part) => (part === '' ? [] : part.split('.'))
 
@@ -25,19 +27,18 @@ let isSemVer
 /** A version of node-semver's class. Its fields can't be written; `inc` changes them. */
 export class SemVer {
   #meaning
-  #raw
   #version
   #numbers
   #pre
   #build
 
   static {
-    isSemVer = (value) => value !== null && typeof value === 'object' && #raw in value
+    isSemVer = (value) => value !== null && typeof value === 'object' && #meaning in value
   }
 
   // The third argument is how many bytes the version has, if it was just read by a meaning.
   constructor(version, options, length) {
-    const meaning = meaningOf(options)
+    const meaning = meaningFor(options, [version])
     if (isSemVer(version) && isSameMeaning(version.#meaning, meaning)) return version
     this.#meaning = meaning
     const string = stringOf(version)
@@ -49,17 +50,18 @@ export class SemVer {
     const meaning = this.#meaning
     if (length < 0) throw invalidVersion(string, meaning)
     const at = meaning.isOfNpm ? numberAt : bigAt
-    this.#raw = string
+    identify(this, meaning, 'raw', string)
     this.#numbers = [at(0), at(1), at(2)]
     this.#version = versionBack(string, length, meaning)
     this.#pre = Object.freeze(identifiersOf(partOf(string, length, 3)).map(valueOf))
     this.#build = Object.freeze(identifiersOf(partOf(string, length, 5)))
   }
 
+  // A version has a dialect, and no rule for ranges.
+  get [MEANING]() { return this.#meaning.with('default') }
   get options() { return this.#meaning.options }
   get loose() { return Boolean(this.#meaning.options.loose) }
   get includePrerelease() { return this.#meaning.isIncluded }
-  get raw() { return this.#raw }
   get major() { return this.#numbers[0] }
   get minor() { return this.#numbers[1] }
   get patch() { return this.#numbers[2] }
@@ -86,11 +88,13 @@ export class SemVer {
   }
 
   #with(other) {
+    checkDialect(this.#meaning, other)
     return isSemVer(other) ? other : new SemVer(other, this.#meaning)
   }
 
   compare(other) {
-    return comparedOrThrow(this.#version, stringOf(other), this.#meaning)
+    checkDialect(this.#meaning, other)
+    return comparedOrThrow(this.#version, stringOf(other), this.#meaning, LISTED)
   }
 
   compareMain(other) {
@@ -131,19 +135,21 @@ export function stringOf(version) {
   return build.length ? `${string}+${build.join('.')}` : `${string}`
 }
 
+// Whether a version was read already, by the same dialect.
+const isOf = (version, { dialect }) => isSemVer(version) && version[MEANING].dialect === dialect
+
 export function parse(version, options, throwErrors = false) {
-  const meaning = meaningOf(options)
-  if (throwErrors !== true && !isSemVer(version)) {
-    const string = mayBeVersion(version) ? stringOf(version) : null
-    const length = string === null ? -1 : readVersion(string, meaning.dialect)
-    return length < 0 ? null : new SemVer(string, meaning, length)
-  }
-  return isSemVer(version) ? version : new SemVer(version, meaning)
+  const meaning = meaningFor(options, [version])
+  if (isOf(version, meaning)) return version
+  if (throwErrors === true) return new SemVer(version, meaning)
+  const string = mayBeVersion(version) ? stringOf(version) : null
+  const length = string === null ? -1 : readVersion(string, meaning.dialect)
+  return length < 0 ? null : new SemVer(string, meaning, length)
 }
 
 export function valid(version, options) {
-  const meaning = meaningOf(options)
-  if (isSemVer(version)) return version.version
+  const meaning = meaningFor(options, [version])
+  if (isOf(version, meaning)) return version.version
   if (!mayBeVersion(version)) return null
   const string = stringOf(version)
   const length = readVersion(string, meaning.dialect)
@@ -157,7 +163,7 @@ export function prerelease(version, options) {
 
 // A number of a version, by its index.
 function partOfVersion(version, options, index) {
-  const meaning = meaningOf(options)
+  const meaning = meaningFor(options, [version])
   const string = stringOf(version)
   if (readVersion(string, meaning.dialect) < 0) throw invalidVersion(string, meaning)
   return meaning.isOfNpm ? numberAt(index) : bigAt(index)
@@ -168,26 +174,34 @@ export const minor = (version, options) => partOfVersion(version, options, 1)
 export const patch = (version, options) => partOfVersion(version, options, 2)
 
 export function explainVersion(version, options) {
-  const meaning = meaningOf(options)
+  const meaning = meaningFor(options, [version])
   return explained('version_refused', stringOf(version), meaning)
 }
 
 // ---- precedence
 
-function comparedOrThrow(version, other, meaning) {
+// The arguments of a call that have two versions; and if its first argument has both.
+const PAIR = [0, 1]
+const LISTED = [0, 0]
+
+function comparedOrThrow(version, other, meaning, places = PAIR) {
   const order = compareOnce(version, other, meaning.dialect)
   if (order !== null) return order
-  const isFirst = readVersion(version, meaning.dialect) < 0
-  throw invalidVersion(isFirst ? version : other, meaning)
+  const at = readVersion(version, meaning.dialect) < 0 ? 0 : 1
+  throw invalidVersion([version, other][at], meaning, places[at])
 }
 
+/** How two versions of a list compare. */
+export const compareListed = (version, other, meaning) =>
+  comparedOrThrow(version, other, meaning, LISTED)
+
 export function compare(version, other, options) {
-  const meaning = meaningOf(options)
+  const meaning = meaningFor(options, [version, other])
   const string = stringOf(version)
   return comparedOrThrow(string, stringOf(other), meaning)
 }
 
-export const rcompare = (version, other, options) => compare(other, version, options)
+export const rcompare = (version, other, options) => 0 - compare(version, other, options)
 export const compareLoose = (version, other) => compare(version, other)
 export const gt = (version, other, options) => compare(version, other, options) > 0
 export const gte = (version, other, options) => compare(version, other, options) >= 0
@@ -237,22 +251,22 @@ function buildOf(string) {
   return identifiersOf(at < 0 ? '' : string.slice(at + 1).trim())
 }
 
-function compareStrings(version, other, meaning) {
-  const order = comparedOrThrow(version, other, meaning)
+function compareStrings(version, other, meaning, places) {
+  const order = comparedOrThrow(version, other, meaning, places)
   if (order || !(version.includes('+') || other.includes('+'))) return order
   return compareBuilds(buildOf(version), buildOf(other))
 }
 
 export function compareBuild(version, other, options) {
-  const meaning = meaningOf(options)
+  const meaning = meaningFor(options, [version, other])
   const string = stringOf(version)
   return compareStrings(string, stringOf(other), meaning)
 }
 
 function sorted(list, options, sign) {
-  const meaning = meaningOf(options)
+  const meaning = meaningFor(options, list)
   const entries = Array.from(list, (version) => ({ version, string: stringOf(version) }))
-  entries.sort((one, other) => sign * compareStrings(one.string, other.string, meaning))
+  entries.sort((one, other) => sign * compareStrings(one.string, other.string, meaning, LISTED))
   entries.forEach(({ version }, index) => {
     list[index] = version
   })

@@ -131,12 +131,53 @@ test('errors are of a class, with what is known', () => {
     assert.ok(error instanceof semver.SemverError && error instanceof TypeError)
     assert.match(error.message, /^Invalid Version: 1\.2 \(offset 3: /)
     assert.throws(() => { error.offset = 5 }, TypeError)
-    return error.offset === 3 && error.input === '1.2' && error.reason === semver.explainVersion('1.2').reason
+    assert.deepEqual(JSON.parse(JSON.stringify(error)), { kind: 'version', argument: 1, input: '1.2', ...semver.explainVersion('1.2') })
+    return error.offset === 3 && error.name === 'SemverError' && String(error) === error.stack.split('\n')[0]
   })
-  assert.throws(() => semver.filter(['1.2.3'], '1.2 |'), /^TypeError: Invalid SemVer Range: 1\.2 \|/)
+  assert.throws(() => semver.filter(['1.2.3'], '1.2 |'), /^SemverError: Invalid SemVer Range: 1\.2 \|/)
   assert.throws(() => new semver.Range('>=9007199254740992'), { reason: 'npm-too-large' })
   assert.throws(() => semver.parse('x', undefined, true), semver.SemverError)
   assert.throws(() => new semver.SemVer('1'.repeat(100000)), (error) => error.message.length < 300)
+})
+
+test('an error says what was refused, and which argument it was', () => {
+  const version = new semver.SemVer('1.2.3')
+  const refused = [
+    ['version', 0, () => semver.compare('1.2', '1.2.3')], ['version', 1, () => semver.gt('1.2.3', '1.2')], ['version', 0, () => semver.rcompare('1.2', '1.2.3')],
+    ['version', 1, () => semver.rcompare('1.2.3', '1.2')], ['version', 1, () => semver.compareBuild('1.2.3', '1.2')], ['version', 1, () => semver.diff('1.2.3', '1.2')],
+    ['version', 0, () => semver.sort(['1.2.3', '1.2'])], ['version', 0, () => semver.rsort(['1.2', '1.2.3'])], ['version', 0, () => semver.major('1.2')],
+    ['version', 0, () => semver.simplifyRange(['1.2.3', '1.2'], '1')], ['version', 0, () => version.compare('1.2')], ['version', 0, () => semver.gtr('1.2', '1')],
+    ['range', 1, () => semver.gtr('1.2.3', '^')], ['range', 1, () => semver.filter([], '^')], ['range', 0, () => semver.minVersion('^')],
+    ['range', 0, () => semver.subset('^', '1')], ['range', 1, () => semver.intersects('1', '^')], ['range', 1, () => semver.compareRanges('1', '^')],
+    ['range', 0, () => new semver.Range('^')], ['range', 0, () => semver.toComparators('^')],
+  ]
+  for (const [kind, argument, call] of refused) assert.throws(call, { name: 'SemverError', kind, argument }, String(call))
+})
+
+test('what of an invalid range or version throws not', () => {
+  const none = { satisfies: false, maxSatisfying: null, minSatisfying: null, simplifyRange: '' }
+  for (const [name, right] of Object.entries(none)) {
+    const first = name === 'satisfies' ? '1.2.3' : ['1.2.3']
+    assert.equal(semver[name](first, 'a b'), right, name)
+  }
+  assert.equal(semver.validRange('a b'), null)
+  assert.equal(semver.simplifyRange(['1.2.3'], 5), '')
+  for (const name of ['valid', 'parse', 'clean', 'coerce', 'prerelease']) assert.equal(semver[name]('x'), null, name)
+  assert.equal(semver.inc('x', 'major'), null)
+  for (const name of ['maxSatisfying', 'minSatisfying']) assert.equal(semver[name](['x', '1.2.3'], '*'), '1.2.3', name)
+  for (const object of [new semver.Range('*'), new semver.Comparator('>=1.0.0')]) assert.equal(object.test('x'), false)
+})
+
+test('the types name the reasons of the module', () => {
+  const { exports: module_ } = new WebAssembly.Instance(new WebAssembly.Module(wasm))
+  const names = []
+  for (let number = 1; module_.reason_name(number) === 0; number += 1) {
+    const [at, , length] = new Uint32Array(module_.memory.buffer, module_.numbers(), 4)
+    names.push(Buffer.from(module_.memory.buffer, at, length).toString())
+  }
+  const types = readFileSync(require.resolve('semver-parser-proved').replace(/cjs$/, 'd.cts'), 'utf8')
+  const [, union] = /^export type Reason =\n([^]*?)\n\n/m.exec(types)
+  assert.deepEqual([...union.matchAll(/'(.*?)'/g)].map(([, name]) => name), names)
 })
 
 test('filter keeps the versions that satisfy a range, in order', () => {
@@ -148,8 +189,13 @@ test('filter keeps the versions that satisfy a range, in order', () => {
 
 test('what two ranges lose and gain', () => {
   assert.deepEqual(semver.compareRanges('^1.2', '>=1.2.1 <3'), {
-    lost: { releases: '=1.2.0', preReleases: '<0.0.0-0' }, gained: { releases: '>=2.0.0 <3.0.0', preReleases: '<0.0.0-0' },
+    lost: { releases: '=1.2.0', preReleases: null, lowest: '1.2.0' }, gained: { releases: '>=2.0.0 <3.0.0', preReleases: null, lowest: '2.0.0' },
   })
+  const { lost, gained } = semver.compareRanges('>=1.2.3-rc.1', '>=1.2.3')
+  assert.deepEqual([lost.releases, lost.lowest, gained], [null, '1.2.3-rc.1', null])
+  assert.equal(semver.satisfies('1.2.3-rc.2', lost.preReleases, { preReleases: 'included' }), true)
+  assert.equal(semver.satisfies('1.2.3-beta', lost.preReleases, { preReleases: 'included' }), false)
+  assert.equal(semver.compareRanges('1', '1.2', cargo).lost.releases, '>=1.0.0 <1.2.0')
   assert.deepEqual(semver.compareRanges('^1.2', '1.x >=1.2'), { lost: null, gained: null })
 })
 
@@ -170,6 +216,65 @@ test('versions and ranges that were read may be given again', () => {
   assert.equal(common.satisfies(version, new common.Range('1.2.3-rc.1')), true)
 })
 
+test('without options an object keeps its dialect and its rule', () => {
+  const [one, two] = ['1.2.3', '1.2.4'].map((it) => new semver.Range(it, cargo))
+  assert.deepEqual(semver.compareRanges(one, two), semver.compareRanges('1.2.3', '1.2.4', cargo))
+  assert.deepEqual(semver.compareRanges(one, '1.2.4'), semver.compareRanges('1.2.3', '1.2.4', cargo))
+  assert.equal(semver.satisfies('1.2.4', one), true)
+  assert.equal(semver.satisfies('1.2.4', one, { loose: true }), true)
+  assert.equal(semver.satisfies('1.2.4', one, { dialect: 'npm' }), false)
+  assert.equal(semver.satisfies('1.2.4', new semver.Comparator('1.2.3', cargo)), false)
+  assert.equal(semver.satisfies('1.2.3', new semver.Comparator('1.2.3', cargo)), true)
+  assert.equal(semver.satisfies('1.2.3', new semver.Comparator('', cargo)), true)
+  const releases = new semver.Range('>=1.0.0-rc.1', { ...cargo, preReleases: 'excluded' })
+  assert.equal(semver.satisfies('1.0.0-rc.2', releases), false)
+  assert.equal(semver.satisfies('1.0.0-rc.2', releases, { preReleases: 'default' }), true)
+  assert.equal(semver.minVersion(releases).version, '1.0.0')
+  assert.equal(semver.compareRanges(new semver.Range('>=1.0.0-rc.1', cargo), releases).lost.lowest, '1.0.0-rc.1')
+  const [low, high] = ['9007199254740993.0.0', '9007199254740994.0.0'].map((it) => new semver.SemVer(it, cargo))
+  assert.equal(semver.compare(low, high), -1)
+  assert.deepEqual(semver.sort([high, low]), [low, high])
+  assert.equal(semver.diff(low, high), 'major')
+  assert.equal(semver.major(low), 9007199254740993n)
+  assert.equal(semver.inc(low, 'major'), '9007199254740994.0.0')
+  assert.equal(semver.parse(low), low)
+  assert.equal(semver.parse(low, { dialect: 'npm' }), null)
+  assert.equal(semver.maxSatisfying([low, high], '*'), high)
+})
+
+test('objects of two dialects need options', () => {
+  const [theirs, ours] = [new semver.SemVer('1.2.3', cargo), new semver.SemVer('1.2.3')]
+  const [range, other] = [new semver.Range('1.2.3', cargo), new semver.Range('1.2.3')]
+  for (const call of [() => semver.compare(theirs, ours), () => theirs.compare(ours), () => semver.sort([ours, theirs]), () => semver.satisfies(ours, range),
+    () => range.test(ours), () => semver.subset(range, other), () => range.intersects(other), () => semver.filter([theirs], other), () => semver.diff(ours, theirs)]) {
+    assert.throws(call, { name: 'TypeError', message: /two dialects/ }, String(call))
+  }
+  assert.equal(semver.compare(theirs, ours, cargo), 0)
+  assert.equal(semver.subset(range, other, { dialect: 'npm' }), true)
+})
+
+// node-semver 7.6.2 reads a range again by the options of the call.
+test('of npm, a range with includePrerelease is read again without', () => {
+  const range = new semver.Range('^1.2', { includePrerelease: true })
+  assert.equal(range.test('1.3.0-a'), true)
+  assert.equal(semver.satisfies('1.3.0-a', range), false)
+  assert.equal(semver.maxSatisfying(['1.3.0-a'], range), null)
+  assert.notEqual(new semver.Range(range), range)
+  assert.equal(new semver.Range(range, { includePrerelease: true }), range)
+  assert.deepEqual(new semver.Range(new semver.Range('^1.2'), { includePrerelease: true }), range)
+})
+
+test('objects are compared by what was read', () => {
+  for (const [name, one, other] of [['SemVer', '1.2.3', '2.0.0'], ['SemVer', '1.2.3+a', '1.2.3+b'], ['Range', '^1', '^2'], ['Comparator', '>1.0.0', '<1.0.0']]) {
+    assert.deepStrictEqual(new semver[name](one), new semver[name](one))
+    assert.deepStrictEqual(new semver[name](one), new semver[name](one, {}))
+    assert.notDeepStrictEqual(new semver[name](one), new semver[name](other))
+    assert.notDeepStrictEqual(new semver[name](one), new semver[name](one, cargo))
+  }
+  assert.deepStrictEqual(new semver.SemVer('1.2.3').inc('major'), new semver.SemVer('2.0.0'))
+  assert.notDeepStrictEqual(new semver.Range('1'), new semver.Range('1', { includePrerelease: true }))
+})
+
 test('a copy of the package takes what another one made', () => {
   cpSync('node_modules/semver-parser-proved', 'node_modules/copy', { recursive: true })
   const copy = require('copy')
@@ -177,6 +282,7 @@ test('a copy of the package takes what another one made', () => {
   assert.equal(copy.compare(semver.parse('1.2.3-a+b'), '1.2.3-a'), 0)
   assert.equal(copy.compareBuild(semver.parse('1.2.3-a+b'), '1.2.3-a+b'), 0)
   assert.equal(copy.satisfies('1.2.3', new semver.Range('^1.2')), true)
+  assert.equal(copy.satisfies('1.2.4', new semver.Range('1.2.3', cargo)), true)
 })
 
 test('fields can not be written, and inc changes them', () => {

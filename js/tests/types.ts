@@ -16,7 +16,7 @@ const sorted: string[] = semver.sort(['1.2.3'])
 const kept: (string | semver.SemVer)[] = semver.filter(['1.2.3', ...(version ? [version] : [])], '1')
 const valid: (string | null)[] = ['1.2.3'].map(semver.valid)
 const why: semver.Explanation | null = semver.explainVersion('1.2')
-const lost: string | undefined = semver.compareRanges('^1', '^1.2').lost?.releases
+const lost: string | null | undefined = semver.compareRanges('^1', '^1.2').lost?.releases
 const values: string[] = new semver.Range('^1').set.flatMap((it) => it.map(({ value }) => value))
 const incremented: string | null = semver.inc('1.2.3', 'prerelease', 'beta', false)
 const ready: Promise<void> = semver.ready()
@@ -32,3 +32,41 @@ semver.major('1.2.3', { dialect: 'cargo' }) + 1
 new semver.SemVer('1.2.3').major = 5
 // @ts-expect-error: no such kind of release
 semver.inc('1.2.3', 'huge')
+
+// Numbers have the type of the dialect, whoever hands them on: an object keeps its own.
+const C = { dialect: 'cargo' } as const
+const sum: bigint = new semver.SemVer('1.2.3', C).major + semver.coerce('1.2.3', C)!.minor + semver.minVersion('1.2.3', C)!.patch
+const bound = new semver.Range('1.2.3', C).set[0][0].semver
+const ofBound: bigint = bound === semver.Comparator.ANY ? 0n : bound.major
+const alone = new semver.Comparator('1.2.3', C).semver
+const ofAlone: bigint = alone === semver.Comparator.ANY ? 0n : alone.major
+const kept64: bigint = semver.minor(new semver.SemVer('1.2.3', C)) + semver.parse(new semver.SemVer('1.2.3', C))!.patch
+const readAgain: number = new semver.SemVer(new semver.SemVer('1.2.3', C), { dialect: 'npm' }).major + new semver.SemVer('1.2.3', true).minor
+const lowestOfNpm: number = semver.minVersion(new semver.Range('1.2.3', { includePrerelease: true }))!.major + semver.coerce(1)!.major
+const either = (dialect: semver.Dialect, options: semver.Options, any: semver.AnyVersion): (number | bigint)[] => [
+  semver.major('1.2.3', { dialect }), semver.minor('1.2.3', options), semver.patch(any), new semver.SemVer('1.2.3', options).major,
+  semver.coerce('1.2.3', { dialect, rtl: true })!.major, semver.coerce(any)!.minor, semver.parse(any)!.patch, semver.minVersion('1', { dialect })!.major, semver.parse('1.2.3', options)!.major,
+]
+const reason: semver.Reason | undefined = why?.reason
+const lowest: string | undefined = semver.compareRanges('^1', '^1.2').lost?.lowest
+const place = (error: semver.SemverError): [string, number] => [error.kind, error.argument]
+class Named extends semver.Range { readonly label: string = 'a' }
+const satisfiedByAny: boolean = semver.satisfies(new semver.SemVer('1.2.3', C), new Named('^1'), C)
+export { sum, ofBound, ofAlone, kept64, readAgain, lowestOfNpm, either, reason, lowest, place, satisfiedByAny }
+
+// @ts-expect-error: a number of Cargo's is bigint, of each class and call
+new semver.SemVer('1.2.3', C).major + 1
+// @ts-expect-error
+semver.coerce('1.2.3', C)!.major + 1
+// @ts-expect-error
+semver.minVersion('1.2.3', C)!.major + 1
+// @ts-expect-error
+new semver.SemVer(new semver.SemVer('1.2.3', C)).major + 1
+// @ts-expect-error
+bound === semver.Comparator.ANY ? 0 : bound.major + 1
+// @ts-expect-error: of a dialect that isn't known it may be either
+semver.major('1.2.3', { dialect: 'npm' as semver.Dialect }) + 1
+// @ts-expect-error: no reason has this name
+const wrongReason: semver.Reason = 'broken'
+// @ts-expect-error: there may be no pre-releases
+const unchecked: string = semver.compareRanges('^1', '^1.2').lost!.preReleases
