@@ -225,7 +225,7 @@ function expect(what, found, right) {
     throw new Error(`${what}: ${JSON.stringify(found)} in place of ${JSON.stringify(right)}`);
 }
 
-const timer = setTimeout(() => fail(new Error('Chromium does not answer')), 60000);
+const timer = setTimeout(() => fail(new Error('Chromium does not answer')), 240000);
 
 function fail(error) {
     console.log(`page: ${error.message}`);

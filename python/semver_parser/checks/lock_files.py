@@ -25,11 +25,11 @@ from .findings import Finding, Scope, Tally
 from .manifests import MANIFEST, Project, needs_of, project_of
 from .npm import requirements as npm
 from .npm.settings import has_legacy_peers
+from .pnpm import requirements as pnpm
+from .program import Misuse
 from .unsupported import BUN as OF_BUN
 from .unsupported import DENO as OF_DENO
 from .unsupported import refuse_others
-from .pnpm import requirements as pnpm
-from .program import Misuse
 from .yarn import requirements as yarn
 from .yarn.lock import tree_of
 
