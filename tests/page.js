@@ -53,7 +53,7 @@ async function main() {
     const open = async (hash) => {
         await ask('Page.navigate', { url: 'about:blank' });
         await ask('Page.navigate', { url: `file://${path.resolve(page)}${hash}` });
-        for (let tries = 0; tries < 100; tries += 1) {
+        for (let tries = 0; tries < 600; tries += 1) {
             if (await value("document.querySelectorAll('#rows tr').length > 0")) return;
             await sleep(100);
         }
