@@ -182,7 +182,7 @@ async function openPackage(ask, value) {
     for (const [name, right] of [['compiles', 'true'], ['forbidden', 'CompileError 1.2.3']]) {
         await ask('Page.navigate', { url: 'about:blank' });
         await ask('Page.navigate', { url: `http://127.0.0.1:${port}/${name}.html` });
-        for (let tries = 0; tries < 100 && await value('document.title') === ''; tries += 1) await sleep(100);
+        for (let tries = 0; tries < 600 && await value('document.title') === ''; tries += 1) await sleep(100);
         expect(`the file for browsers, ${name}`, await value('document.title'), right);
     }
     server.close();
