@@ -46,6 +46,7 @@ NUMBERS = (b"0", b"1", b"1", b"2", b"3", b"10")
 QUALIFIERS = (b"", b"", b"", b"-a", b"-b", b"-a.1", b"-b.0", b"-0", b"-rc-1", b"-a+x", b"+x", b"+y", b"-a.b.c+x.y", b"-a--b", b"-01", b"--", b"-b-", b"+-.01", b"-a+b--x")
 PREFIXES = (b"", b"", b"v", b"v", b"pkg@", b"version ")
 ENDS = (b"\n", b"\n", b"\n", b"\n", b"\r\n")
+RECORD_ENDS = (b"\0", b"\0", b"\0", b"\0", b"\r\0", b"\n\0", b"\n")
 NO_VERSIONS = (b"", b"", b"x", b"main", b"1.2", b"1.2.3-", b"01.2.3", b"1.2.3 4", b"v", b"1.2.3.4", b"\xff\xfe", b"1.2.\xc3\xa9", b"1.2.3-a..b", b"1.2.18446744073709551616", b" ", b"\r", b"1.2.9007199254740992")
 BLANKS = (b" ", b"\t", b"  ", b"\xc2\xa0", b"\xe2\x80\x83", MARK, b"\xc2\x85")
 
@@ -87,45 +88,57 @@ RANGES = (
 
 
 def version_of(text, prefixes, dialect):
-    """The version of a line's text: what is after the first prefix after which there is one."""
+    """The version of a line's text, and the prefix before it: the first prefix after which there is one decides."""
     for prefix in prefixes:
         read = DIALECTS[dialect](text[len(prefix):]) if text.startswith(prefix) else None
         if read and all(int(number) < 2**64 for number in read.groups()[:3]):
-            return tuple(int(number) for number in read.groups()[:3]), read[4] or b""
-    return None
+            return (tuple(int(number) for number in read.groups()[:3]), read[4] or b""), prefix
+    return None, b""
 
 
-def told(text, holds, wanted, prefixes, dialect, is_strict):
+def shown(text):
+    """The first bytes of a line without a version."""
+    escaped = (ESCAPES.get(byte) or (chr(byte) if 32 <= byte < 127 else f"\\x{byte:02x}") for byte in text[:80])
+    return "".join(escaped) + ("..." if len(text) > 80 else "")
+
+
+def told(text, holds, prefixes, dialect, options):
     """What the program writes, what it reports, and its status."""
-    lines = text.removeprefix(MARK).split(b"\n")
-    lines = [line + b"\n" for line in lines[:-1]] + [line for line in lines[-1:] if line]
+    end = b"\0" if "--null" in options else b"\n"
+    lines = text.removeprefix(MARK).split(end)
+    lines = [line + end for line in lines[:-1]] + [line for line in lines[-1:] if line]
+    is_late = any(option in options for option in ("--greatest", "--least", "--sort", "--count"))
     kept, invalid, empty = [], [], 0
     for at, line in enumerate(lines):
-        spelled = line.removesuffix(b"\n").removesuffix(b"\r")
-        version = version_of(spelled, prefixes, dialect)
+        spelled = line.removesuffix(end)
+        spelled = spelled.removesuffix(b"\r") if end == b"\n" else spelled
+        version, prefix = version_of(spelled, prefixes or [b""], dialect)
         if version and holds(version):
-            kept.append((precedence(version), line))
+            kept.append((precedence(version), line[len(prefix):] if "--strip-prefix" in options else line))
         elif not version and spelled:
             invalid.append((at + 1, spelled))
-            if is_strict:
-                return b"" if wanted else b"".join(line for _, line in kept), b"release-filter: line %d is no version\n" % (at + 1), 2
+            if "--strict" in options:
+                written = b"" if is_late else b"".join(line for _, line in kept)
+                return written, f"release-filter: -:{at + 1}: not a version: {shown(spelled)}\n".encode(), 2
         empty += not spelled and not version
-    if wanted == "--greatest":
-        written = max(kept, key=lambda it: it[0])[1] if kept else b""
-    elif wanted == "--least":
-        written = min(kept, key=lambda it: it[0])[1] if kept else b""
-    elif wanted == "--sort":
-        written = b"".join(line if line.endswith(b"\n") else line + b"\n" for _, line in sorted(kept, key=lambda it: it[0]))
+    if "--greatest" in options:
+        chosen = [max(kept, key=lambda it: it[0])] if kept else []
+    elif "--least" in options:
+        chosen = [min(kept, key=lambda it: it[0])] if kept else []
+    elif "--sort" in options:
+        chosen = [(order, line if line.endswith(end) else line + end) for order, line in sorted(kept, key=lambda it: it[0])]
     else:
-        written = b"".join(line for _, line in kept)
+        chosen = kept
+    chosen = chosen[::-1] if "--reverse" in options else chosen
+    written = b"%d\n" % len(chosen) if "--count" in options else b"".join(line for _, line in chosen)
     report = b""
     if invalid and not kept:
         number, first = invalid[0]
-        shown = "".join(ESCAPES.get(byte) or (chr(byte) if 32 <= byte < 127 else f"\\x{byte:02x}") for byte in first[:80])
-        dots = "..." if len(first) > 80 else ""
         are = "is" if len(invalid) == 1 else "are"
         of = f"{len(lines) - empty} {'line' if len(lines) - empty == 1 else 'lines'}"
-        report = f"release-filter: {len(invalid)} of {of} {are} no version; the first, line {number}: {shown}{dots}\n".encode()
+        has_v = not prefixes and first.startswith(b"v") and version_of(first[1:81], [b""], dialect)[0]
+        hint = "; --prefix v takes it" if has_v else ""
+        report = f"release-filter: {len(invalid)} of {of} {are} no version; the first, line {number}: {shown(first)}{hint}\n".encode()
     return written, report, 0 if kept else 1
 
 
@@ -149,10 +162,27 @@ def random_line(draw, prefixes):
     return line
 
 
-def random_text(draw, prefixes):
-    lines = [random_line(draw, prefixes) + draw.choice(ENDS) for _ in range(draw.choice((0, 1, 2, 3, 6, 12, 30)))]
+def random_text(draw, prefixes, ends):
+    lines = [random_line(draw, prefixes) + draw.choice(ends) for _ in range(draw.choice((0, 1, 2, 3, 6, 12, 30)))]
     text = draw.choice((b"", b"", b"", MARK, MARK + MARK, MARK[:2])) + b"".join(lines)
-    return text if draw.randrange(2) else text.removesuffix(b"\n")
+    return text if draw.randrange(2) else text[:-1]
+
+
+def random_options(draw):
+    """Options that change which versions are kept, and what is written of them."""
+    options = [draw.choice(("", "", "--greatest", "--least", "--sort"))]
+    options += ["--reverse"] if options == ["--sort"] and draw.randrange(2) else []
+    options += ["--only=" + draw.choice(("releases", "pre-releases"))] if draw.randrange(6) == 0 else []
+    chances = (("--strict", 5), ("--null", 3), ("--strip-prefix", 3), ("--count", 6), ("--invert", 4))
+    return [option for option in options if option] + [option for option, chance in chances if draw.randrange(chance) == 0]
+
+
+def chosen(holds, arguments, options):
+    """Which versions are kept by a range, by what the options make of it."""
+    is_inverted = "--invert" in options
+    kinds = [option.removeprefix("--only=") for option in options if option.startswith("--only=")]
+    kinds += ["releases"] if "--releases" in arguments else []
+    return lambda version: holds(version) != is_inverted and all((kind == "pre-releases") == bool(version[1]) for kind in kinds)
 
 
 def random_cut(draw, text):
@@ -186,13 +216,13 @@ def main():
     for at in range(count):
         arguments, holds = draw.choice(RANGES)
         dialect = arguments[arguments.index("--as") + 1] if "--as" in arguments else "cargo"
-        wanted = draw.choice(("", "", "--greatest", "--least", "--sort"))
-        prefixes = draw.choice(([], [], [b"v"], [b"v", b""], [b"", b"v"], [b"pkg@", b"v", b"version "]))
-        is_strict = draw.randrange(5) == 0
-        text = random_text(draw, prefixes or [b""])
-        options = [*([wanted] if wanted else []), *(["--strict"] if is_strict else [])]
+        prefixes = draw.choice(([], [], [b"v"], [b"v", b""], [b"", b"v"], [b"pkg@", b"v", b"version "], [b"a\n"]))
+        options = random_options(draw)
+        if "--releases" in arguments:
+            options = [option for option in options if not option.startswith("--only")]
+        text = random_text(draw, prefixes or [b""], RECORD_ENDS if "--null" in options else ENDS)
+        expected = told(text, chosen(holds, arguments, options), prefixes, dialect, options)
         options += [it for prefix in prefixes for it in ("--prefix", prefix.decode())]
-        expected = told(text, holds, wanted, prefixes or [b""], dialect, is_strict)
         kept += expected[2] == 0
         reported += bool(expected[1])
         for _ in range(CUTS):

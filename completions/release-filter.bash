@@ -6,9 +6,10 @@ _release_filter() {
     COMPREPLY=()
     case $before in
     --dialect | --as) COMPREPLY=($(compgen -W 'cargo npm crate-cargo crate-npm' -- "$word")); return ;;
+    --only) COMPREPLY=($(compgen -W 'releases pre-releases' -- "$word")); return ;;
     esac
     case $word in
-    -*) COMPREPLY=($(compgen -W '--dialect --as --npm --include-prerelease --pre --releases-only --releases --highest --lowest --greatest --least --sort --reverse --prefix --strip-prefix --count --strict --null --line-buffered -h --help --version' -- "$word")) ;;
+    -*) COMPREPLY=($(compgen -W '--dialect --as --npm --include-prerelease --pre --releases-only --releases --only --invert --highest --lowest --greatest --least --sort --reverse --prefix --strip-prefix --count --strict --json --null --line-buffered -h --help --version' -- "$word")) ;;
     *) COMPREPLY=($(compgen -f -- "$word")) ;;
     esac
 }

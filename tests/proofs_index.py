@@ -7,7 +7,7 @@ import re
 PROMISES = '''## The promises
 
 Every function returns on every input, without a panic, an overflow or an access out of bounds. Contracts determine every
-result, but for eleven calls ([which](#one-answer-for-each-call)).
+result, but for ten calls ([which](#one-answer-for-each-call)).
 
 Caution: `RangeSet::parse` turns `^1.2.3` into `>=1.2.3 <2.0.0`, which admits 2.0.0-alpha; `parse_exact` uses `<2.0.0-0`.
 
@@ -22,14 +22,15 @@ Caution: `RangeSet::parse` turns `^1.2.3` into `>=1.2.3 <2.0.0`, which admits 2.
 | `semver_ranges` | the comparators mean the text, but for pre-releases of raised bounds | [`RangeSet::parse`](../crates/semver_ranges/src/range_set.rt): `meaning` | [`OwnMeaning`](../crates/semver_ranges/specs/OwnMeaning.antt), [`Meeting`](../crates/semver_ranges/specs/Meeting.antt) |
 | `semver_ranges` | exact bounds mean the text, and print to a text that reads back | [`RangeSet::parse_exact`](../crates/semver_ranges/src/range_set.rt): `meaning`, `reads_back` | [`ExactBounds`](../crates/semver_ranges/specs/ExactBounds.antt) |
 | `semver_parser` | the report writes its three lines, or a beginning | [`report::run`](../crates/semver_parser/src/report.rt): `lines` | [`ReportLines`](../crates/semver_parser/specs/ReportLines.antt) |
-| `version_sets` | a set has exactly the versions that the text means | [`VersionSet::of_text`](../crates/version_sets/src/reading.rt): `meaning` | [`PreReleaseRules`](../crates/version_sets/specs/PreReleaseRules.antt) |
-| `version_sets` | two sets are equal exactly if they have the same versions | [`==`](../crates/version_sets/src/comparing.rt): `same_versions`, `one_form` | [`VersionSets`](../crates/version_sets/specs/VersionSets.antt) |
+| `version_sets` | a set has exactly the versions that the text means | [`VersionSet::of_text`](../crates/version_sets/src/range_texts.rt): `meaning` | [`PreReleaseRules`](../crates/version_sets/specs/PreReleaseRules.antt) |
+| `version_sets` | two sets are equal exactly if they have the same versions | [`==`](../crates/version_sets/src/set_difference.rt): `same_versions`, `one_form` | [`VersionSets`](../crates/version_sets/specs/VersionSets.antt) |
 | `version_sets` | a set is written as a range text that, in the crate's npm mode, has exactly its releases | [`VersionSet::release_ranges`](../crates/version_sets/src/set_ranges.rt): `meaning`, `reads_back` | [`SetRanges`](../crates/version_sets/specs/SetRanges.antt) |
-| `tool_ranges` | a requirement means what Cargo's grammar and meaning say | [`cargo::read`](../crates/tool_ranges/src/cargo/reading.rt): `refusals`, `meaning` | [`CargoGrammar`](../crates/tool_ranges/specs/CargoGrammar.antt), [`CargoMeaning`](../crates/tool_ranges/specs/CargoMeaning.antt) |
-| `tool_ranges` | a range means what npm's grammar and meaning say | [`npm::read`](../crates/tool_ranges/src/npm/reading.rt): `refusals`, `meaning` | [`NpmGrammar`](../crates/tool_ranges/specs/NpmGrammar.antt), [`NpmMeaning`](../crates/tool_ranges/specs/NpmMeaning.antt) |
-| `tool_ranges` | one version is checked without allocating | [`meaning::meets`](../crates/tool_ranges/src/meaning.rt): `meaning`, `no_memory` | [`Meanings`](../crates/tool_ranges/specs/Meanings.antt) |
+| `tool_ranges` | a requirement means what Cargo's grammar and meaning say | [`cargo::read`](../crates/tool_ranges/src/cargo/requirement_sets.rt): `refusals`, `meaning` | [`CargoGrammar`](../crates/tool_ranges/specs/CargoGrammar.antt), [`CargoMeaning`](../crates/tool_ranges/specs/CargoMeaning.antt) |
+| `tool_ranges` | a range means what npm's grammar and meaning say | [`npm::read`](../crates/tool_ranges/src/npm/range_sets.rt): `refusals`, `meaning` | [`NpmGrammar`](../crates/tool_ranges/specs/NpmGrammar.antt), [`NpmMeaning`](../crates/tool_ranges/specs/NpmMeaning.antt) |
+| `tool_ranges` | one version is checked without allocating | [`meaning::satisfies`](../crates/tool_ranges/src/meaning.rt): `meaning`, `no_memory` | [`Meanings`](../crates/tool_ranges/specs/Meanings.antt) |
 | `tool_ranges` | a version satisfies a range, both texts, or the first that is invalid is reported | [`satisfying::satisfies`](../crates/tool_ranges/src/satisfying.rt): `answer` | [`Satisfying`](../crates/tool_ranges/specs/Satisfying.antt) |
-| `tool_ranges` | where a text stops being a range | [`refusals::refused`](../crates/tool_ranges/src/refusals.rt): `refused` | [`Refusals`](../crates/tool_ranges/specs/Refusals.antt), [`TooLarge`](../crates/tool_ranges/specs/TooLarge.antt) |
+| `tool_ranges` | a range that was read contains exactly the versions that the text means | [`VersionRange::parse`](../crates/tool_ranges/src/version_range.rt): `refusals`, `contains` | [`Meanings`](../crates/tool_ranges/specs/Meanings.antt) |
+| `tool_ranges` | where and why a text stops being a range | [`refusals::refused`](../crates/tool_ranges/src/refusals.rt): `refused` | [`Refusals`](../crates/tool_ranges/specs/Refusals.antt), [`RangeReasons`](../crates/tool_ranges/specs/RangeReasons.antt), [`TooLarge`](../crates/tool_ranges/specs/TooLarge.antt) |
 | `release_filter` | exactly the wanted lines of a text in pieces are appended | [`Lines::push`, `Lines::finish`](../crates/release_filter/src/lines.rt): `takes`, `stops`, `finishes` | [`Pieces`](../crates/release_filter/specs/Pieces.antt), [`Verdicts`](../crates/release_filter/specs/Verdicts.antt) |
 | `command_line` | dialect options mean what they say | [`MeaningOptions`](../crates/command_line/src/options.rt): `dialect`, `npm`, `rule` | [`Options`](../crates/command_line/specs/Options.antt) |
 | `answer_laws` | two results of a call are equal, or one is out of memory | [`one_of_text`](../crates/answer_laws/src/sets.rt): `one` | [`OneAnswer`](../crates/answer_laws/specs/OneAnswer.antt) |
@@ -42,7 +43,7 @@ Below these is `semver_texts`. Programs: `semver_parser_main`, `release_filter_m
 - **Not guaranteed**: stack depth, speed, how much memory a call takes at once, debug texts, texts
   under width and fill flags.
 - **Only tested** ([TESTED](TESTED.md)): that calls succeed if memory is there; that writing fails only
-  if the writer does; the programs' `main`, other options and the reasons of invalid ranges; reading and writing by
+  if the writer does; the programs' `main` and other options; reading and writing by
   `release-filter`; the lines of C, Python and shell; derived orders and clones; that the definitions
   say what was meant.
 - **Trusted**: the toolchain, the C library, for the Rust crate its [erasure](ERASURE.md#what-is-trusted) and rustc, the kit's `thiserror`; in C, Python and
@@ -69,11 +70,11 @@ names:
 - **a law** by its name: a function that makes the call twice with the same arguments. Its clause says that both results
   are equal, or that one is out of memory. Its proof sees the clauses of the call only. Some say less: if a text is
   refused as a version, memory may run out before the error is found (`one_version_of_parser`, `one_version_parse`,
-  `one_parse_by_tokens`), and which reason an invalid range has is open (`one_refusal`). A law doesn't say when memory
-  runs out: a clause of the call does, if it has one (`out_of_memory`, `no_memory`).
+  `one_parse_by_tokens`). A law doesn't say when memory runs out: a clause of the call does, if it has one
+  (`out_of_memory`, `no_memory`).
 - **free**: what the clauses leave open, and the mutant that they still reject, or the file of tests that shows it.
 
-Nine calls are free, and two more leave something open if memory ran out: how many tokens `Parser::version` took, and how
+Eight calls are free, and two more leave something open if memory ran out: how many tokens `Parser::version` took, and how
 much of a piece `Lines::push` did. What is left then is an end part of the tokens (`out_of_memory`; of
 `Parser::identifier` the law fixes it), and what `Lines::push` appended is what that much ends. The clauses of `Lines`
 don't speak of a reader or a writer: they are functions of the bytes. The sort is `Vec::sort_unstable_by` of the kit.

@@ -1,10 +1,10 @@
 //! The calls that are compared. Each answers a number that depends on all that was read, and
 //! `REFUSED` where a text isn't read.
 
-use here::filters::{filter_text, Filter};
+use here::filters::filter_text;
 use here::proved::tool_ranges::cargo;
 use here::sets::VersionSet;
-use here::{satisfies, Compat, Dialect, PreReleases};
+use here::{satisfies, Compat, Dialect, Meaning, PreReleases, VersionRange};
 use semver::{Version, VersionReq};
 use semver_parser::{version, RangeSet};
 use std::hint::black_box;
@@ -138,7 +138,7 @@ fn read_and_ask(ranges: &str, versions: &str) -> Option<u64> {
     let mut count = 0;
     for range in ranges.lines() {
         let set = set_of(range)?;
-        count += versions.iter().filter(|version| set.has(version)).count() as u64;
+        count += versions.iter().filter(|version| set.contains(version)).count() as u64;
     }
     Some(count)
 }
@@ -152,7 +152,7 @@ pub fn here_within(text: &str, times: u64) -> u64 {
     let (Some(set), Some(other)) = (set_of(text), set_of(text)) else {
         return REFUSED;
     };
-    (0..times).map(|_| u64::from(black_box(&set).is_within(&other))).sum()
+    (0..times).map(|_| u64::from(black_box(&set).is_subset(&other))).sum()
 }
 
 /// Versions read and filtered by each of the ranges here, a line each: how many are kept in all.
@@ -193,9 +193,11 @@ pub fn here_read_kept(range: &str, versions: &str) -> u64 {
 }
 
 fn read_kept(range: &str, versions: &str) -> Option<Vec<here::version::Version>> {
-    let filter = Filter::new(range, Compat::Cargo, PreReleases::Excluded).ok()?;
-    let read = versions.lines().filter_map(|line| filter.read(line).transpose());
-    read.collect::<Result<_, _>>().ok()
+    let meaning = Meaning { dialect: Dialect::CrateCargo, pre_releases: PreReleases::Excluded };
+    let range = VersionRange::parse(range, meaning).ok()?;
+    let outlines = versions.lines().filter_map(here::version::outline);
+    let kept = outlines.filter(|outline| range.contains_outline(outline));
+    kept.map(|outline| outline.version()).collect::<Result<_, _>>().ok()
 }
 
 /// The same work by the crate `semver`: each version is let go at once that the range doesn't mean.

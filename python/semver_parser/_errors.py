@@ -56,10 +56,14 @@ class SemverError(ValueError):
     - `reason`: why, as a word for programs.
     - `sentence`: why, as an English sentence.
 
-    The last three are found when they are used, so an error that is ignored costs little.
+    The last three are found at once when one of them is first used, so an error that is ignored
+    costs little.
     """
 
     _STATUS = OK
+
+    # What was found. It isn't in the dict, so it isn't pickled.
+    __slots__ = ("_found",)
 
     def __init__(self, string: String, dialect: AnyDialect, index: Optional[int] = None) -> None:
         super().__init__(string, dialect, index)
@@ -72,7 +76,14 @@ class SemverError(ValueError):
         raise NotImplementedError
 
     def _explanation(self) -> Optional[_Explanation]:
-        """What the library says of the string; nothing if it is valid after all."""
+        """What the library says of the string, which it reads once; nothing if it is valid after
+        all."""
+        if not hasattr(self, "_found"):
+            self._found = self._find()
+        return self._found
+
+    def _find(self) -> Optional[_Explanation]:
+        """Has the library read the string."""
         error = CError()
         status = self._explain(error)
         if status == OK:

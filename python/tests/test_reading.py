@@ -122,6 +122,18 @@ class ByDialect(unittest.TestCase):
             self.assertEqual((caught.exception.offset, caught.exception.reason), (offset, reason))
             self.assertIn(caught.exception.sentence, str(caught.exception))
 
+    def test_read_once(self) -> None:
+        """Where and why a string is none is found once, and isn't pickled."""
+        with self.assertRaises(VersionError) as caught:
+            Version.parse("1.2", dialect="cargo")
+        error = caught.exception
+        explain = VersionError._explain
+        with patch.object(VersionError, "_explain", autospec=True, side_effect=explain) as read:
+            self.assertEqual((error.offset, error.reason), (3, "not-three-numbers"))
+            self.assertIn(error.sentence, str(error))
+        self.assertEqual(read.call_count, 1)
+        self.assertNotIn(b"_Explanation", pickle.dumps(error))
+
     def test_sizes(self) -> None:
         many = ".".join(["a", "1"] * 50_000)
         read = Version.parse(f"1.2.3-{many}+{many}", dialect="cargo")

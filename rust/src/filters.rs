@@ -1,17 +1,18 @@
-//! Filters: which versions or lines a range keeps, the highest of them, or all sorted.
+//! Which versions or lines a range selects, the highest of them, or all sorted.
 //!
 //! ```
-//! use semver_parser::filters::Filter;
-//! use semver_parser::{sets, version, Dialect};
+//! use semver_parser::filters::{LineOptions, Lines};
+//! use semver_parser::{Dialect, VersionRange};
 //!
-//! let dialect = Dialect::Cargo;
-//! let filter = Filter::of_versions(sets::read(dialect, "^1.2")?, dialect.grammar());
-//! let versions = ["1.2.0", "1.9.0", "2.0.0"].map(|text| version::parse(text).unwrap());
-//! assert_eq!(filter.greatest(&versions), Some(&versions[1]));
+//! let range = VersionRange::parse("^1.2", Dialect::Cargo)?;
+//! let mut lines = Lines::new(range, vec![], LineOptions::new());
+//! let mut selected = Vec::new();
+//! lines.push(b"1.2.0\n2.0.0\n1.9.0\n", &mut selected).unwrap();
+//! assert_eq!(selected, b"1.2.0\n1.9.0\n");
 //! # Ok::<(), semver_parser::RangeError>(())
 //! ```
 
+pub use crate::proved::release_filter::{filter_text, release_meets, version_meets, Selection};
 pub use crate::proved::release_filter::{
-    filter_text, release_meets, version_meets, version_meets_as_stated, Filter, Judged, Wanted,
+    Counts, InvalidLine, LineEnd, LineOptions, Lines, LinesError, Stopped,
 };
-pub use crate::proved::release_filter::{Counts, InvalidLine, Lines, LinesError, Stopped};

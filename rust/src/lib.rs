@@ -21,8 +21,20 @@
 //! # Ok::<(), semver_parser::SatisfiesError>(())
 //! ```
 //!
-//! [`sets`] has sets of versions: what two ranges share, and what a changed one loses. [`refusals`]
-//! says where and why a string is refused. [`filters`] has filters of versions and lines.
+//! A range that is used often is read once, as a [`VersionRange`], which has set operations too:
+//!
+//! ```
+//! use semver_parser::{Dialect, VersionRange};
+//!
+//! let old = VersionRange::parse("^1.2", Dialect::Cargo)?;
+//! let new = VersionRange::parse(">=1.2.1, <1.9", Dialect::Cargo)?;
+//! assert_eq!((&old - &new).to_string(), "=1.2.0 || >=1.9.0 <2.0.0");
+//! assert!(new.is_subset(&old) && old.contains("1.2.0")?);
+//! # Ok::<(), Box<dyn std::error::Error>>(())
+//! ```
+//!
+//! [`refusals`] says where and why a string is refused. [`sets`] has the sets of versions below a
+//! range, and [`filters`] what selects versions and lines.
 //!
 //! The code is written in Rattle, Rust with contracts, and proved there for every input;
 //! `rust/src/proved` is that code without its contracts. It allocates by `try_reserve`: a call that
@@ -45,18 +57,21 @@ pub mod rattle_std;
 
 pub mod filters;
 mod original;
+mod range_strings;
 pub mod refusals;
-mod satisfying;
 pub mod sets;
+mod version_range;
 
+pub use proved::semver_parser::version::Digits;
 pub use proved::semver_parser::{lexer, parser, version};
-pub use proved::semver_ranges::{Comparator, Compat, Identifier, Op, Range, RangeError, RangeSet};
-pub use proved::semver_versions::version::Digits;
+pub use proved::semver_parser::{Comparator, Compat, Identifier, Op, Range, RangeError, RangeSet};
 pub use proved::tool_ranges::dialect::Dialect;
 pub use proved::tool_ranges::meaning::Meaning;
+pub use proved::tool_ranges::range_operations::OperationError;
+pub use proved::tool_ranges::version_range::VersionRange;
 pub use proved::version_sets::PreReleases;
+pub use range_strings::{check_range, comparators, satisfies, satisfies_bytes, SatisfiesError};
 pub use rattle_std::AllocError;
-pub use satisfying::{satisfies, satisfies_bytes, SatisfiesError};
 
 #[cfg(all(doctest, feature = "std"))]
 #[doc = include_str!("../README.md")]

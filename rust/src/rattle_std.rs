@@ -83,7 +83,7 @@ impl FalliblePush<char> for String {
     }
 }
 
-/// What else a `Vec` asks memory for.
+/// What else of a `Vec` allocates.
 pub trait FallibleVec<T>: Sized {
     fn fallible_with_capacity(size: usize) -> Made<Self>;
     fn fallible_from_slice(items: &[T]) -> Made<Self>
@@ -151,7 +151,7 @@ impl<T> FallibleVec<T> for Vec<T> {
 
 // ---------------------------------------------------------------- texts
 
-/// What a `String` asks memory for.
+/// What of a `String` allocates.
 pub trait FallibleString: Sized {
     fn fallible_with_capacity(size: usize) -> Made<Self>;
     fn fallible_from_str(text: &str) -> Made<Self>;
@@ -179,8 +179,11 @@ impl FallibleString for String {
         Ok(made)
     }
 
+    #[inline]
     fn fallible_push_str(&mut self, text: &str) -> Made<()> {
-        self.try_reserve(text.len())?;
+        if text.len() > self.capacity() - self.len() {
+            self.try_reserve(text.len())?;
+        }
         self.push_str(text);
         Ok(())
     }
@@ -304,6 +307,10 @@ impl HostRuntime {
 
     pub fn stdout(&self) -> std::io::Stdout {
         std::io::stdout()
+    }
+
+    pub fn stderr(&self) -> std::io::Stderr {
+        std::io::stderr()
     }
 
     pub fn reader(&self) -> std::io::StdinLock<'static> {

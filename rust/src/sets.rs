@@ -4,18 +4,18 @@
 //! use semver_parser::sets;
 //! use semver_parser::{version, Dialect};
 //!
-//! let old = sets::read(Dialect::Cargo, "^1.2")?;
-//! let new = sets::read(Dialect::Cargo, ">=1.2.1, <1.9")?;
-//! assert!(new.is_within(&old));
-//! assert!(old.has(&version::parse("1.2.0").unwrap()));
+//! let old = sets::read("^1.2", Dialect::Cargo)?;
+//! let new = sets::read(">=1.2.1, <1.9", Dialect::Cargo)?;
+//! assert!(new.is_subset(&old));
+//! assert!(old.contains(&version::parse("1.2.0").unwrap()));
 //!
 //! let lost = old.difference(&new)?.release_ranges()?.range_set;
 //! assert_eq!(lost.to_string(), "=1.2.0 || >=1.9.0 <2.0.0");
 //! # Ok::<(), semver_parser::RangeError>(())
 //! ```
 
-use crate::proved::tool_ranges::{dialect, meaning};
-use crate::{AllocError, Dialect, Meaning, RangeError, RangeSet};
+use crate::proved::tool_ranges::meaning;
+use crate::{AllocError, Meaning, RangeError};
 
 pub use crate::proved::version_sets::{Comparison, Release, SetRanges, VersionSet};
 
@@ -30,49 +30,13 @@ pub use crate::proved::version_sets::{Comparison, Release, SetRanges, VersionSet
 /// ```
 /// use semver_parser::{sets, version, Dialect, RangeError};
 ///
-/// let set = sets::read(Dialect::Npm, "1.x || >=2.5.0")?;
-/// assert!(set.has(&version::parse("2.6.0").unwrap()));
-/// assert!(matches!(sets::read(Dialect::Cargo, "1 || 2"), Err(RangeError::NotARange)));
+/// let set = sets::read("1.x || >=2.5.0", Dialect::Npm)?;
+/// assert!(set.contains(&version::parse("2.6.0").unwrap()));
+/// assert!(matches!(sets::read("1 || 2", Dialect::Cargo), Err(RangeError::NotARange)));
 /// # Ok::<(), RangeError>(())
 /// ```
-pub fn read(meaning: impl Into<Meaning>, range: &str) -> Result<VersionSet, RangeError> {
+pub fn read(range: &str, meaning: impl Into<Meaning>) -> Result<VersionSet, RangeError> {
     meaning::read(meaning.into(), range)
-}
-
-/// Checks that a string is a range of a dialect whose numbers fit. It does not allocate.
-///
-/// # Errors
-///
-/// Those of [`read`], without `OutOfMemory`. [`refusals::of_range`](crate::refusals::of_range) says
-/// where and why.
-///
-/// ```
-/// use semver_parser::{sets, Dialect, RangeError};
-///
-/// assert_eq!(sets::check(Dialect::Npm, "1 || 2"), Ok(()));
-/// assert_eq!(sets::check(Dialect::Cargo, "1 || 2"), Err(RangeError::NotARange));
-/// ```
-pub fn check(dialect: Dialect, range: &str) -> Result<(), RangeError> {
-    meaning::check(dialect.into(), range)
-}
-
-/// Rewrites a range string of a dialect into plain comparators with exact bounds: a release
-/// satisfies them exactly if it satisfies the range.
-///
-/// # Errors
-///
-/// Those of [`read`].
-///
-/// ```
-/// use semver_parser::{sets, Dialect, RangeError};
-///
-/// let of_cargo = sets::comparators(Dialect::Cargo, "1.2")?;
-/// assert_eq!(of_cargo.to_string(), ">=1.2.0 <2.0.0-0");
-/// assert_eq!(sets::comparators(Dialect::Npm, "1.2")?.to_string(), ">=1.2.0 <1.3.0-0");
-/// # Ok::<(), RangeError>(())
-/// ```
-pub fn comparators(dialect: Dialect, range: &str) -> Result<RangeSet, RangeError> {
-    dialect::rewrite(dialect, range)
 }
 
 impl From<AllocError> for RangeError {

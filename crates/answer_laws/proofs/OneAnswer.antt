@@ -1,4 +1,4 @@
--- serves: answer_laws::filters::one_new
+-- serves: answer_laws::filters::one_filter_text
 -- Two answers that meet the clauses of one call are one.
 use Rattle.std.proofs.Common.{IfOk, ◌≡◌, ◌↔◌, Option, Some, None, refl, sym, ap, subst, ◌∙◌, inl, inr, Result, Ok, Err, alloc_error}
 use Rattle.std.specs.declared.alloc.AllocError.{AllocError}

@@ -2,12 +2,12 @@
 use Rattle.std.specs.Prelude.{◌≡◌, Option, option_map}
 use Rattle.semver_parser.specs.Versions.{PlainVersion, VersionValue}
 use Rattle.semver_parser.specs.VersionViews.{version_value}
-use Rattle.version_sets.specs.VersionSets.{SetValue, has, Fits}
+use Rattle.version_sets.specs.VersionSets.{SetValue, contains, Fits}
 use Rattle.version_sets.specs.declared.Comparison.{Comparison}
 
 -- two sets are equal where they have the same versions
 abbrev pub AreAlike : SetValue → SetValue → Type 0
-AreAlike a b = ((v : PlainVersion) → Fits v → has a v ≡ has b v) → a ≡ b
+AreAlike a b = ((v : PlainVersion) → Fits v → contains a v ≡ contains b v) → a ≡ b
 
 -- the three versions of a comparison, where there are any
 pub record ComparisonValue : Type 0 where

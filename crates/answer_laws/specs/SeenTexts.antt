@@ -1,9 +1,7 @@
--- What is seen of texts and refusals that calls return: the bytes, and all but the reason.
+-- What is seen of texts that calls return: the bytes.
 use Rattle.std.specs.Prelude.{ℕ}
 use Rattle.std.specs.Borrow.{Bor}
 use Rattle.semver_texts.specs.Texts.{Text}
-use Rattle.semver_parser.specs.declared.RangeError.{RangeError}
-use Rattle.tool_ranges.specs.declared.refusals.Refusal.{Refusal}
 
 -- the bytes of a text, wherever it is in memory
 abbrev pub seen_text : Bor Text → Text
@@ -12,7 +10,3 @@ seen_text t = t.now
 -- three numbers, and the bytes of what follows them
 abbrev pub seen_numbers : ℕ × ℕ × ℕ × Bor Text → ℕ × ℕ × ℕ × Text
 seen_numbers r = (r.0, r.1, r.2, r.3.now)
-
--- the error of a range text and its offset, without the reason
-abbrev pub seen_refusal : Refusal → RangeError × ℕ
-seen_refusal r = (r.error, r.offset)

@@ -7,4 +7,5 @@ pub mod filters;
 pub mod ranges;
 pub mod sets;
 pub mod texts;
+pub mod version_ranges;
 pub mod versions;

@@ -1,14 +1,13 @@
 //! The calls that read a range text into comparators, and the offset of its error.
 
-ghost use Rattle.std.specs.Prelude.{◌≡◌, alloc_error, option_map};
+ghost use Rattle.std.specs.Prelude.{◌≡◌, alloc_error};
 ghost use Rattle.semver_parser.specs.RangeViews.{set_of};
 ghost use Rattle.answer_laws.specs.OneAnswer.{AreOne, itself};
-ghost use Rattle.answer_laws.specs.SeenTexts.{seen_refusal};
 
 use semver_parser::{Compat, RangeError, RangeSet};
 use std::alloc::{AllocError, Global};
 use tool_ranges::dialect::{self, Dialect};
-use tool_ranges::laws::{one_limit_offset, one_offset};
+use tool_ranges::laws::{one_limit_offset, one_offset, one_reason};
 use tool_ranges::offset::error_offset;
 use tool_ranges::refusals::{Refusal, refused};
 use tool_ranges::{cargo, npm};
@@ -88,7 +87,7 @@ pub fn one_error_offset(
     )
 }
 
-/// `refusals::refused` has one error and one offset. Which reason `NotARange` has is free.
+/// `refusals::refused` has one answer.
 pub fn one_refusal(
     alloc: Global,
     dialect: Dialect,
@@ -97,9 +96,10 @@ pub fn one_refusal(
     Result<Option<Refusal>, AllocError>,
     Result<Option<Refusal>, AllocError>,
 )
-    ensures one { AreOne alloc_error (option_map seen_refusal) result.0 result.1 }
+    ensures one { AreOne alloc_error itself result.0 result.1 }
 {
     one_offset();
     one_limit_offset();
+    one_reason();
     (refused(alloc, dialect, text), refused(alloc, dialect, text))
 }

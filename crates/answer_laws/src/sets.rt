@@ -90,42 +90,35 @@ pub fn one_read(alloc: Global, meaning: Meaning, range: &str) -> Read
     (first, second)
 }
 
-/// `meaning::meets` has one answer.
-pub fn one_meets(
-    meaning: Meaning,
-    range: &str,
+/// `meaning::satisfies` has one answer.
+pub fn one_satisfies(
     version: &Outline<'_>,
+    range: &str,
+    meaning: Meaning,
 ) -> (Result<bool, RangeError>, Result<bool, RangeError>)
     ensures one { result.0 ≡ result.1 }
 {
     (
-        meaning::meets(meaning, range, version),
-        meaning::meets(meaning, range, version),
+        meaning::satisfies(version, range, meaning),
+        meaning::satisfies(version, range, meaning),
     )
 }
 
-/// `meaning::meets` answers what the set of the text says of the version.
-pub fn meets_as_the_set(
+/// `meaning::satisfies` answers what the set of the text says of the version.
+pub fn satisfies_as_the_set(
     alloc: Global,
-    meaning: Meaning,
-    range: &str,
     version: &Outline<'_>,
+    range: &str,
+    meaning: Meaning,
 ) -> (Result<bool, RangeError>, Result<bool, RangeError>)
     ensures same { AreOne RangeError.OutOfMemory itself result.0 result.1 }
 {
-    numbers_fit(version);
-    let has = match meaning::read(alloc, meaning, range) {
-        Ok(set) => Ok(set.has_outline(version)),
+    semver_versions::laws::numbers_of_outlines_fit(version);
+    let contains = match meaning::read(alloc, meaning, range) {
+        Ok(set) => Ok(set.contains_outline(version)),
         Err(error) => Err(error),
     };
-    (has, meaning::meets(meaning, range, version))
-}
-
-/// The numbers of an outline fit 64 bits. It does nothing.
-fn numbers_fit(version: &Outline<'_>)
-    ensures { Fits (version_of version.now).plain }
-{
-    let _ = (version.major(), version.minor(), version.patch());
+    (contains, meaning::satisfies(version, range, meaning))
 }
 
 /// `VersionSet::of_set` has one answer.
@@ -208,8 +201,23 @@ pub fn one_only_releases(
     (first, second)
 }
 
-/// `VersionSet::least` has one answer.
-pub fn one_least(
+/// `VersionSet::only_pre_releases` has one answer: of two sets that are equal, since each is taken.
+pub fn one_only_pre_releases(
+    alloc: Global,
+    set: VersionSet,
+    equal_set: VersionSet,
+) -> (VersionSet, VersionSet)
+    requires { set ≡ equal_set }
+    ensures one { result.0 ≡ result.1 }
+{
+    let first = set.only_pre_releases(alloc);
+    let second = equal_set.only_pre_releases(alloc);
+    are_alike(&first, &second);
+    (first, second)
+}
+
+/// `VersionSet::lowest` has one answer.
+pub fn one_lowest(
     alloc: Global,
     set: &VersionSet,
 ) -> (
@@ -219,15 +227,15 @@ pub fn one_least(
     ensures one { AreOne alloc_error (option_map version_value) result.0 result.1 }
 {
     laws::precedence_is_total();
-    (set.least(alloc), set.least(alloc))
+    (set.lowest(alloc), set.lowest(alloc))
 }
 
-/// `VersionSet::least_release` has one answer.
-pub fn one_least_release(set: &VersionSet) -> (Option<Release>, Option<Release>)
+/// `VersionSet::lowest_release` has one answer.
+pub fn one_lowest_release(set: &VersionSet) -> (Option<Release>, Option<Release>)
     ensures one { result.0 ≡ result.1 }
 {
     laws::precedence_is_total();
-    (set.least_release(), set.least_release())
+    (set.lowest_release(), set.lowest_release())
 }
 
 /// `VersionSet::compare` has one answer.

@@ -27,6 +27,9 @@ pub enum ArgumentError {
     /// The first option says otherwise than the second, which was given before.
     #[error("{0} contradicts {1}")]
     Contradiction(&'static str, &'static str),
+    /// Nothing, or something unknown, follows `--only`.
+    #[error("--only needs releases or pre-releases")]
+    NoKind,
     /// Nothing, or something unknown, follows `--fail-on`.
     #[error("--fail-on needs lost, gained or any")]
     NoChange,

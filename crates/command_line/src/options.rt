@@ -64,8 +64,9 @@ impl MeaningOptions {
     /// # Errors
     ///
     /// `UnknownDialect` of a name that no dialect has, and `Unreadable` in its place only.
-    /// `GivenTwice` and `Contradiction` if an earlier option says the same or otherwise; they name
-    /// the long forms. After an error the options are those before it, and no name is wanted.
+    /// `Contradiction` if an earlier option says otherwise, and `GivenTwice` if it says the same of
+    /// pre-releases; they name the long forms. After an error the options are those before it, and
+    /// no name is wanted.
     pub fn take(&mut self, alloc: Global, argument: &str) -> Result<bool, ArgumentError>
         // A dialect that is named is that one, if none was asked for before.
         ensures dialect { (dialect : Dialect) → Names self.old argument.now (name_of dialect)
@@ -77,11 +78,11 @@ impl MeaningOptions {
         // After `--dialect` or `--as` a name is wanted.
         ensures wants_name { WantsName argument.now → self.old.wants_name ≡ false
             → (result ≡ Ok true) × (self.new ≡ record self.old { wants_name = true }) }
-        // `--npm` asks for npm's dialect, if none was asked for before.
+        // `--npm` names npm's dialect, if none was named before.
         ensures npm { argument.now ≡ codes "--npm" → self.old.wants_name ≡ false
             → self.old.dialect ≡ None → (result ≡ Ok true)
             × (self.new ≡ record self.old { dialect = Some (Dialect.Npm, codes "--npm") }) }
-        // A rule for pre-releases that is asked for is that one, if none was before.
+        // A rule for pre-releases that is wanted is that one, if none was before.
         ensures rule { (rule : PreReleases) → IsOptionOf rule argument.now
             → self.old.wants_name ≡ false → self.old.rule ≡ None
             → (result ≡ Ok true) × (self.new ≡ record self.old { rule = Some rule }) }
@@ -92,10 +93,11 @@ impl MeaningOptions {
         // A name that no dialect has is refused.
         ensures unknown { (name : Text) → Names self.old argument.now name
             → ¬ (IsDialectName name) → Fails (TellsUnknown name) result }
-        // A dialect that was asked for before is given twice.
-        ensures dialect_twice { (dialect : Dialect) (option earlier : Text)
+        // A dialect that was asked for before may be asked for again.
+        ensures dialect_again { (dialect : Dialect) (option earlier : Text)
             → AsksFor self.old argument.now dialect option
-            → self.old.dialect ≡ Some (dialect, earlier) → Fails (TellsTwice option) result }
+            → self.old.dialect ≡ Some (dialect, earlier)
+            → (result ≡ Ok true) × (self.new ≡ record self.old { wants_name = false }) }
         // Another than that one contradicts it.
         ensures two_dialects { (dialect other : Dialect) (option earlier : Text)
             → AsksFor self.old argument.now dialect option
@@ -168,12 +170,12 @@ impl MeaningOptions {
         ensures known { (dialect : Dialect) → name.now ≡ name_of dialect
             → self.old.dialect ≡ None → IfErr result (λ _. ⊥) }
         ensures asked { (dialect : Dialect) → name.now ≡ name_of dialect
-            → IfOk result (λ _. self.new
+            → self.old.dialect ≡ None → IfOk result (λ _. self.new
             ≡ record self.old { dialect = Some (dialect, dialect_option_of dialect) }) }
         ensures unknown { ¬ (IsDialectName name.now) → Fails (TellsUnknown name.now) result }
-        ensures twice { (dialect : Dialect) (earlier : Text) → name.now ≡ name_of dialect
+        ensures again { (dialect : Dialect) (earlier : Text) → name.now ≡ name_of dialect
             → self.old.dialect ≡ Some (dialect, earlier)
-            → Fails (TellsTwice (dialect_option_of dialect)) result }
+            → IfErr result (λ _. ⊥) × (self.new ≡ self.old) }
         ensures contradiction { (dialect other : Dialect) (earlier : Text)
             → name.now ≡ name_of dialect → self.old.dialect ≡ Some (other, earlier)
             → dialect ≢ other
@@ -189,13 +191,13 @@ impl MeaningOptions {
         }
     }
 
-    /// Takes the dialect that an option asks for.
+    /// Takes the dialect that an option names; an earlier one may have asked for it, too.
     fn ask(&mut self, dialect: Dialect, option: &'static str) -> Result<(), ArgumentError>
         ensures first { self.old.dialect ≡ None → IfErr result (λ _. ⊥) }
-        ensures asked { IfOk result (λ _. self.new
+        ensures asked { self.old.dialect ≡ None → IfOk result (λ _. self.new
             ≡ record self.old { dialect = Some (dialect, option.now) }) }
-        ensures twice { (earlier : Text) → self.old.dialect ≡ Some (dialect, earlier)
-            → Fails (TellsTwice option.now) result }
+        ensures again { (earlier : Text) → self.old.dialect ≡ Some (dialect, earlier)
+            → IfErr result (λ _. ⊥) × (self.new ≡ self.old) }
         ensures contradiction { (other : Dialect) (earlier : Text)
             → self.old.dialect ≡ Some (other, earlier) → dialect ≢ other
             → Fails (TellsContradiction option.now earlier) result }
@@ -203,7 +205,7 @@ impl MeaningOptions {
     {
         let earlier = self.dialect;
         match earlier {
-            Some((earlier, _)) if earlier == dialect => Err(ArgumentError::GivenTwice(option)),
+            Some((earlier, _)) if earlier == dialect => Ok(()),
             Some((_, earlier)) => Err(ArgumentError::Contradiction(option, earlier)),
             None => {
                 self.dialect = Some((dialect, option));
@@ -212,7 +214,7 @@ impl MeaningOptions {
         }
     }
 
-    /// Takes the rule for pre-releases that an option asks for.
+    /// Takes the rule for pre-releases that an option names.
     fn count(&mut self, rule: PreReleases) -> Result<(), ArgumentError>
         ensures first { self.old.rule ≡ None → IfErr result (λ _. ⊥) }
         ensures asked { IfOk result (λ _. self.new ≡ record self.old { rule = Some rule }) }
@@ -235,7 +237,7 @@ impl MeaningOptions {
     }
 }
 
-/// The option that asks for a rule for pre-releases.
+/// The option that names a rule for pre-releases.
 fn option_of(rule: PreReleases) -> &'static str
     ensures { result.now ≡ option_of rule }
 {

@@ -1,5 +1,8 @@
 //! What a program writes of itself and of errors.
 
+ghost use Rattle.std.specs.Prelude.{◌≡◌, ◌⊎◌};
+ghost use Rattle.std.specs.Process.{exit_status};
+
 use crate::error::ArgumentError;
 use crate::refused::refused_text;
 use semver_parser::RangeError;
@@ -18,7 +21,9 @@ pub struct Program {
 impl Program {
     /// Writes texts to standard output, each with a line feed, and returns the status. It is no
     /// error if the reader closed the pipe.
-    pub fn write_texts(self, rt: &HostRuntime, texts: &[&str]) -> ExitCode {
+    pub fn write_texts(self, rt: &HostRuntime, texts: &[&str]) -> ExitCode
+        ensures status { (exit_status result ≡ 0) ⊎ (exit_status result ≡ 2) }
+    {
         for text in texts {
             match println!(rt; "{text}") {
                 Ok(()) => {}
@@ -29,8 +34,11 @@ impl Program {
         ExitCode::SUCCESS
     }
 
+    // Answer: equation.
     /// Writes what is wrong with the arguments, in one line, and returns status 2.
-    pub fn misused(self, rt: &impl Eprint, error: &ArgumentError) -> ExitCode {
+    pub fn misused(self, rt: &impl Eprint, error: &ArgumentError) -> ExitCode
+        ensures status { exit_status result ≡ 2 }
+    {
         let name = self.name;
         let _ = match error {
             ArgumentError::Unreadable => eprintln!(rt; "{name}: {error}"),
@@ -39,12 +47,16 @@ impl Program {
         ExitCode::from(2)
     }
 
+    // Answer: equation.
     /// Writes that output can't be written, and returns status 2.
-    pub fn cannot_write(self, rt: &impl Eprint, error: &io::Error) -> ExitCode {
+    pub fn cannot_write(self, rt: &impl Eprint, error: &io::Error) -> ExitCode
+        ensures status { exit_status result ≡ 2 }
+    {
         let _ = eprintln!(rt; "{}: cannot write output: {error}", self.name);
         ExitCode::from(2)
     }
 
+    // Answer: equation.
     /// Writes the error of a range text, with the text and the offset, and returns status 2.
     pub fn refuse_range(
         self,
@@ -52,11 +64,30 @@ impl Program {
         dialect: Dialect,
         error: &RangeError,
         range: &str,
-    ) -> ExitCode {
+    ) -> ExitCode
+        ensures status { exit_status result ≡ 2 }
+    {
         let _ = match refused_text(rt.alloc(), dialect, error, range) {
             Ok(text) => eprintln!(rt; "{}: {text}", self.name),
             Err(_) => eprintln!(rt; "{}: {error}: {range:?}", self.name),
         };
+        ExitCode::from(2)
+    }
+
+    /// Writes the errors of a range text that several tools refuse, and returns status 2: for each
+    /// its name, its dialect and its error.
+    pub fn refuse_range_of_each(
+        self,
+        rt: &HostRuntime,
+        tools: &[(&str, Dialect, &RangeError)],
+        range: &str,
+    ) -> ExitCode {
+        for (tool, dialect, error) in tools {
+            let _ = match refused_text(rt.alloc(), *dialect, error, range) {
+                Ok(text) => eprintln!(rt; "{}: {tool}: {text}", self.name),
+                Err(_) => eprintln!(rt; "{}: {tool}: {error}: {range:?}", self.name),
+            };
+        }
         ExitCode::from(2)
     }
 }

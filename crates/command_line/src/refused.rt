@@ -1,7 +1,12 @@
 //! The text of a range's error: the offset of the first byte that no range could have there, with a
 //! caret under it, and the reason.
 
-use crate::shown::Shown;
+ghost use Rattle.std.specs.Prelude.{◌≡◌, ◌++◌, IfOk, Option, length, string_bytes};
+ghost use Rattle.tool_ranges.specs.Refusals.{IsRefusalAs};
+ghost use Rattle.tool_ranges.specs.declared.refusals.Refusal.{Refusal as SomeRefusal};
+ghost use Rattle.command_line.specs.RefusedLines.{line_of, place_of, why_of, words_of};
+
+use crate::excerpt::Excerpt;
 use semver_parser::RangeError;
 use std::alloc::{AllocError, Global};
 use tool_ranges::dialect::Dialect;
@@ -17,7 +22,7 @@ use tool_ranges::refusals::{Refusal, refused};
 ///     1.2 || 3
 ///         ^ at byte 4: Cargo takes no ||; npm does
 /// ```
-pub fn refused_text(
+pub(crate) fn refused_text(
     alloc: Global,
     dialect: Dialect,
     error: &RangeError,
@@ -26,11 +31,12 @@ pub fn refused_text(
     let mut written = String::new(alloc);
     match refused(alloc, dialect, text)? {
         Some(refusal) => write_refusal(&mut written, &refusal, text)?,
-        None => write!(written, "{error}: {}", Shown::round(text, 0))?,
+        None => write!(written, "{}: {}", words_of(error), Excerpt::round(text, 0))?,
     }
     Ok(written)
 }
 
+// Answer: law answer_laws::ranges::one_refusal.
 /// The text of an error in one line, without the range text:
 /// `not a range (at byte 4: Cargo takes no ||; npm does)`. `Err` is out of memory.
 pub fn refused_line(
@@ -38,34 +44,72 @@ pub fn refused_line(
     dialect: Dialect,
     error: &RangeError,
     text: &str,
-) -> Result<String, AllocError> {
-    let mut written = String::new(alloc);
-    match refused(alloc, dialect, text)? {
+) -> Result<String, AllocError>
+    ensures line { IfOk result (λ line. (found : Option SomeRefusal)
+        × IsRefusalAs dialect text.now found
+        × (string_bytes line ≡ line_of error.now found (length text.now))) }
+{
+    let found = refused(alloc, dialect, text)?;
+    line_of(alloc, error, &found, text.len())
+}
+
+/// The line of what is refused of a text of so many bytes.
+fn line_of(
+    alloc: Global,
+    error: &RangeError,
+    found: &Option<Refusal>,
+    len: usize,
+) -> Result<String, AllocError>
+    ensures { IfOk result (λ line. string_bytes line ≡ line_of error.now found.now len) }
+{
+    match found {
         Some(refusal) => {
-            write!(written, "{} (", refusal.error)?;
-            write_why(&mut written, &refusal, text)?;
-            written.push(')')?;
+            let mut line = words_of(&refusal.error).to_string(alloc)?;
+            line.push_str(" (")?;
+            write_why(&mut line, refusal, len)?;
+            line.push_str(")")?;
+            Ok(line)
         }
-        None => write!(written, "{error}")?,
+        None => words_of(error).to_string(alloc),
     }
-    Ok(written)
+}
+
+/// What is wrong, in words.
+fn words_of(error: &RangeError) -> &'static str
+    ensures { result.now ≡ words_of error.now }
+{
+    match error {
+        RangeError::NotARange => "not a range",
+        RangeError::NumberTooLarge => "number too large",
+        RangeError::OutOfMemory => "out of memory",
+    }
 }
 
 /// Writes the lines of an error with its offset.
 fn write_refusal(out: &mut String, refusal: &Refusal, text: &str) -> Result<(), AllocError> {
-    let shown = Shown::round(text, refusal.offset);
-    write!(out, "{}: {shown}", refusal.error)?;
-    shown.write_pointed(out)?;
-    write_why(out, refusal, text)
+    let excerpt = Excerpt::round(text, refusal.offset);
+    write!(out, "{}: {excerpt}", words_of(&refusal.error))?;
+    excerpt.write_pointed(out)?;
+    write_why(out, refusal, text.len())
 }
 
-/// Writes the offset of an error, and the reason.
-fn write_why(out: &mut String, refusal: &Refusal, text: &str) -> Result<(), AllocError> {
-    let offset = refusal.offset;
-    if offset < text.len() {
-        write!(out, "at byte {offset}")?;
-    } else {
-        write!(out, "at the end")?;
-    }
+/// Writes where a text of so many bytes is wrong, and why.
+fn write_why(out: &mut String, refusal: &Refusal, len: usize) -> Result<(), AllocError>
+    ensures { IfOk result (λ _.
+        string_bytes out.new ≡ string_bytes out.old ++ why_of refusal.now len) }
+{
+    write_place(out, refusal.offset, len)?;
     write!(out, ": {}", refusal.reason)
+}
+
+/// Writes an offset in a text of so many bytes.
+fn write_place(out: &mut String, offset: usize, len: usize) -> Result<(), AllocError>
+    ensures { IfOk result (λ _.
+        string_bytes out.new ≡ string_bytes out.old ++ place_of offset len) }
+{
+    if offset < len {
+        write!(out, "at byte {offset}")
+    } else {
+        out.push_str("at the end")
+    }
 }

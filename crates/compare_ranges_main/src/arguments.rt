@@ -1,15 +1,15 @@
-//! What the arguments ask for.
+//! What the arguments request.
 
 use command_line::{ArgumentError, MeaningOptions};
 use std::env;
 use std::rt::Env;
 use tool_ranges::meaning::Meaning;
 
-/// What the arguments ask for.
+/// What the arguments request.
 #[derive(Drop)]
 pub enum Request {
     /// To say what a range means, or to compare two.
-    Read(Wanted),
+    Read(Question),
     /// To tell the usage.
     Help,
     /// To tell the version of the program.
@@ -18,7 +18,7 @@ pub enum Request {
 
 /// The ranges that the arguments name, and what is to be written of them.
 #[derive(Drop)]
-pub struct Wanted {
+pub struct Question {
     /// The range text; of two the old one.
     pub range: String,
     /// The new range text, if there are two.
@@ -58,7 +58,7 @@ pub struct Options {
     pub extent: Extent,
     /// Whether it is written as JSON.
     pub is_json: bool,
-    /// The change that `--fail-on` asks for.
+    /// The change that `--fail-on` names.
     pub fails_on: Option<Change>,
     /// Whether the next argument names that change.
     wants_change: bool,
@@ -122,7 +122,7 @@ impl Options {
     }
 }
 
-/// What the arguments ask for. What begins with a hyphen is an option, up to the first `--`, but
+/// What the arguments request. What begins with a hyphen is an option, up to the first `--`, but
 /// for what follows `--dialect`, `--as` and `--fail-on`.
 pub fn requested(rt: &(impl Env + AllocGlobal)) -> Result<Request, ArgumentError> {
     let Ok(mut arguments) = env::args(rt) else {
@@ -157,7 +157,7 @@ pub fn requested(rt: &(impl Env + AllocGlobal)) -> Result<Request, ArgumentError
     request_of(range, new, meaning, options)
 }
 
-/// What arguments ask for that are taken one by one.
+/// What arguments request that are taken one by one.
 fn request_of(
     range: Option<String>,
     new: Option<String>,
@@ -175,7 +175,7 @@ fn request_of(
     if options.fails_on.is_some() && new.is_none() {
         return Err(ArgumentError::NoComparison);
     }
-    Ok(Request::Read(Wanted {
+    Ok(Request::Read(Question {
         range,
         new,
         meaning,

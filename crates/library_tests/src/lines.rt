@@ -1,19 +1,22 @@
 //! The lines of a text that comes in pieces: cut at each place, and in pieces of equal lengths.
-use release_filter::{Filter, Lines, LinesError, PreReleases, Wanted};
-use semver_parser::Compat;
+use release_filter::{LineEnd, LineOptions, Lines, LinesError, Selection};
 use std::alloc::{AllocError, Global};
 use std::io;
+use tool_ranges::dialect::Dialect;
+use tool_ranges::meaning::Meaning;
+use tool_ranges::version_range::VersionRange;
+use version_sets::PreReleases;
 
 /// The text: a byte order mark, six versions of which `^1.2` means four, an empty line, and the
 /// second line, which is no version.
 const TEXT: &[u8] = b"\xEF\xBB\xBF1.2.0\r\nx\n1.3.0-rc\n\r\n1.9.0+b\n2.0.0\n1.9.0+a\n1.4.0";
 
 /// What is appended of it, by what is wanted.
-const APPENDED: [(Wanted, &str); 4] = [
-    (Wanted::Each, "1.2.0\r\n1.9.0+b\n1.9.0+a\n1.4.0"),
-    (Wanted::Greatest, "1.9.0+b\n"),
-    (Wanted::Least, "1.2.0\r\n"),
-    (Wanted::Sorted, "1.2.0\r\n1.4.0\n1.9.0+b\n1.9.0+a\n"),
+const APPENDED: [(Selection, &str); 4] = [
+    (Selection::Each, "1.2.0\r\n1.9.0+b\n1.9.0+a\n1.4.0"),
+    (Selection::Highest, "1.9.0+b\n"),
+    (Selection::Lowest, "1.2.0\r\n"),
+    (Selection::Sorted, "1.2.0\r\n1.4.0\n1.9.0+b\n1.9.0+a\n"),
 ];
 
 /// Lines that are no version: bytes that are no UTF-8, a bad character, more than a version, less,
@@ -42,6 +45,93 @@ const PREFIXES: [(&str, &str, &str, &str); 6] = [
     ("", "1", "11.2.0\n111.2.0\n", "11.2.0\n"),
     ("v", "vv", "vv11.2.0\nv11.2.0", "vv11.2.0\nv11.2.0"),
     ("v", "w", "é11.2.0\nv\n11.2.0\n", ""),
+];
+
+/// Lines that end with a zero byte or are given without their prefix: what ends them, whether the
+/// prefix is stripped, which are wanted, the prefix, a text, and what `^1.2` appends of it.
+const FORMS: [(LineEnd, bool, Selection, &str, &str, &str); 9] = [
+    (
+        LineEnd::ZeroByte,
+        false,
+        Selection::Each,
+        "v",
+        "v1.4.0\0v1.2.0\n\0v1.9.0",
+        "v1.4.0\0v1.2.0\n\0v1.9.0",
+    ),
+    (
+        LineEnd::ZeroByte,
+        true,
+        Selection::Each,
+        "a\nb",
+        "a\nb1.4.0\0a\n1.4.0\0",
+        "1.4.0\0",
+    ),
+    (
+        LineEnd::ZeroByte,
+        false,
+        Selection::Sorted,
+        "v",
+        "v1.4.0\0v1.2.0",
+        "v1.2.0\0v1.4.0\0",
+    ),
+    (
+        LineEnd::ZeroByte,
+        false,
+        Selection::Lowest,
+        "",
+        "1.4.0\0\01.2.0\0",
+        "1.2.0\0",
+    ),
+    (
+        LineEnd::LineFeed,
+        false,
+        Selection::Each,
+        "",
+        "1.4.0\0\n1.2.0\r\n",
+        "1.2.0\r\n",
+    ),
+    (
+        LineEnd::LineFeed,
+        true,
+        Selection::Each,
+        "v",
+        "v1.4.0\r\n1.4.0\nv1.2.0",
+        "1.4.0\r\n1.2.0",
+    ),
+    (
+        LineEnd::LineFeed,
+        true,
+        Selection::Each,
+        "\u{FEFF}",
+        "\u{FEFF}\u{FEFF}1.4.0\n",
+        "1.4.0\n",
+    ),
+    (
+        LineEnd::LineFeed,
+        true,
+        Selection::Sorted,
+        "v",
+        "v1.4.0\nv1.2.0",
+        "1.2.0\n1.4.0\n",
+    ),
+    (
+        LineEnd::LineFeed,
+        true,
+        Selection::Highest,
+        "v",
+        "v1.4.0\nv1.9.0+b\nv1.2.0",
+        "1.9.0+b\n",
+    ),
+];
+
+/// Two files, and what `^1.2` appends of them.
+const FILES: [(&str, &str, &str); 6] = [
+    ("1.4.0", "1.9.0", "1.4.0\n1.9.0"),
+    ("1.4.0\n", "\u{FEFF}1.9.0\n", "1.4.0\n1.9.0\n"),
+    ("\u{FEFF}1.4.0", "\u{FEFF}1.9.0", "1.4.0\n1.9.0"),
+    ("\u{FEFF}", "\u{FEFF}1.9.0", "1.9.0"),
+    ("", "1.9.0", "1.9.0"),
+    ("1.4.0", "", "1.4.0\n"),
 ];
 
 /// How long lines begin, the byte that follows again and again, and whether `^1.2` keeps them.
@@ -152,8 +242,8 @@ pub fn write_prefixes(rt: &impl Print, alloc: Global) -> io::Result<()> {
         let mut prefixes = Vec::new(alloc);
         prefixes.push(first.to_string(alloc)?)?;
         prefixes.push(second.to_string(alloc)?)?;
-        let filter = filter(alloc, "^11")?;
-        let mut lines = Lines::new(alloc, filter, prefixes, Wanted::Each, false);
+        let range = releases(alloc, "^11")?;
+        let mut lines = Lines::new(alloc, range, prefixes, LineOptions::new());
         let mut kept = Vec::new(alloc);
         let is_taken = lines.push(alloc, text.as_bytes(), &mut kept).is_ok()
             && lines.finish(alloc, &mut kept).is_ok();
@@ -165,10 +255,79 @@ pub fn write_prefixes(rt: &impl Print, alloc: Global) -> io::Result<()> {
     println!(rt; "lines: {count} pairs of prefixes")
 }
 
+/// Writes at which cuts of lines in other forms something else is appended, and how many cuts there
+/// were.
+pub fn write_forms(rt: &impl Print, alloc: Global) -> io::Result<()> {
+    let mut cuts = 0u32;
+    for (ending, strips_prefix, wanted, prefix, text, appended) in &FORMS {
+        let options = LineOptions {
+            selection: *wanted,
+            ending: *ending,
+            strips_prefix: *strips_prefix,
+            is_strict: false,
+        };
+        for place in 0..=text.len() {
+            let (front, back) = text.as_bytes().split_at(place);
+            let mut prefixes = Vec::new(alloc);
+            prefixes.push(prefix.to_string(alloc)?)?;
+            let range = releases(alloc, "^1.2")?;
+            let mut lines = Lines::new(alloc, range, prefixes, options);
+            let mut kept = Vec::new(alloc);
+            let is_taken = lines.push(alloc, front, &mut kept).is_ok()
+                && lines.push(alloc, back, &mut kept).is_ok()
+                && lines.finish(alloc, &mut kept).is_ok();
+            if !is_taken || kept.as_slice() != appended.as_bytes() {
+                println!(rt; "lines: wrong where {text:?} is cut after {place} bytes")?;
+            }
+            cuts = cuts.saturating_add(1);
+        }
+    }
+    println!(rt; "lines: {cuts} cuts in other forms")
+}
+
+/// Writes of which two files something else is appended, and how many pairs of them there were.
+pub fn write_files(rt: &impl Print, alloc: Global) -> io::Result<()> {
+    for (first, second, appended) in &FILES {
+        let mut lines = lines_of(alloc, "^1.2", Selection::Each, true)?;
+        let mut kept = Vec::new(alloc);
+        let is_taken = lines.push(alloc, first.as_bytes(), &mut kept).is_ok()
+            && lines.end_file(alloc, &mut kept).is_ok()
+            && lines.push(alloc, second.as_bytes(), &mut kept).is_ok()
+            && lines.finish(alloc, &mut kept).is_ok();
+        let is_counted = lines.counts().invalid == 0 && lines.counts().empty == 0;
+        if !is_taken || !is_counted || kept.as_slice() != appended.as_bytes() {
+            println!(rt; "lines: wrong with the files {first:?} and {second:?}")?;
+        }
+    }
+    if !stops_at_the_end_of_a_file(alloc)? {
+        println!(rt; "lines: wrong at an invalid last line of a file")?;
+    }
+    let count = FILES.len();
+    println!(rt; "lines: {count} pairs of files")
+}
+
+/// Whether strict lines stop at a last line of a file that is no version, once: then another file
+/// is taken.
+fn stops_at_the_end_of_a_file(alloc: Global) -> Result<bool, AllocError> {
+    let mut lines = lines_of(alloc, "^1.2", Selection::Each, true)?;
+    let mut kept = Vec::new(alloc);
+    let has_stopped = lines.push(alloc, b"1.4.0\nx", &mut kept).is_ok()
+        && matches!(
+            lines.end_file(alloc, &mut kept),
+            Err(LinesError::NoVersion(2))
+        );
+    let goes_on = lines.push(alloc, b"\xEF\xBB\xBF1.9.0\n", &mut kept).is_ok();
+    let first = &lines.counts().first_invalid;
+    let is_shown = first
+        .as_ref()
+        .is_some_and(|line| line.front.as_slice() == "x".as_bytes());
+    Ok(has_stopped && goes_on && is_shown && kept.as_slice() == "1.4.0\n1.9.0\n".as_bytes())
+}
+
 /// Whether pieces append this, the kept lines that they end as soon as these end.
 fn appends(
     alloc: Global,
-    wanted: Wanted,
+    wanted: Selection,
     pieces: &[&[u8]],
     appended: &str,
 ) -> Result<bool, AllocError> {
@@ -184,7 +343,7 @@ fn appends(
         return Ok(false);
     }
     let has_last = match wanted {
-        Wanted::Each => so_far + "1.4.0".len() == kept.len(),
+        Selection::Each => so_far + "1.4.0".len() == kept.len(),
         _ => so_far == 0,
     };
     Ok(has_last && kept.as_slice() == appended.as_bytes() && are_counted(&lines))
@@ -194,6 +353,7 @@ fn appends(
 fn are_counted(lines: &Lines) -> bool {
     let counts = lines.counts();
     counts.lines == 8
+        && counts.kept == 4
         && counts.empty == 1
         && counts.invalid == 1
         && counts.first_invalid.as_ref().is_some_and(|line| line.number == 2
@@ -203,7 +363,7 @@ fn are_counted(lines: &Lines) -> bool {
 /// Whether pieces of this length append this.
 fn appends_in_pieces(
     alloc: Global,
-    wanted: Wanted,
+    wanted: Selection,
     length: usize,
     appended: &str,
 ) -> Result<bool, AllocError> {
@@ -224,7 +384,7 @@ fn appends_in_pieces(
 /// pushed.
 fn stops_and_goes_on(
     alloc: Global,
-    wanted: Wanted,
+    wanted: Selection,
     length: usize,
     appended: &str,
 ) -> Result<bool, AllocError> {
@@ -251,7 +411,7 @@ fn stops_and_goes_on(
 }
 
 /// Whether strict lines stop at a last line that is no version, each time, and append nothing.
-fn stops_at_the_end(alloc: Global, wanted: Wanted) -> Result<bool, AllocError> {
+fn stops_at_the_end(alloc: Global, wanted: Selection) -> Result<bool, AllocError> {
     let mut lines = lines_of(alloc, "^1.2", wanted, true)?;
     let mut kept = Vec::new(alloc);
     let mut is_right = lines.push(alloc, b"2.0.0\n\nx", &mut kept).is_ok();
@@ -266,7 +426,7 @@ fn stops_at_the_end(alloc: Global, wanted: Wanted) -> Result<bool, AllocError> {
 
 /// Whether a line is skipped and counted, and the lines before and after it are appended.
 fn skips(alloc: Global, before: &str, line: &[u8], after: &str) -> Result<bool, AllocError> {
-    let mut lines = lines_of(alloc, "^1.2", Wanted::Each, false)?;
+    let mut lines = lines_of(alloc, "^1.2", Selection::Each, false)?;
     let mut kept = Vec::new(alloc);
     let mut wanted = Vec::new(alloc);
     wanted.extend_from_slice(before.trim_start().as_bytes())?;
@@ -302,7 +462,7 @@ fn late_line(alloc: Global, letters: usize) -> Result<Vec<u8>, AllocError> {
 /// Whether a long line that is cut after so many bytes is kept or else counted, and the line after
 /// it is kept.
 fn takes_long(alloc: Global, line: &[u8], place: usize, is_kept: bool) -> Result<bool, AllocError> {
-    let mut lines = lines_of(alloc, "^1.2", Wanted::Each, false)?;
+    let mut lines = lines_of(alloc, "^1.2", Selection::Each, false)?;
     let mut kept = Vec::new(alloc);
     let mut wanted = Vec::new(alloc);
     if is_kept {
@@ -332,17 +492,24 @@ fn takes_long(alloc: Global, line: &[u8], place: usize, is_kept: bool) -> Result
 fn lines_of(
     alloc: Global,
     range: &str,
-    wanted: Wanted,
+    wanted: Selection,
     is_strict: bool,
 ) -> Result<Lines, AllocError> {
-    let filter = filter(alloc, range)?;
-    Ok(Lines::new(alloc, filter, Vec::new(alloc), wanted, is_strict))
+    let range = releases(alloc, range)?;
+    let mut options = LineOptions::new();
+    options.selection = wanted;
+    options.is_strict = is_strict;
+    Ok(Lines::new(alloc, range, Vec::new(alloc), options))
 }
 
-/// The filter of a range in Cargo mode, releases only.
-fn filter(alloc: Global, range: &str) -> Result<Filter, AllocError> {
-    match Filter::new(alloc, range, Compat::Cargo, PreReleases::Excluded) {
-        Ok(filter) => Ok(filter),
+/// The releases that a range of the crate in Cargo mode contains.
+fn releases(alloc: Global, range: &str) -> Result<VersionRange, AllocError> {
+    let meaning = Meaning {
+        dialect: Dialect::CrateCargo,
+        pre_releases: PreReleases::Excluded,
+    };
+    match VersionRange::parse(alloc, range, meaning) {
+        Ok(range) => Ok(range),
         Err(_) => Err(AllocError),
     }
 }

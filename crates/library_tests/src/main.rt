@@ -74,5 +74,7 @@ fn write_writes(rt: &HostRuntime) -> io::Result<()> {
     lines::write_strict_lines(rt, rt.alloc())?;
     lines::write_invalid_lines(rt, rt.alloc())?;
     lines::write_long_lines(rt, rt.alloc())?;
-    lines::write_prefixes(rt, rt.alloc())
+    lines::write_prefixes(rt, rt.alloc())?;
+    lines::write_forms(rt, rt.alloc())?;
+    lines::write_files(rt, rt.alloc())
 }

@@ -1,6 +1,6 @@
 //! Calls what allocates, and checks that each call returns in full or out of memory, and leaves
 //! what it promises. With ample memory every call has to return in full; else the one request that
-//! is refused has to be met by exactly one call, which is named.
+//! is refused has to be made by exactly one call, which is named.
 
 mod filters;
 mod fixed;
@@ -9,9 +9,9 @@ mod parsers;
 mod ranges;
 mod reports;
 mod sets;
+mod version_ranges;
 mod versions;
 
-use release_filter::Filter;
 use semver_parser::Compat;
 use std::alloc::Global;
 use std::io;
@@ -63,10 +63,6 @@ pub fn write_calls(rt: &HostRuntime, requests: u32) -> io::Result<()> {
     tell(rt, &of_range_sets(rt.alloc()))?;
     tell(rt, &of_tool_ranges(rt.alloc()))?;
     tell(rt, &of_filters_and_reports(rt.alloc()))?;
-    match filters::as_stated(rt.alloc()) {
-        Ok(filter) => tell(rt, &of_filter(rt.alloc(), &filter))?,
-        Err(ending) => tell(rt, &[("filter_as_stated", ending)])?,
-    }
     tell(rt, &of_lines(rt.alloc()))?;
     match sets::of_texts(rt.alloc()) {
         Ok((first, second)) => tell(rt, &of_sets(rt.alloc(), &first, &second))?,
@@ -200,31 +196,20 @@ fn of_tool_ranges(alloc: Global) -> [(&'static str, Ending); 13] {
     ]
 }
 
-/// How each call that makes a filter or a report ends.
-fn of_filters_and_reports(alloc: Global) -> [(&'static str, Ending); 5] {
+/// How each call that filters versions, reads or combines ranges, or makes a report ends.
+fn of_filters_and_reports(alloc: Global) -> [(&'static str, Ending); 6] {
     [
         ("filter", filters::filter(alloc)),
-        (
-            "read_without_requests",
-            filters::read_without_requests(alloc),
-        ),
+        ("version_range", version_ranges::parse(alloc)),
+        ("combined_ranges", version_ranges::combined(alloc)),
         ("refused_filter_texts", filters::refused_texts(alloc)),
         ("report", reports::report(alloc)),
         ("report_of_errors", reports::report_of_errors(alloc)),
     ]
 }
 
-/// How each call on versions ends of a filter.
-fn of_filter(alloc: Global, filter: &Filter) -> [(&'static str, Ending); 3] {
-    [
-        ("kept_versions", filters::kept_versions(alloc, filter)),
-        ("read_version", filters::read_version(alloc, filter)),
-        ("no_version_kept", filters::no_version_kept(alloc, filter)),
-    ]
-}
-
 /// How each filter of lines ends.
-fn of_lines(alloc: Global) -> [(&'static str, Ending); 7] {
+fn of_lines(alloc: Global) -> [(&'static str, Ending); 8] {
     [
         ("copied_lines", filters::copied_lines(alloc)),
         ("greatest_line", filters::greatest_line(alloc)),
@@ -232,6 +217,7 @@ fn of_lines(alloc: Global) -> [(&'static str, Ending); 7] {
         ("sorted_lines", filters::sorted_lines(alloc)),
         ("many_sorted_lines", filters::many_sorted_lines(alloc)),
         ("line_without_an_end", filters::line_without_an_end(alloc)),
+        ("line_of_a_file", filters::line_of_a_file(alloc)),
         ("lines_passed_over", filters::lines_passed_over(alloc)),
     ]
 }
@@ -244,7 +230,7 @@ fn of_sets(alloc: Global, first: &VersionSet, second: &VersionSet) -> [(&'static
         ("union", sets::union(alloc, first, second)),
         ("intersection", sets::intersection(alloc, first, second)),
         ("difference", sets::difference(alloc, first, second)),
-        ("least", sets::least(alloc, first)),
+        ("least", sets::lowest(alloc, first)),
         ("compared", sets::compared(alloc, first, second)),
         ("release_ranges", sets::release_ranges(alloc, first)),
         ("pre_release_ranges", sets::pre_release_ranges(alloc, first)),

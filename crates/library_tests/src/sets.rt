@@ -91,7 +91,7 @@ const SAME: [(&str, &str); 3] = [
     ),
 ];
 
-/// Two ranges in Cargo mode, a rule, and the least versions that are lost, gained and shared where
+/// Two ranges in Cargo mode, a rule, and the lowest versions that are lost, gained and shared where
 /// the second takes the place of the first. A text without bytes says that there is none.
 const COMPARED: [(&str, &str, PreReleases, [&str; 3]); 6] = [
     (
@@ -155,7 +155,7 @@ pub fn write_sets(rt: &impl Print, alloc: Global) -> io::Result<()> {
     println!(rt; "compared sets: {} pairs", COMPARED.len())
 }
 
-/// Whether the comparison of the sets of two ranges tells these versions.
+/// Whether the comparison of the sets of two ranges gives these versions.
 fn is_compared(
     alloc: Global,
     old: &str,
@@ -190,7 +190,7 @@ fn is_in(alloc: Global, range: &str, rule: PreReleases, text: &str) -> io::Resul
     let Ok(version) = version::parse(alloc, text) else {
         return Err(io::Error::from(ErrorKind::InvalidInput));
     };
-    Ok(set_of(alloc, range, rule)?.has(&version))
+    Ok(set_of(alloc, range, rule)?.contains(&version))
 }
 
 /// The set of a range.

@@ -1,6 +1,6 @@
 //! Whole writes: of no byte and of some, at a writer that refuses.
 use super::writers::{Limited, Refusal};
-use semver_parser::writing::write_whole;
+use semver_texts::writing::write_whole;
 use std::alloc::Global;
 use std::io;
 use std::io::ErrorKind;
@@ -24,7 +24,7 @@ pub fn write_writes(rt: &impl Print, alloc: Global) -> io::Result<()> {
     println!(rt; "writes: {writes} writers")
 }
 
-/// How many beginnings of the bytes were written to writers with each room, and how many of these
+/// How many beginnings of the bytes were written to writers with each capacity, and how many of these
 /// writes didn't end as they have to.
 fn count_writes(alloc: Global, most: usize, refusal: Refusal) -> (u32, u32) {
     let mut count = 0u32;
@@ -42,7 +42,7 @@ fn count_writes(alloc: Global, most: usize, refusal: Refusal) -> (u32, u32) {
 }
 
 /// Whether all is written, or what is taken before a refusal, and then the error of the
-/// documentation is told.
+/// documentation is returned.
 fn ends_as_documented(
     alloc: Global,
     bytes: &[u8],
@@ -58,7 +58,7 @@ fn ends_as_documented(
     is_told && out.late_calls == 0 && Some(out.taken.as_slice()) == bytes.get(..left)
 }
 
-/// The error that a refusal has to be told by.
+/// The error that a refusal has to give.
 fn kind_of(refusal: Refusal) -> ErrorKind {
     match refusal {
         Refusal::Fail => ErrorKind::BrokenPipe,

@@ -1,131 +1,165 @@
 -- serves: release_filter::lines::Lines::push, stops
 -- What one line does to the state, and what the line that no line feed ends does.
-use Rattle.std.proofs.Common.{◌≡◌, ◌∙◌, ◌⊎◌, ◌++◌, ◌∷◌, [], List, Bool, true, false, not, refl, sym, ap, subst, inl, inr, IsTrue}
-use Rattle.std.proofs.Common.{append-nil, length, ◌==◌, arith, rules}
+use Rattle.std.proofs.Common.{◌≡◌, ◌∙◌, ◌⊎◌, ◌++◌, ◌∷◌, [], List, Bool, true, false, cond, not, refl, sym, ap, subst, inl, inr, IsTrue}
+use Rattle.std.proofs.Common.{append-nil, length, ◌==◌, arith, rules, Result, Ok, Err, IfOk}
 use Rattle.std.specs.Prelude.{◌||◌, None, Option, option_to_list}
-use Rattle.semver_parser.specs.Outlines.{OutlineValue}
-use Rattle.semver_parser.specs.Texts.{Text}
-use Rattle.semver_parser.specs.Versions.{PlainVersion}
+use Rattle.tool_ranges.specs.VersionRanges.{versions_grammar}
+use Rattle.semver_versions.specs.Outlines.{OutlineValue}
+use Rattle.semver_texts.specs.Texts.{Text, is_empty}
+use Rattle.semver_texts.specs.Versions.{PlainVersion}
 use Rattle.release_filter.specs.Counting.{CountsValue, counted_as, one_more}
 use Rattle.release_filter.specs.LineTexts.{IsWholeLine, after_mark, lines_of}
-use Rattle.release_filter.specs.Pieces.{Completes, EndAllocates, EndsInvalid, LinesValue}
-use Rattle.release_filter.specs.Steps.Outlined.{JudgesBy}
-use Rattle.release_filter.specs.Filters.{FilterValue}
-use Rattle.release_filter.specs.Steps.Taking.{Concludes, Outlines, PassesAs, TakesJudged, TakesLine, TakesWhole, verdict_of}
-use Rattle.release_filter.specs.Verdicts.{AreJudged, HasVersion, IsVerdictOn, JudgedLine, Verdict, asked, has_invalid, is_invalid, kept}
+use Rattle.release_filter.specs.declared.line_texts.LineEnd.{LineEnd}
+use Rattle.release_filter.specs.Pieces.{Completes, EndAllocates, EndsFile, EndsFileBy, EndsInvalid, LinesValue, TakesAll, begun_file}
+use Rattle.release_filter.specs.Steps.Taking.{Concludes, JudgesLine, Outlines, MatchesAs, TakesJudged, TakesLine, TakesWhole, verdict_of}
+use Rattle.release_filter.specs.Verdicts.{AreJudged, IsVerdictOn, JudgedLine, LineRule, Verdict, has_invalid, is_invalid, kept}
 use Rattle.release_filter.specs.Verdicts.{dropped}
 use Rattle.release_filter.specs.Verdicts.{empty, invalid}
-use Rattle.release_filter.specs.Wanted.{AnswerAllocates, HeldValue, Holds, IsBest, KeptValue, emptied, kept_as, order_of, text_of}
-use Rattle.release_filter.specs.declared.wanted.Wanted.TheVariants as wanted
-use Rattle.release_filter.specs.declared.judging.Judged.{Judged}
-use Rattle.release_filter.specs.declared.judging.Judged.TheVariants.{NoVersion, DoesNotPass, Passes}
+use Rattle.release_filter.specs.Selections.{AnswerAllocates, HeldValue, Holds, IsBest, SelectedValue, emptied, selected_as, order_of, text_of}
+use Rattle.release_filter.specs.declared.selection.Selection.TheVariants as selection
+use Rattle.release_filter.specs.declared.verdict.Judged.{Judged}
+use Rattle.release_filter.specs.declared.verdict.Judged.TheVariants.{NoVersion, DoesNotMatch, Matches}
 use Rattle.release_filter.proofs.Holding.{holds_none, kept_one}
-use Rattle.release_filter.proofs.JudgedLines.{OneVersion, judged_none, judged_one, one_judging, verdict}
-use Rattle.release_filter.proofs.Passing.{not_both}
+use Rattle.release_filter.proofs.JudgedLines.{OneVersion, counted_given, judged_none, judged_one, one_judging, verdict}
+use Rattle.release_filter.proofs.NotedLines.{empty_is}
+use Rattle.release_filter.proofs.Matching.{not_both}
 use Rattle.release_filter.proofs.SkippedLines.{counted_alike, is_skipped, must_be_skipped}
 use Rattle.release_filter.specs.Skipping.{ShowsNone}
-use Rattle.release_filter.proofs.TakenPieces.{NoEnd, judged_as, line_with, no_end_marked, only_line, took_line}
+use Rattle.release_filter.proofs.TakenPieces.{NoEnd, all_given, end_in, judged_as, line_with, no_end_marked, only_line, took_line}
 use Rattle.std.proofs.lemmas.Grind.{common_steps}
 
 -- ---- one line
 
 -- of a line that is kept this is held
-pub takes_kept : (h g : HeldValue) (c d : CountsValue) (line : Text) (said : Judged) (o : OutlineValue) (plain : PlainVersion) (old new :
-    Text)
-    → said ≡ Passes o
-    → (Outlines o plain → (added : Text) × Holds h (record { version = plain; line = line } ∷ []) g added × (new ≡ old ++ added))
-    → PassesAs said plain → d ≡ counted_as (verdict_of said plain line) c line
-    → TakesLine h c line (verdict_of said plain line) g d old new
-takes_kept h g c d line said o plain old new is holds passes counts = search rules
+pub takes_kept : (e : LineEnd) (h g : HeldValue) (c d : CountsValue) (given : Text) (said : Judged) (o : OutlineValue) (plain : PlainVersion)
+    (old new : Text) → said ≡ Matches o
+    → (Outlines o plain → (added : Text) × Holds h (record { version = plain; line = given } ∷ []) g added × (new ≡ old ++ added))
+    → MatchesAs said plain → d ≡ counted_as e (verdict_of e said plain given) c given
+    → TakesLine e h c given (verdict_of e said plain given) g d old new
+takes_kept e h g c d given said o plain old new is holds matches counts = search rules
 
-pub none_kept : (said : Judged) (plain : PlainVersion) (line : Text) → ((o : OutlineValue) → said ≡ Passes o → ⊥)
-    → kept_as (verdict_of said plain line) line ≡ []
-none_kept NoVersion plain line isnt = search rules
-none_kept DoesNotPass plain line isnt = refl
-none_kept (Passes o) plain line isnt = absurd (isnt o refl)
+pub none_kept : (e : LineEnd) (said : Judged) (plain : PlainVersion) (given : Text) → ((o : OutlineValue) → said ≡ Matches o → ⊥)
+    → selected_as (verdict_of e said plain given) ≡ []
+none_kept e NoVersion plain given isnt = by_text _
+  where
+    by_text : (b : Bool) → selected_as (cond b empty invalid) ≡ []
+    by_text true = refl
+    by_text false = refl
+none_kept e DoesNotMatch plain given isnt = refl
+none_kept e (Matches o) plain given isnt = absurd (isnt o refl)
 
-pub fails_kept : (said : Judged) (plain : PlainVersion) (line : Text) → (said ≡ NoVersion) ⊎ (said ≡ DoesNotPass)
-    → kept_as (verdict_of said plain line) line ≡ []
-fails_kept NoVersion plain line either = search rules
-fails_kept DoesNotPass plain line either = refl
-fails_kept (Passes o) plain line (inl e) = cc
-fails_kept (Passes o) plain line (inr e) = cc
+pub fails_kept : (e : LineEnd) (said : Judged) (plain : PlainVersion) (given : Text) → (said ≡ NoVersion) ⊎ (said ≡ DoesNotMatch)
+    → selected_as (verdict_of e said plain given) ≡ []
+fails_kept e NoVersion plain given either = none_kept e NoVersion plain given (λ o is. cc)
+fails_kept e DoesNotMatch plain given either = refl
+fails_kept e (Matches o) plain given (inl is) = cc
+fails_kept e (Matches o) plain given (inr is) = cc
 
--- the text of a line that is kept
-pub text_kept : (said : Judged) (o : OutlineValue) (plain : PlainVersion) (line : Text) → said ≡ Passes o
-    → text_of (kept_as (verdict_of said plain line) line) ≡ line
-text_kept said o plain line is = search rules
+-- what is given of a line that is kept
+pub text_kept : (e : LineEnd) (said : Judged) (o : OutlineValue) (plain : PlainVersion) (given : Text) → said ≡ Matches o
+    → text_of (selected_as (verdict_of e said plain given)) ≡ given
+text_kept e said o plain given is = search rules
 
 -- the last line of a text, if it is kept
-pub last_kept : (said : Judged) (o : OutlineValue) (plain : PlainVersion) (line : Text) (k : KeptValue) → said ≡ Passes o
-    → (Outlines o plain → k ≡ record { version = plain; line = line }) → PassesAs said plain
-    → k ∷ [] ≡ kept_as (verdict_of said plain line) line
-last_kept said o plain line k is made passes = search rules
+pub last_kept : (e : LineEnd) (said : Judged) (o : OutlineValue) (plain : PlainVersion) (given : Text) (k : SelectedValue) → said ≡ Matches o
+    → (Outlines o plain → k ≡ record { version = plain; line = given }) → MatchesAs said plain
+    → k ∷ [] ≡ selected_as (verdict_of e said plain given)
+last_kept e said o plain given k is made matches = search rules
 
 -- and of another one nothing
-pub takes_other : (h : HeldValue) (c d : CountsValue) (line : Text) (said : Judged) (plain : PlainVersion) (old : Text)
-    → ((o : OutlineValue) → said ≡ Passes o → ⊥) → d ≡ counted_as (verdict_of said plain line) c line
-    → TakesLine h c line (verdict_of said plain line) h d old old
-takes_other h c d line said plain old isnt counts = grind (arith, holds_none, append-nil)
+pub takes_other : (e : LineEnd) (h : HeldValue) (c d : CountsValue) (given : Text) (said : Judged) (plain : PlainVersion) (old : Text)
+    → ((o : OutlineValue) → said ≡ Matches o → ⊥) → d ≡ counted_as e (verdict_of e said plain given) c given
+    → TakesLine e h c given (verdict_of e said plain given) h d old old
+takes_other e h c d given said plain old isnt counts = record {
+  added = [];
+  holds = rw (none_kept e said plain given isnt) (holds_none h);
+  appended = sym (append-nil old);
+  counted = counts;
+}
 
--- of a line that is kept and wanted at once, all is appended
-pub takes_each : (h : HeldValue) (c d : CountsValue) (line : Text) (said : Judged) (o : OutlineValue) (plain : PlainVersion) (old new :
-    Text)
-    → h.wanted ≡ wanted.Each → said ≡ Passes o → old ≡ [] → new ≡ line → d ≡ record c { lines = one_more c.lines }
-    → TakesLine h c line (verdict_of said plain line) h d old new × (true ≡ not (is_invalid (verdict_of said plain line)))
-takes_each h c d line said o plain old new each is none whole counts = (
+-- of a line that is kept and wanted at once, what is given is appended
+pub takes_each : (e : LineEnd) (h : HeldValue) (c d : CountsValue) (given : Text) (said : Judged) (o : OutlineValue) (plain : PlainVersion)
+    (old new : Text) → h.selection ≡ selection.Each → said ≡ Matches o → old ≡ [] → new ≡ given → d ≡ record c { lines = one_more c.lines; kept = one_more c.kept }
+    → TakesLine e h c given (verdict_of e said plain given) h d old new × (true ≡ not (is_invalid (verdict_of e said plain given)))
+takes_each e h c d given said o plain old new each is none whole counts = (
   record {
-    added = line;
+    added = given;
     holds =
-        rw is (rw each (refl, sym (append-nil line)));
+        rw is (rw each (refl, sym (append-nil given)));
     appended = cc;
     counted = cc;
   },
-  ap (λ s. not (is_invalid (verdict_of s plain line))) (sym is),
+  ap (λ s. not (is_invalid (verdict_of e s plain given))) (sym is),
 )
 
 -- of a line that is kept and of which the best is wanted, none is appended
-pub takes_best : (h g : HeldValue) (c d : CountsValue) (line : Text) (said : Judged) (o : OutlineValue) (plain v : PlainVersion) (old :
-    Text)
-    (best : Option KeptValue) → (h.wanted ≡ wanted.Greatest) ⊎ (h.wanted ≡ wanted.Least) → said ≡ Passes o → PassesAs said plain
-    → (Outlines o plain → v ≡ plain)
-    → IsBest (order_of h.wanted) (option_to_list h.best ++ record { version = v; line = line } ∷ []) best
-    → g ≡ record h { best = best } → d ≡ record c { lines = one_more c.lines }
-    → TakesLine h c line (verdict_of said plain line) g d old old × (true ≡ not (is_invalid (verdict_of said plain line)))
-takes_best h g c d line said o plain v old best either is passes made found so counts = search rules
+pub takes_best : (e : LineEnd) (h g : HeldValue) (c d : CountsValue) (given : Text) (said : Judged) (o : OutlineValue)
+    (plain v : PlainVersion) (old : Text) (best : Option SelectedValue)
+    → (h.selection ≡ selection.Highest) ⊎ (h.selection ≡ selection.Lowest) → said ≡ Matches o → MatchesAs said plain → (Outlines o plain → v ≡ plain)
+    → IsBest (order_of h.selection) (option_to_list h.best ++ record { version = v; line = given } ∷ []) best
+    → g ≡ record h { best = best } → d ≡ record c { lines = one_more c.lines; kept = one_more c.kept }
+    → TakesLine e h c given (verdict_of e said plain given) g d old old × (true ≡ not (is_invalid (verdict_of e said plain given)))
+takes_best e h g c d given said o plain v old best either is matches made found so counts = search rules
 
--- a line was taken of which a filter says this
-pub takes_judged : (filter : FilterValue) (prefixes : List Text) (h g : HeldValue) (c d : CountsValue) (line text : Text) (said : Judged)
-    (old new : Text) (valid : Bool) → line ≡ text → JudgesBy (HasVersion filter.grammar (asked prefixes) line) filter said
-    → ((plain : PlainVersion) → PassesAs said plain → TakesLine h c line (verdict_of said plain line) g d old new
-    × (valid ≡ not (is_invalid (verdict_of said plain line)))) → TakesJudged filter prefixes h c text g d old new valid
-takes_judged filter prefixes h g c d line text said old new valid is judges takes =
-    let told = verdict filter prefixes line said judges in
+-- all is given of a kept line that is as long as its bytes
+pub given_whole : (rule : LineRule) (front : Bool) (bytes line given : Text) (said : Judged) (o : OutlineValue) → said ≡ Matches o
+    → JudgesLine rule line given said → line ≡ after_mark front bytes → length given ≡ length bytes → given ≡ bytes
+given_whole rule front bytes line given said o is judges marked long =
+    let kept = subst (JudgesLine rule line given) is judges in
+    all_given rule.strips_prefix front (length kept.2.0) bytes line given marked kept.2.5 long
+
+-- a line was taken of which a filter says this, and of which this is given
+pub takes_judged : (rule : LineRule) (h g : HeldValue) (c d : CountsValue) (line text given : Text) (said : Judged) (old new : Text)
+    (valid : Bool) → line ≡ text → JudgesLine rule line given said
+    → ((plain : PlainVersion) → MatchesAs said plain → TakesLine rule.ending h c given (verdict_of rule.ending said plain given) g d old new
+    × (valid ≡ not (is_invalid (verdict_of rule.ending said plain given)))) → TakesJudged rule h c text g d old new valid
+takes_judged rule h g c d line text given said old new valid is judges takes =
+    let told = verdict rule line given said judges in
     let one = takes told.0 told.1 in
-    rw (← is) (verdict_of said told.0 line, told.2, one.0, one.1)
+    rw (← is) (
+      verdict_of rule.ending said told.0 given,
+      told.2,
+      record {
+        added = one.0.added;
+        holds = one.0.holds;
+        appended = one.0.appended;
+        counted = one.0.counted ∙ counted_given rule line given said told.0 c judges;
+      },
+      one.1,
+    )
+
+-- so it is of what a call gave
+pub takes_judged_ok : {E : Type 0} (rule : LineRule) (h g : HeldValue) (c d : CountsValue) (line text given : Text) (said : Judged)
+    (old new : Text) (r : Result Bool E) → line ≡ text → JudgesLine rule line given said
+    → ((plain : PlainVersion) → MatchesAs said plain → IfOk r (λ valid. TakesLine rule.ending h c given
+    (verdict_of rule.ending said plain given) g d old new × (valid ≡ not (is_invalid (verdict_of rule.ending said plain given)))))
+    → IfOk r (λ valid. TakesJudged rule h c text g d old new valid)
+takes_judged_ok rule h g c d line text given said old new (Ok valid) is judges takes =
+    takes_judged rule h g c d line text given said old new valid is judges takes
+takes_judged_ok rule h g c d line text given said old new (Err e) is judges takes = tt
 
 -- of a line that is skipped any end says the same
 pub skips_end : (s : LinesValue) (end other : Text) (g : HeldValue) (d : CountsValue) (old new : Text) (valid : Bool)
-    → NoEnd s.unended → ShowsNone s.filter.grammar s.prefixes s.at_front s.unended
-    → TakesJudged s.filter s.prefixes s.held s.counts (line_with s other) g d old new valid
-    → TakesJudged s.filter s.prefixes s.held s.counts (line_with s end) g d old new valid
+    → NoEnd (end_in s) s.unended → ShowsNone (versions_grammar s.rule.filter) s.rule.prefixes s.at_front s.unended
+    → TakesJudged s.rule s.held s.counts (line_with s other) g d old new valid
+    → TakesJudged s.rule s.held s.counts (line_with s end) g d old new valid
 skips_end s end other g d old new valid none shows (v, on, taken, is_valid) =
-    let same = must_be_skipped s.filter s.prefixes s.at_front s.unended none shows other v on in (
+    let same = must_be_skipped s.rule s.at_front s.unended none shows other v on in (
       invalid,
-      is_skipped s.filter s.prefixes s.at_front s.unended none shows end,
+      is_skipped s.rule s.at_front s.unended none shows end,
       record {
         added = taken.added;
-        holds = subst (λ w. Holds s.held (kept_as w (line_with s other)) g taken.added) same taken.holds;
+        holds = subst (λ w. Holds s.held (selected_as w) g taken.added) same taken.holds;
         appended = taken.appended;
-        counted = taken.counted ∙ ap (λ w. counted_as w s.counts (line_with s other)) same
-            ∙ counted_alike s.filter s.prefixes s.at_front s.unended none shows other end s.counts;
+        counted = taken.counted ∙ ap (λ w. counted_as s.rule.ending w s.counts (line_with s other)) same
+            ∙ counted_alike s.rule s.at_front s.unended none shows other end s.counts;
       },
       is_valid ∙ ap (λ w. not (is_invalid w)) same,
     )
 
 -- and this was its end
 pub took_judged : (s : LinesValue) (end left : Text) (front : Bool) (g : HeldValue) (d : CountsValue) (old new : Text) (valid : Bool)
-    → IsWholeLine end → NoEnd s.unended → TakesJudged s.filter s.prefixes s.held s.counts (line_with s end) g d old new valid → left ≡ []
+    → IsWholeLine (end_in s) end → NoEnd (end_in s) s.unended → TakesJudged s.rule s.held s.counts (line_with s end) g d old new valid → left ≡ []
     → front ≡ false → TakesWhole s end (record s { at_front = front; unended = left; held = g; counts = d }) old new valid
 took_judged s end left front g d old new valid whole none (v, on, taken, is_valid) none_left later = (
   judged_as s end v,
@@ -142,7 +176,7 @@ one_more_valid [] j valid is = cc
 one_more_valid (x ∷ xs) j valid is = grind (arith, common_steps)
 
 pub bad_verdict : (v : Verdict) → is_invalid v ≡ true → v ≡ invalid
-bad_verdict (kept p) e = cc
+bad_verdict (kept p g) e = cc
 bad_verdict dropped e = cc
 bad_verdict invalid e = refl
 bad_verdict empty e = cc
@@ -156,7 +190,7 @@ pub opposite_bad : (told bad : Bool) → told ≡ not bad → told ≡ false →
 opposite_bad told true is e = refl
 opposite_bad told false is e = cc
 
--- ---- the line that no line feed ends
+-- ---- the line that has no end of its own
 
 pub some_line : (line : Text) → (length line == 0) ≡ false → line ≡ [] → ⊥
 some_line line some none = cc
@@ -171,13 +205,13 @@ module _ (s : LinesValue) (line : Text) (is : line ≡ after_mark s.at_front s.u
   abbrev Ended : HeldValue → CountsValue → LinesValue
   Ended h d = record s { at_front = true; unended = []; held = emptied h; counts = d }
 
-  no_lines : line ≡ [] → lines_of (after_mark s.at_front s.unended) ≡ []
-  no_lines none = ap lines_of (sym is ∙ none)
+  no_lines : line ≡ [] → lines_of (end_in s) (after_mark s.at_front s.unended) ≡ []
+  no_lines none = ap (lines_of (end_in s)) (sym is ∙ none)
 
-  pub finished_none : line ≡ [] → (old new : Text) → Concludes s.held [] old new
+  pub finished_none : line ≡ [] → (old new : Text) → Concludes (end_in s) s.held [] old new
       → Completes s (after_mark s.at_front s.unended) [] (Ended s.held s.counts) old new
   finished_none none old new (held, added, rest, holds, answers, appended) = record {
-    judges = subst (λ l. AreJudged s.filter s.prefixes l []) (sym (no_lines none)) (judged_none s.filter s.prefixes);
+    judges = subst (λ l. AreJudged s.rule l []) (sym (no_lines none)) (judged_none s.rule);
     held = held;
     added = added;
     rest = rest;
@@ -190,36 +224,36 @@ module _ (s : LinesValue) (line : Text) (is : line ≡ after_mark s.at_front s.u
   pub none_allocates : line ≡ [] → (old : Text) → AnswerAllocates s.held [] old → EndAllocates s old
   none_allocates none old answer = (
     [],
-    subst (λ l. AreJudged s.filter s.prefixes l []) (sym (no_lines none)) (judged_none s.filter s.prefixes),
+    subst (λ l. AreJudged s.rule l []) (sym (no_lines none)) (judged_none s.rule),
     inr answer,
   )
 
   pub ends_valid_none : OneVersion → line ≡ [] → ¬ (EndsInvalid s)
   ends_valid_none same none (judged, judges, bad) =
-      let those = one_judging s.filter s.prefixes same (lines_of (after_mark s.at_front s.unended)) [] judged
-      (subst (λ l. AreJudged s.filter s.prefixes l []) (sym (no_lines none)) (judged_none s.filter s.prefixes)) judges in
+      let those = one_judging s.rule same (lines_of (end_in s) (after_mark s.at_front s.unended)) [] judged
+      (subst (λ l. AreJudged s.rule l []) (sym (no_lines none)) (judged_none s.rule)) judges in
       not_both (ap has_invalid those ∙ bad) refl
 
-  module _ (some : line ≡ [] → ⊥) (none : NoEnd s.unended) (said : Judged)
-      (judges : JudgesBy (HasVersion s.filter.grammar (asked s.prefixes) line) s.filter said)
+  module _ (some : line ≡ [] → ⊥) (none : NoEnd (end_in s) s.unended) (given : Text) (said : Judged)
+      (judges : JudgesLine s.rule line given said)
     where
-      told : (plain : PlainVersion) × PassesAs said plain × IsVerdictOn s.filter s.prefixes line (verdict_of said plain line)
-      told = verdict s.filter s.prefixes line said judges
+      told : (plain : PlainVersion) × MatchesAs said plain × IsVerdictOn s.rule line (verdict_of s.rule.ending said plain given)
+      told = verdict s.rule line given said judges
 
       abbrev last : JudgedLine
-      last = record { line = line; verdict = verdict_of said told.0 line }
+      last = record { line = line; verdict = verdict_of s.rule.ending said told.0 given }
 
-      last_judged : AreJudged s.filter s.prefixes (lines_of (after_mark s.at_front s.unended)) (last ∷ [])
+      last_judged : AreJudged s.rule (lines_of (end_in s) (after_mark s.at_front s.unended)) (last ∷ [])
       last_judged =
-          subst (λ l. AreJudged s.filter s.prefixes (lines_of l) (last ∷ [])) is
-          (subst (λ l. AreJudged s.filter s.prefixes l (last ∷ []))
-          (sym (only_line line some (subst NoEnd (sym is) (no_end_marked s.at_front s.unended none))))
-          (judged_one s.filter s.prefixes line (verdict_of said told.0 line) told.2))
+          subst (λ l. AreJudged s.rule (lines_of (end_in s) l) (last ∷ [])) is
+          (subst (λ l. AreJudged s.rule l (last ∷ []))
+          (sym (only_line (end_in s) line some (subst (NoEnd (end_in s)) (sym is) (no_end_marked (end_in s) s.at_front s.unended none))))
+          (judged_one s.rule line (verdict_of s.rule.ending said told.0 given) told.2))
 
       pub finished_one : (d : CountsValue) (old new : Text)
-          → ((plain : PlainVersion) → PassesAs said plain → Concludes s.held (kept_as (verdict_of said plain line) line) old new)
-          → ((plain : PlainVersion) → d ≡ counted_as (verdict_of said plain line) s.counts line) → (bad : Bool)
-          → ((plain : PlainVersion) → bad ≡ is_invalid (verdict_of said plain line)) → (IsTrue s.is_strict → bad ≡ false)
+          → ((plain : PlainVersion) → MatchesAs said plain → Concludes (end_in s) s.held (selected_as (verdict_of s.rule.ending said plain given)) old new)
+          → ((plain : PlainVersion) → d ≡ counted_as s.rule.ending (verdict_of s.rule.ending said plain given) s.counts given) → (bad : Bool)
+          → ((plain : PlainVersion) → bad ≡ is_invalid (verdict_of s.rule.ending said plain given)) → (IsTrue s.is_strict → bad ≡ false)
           → (judged : List JudgedLine) × Completes s (after_mark s.at_front s.unended) judged (Ended s.held d) old new
           × (IsTrue s.is_strict → has_invalid judged ≡ false)
       finished_one d old new concludes counts bad so valid =
@@ -233,36 +267,74 @@ module _ (s : LinesValue) (line : Text) (is : line ≡ after_mark s.at_front s.u
               holds = subst (λ l. Holds s.held l end.0 end.1) (sym (kept_one last)) end.3;
               answers = end.4;
               appended = end.5;
-              state = λ i. record (Ended s.held d) { counts = counts told.0 i };
+              state = λ i. record (Ended s.held d) {
+                counts = (counts told.0 ∙ counted_given s.rule line given said told.0 s.counts judges) i;
+              };
             },
-            λ strict. or_false (is_invalid (verdict_of said told.0 line)) (sym (so told.0) ∙ valid strict),
+            λ strict. or_false (is_invalid (verdict_of s.rule.ending said told.0 given)) (sym (so told.0) ∙ valid strict),
           )
         where
           or_false : (b : Bool) → b ≡ false → (b || false) ≡ false
           or_false true e = e
           or_false false e = refl
 
-      pub ends_invalid : (bad : Bool) → ((plain : PlainVersion) → bad ≡ is_invalid (verdict_of said plain line)) → bad ≡ true
+      pub ends_invalid : (bad : Bool) → ((plain : PlainVersion) → bad ≡ is_invalid (verdict_of s.rule.ending said plain given)) → bad ≡ true
           → EndsInvalid s
       ends_invalid bad so e = (last ∷ [], last_judged, ap (λ b. b || false) (sym (so told.0) ∙ e))
 
-      pub ends_valid : OneVersion → (bad : Bool) → ((plain : PlainVersion) → bad ≡ is_invalid (verdict_of said plain line)) → bad ≡ false
+      pub ends_valid : OneVersion → (bad : Bool) → ((plain : PlainVersion) → bad ≡ is_invalid (verdict_of s.rule.ending said plain given)) → bad ≡ false
           → ¬ (EndsInvalid s)
       ends_valid same bad so e (judged, judges, isnt) =
-          let those = one_judging s.filter s.prefixes same (lines_of (after_mark s.at_front s.unended)) (last ∷ []) judged last_judged
+          let those = one_judging s.rule same (lines_of (end_in s) (after_mark s.at_front s.unended)) (last ∷ []) judged last_judged
           judges in
           not_both (ap has_invalid those ∙ isnt) (ap (λ b. b || false) (sym (so told.0) ∙ e))
 
       -- ---- what the end allocates for
 
       pub noting_allocates : (old : Text)
-          → ((plain : PlainVersion) → IsTrue (is_invalid (verdict_of said plain line)) × (s.counts.first_invalid ≡ None))
+          → ((plain : PlainVersion) → IsTrue (is_invalid (verdict_of s.rule.ending said plain given)) × (s.counts.first_invalid ≡ None))
           → EndAllocates s old
       noting_allocates old first =
           let one = first told.0 in
           (last ∷ [], last_judged, inl (ap (λ b. b || false) one.0, one.1))
 
       pub answering_allocates : (old : Text)
-          → ((plain : PlainVersion) → AnswerAllocates s.held (kept_as (verdict_of said plain line) line) old) → EndAllocates s old
+          → ((plain : PlainVersion) → AnswerAllocates s.held (selected_as (verdict_of s.rule.ending said plain given)) old) → EndAllocates s old
       answering_allocates old answer =
           (last ∷ [], last_judged, inr (subst (λ l. AnswerAllocates s.held l old) (sym (kept_one last)) (answer told.0)))
+
+-- ---- the end of a file
+
+-- the end of a file was taken, and this says whether its last line is no invalid one
+abbrev pub TakesFile : LinesValue → LinesValue → Text → Text → Bool → Type 0
+TakesFile s t old new valid = (judged : List JudgedLine) × EndsFile s judged t old new × (valid ≡ not (has_invalid judged))
+
+pub ended_line : (s m t : LinesValue) (end left old new : Text) (valid : Bool) → end ≡ end_in s ∷ []
+    → left ≡ after_mark s.at_front s.unended → (length left == 0) ≡ false → TakesWhole s end m old new valid → t ≡ begun_file m
+    → TakesFile s t old new valid
+ended_line s m t end left old new valid one is some takes begins = (
+  takes.0 ∷ [],
+  subst (λ b. EndsFileBy b s (takes.0 ∷ []) t old new) (sym (ap is_empty (sym is) ∙ empty_is left false some))
+      (m, subst (λ e. TakesAll s e (takes.0 ∷ []) m old new) one takes.1, begins),
+  takes.3 ∙ ap not (or_nothing (is_invalid takes.0.verdict)),
+)
+  where
+    or_nothing : (b : Bool) → b ≡ (b || false)
+    or_nothing true = refl
+    or_nothing false = refl
+
+pub ended_nothing : (s m t : LinesValue) (left old new : Text) (valid : Bool) → left ≡ after_mark s.at_front s.unended
+    → (length left == 0) ≡ true → m ≡ s → new ≡ old → valid ≡ true → t ≡ begun_file m → TakesFile s t old new valid
+ended_nothing s m t left old new valid is none same alike good begins = (
+  [],
+  subst (λ b. EndsFileBy b s [] t old new) (sym (ap is_empty (sym is) ∙ empty_is left true none)) (refl, begins ∙ ap begun_file same, alike),
+  good,
+)
+
+-- the lines stay strict or not
+pub still_strict : (s t : LinesValue) (judged : List JudgedLine) (old new : Text) → EndsFile s judged t old new → t.is_strict ≡ s.is_strict
+still_strict s t judged old new ends = by_left (is_empty (after_mark s.at_front s.unended)) ends
+  where
+    by_left : (nothing : Bool) → EndsFileBy nothing s judged t old new → t.is_strict ≡ s.is_strict
+    by_left true e = ap (λ (v : LinesValue). v.is_strict) e.1
+    by_left false e = ap (λ (v : LinesValue). v.is_strict) e.2 ∙ ap (λ (v : LinesValue). v.is_strict) e.1.state

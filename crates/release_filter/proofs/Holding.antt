@@ -8,52 +8,52 @@ use Rattle.std.specs.Cmp.{IsTotalOrder, back_total}
 use Rattle.std.specs.List.{AllByRecursion}
 use Rattle.std.specs.Prelude.{option_to_list}
 use Rattle.std.specs.declared.cmp.Ordering.{Ordering}
-use Rattle.semver_parser.specs.Precedence.{precedence}
-use Rattle.semver_parser.specs.Texts.{Text}
-use Rattle.semver_parser.specs.Versions.{PlainVersion}
+use Rattle.semver_texts.specs.Precedence.{precedence}
+use Rattle.semver_texts.specs.Texts.{Text}
+use Rattle.semver_texts.specs.Versions.{PlainVersion}
 use Rattle.release_filter.specs.Verdicts.{JudgedLine}
-use Rattle.release_filter.specs.Wanted.{HeldValue, Holds, HoldsBy, IsBest, IsFirstGreatest, KeptValue}
-use Rattle.release_filter.specs.Wanted.{kept_as, kept_of, order_of}
-use Rattle.release_filter.specs.declared.wanted.Wanted.{Wanted}
-use Rattle.release_filter.specs.declared.wanted.Wanted.TheVariants.{Each, Greatest, Least, Sorted}
-use Rattle.release_filter.proofs.ExtremeSteps.{all_append, all_map}
+use Rattle.release_filter.specs.Selections.{HeldValue, Holds, HoldsBy, IsBest, IsFirstHighest, SelectedValue}
+use Rattle.release_filter.specs.Selections.{selected_as, selected_of, order_of}
+use Rattle.release_filter.specs.declared.selection.Selection.{Selection}
+use Rattle.release_filter.specs.declared.selection.Selection.TheVariants.{Each, Highest, Lowest, Sorted}
+use Rattle.release_filter.proofs.Tests.{all_append, all_map}
 use Rattle.std.proofs.lemmas.Grind.{common_steps}
 
 -- ---- the kept ones of lines
 
-pub kept_append : (xs ys : List JudgedLine) → kept_of (xs ++ ys) ≡ kept_of xs ++ kept_of ys
+pub kept_append : (xs ys : List JudgedLine) → selected_of (xs ++ ys) ≡ selected_of xs ++ selected_of ys
 kept_append [] ys = refl
-kept_append (x ∷ xs) ys = grind (arith, kept_of, kept_append xs ys)
+kept_append (x ∷ xs) ys = grind (arith, selected_of, kept_append xs ys)
 
-pub kept_one : (j : JudgedLine) → kept_of (j ∷ []) ≡ kept_as j.verdict j.line
+pub kept_one : (j : JudgedLine) → selected_of (j ∷ []) ≡ selected_as j.verdict
 kept_one j = append-nil _
 
--- ---- the greatest by an order
+-- ---- the highest by an order
 
 -- by precedence the other way round versions are as well ordered
-pub total_of : (wanted : Wanted) → IsTotalOrder precedence → IsTotalOrder (order_of wanted)
+pub total_of : (selection : Selection) → IsTotalOrder precedence → IsTotalOrder (order_of selection)
 total_of Each total = total
-total_of Greatest total = total
-total_of Least total = back_total total
+total_of Highest total = total
+total_of Lowest total = back_total total
 total_of Sorted total = total
 
 module _ (order : PlainVersion → PlainVersion → Ordering) where
-  abbrev IsUnder : KeptValue → KeptValue → Type 0
+  abbrev IsUnder : SelectedValue → SelectedValue → Type 0
   IsUnder best k = order k.version best.version ≡ Less
 
-  abbrev IsNotOver : KeptValue → KeptValue → Type 0
+  abbrev IsNotOver : SelectedValue → SelectedValue → Type 0
   IsNotOver best k = order k.version best.version ≢ Greater
 
-  pub best_of_none : (best : Option KeptValue) → IsBest order (option_to_list best ++ []) best
+  pub best_of_none : (best : Option SelectedValue) → IsBest order (option_to_list best ++ []) best
   best_of_none None = refl
   best_of_none (Some best) = record { before = []; after = []; split = refl; earlier = tt; later = tt }
 
   -- one more line, which is better or isn't
-  pub better_one : (best : Option KeptValue) (k : KeptValue) → AllByRecursion (IsUnder k) (option_to_list best)
+  pub better_one : (best : Option SelectedValue) (k : SelectedValue) → AllByRecursion (IsUnder k) (option_to_list best)
       → IsBest order (option_to_list best ++ k ∷ []) (Some k)
   better_one best k under = record { before = option_to_list best; after = []; split = refl; earlier = under; later = tt }
 
-  pub not_better : (best k : KeptValue) → IsNotOver best k → IsBest order (best ∷ k ∷ []) (Some best)
+  pub not_better : (best k : SelectedValue) → IsNotOver best k → IsBest order (best ∷ k ∷ []) (Some best)
   not_better best k under = record { before = []; after = k ∷ []; split = refl; earlier = tt; later = (under, tt) }
 
   module _ (total : IsTotalOrder order) where
@@ -61,22 +61,22 @@ module _ (order : PlainVersion → PlainVersion → Ordering) where
     isnt_over v w low = search rules
 
     -- what isn't over one that is under another is under that
-    under_both : (best c k : KeptValue) → IsUnder c best → IsNotOver best k → IsUnder c k
+    under_both : (best c k : SelectedValue) → IsUnder c best → IsNotOver best k → IsUnder c k
     under_both best c k under low = search rules
 
-    not_none : (xs ys : List KeptValue) (k : KeptValue) → ¬ (xs ++ k ∷ ys ≡ [])
+    not_none : (xs ys : List SelectedValue) (k : SelectedValue) → ¬ (xs ++ k ∷ ys ≡ [])
     not_none [] ys k e = cc
     not_none (x ∷ xs) ys k e = cc
 
     -- the best of the best of some lines and of more
-    pub best_added : (xs ys : List KeptValue) (m n : Option KeptValue) → IsBest order xs m → IsBest order (option_to_list m ++ ys) n
+    pub best_added : (xs ys : List SelectedValue) (m n : Option SelectedValue) → IsBest order xs m → IsBest order (option_to_list m ++ ys) n
         → IsBest order (xs ++ ys) n
     best_added xs ys None n none b = search rules
     best_added xs ys (Some best) None a none = cc
     best_added xs ys (Some best) (Some c) a b = at b.before b.split b.earlier
       where
-        at : (before : List KeptValue) → best ∷ ys ≡ before ++ c ∷ b.after → AllByRecursion (IsUnder c) before
-            → IsFirstGreatest order (xs ++ ys) c
+        at : (before : List SelectedValue) → best ∷ ys ≡ before ++ c ∷ b.after → AllByRecursion (IsUnder c) before
+            → IsFirstHighest order (xs ++ ys) c
         at [] e earlier =
             grind (arith, common_steps)
         at (z ∷ before) e earlier =
@@ -95,11 +95,11 @@ module _ (order : PlainVersion → PlainVersion → Ordering) where
             }
 
     -- a later line isn't above one that is below it
-    before_it : (x y : KeptValue) → IsUnder y x → (front back : List KeptValue) → AllByRecursion (IsNotOver x) (front ++ y ∷ back) → ⊥
+    before_it : (x y : SelectedValue) → IsUnder y x → (front back : List SelectedValue) → AllByRecursion (IsNotOver x) (front ++ y ∷ back) → ⊥
     before_it x y under [] back p = search rules
     before_it x y under (z ∷ front) back p = before_it x y under front back p.1
 
-    same_place : (x y : KeptValue) (front front' back back' : List KeptValue) → front ++ x ∷ back ≡ front' ++ y ∷ back'
+    same_place : (x y : SelectedValue) (front front' back back' : List SelectedValue) → front ++ x ∷ back ≡ front' ++ y ∷ back'
         → AllByRecursion (IsUnder x) front → AllByRecursion (IsUnder y) front' → AllByRecursion (IsNotOver x) back
         → AllByRecursion (IsNotOver y) back' → x ≡ y
     same_place x y [] [] back back' e p q p' q' = cc
@@ -107,7 +107,7 @@ module _ (order : PlainVersion → PlainVersion → Ordering) where
     same_place x y (z ∷ front) [] back back' e p q p' q' = grind (arith, before_it)
     same_place x y (z ∷ front) (z' ∷ front') back back' e p q p' q' = same_place x y front front' back back' (cc) p.1 q.1 p' q'
 
-    pub one_best : (xs : List KeptValue) (m n : Option KeptValue) → IsBest order xs m → IsBest order xs n → m ≡ n
+    pub one_best : (xs : List SelectedValue) (m n : Option SelectedValue) → IsBest order xs m → IsBest order xs n → m ≡ n
     one_best xs None None a b = refl
     one_best xs None (Some y) none b = grind (arith, not_none)
     one_best xs (Some x) None a none = grind (arith, not_none)
@@ -115,25 +115,25 @@ module _ (order : PlainVersion → PlainVersion → Ordering) where
 
 -- ---- what is held
 
-pub same_wanted : (w : Wanted) (h g : HeldValue) (xs : List KeptValue) (a : Text) → HoldsBy w h xs g a → g.wanted ≡ h.wanted
+pub same_wanted : (w : Selection) (h g : HeldValue) (xs : List SelectedValue) (a : Text) → HoldsBy w h xs g a → g.selection ≡ h.selection
 same_wanted Each h g xs a p = cc
 same_wanted Sorted h g xs a p = cc
-same_wanted Greatest h g xs a p = cc
-same_wanted Least h g xs a p = cc
+same_wanted Highest h g xs a p = cc
+same_wanted Lowest h g xs a p = cc
 
-holds_none_by : (w : Wanted) (h : HeldValue) → HoldsBy w h [] h []
+holds_none_by : (w : Selection) (h : HeldValue) → HoldsBy w h [] h []
 holds_none_by Each h = (refl, refl)
 holds_none_by Sorted h = search rules
-holds_none_by Greatest h = (h.best, best_of_none (order_of Greatest) h.best, refl, refl)
-holds_none_by Least h = (h.best, best_of_none (order_of Least) h.best, refl, refl)
+holds_none_by Highest h = (h.best, best_of_none (order_of Highest) h.best, refl, refl)
+holds_none_by Lowest h = (h.best, best_of_none (order_of Lowest) h.best, refl, refl)
 
 pub holds_none : (h : HeldValue) → Holds h [] h []
-holds_none h = holds_none_by h.wanted h
+holds_none h = holds_none_by h.selection h
 
 both_none : (a b : Text) → a ≡ [] → b ≡ [] → a ++ b ≡ []
 both_none a b p q = cc
 
-best_both : IsTotalOrder precedence → (w : Wanted) (h g k : HeldValue) (xs ys : List KeptValue) (m n : Option KeptValue)
+best_both : IsTotalOrder precedence → (w : Selection) (h g k : HeldValue) (xs ys : List SelectedValue) (m n : Option SelectedValue)
     → IsBest (order_of w) (option_to_list h.best ++ xs) m → g ≡ record h { best = m }
     → IsBest (order_of w) (option_to_list g.best ++ ys) n → k ≡ record g { best = n }
     → IsBest (order_of w) (option_to_list h.best ++ (xs ++ ys)) n × (k ≡ record h { best = n })
@@ -144,29 +144,29 @@ best_both total w h g k xs ys m n a is b so =
       so ∙ ap (λ (v : HeldValue). record v { best = n }) is,
     )
 
-holds_more_by : IsTotalOrder precedence → (w : Wanted) (h g k : HeldValue) (xs ys : List KeptValue) (a b : Text) → HoldsBy w h xs g a
+holds_more_by : IsTotalOrder precedence → (w : Selection) (h g k : HeldValue) (xs ys : List SelectedValue) (a b : Text) → HoldsBy w h xs g a
     → HoldsBy w g ys k b → HoldsBy w h (xs ++ ys) k (a ++ b)
 holds_more_by total Each h g k xs ys a b p q = grind (arith, common_steps, map-append, concat-append)
 holds_more_by total Sorted h g k xs ys a b p q = grind (arith, common_steps)
-holds_more_by total Greatest h g k xs ys a b (m, best, is, none) (n, best', so, none') =
-    let both = best_both total Greatest h g k xs ys m n best is best' so in (n, both.0, both.1, both_none a b none none')
-holds_more_by total Least h g k xs ys a b (m, best, is, none) (n, best', so, none') =
-    let both = best_both total Least h g k xs ys m n best is best' so in (n, both.0, both.1, both_none a b none none')
+holds_more_by total Highest h g k xs ys a b (m, best, is, none) (n, best', so, none') =
+    let both = best_both total Highest h g k xs ys m n best is best' so in (n, both.0, both.1, both_none a b none none')
+holds_more_by total Lowest h g k xs ys a b (m, best, is, none) (n, best', so, none') =
+    let both = best_both total Lowest h g k xs ys m n best is best' so in (n, both.0, both.1, both_none a b none none')
 
 -- of some lines and then of more
-pub holds_more : IsTotalOrder precedence → (h g k : HeldValue) (xs ys : List KeptValue) (a b : Text) → Holds h xs g a → Holds g ys k b
+pub holds_more : IsTotalOrder precedence → (h g k : HeldValue) (xs ys : List SelectedValue) (a b : Text) → Holds h xs g a → Holds g ys k b
     → Holds h (xs ++ ys) k (a ++ b)
 holds_more total h g k xs ys a b p q = grind (arith, holds_more_by)
 
-one_holding_by : IsTotalOrder precedence → (w : Wanted) (h g k : HeldValue) (xs : List KeptValue) (a b : Text) → HoldsBy w h xs g a
+one_holding_by : IsTotalOrder precedence → (w : Selection) (h g k : HeldValue) (xs : List SelectedValue) (a b : Text) → HoldsBy w h xs g a
     → HoldsBy w h xs k b → (g ≡ k) × (a ≡ b)
 one_holding_by total Each h g k xs a b p q = search rules
 one_holding_by total Sorted h g k xs a b p q = search rules
-one_holding_by total Greatest h g k xs a b (m, best, is, none) (n, best', so, none') = grind (arith, one_best)
-one_holding_by total Least h g k xs a b (m, best, is, none) (n, best', so, none') =
-    let same = one_best (order_of Least) (total_of Least total) _ m n best best' in
+one_holding_by total Highest h g k xs a b (m, best, is, none) (n, best', so, none') = grind (arith, one_best)
+one_holding_by total Lowest h g k xs a b (m, best, is, none) (n, best', so, none') =
+    let same = one_best (order_of Lowest) (total_of Lowest total) _ m n best best' in
     (is ∙ ap (λ l. record h { best = l }) same ∙ sym so, none ∙ sym none')
 
-pub one_holding : IsTotalOrder precedence → (h g k : HeldValue) (xs : List KeptValue) (a b : Text) → Holds h xs g a → Holds h xs k b
+pub one_holding : IsTotalOrder precedence → (h g k : HeldValue) (xs : List SelectedValue) (a b : Text) → Holds h xs g a → Holds h xs k b
     → (g ≡ k) × (a ≡ b)
 one_holding total h g k xs a b p q = grind (arith, one_holding_by)

@@ -1,4 +1,4 @@
--- serves: release_filter::kept::Filter::kept, out_of_memory
+-- serves: release_filter::filter::filter_text
 -- Versions that pass, put before others and kept, some at a time.
 use Rattle.std.proofs.Common.{◌≡◌, ℕ, zero, suc, ◌+◌, ◌<◌, ◌≤◌, Bool, true, false, List, [], ◌∷◌, ◌++◌, map, filter, take, drop, set}
 use Rattle.std.proofs.Common.{length, get_or}
@@ -10,38 +10,17 @@ use Rattle.std.proofs.lemmas.List.{append-nil, append_assoc, length-append, leng
 use Rattle.std.proofs.lemmas.List.{map-append, take-set, take_more, take_more_set}
 use Rattle.std.proofs.lemmas.List.Elements.{filter-append}
 use Rattle.std.specs.List.{AllByRecursion}
-use Rattle.semver_parser.specs.VersionViews.{version_value}
-use Rattle.semver_parser.specs.declared.version.Grammar.{Grammar}
-use Rattle.semver_parser.specs.declared.version.Version.{Version}
+use Rattle.tool_ranges.specs.VersionRanges.{RangeValue}
+use Rattle.semver_texts.specs.VersionViews.{version_value}
+use Rattle.semver_texts.specs.declared.grammar.Grammar.{Grammar}
+use Rattle.semver_texts.specs.declared.version.Version.{Version}
 use Rattle.version_sets.specs.declared.PreReleases.{PreReleases}
-use Rattle.version_sets.specs.VersionSets.{SetValue, has, Fits}
+use Rattle.version_sets.specs.VersionSets.{SetValue, contains, Fits}
 use Rattle.semver_texts.specs.Digits.{plain_by}
 use Rattle.semver_texts.specs.declared.grammar.Digits.{Digits}
-use Rattle.release_filter.specs.Filters.{FilterValue, digits_of, passes, read_by}
-use Rattle.release_filter.proofs.Passing.{some_is}
+use Rattle.release_filter.specs.Steps.Members.{is_member}
+use Rattle.release_filter.proofs.Matching.{some_is}
 use Rattle.std.proofs.lemmas.Grind.{common_steps}
-
--- what some item of the middle is, some item of the whole is
-pub any_within : {X : Type 0} (P : X → Type 0) (front xs back : List X) → Any P xs → Any P (front ++ (xs ++ back))
-any_within P front xs back (k, x, inside, is, holds) = (
-  length front + k,
-  x,
-  rw (length-append front (xs ++ back) ∙ ap (λ n. length front + n) (length-append xs back)) (omega arith),
-  get_or-append-add front _ k x ∙ get_or_append_left xs back x k inside ∙ is,
-  holds,
-)
-
--- where a test keeps something, some item passes it
-pub some_passes : {X : Type 0} (p : X → Bool) (xs : List X) → 0 < length (filter p xs) → Any (λ x. IsTrue (p x)) xs
-some_passes p [] some = absurd (omega arith)
-some_passes p (x ∷ xs) some = at (p x) refl (some_passes p xs)
-  where
-    later : Any (λ x. IsTrue (p x)) xs → Any (λ x. IsTrue (p x)) (x ∷ xs)
-    later (k, y, inside, is, holds) = (suc k, y, omega arith, is, holds)
-
-    at : (b : Bool) → p x ≡ b → (0 < length (filter p xs) → Any (λ x. IsTrue (p x)) xs) → Any (λ x. IsTrue (p x)) (x ∷ xs)
-    at true e others = grind arith
-    at false e others = later (others (rw e at some))
 
 -- ---- the places of those that pass are put in front
 
@@ -56,10 +35,10 @@ some_item [] at inside = absurd (omega arith)
 some_item (x ∷ xs) at inside = x
 
 module _ {X : Type 0} (p : X → Bool) (xs : List X) where
-  pub in_front_more : (places : List ℕ) (count at n : ℕ) (passes : Bool) → at < length xs → ((x : X) → passes ≡ p (get_or xs at x))
-      → n ≡ from_bool passes → AreInFront p xs places count at → AreInFront p xs (set places count at) (count + n) (at + 1)
-  in_front_more places count at n passes inside e told before =
-      subst (λ m. AreInFront p xs (set places count at) (count + m) (at + 1)) (sym told) (by_test passes (e x))
+  pub in_front_more : (places : List ℕ) (count at n : ℕ) (matches : Bool) → at < length xs → ((x : X) → matches ≡ p (get_or xs at x))
+      → n ≡ from_bool matches → AreInFront p xs places count at → AreInFront p xs (set places count at) (count + n) (at + 1)
+  in_front_more places count at n matches inside e told before =
+      subst (λ m. AreInFront p xs (set places count at) (count + m) (at + 1)) (sym told) (by_test matches (e x))
     where
       x : X
       x = some_item xs at inside
@@ -76,7 +55,7 @@ module _ {X : Type 0} (p : X → Bool) (xs : List X) where
       ahead : filter p (take (at + 1) xs) ≡ filter p (take at xs) ++ cond (p y) (y ∷ []) []
       ahead = ap (filter p) (take_more xs at x inside) ∙ filter-append p (take at xs) (y ∷ [])
 
-      by_test : (passes : Bool) → passes ≡ p y → AreInFront p xs (set places count at) (count + from_bool passes) (at + 1)
+      by_test : (matches : Bool) → matches ≡ p y → AreInFront p xs (set places count at) (count + from_bool matches) (at + 1)
       by_test true e = record {
         few = omega (arith, before.few);
         long = long;
@@ -124,9 +103,6 @@ pub cut_at : {X : Type 0} (rest some others : List X) (n : ℕ) → some ≡ tak
 cut_at rest some others n front back = grind (arith, common_steps)
 
 module _ {X B : Type 0} (p : X → Bool) (f : B → X) (xs : List X) where
-  pub judged_none : IsJudgedUpTo p f xs xs []
-  judged_none = record { front = []; whole = refl; keeps = refl }
-
   -- some more are judged
   pub judged_more : (rest some others : List X) (kept more : List B) → rest ≡ some ++ others → map f more ≡ map f kept ++ filter p some
       → IsJudgedUpTo p f xs rest kept → IsJudgedUpTo p f xs others more
@@ -136,13 +112,7 @@ module _ {X B : Type 0} (p : X → Bool) (f : B → X) (xs : List X) where
     keeps = e ∙ ap (λ l. l ++ filter p some) before.keeps ∙ sym (filter-append p before.front some);
   }
 
-  -- what is so of some of the rest is so of some of all
-  pub some_of_all : (P : X → Type 0) (rest some others : List X) (kept : List B) → rest ≡ some ++ others
-      → IsJudgedUpTo p f xs rest kept → Any P some → Any P xs
-  some_of_all P rest some others kept cut before any =
-      subst (Any P) (sym (before.whole ∙ ap (λ l. before.front ++ l) cut)) (any_within P before.front some others any)
-
--- where a place is in front, something passes
+-- where a place is in front, something matches
 pub some_kept : {X : Type 0} (xs : List X) (places : List ℕ) (ys : List X) (i : ℕ) → i < length places
     → map (slice_get xs) places ≡ map Some ys → 0 < length ys
 some_kept xs places ys i inside same = grind (arith, common_steps)
@@ -166,19 +136,9 @@ keeps_next f xs places ys old kept i d b inside same is before =
     ∙ ap (λ l. map f old ++ l) (ap (λ x. take i ys ++ x ∷ []) (some_is (sym is ∙ stands_at xs places ys i d (f b) inside same))
     ∙ sym (take_more ys i (f b) (rw (← same_length xs places ys same) inside)))
 
--- the answer on a version is whether it passes
-pub judged_at : (filter : FilterValue) (set : SetValue) (rule : PreReleases) (grammar : Grammar) (versions : List Version)
-    (answers : List Bool) (i : ℕ) (d : Bool) → record { set = set; pre_releases = rule; grammar = grammar } ≡ filter
-    → (digits : Digits) → digits ≡ digits_of filter
-    → answers ≡ map (λ v. has set (plain_by digits (version_value v).plain)) versions
+-- the answer on a version is whether it is a member
+pub judged_at : (set : SetValue) (versions : List Version) (answers : List Bool) (i : ℕ) (d : Bool)
+    → answers ≡ map (λ v. contains set (version_value v).plain) versions
     → AllByRecursion (λ v. Fits (version_value v).plain) versions
-    → i < length versions → (e : Version) → get_or answers i d ≡ passes filter (read_by filter (get_or versions i e))
-judged_at filter set rule grammar versions answers i d view digits is told fit inside e =
-    judged_so filter set rule grammar versions answers i d view
-    (told ∙ ap (λ x. map (λ v. has set (plain_by x (version_value v).plain)) versions) is) fit inside e
-  where
-    judged_so : (filter : FilterValue) (set : SetValue) (rule : PreReleases) (grammar : Grammar) (versions : List Version)
-        (answers : List Bool) (i : ℕ) (d : Bool) → record { set = set; pre_releases = rule; grammar = grammar } ≡ filter
-        → answers ≡ map (λ v. has set (read_by filter v).plain) versions → AllByRecursion (λ v. Fits (version_value v).plain) versions
-        → i < length versions → (e : Version) → get_or answers i d ≡ passes filter (read_by filter (get_or versions i e))
-    judged_so filter set rule grammar versions answers i d view told fit inside e = grind (arith, common_steps)
+    → i < length versions → (e : Version) → get_or answers i d ≡ is_member set (get_or versions i e)
+judged_at set versions answers i d told fit inside e = grind (arith, common_steps)

@@ -1,6 +1,5 @@
-mod ExtremeSteps
 mod Tests
-pub mod Passing
+pub mod Matching
 mod KeptVersions
 mod NumberedLines
 mod Prefixes

@@ -6,8 +6,8 @@ use Rattle.std.proofs.Math.Nat.{pow-le-pow_right}
 use Rattle.std.proofs.lemmas.Bool.{cases_lt}
 use Rattle.std.proofs.lemmas.Grind.{pow_more}
 use Rattle.std.proofs.lemmas.List.{take-append-drop, take-append-le, take-take}
-use Rattle.semver_parser.specs.Texts.{Text}
-use Rattle.semver_parser.specs.declared.version.Grammar.{Grammar}
+use Rattle.semver_texts.specs.Texts.{Text}
+use Rattle.semver_texts.specs.declared.grammar.Grammar.{Grammar}
 use Rattle.release_filter.specs.Skipping.{IsLeft, IsLookedAt, MayHaveVersion, MayUpTo, ShowsNone}
 
 -- ---- the sizes

@@ -1,5 +1,5 @@
 -- serves: release_filter::laws::one_finish
--- What passes a test of a list and of a permutation of it is one list, if it keeps its order.
+-- What matches a test of a list and of a permutation of it is one list, if it keeps its order.
 use Rattle.std.proofs.Common.{◌≡◌, ◌∙◌, ◌∷◌, ◌++◌, [], List, ℕ, ◌==◌, ◌<◌, ◌≤◌, Bool, true, cond, refl, sym, ap, ap₂, arith}
 use Rattle.std.proofs.Common.{IsPermutation, filter, get_or, length, suc}
 use Rattle.std.proofs.lemmas.Bool.Decides.{nat_tests}
@@ -90,12 +90,12 @@ module _ {X : Type 0} (index : X → ℕ) where
       let low = λ (x y : X). index x ≤ index y in
       let if_passing = λ (x y : X). p x ≡ true → p y ≡ true → index x ≤ index y in
       let at = are_at xs indexed in
-      let passes = filter_passes p ys in
+      let matches = filter_passes p ys in
       let rises : Rises xs =
       λ i j d before inside. rw (indexed i d (omega arith), indexed j d inside) (omega arith) in
       let passing = AllPairs-filter if_passing p ys up in
       one_list xs (filter p ys) (filter p xs)
-      (λ i j d before inside. passing i j d before inside (passes i d (omega arith)) (passes j d inside))
+      (λ i j d before inside. passing i j d before inside (matches i d (omega arith)) (matches j d inside))
       (AllPairs-filter low p xs rises) (All-filter p (IsAt xs) ys (All-permutation (IsAt xs) xs ys moved at))
       (All-filter p (IsAt xs) xs at)
       (λ f. sum_by-passing p f ys ∙ sum_by-IsPermutation (λ x. cond (p x) (f x) 0) xs ys moved ∙ sym (sum_by-passing p f xs))

@@ -15,52 +15,56 @@ use Rattle.std.proofs.lemmas.Bool.{cases_lt}
 use Rattle.std.proofs.lemmas.Grind.{common_steps}
 use Rattle.std.proofs.lemmas.List.{take-append-drop}
 use Rattle.std.proofs.lemmas.List.Elements.{All-tail}
-use Rattle.semver_parser.specs.Precedence.{precedence}
-use Rattle.semver_parser.specs.Texts.{Text, is_empty}
+use Rattle.tool_ranges.specs.VersionRanges.{versions_grammar}
+use Rattle.semver_texts.specs.Precedence.{precedence}
+use Rattle.semver_texts.specs.Texts.{Text, is_empty}
 use Rattle.release_filter.specs.Counting.{counted}
-use Rattle.release_filter.specs.LineTexts.{IsWholeLine, onto_first, after_mark, lines_of, marked_off, without_mark}
-use Rattle.release_filter.specs.Pieces.{Completes, Finishes, LinesValue, RefusesEnd, StopsAs, Takes, TakesAll, begun}
+use Rattle.release_filter.specs.LineTexts.{IsWholeLine, after_mark, end_byte, lines_of, marked_off, onto_first, without_mark}
+use Rattle.release_filter.specs.declared.line_texts.LineEnd.{LineEnd}
+use Rattle.release_filter.specs.declared.line_texts.LineEnd.TheVariants.{LineFeed, ZeroByte}
+use Rattle.release_filter.specs.Pieces.{Completes, EndsFile, EndsFileBy, Finishes, LinesValue, RefusesEnd, RefusesFile, StopsAs, Takes}
+use Rattle.release_filter.specs.Pieces.{TakesAll, begun, begun_file}
 use Rattle.release_filter.specs.Skipping.{IsLeft}
 use Rattle.release_filter.specs.declared.lines.LinesError.{LinesError}
 use Rattle.release_filter.specs.declared.lines.LinesError.TheVariants.{OutOfMemory, NoVersion}
 use Rattle.release_filter.specs.declared.lines.Stopped.{Stopped}
-use Rattle.release_filter.specs.Filters.{FilterValue}
-use Rattle.release_filter.specs.Verdicts.{AreJudged, JudgedLine, has_invalid, invalid, is_invalid}
-use Rattle.release_filter.specs.Wanted.{Answers, Holds, emptied, kept_of}
+use Rattle.release_filter.specs.Verdicts.{AreJudged, JudgedLine, LineRule, has_invalid, invalid, is_invalid}
+use Rattle.release_filter.specs.Selections.{Answers, Holds, emptied, selected_of}
 use Rattle.release_filter.proofs.Holding.{holds_more, kept_append, one_holding, same_wanted}
 use Rattle.release_filter.proofs.JudgedLines.{OneVersion, one_judging}
-use Rattle.release_filter.proofs.Passing.{not_both}
+use Rattle.release_filter.proofs.Matching.{not_both}
 use Rattle.release_filter.proofs.Sorting.{one_answer}
 use Rattle.release_filter.proofs.SkippedLines.{same_left}
 use Rattle.release_filter.proofs.TakenPieces.{NoEnd, as_chosen, counted_append, marked_append}
 
 -- ---- one cut
 
-through : (line rest : Text) → IsWholeLine line → (take_through 10 (line ++ rest) ≡ line) × (drop_through 10 (line ++ rest) ≡ rest)
-through line rest (some, stops, ends) = through_part 10 line rest stops ends (λ none. absurd (omega arith))
+through : (end : ℕ) (line rest : Text) → IsWholeLine end line
+    → (take_through end (line ++ rest) ≡ line) × (drop_through end (line ++ rest) ≡ rest)
+through end line rest (some, stops, ends) = through_part end line rest stops ends (λ none. absurd (omega arith))
 
-same_lines : (xs ys : List Text) (a b : Text) → AllByRecursion IsWholeLine xs → AllByRecursion IsWholeLine ys → NoEnd a → NoEnd b
+same_lines : (end : ℕ) (xs ys : List Text) (a b : Text) → AllByRecursion (IsWholeLine end) xs → AllByRecursion (IsWholeLine end) ys → NoEnd end a → NoEnd end b
     → concat xs ++ a ≡ concat ys ++ b → (xs ≡ ys) × (a ≡ b)
-same_lines [] [] a b f g n m e = (refl, e)
-same_lines [] (y ∷ ys) a b f g n m e = grind (arith, common_steps)
-same_lines (x ∷ xs) [] a b f g n m e = grind (arith, common_steps)
-same_lines (x ∷ xs) (y ∷ ys) a b f g n m e =
+same_lines end [] [] a b f g n m e = (refl, e)
+same_lines end [] (y ∷ ys) a b f g n m e = grind (arith, common_steps)
+same_lines end (x ∷ xs) [] a b f g n m e = grind (arith, common_steps)
+same_lines end (x ∷ xs) (y ∷ ys) a b f g n m e =
     let both = sym (append_assoc x (concat xs) a) ∙ e ∙ append_assoc y (concat ys) b in
-    let first = through x (concat xs ++ a) f.0 in
-    let other = through y (concat ys ++ b) g.0 in
-    let later = same_lines xs ys a b f.1 g.1 n m (cc) in
+    let first = through end x (concat xs ++ a) f.0 in
+    let other = through end y (concat ys ++ b) g.0 in
+    let later = same_lines end xs ys a b f.1 g.1 n m (cc) in
     (ap₂ (λ l ls. l ∷ ls) (cc) later.0, later.1)
 
 -- the lines of a front are the first lines of the whole
-more_lines : (xs ys : List Text) (m b : Text) → AllByRecursion IsWholeLine xs → AllByRecursion IsWholeLine ys → NoEnd b
+more_lines : (end : ℕ) (xs ys : List Text) (m b : Text) → AllByRecursion (IsWholeLine end) xs → AllByRecursion (IsWholeLine end) ys → NoEnd end b
     → concat xs ++ m ≡ concat ys ++ b → (zs : List Text) × (ys ≡ xs ++ zs) × (m ≡ concat zs ++ b)
-more_lines [] ys m b f g n e = (ys, refl, e)
-more_lines (x ∷ xs) [] m b f g n e = grind (arith, common_steps)
-more_lines (x ∷ xs) (y ∷ ys) m b f g n e =
+more_lines end [] ys m b f g n e = (ys, refl, e)
+more_lines end (x ∷ xs) [] m b f g n e = grind (arith, common_steps)
+more_lines end (x ∷ xs) (y ∷ ys) m b f g n e =
     let both = sym (append_assoc x (concat xs) m) ∙ e ∙ append_assoc y (concat ys) b in
-    let first = through x (concat xs ++ m) f.0 in
-    let other = through y (concat ys ++ b) g.0 in
-    let later = more_lines xs ys m b f.1 g.1 n (cc) in (
+    let first = through end x (concat xs ++ m) f.0 in
+    let other = through end y (concat ys ++ b) g.0 in
+    let later = more_lines end xs ys m b f.1 g.1 n (cc) in (
       later.0,
       ap₂ (λ l ls. l ∷ ls) (cc) later.1,
       later.2,
@@ -75,13 +79,13 @@ no_marked : (front : Bool) (lines : List Text) → marked_off front lines ≡ []
 no_marked front [] e = refl
 no_marked front (line ∷ lines) e = cc
 
-split_judged : (filter : FilterValue) (prefixes : List Text) (xs ys : List Text) (ks : List JudgedLine)
-    → AreJudged filter prefixes (xs ++ ys) ks
-    → (js : List JudgedLine) × (zs : List JudgedLine) × (ks ≡ js ++ zs) × AreJudged filter prefixes xs js × AreJudged filter prefixes ys zs
-split_judged filter prefixes [] ys ks a = search rules
-split_judged filter prefixes (x ∷ xs) ys [] a = cc
-split_judged filter prefixes (x ∷ xs) ys (k ∷ ks) a =
-    let rest = split_judged filter prefixes xs ys ks (record { all = cc; each = a.each.1 }) in
+split_judged : (rule : LineRule) (xs ys : List Text) (ks : List JudgedLine)
+    → AreJudged rule (xs ++ ys) ks
+    → (js : List JudgedLine) × (zs : List JudgedLine) × (ks ≡ js ++ zs) × AreJudged rule xs js × AreJudged rule ys zs
+split_judged rule [] ys ks a = search rules
+split_judged rule (x ∷ xs) ys [] a = cc
+split_judged rule (x ∷ xs) ys (k ∷ ks) a =
+    let rest = split_judged rule xs ys ks (record { all = cc; each = a.each.1 }) in
     let first : k.line ≡ x = cc in (
       k ∷ rest.0,
       rest.1,
@@ -113,19 +117,19 @@ module _ (same : OneVersion) (total : IsTotalOrder precedence) where
   pub one_taking : (s t u : LinesValue) (piece : Text) (js ks : List JudgedLine) (old new other : Text) → TakesAll s piece js t old new
       → TakesAll s piece ks u old other → (js ≡ ks) × (t ≡ u) × (new ≡ other)
   one_taking s t u piece js ks old new other a b =
-      let cut = same_lines a.lines b.lines t.unended u.unended a.cut.each b.cut.each a.cut.no_end b.cut.no_end
+      let cut = same_lines (end_byte s.rule.ending) a.lines b.lines t.unended u.unended a.cut.each b.cut.each a.cut.no_end b.cut.no_end
       (sym a.cut.whole ∙ b.cut.whole) in
-      let judged = one_judging s.filter s.prefixes same (marked_off s.at_front a.lines) js ks a.judges
-      (subst (λ l. AreJudged s.filter s.prefixes (marked_off s.at_front l) ks) (sym cut.0) b.judges) in
-      let held = one_holding total s.held t.held u.held (kept_of js) a.added b.added a.holds
-      (subst (λ l. Holds s.held (kept_of l) u.held b.added) (sym judged) b.holds) in (
+      let judged = one_judging s.rule same (marked_off s.at_front a.lines) js ks a.judges
+      (subst (λ l. AreJudged s.rule (marked_off s.at_front l) ks) (sym cut.0) b.judges) in
+      let held = one_holding total s.held t.held u.held (selected_of js) a.added b.added a.holds
+      (subst (λ l. Holds s.held (selected_of l) u.held b.added) (sym judged) b.holds) in (
         judged,
         a.state
             ∙ (λ i. record s {
               at_front = s.at_front && is_empty (cut.0 i);
               unended = cut.1 i;
               held = held.0 i;
-              counts = counted s.counts (judged i);
+              counts = counted s.rule.ending s.counts (judged i);
             })
             ∙ sym b.state,
         a.appended ∙ ap (λ l. old ++ l) held.1 ∙ sym b.appended,
@@ -140,24 +144,36 @@ module _ (same : OneVersion) (total : IsTotalOrder precedence) where
       let one = one_taking s t' u' piece js ks old new other a.all b.all in
       let front = ap (λ (v : LinesValue). v.at_front) one.1 in
       let rest = ap (λ (v : LinesValue). v.unended) one.1 in
-      let there = subst (λ f. IsLeft s.filter.grammar s.prefixes f b.unended u.unended) (sym front) b.left in
-      let left = same_left s.filter.grammar s.prefixes t.at_front a.unended t.unended u.unended a.left
-      (subst (λ r. IsLeft s.filter.grammar s.prefixes t.at_front r u.unended) (sym rest) there) in
+      let there = subst (λ f. IsLeft (versions_grammar s.rule.filter) s.rule.prefixes f b.unended u.unended) (sym front) b.left in
+      let left = same_left (versions_grammar s.rule.filter) s.rule.prefixes t.at_front a.unended t.unended u.unended a.left
+      (subst (λ r. IsLeft (versions_grammar s.rule.filter) s.rule.prefixes t.at_front r u.unended) (sym rest) there) in
       (one.0, λ i. record (one.1 i) { unended = left i }, one.2)
 
   -- what the end of a text does is fixed
   pub one_completion : (s t u : LinesValue) (text : Text) (js ks : List JudgedLine) (old new other : Text) → Completes s text js t old new
       → Completes s text ks u old other → (js ≡ ks) × (t ≡ u) × (new ≡ other)
   one_completion s t u text js ks old new other a b =
-      let judged = one_judging s.filter s.prefixes same (lines_of text) js ks a.judges b.judges in
-      let held = one_holding total s.held a.held b.held (kept_of js) a.added b.added a.holds
-      (subst (λ l. Holds s.held (kept_of l) b.held b.added) (sym judged) b.holds) in
-      let rest = one_answer total a.held a.rest b.rest a.answers (subst (λ h. Answers h b.rest) (sym held.0) b.answers) in (
+      let judged = one_judging s.rule same (lines_of (end_byte s.rule.ending) text) js ks a.judges b.judges in
+      let held = one_holding total s.held a.held b.held (selected_of js) a.added b.added a.holds
+      (subst (λ l. Holds s.held (selected_of l) b.held b.added) (sym judged) b.holds) in
+      let rest = one_answer total (end_byte s.rule.ending) a.held a.rest b.rest a.answers (subst (λ h. Answers (end_byte s.rule.ending) h b.rest) (sym held.0) b.answers) in (
         judged,
-        a.state ∙ ap (λ l. record s { at_front = true; unended = []; held = emptied s.held; counts = counted s.counts l }) judged
+        a.state ∙ ap (λ l. record s { at_front = true; unended = []; held = emptied s.held; counts = counted s.rule.ending s.counts l }) judged
             ∙ sym b.state,
         a.appended ∙ ap₂ (λ l m. old ++ (l ++ m)) held.1 rest ∙ sym b.appended,
       )
+
+  -- what the end of a file does is fixed
+  pub one_file_end : (s t u : LinesValue) (js ks : List JudgedLine) (old new other : Text) → EndsFile s js t old new
+      → EndsFile s ks u old other → (js ≡ ks) × (t ≡ u) × (new ≡ other)
+  one_file_end s t u js ks old new other a b = by_left (is_empty (after_mark s.at_front s.unended)) a b
+    where
+      by_left : (nothing : Bool) → EndsFileBy nothing s js t old new → EndsFileBy nothing s ks u old other
+          → (js ≡ ks) × (t ≡ u) × (new ≡ other)
+      by_left true (none, is, appended) (none', so, appended') = (none ∙ sym none', is ∙ sym so, appended ∙ sym appended')
+      by_left false (m, a, is) (n, b, so) =
+          let one = one_taking s m n (end_byte s.rule.ending ∷ []) js ks old new other a b in
+          (one.0, is ∙ ap begun_file one.1 ∙ sym so, one.2)
 
   -- ---- the first invalid line
 
@@ -167,12 +183,12 @@ module _ (same : OneVersion) (total : IsTotalOrder precedence) where
       → (zs : List JudgedLine) × (ks ≡ js ++ zs) × (zs ≡ [] → u.unended ≡ [] → q ≡ [])
   front_judged s t u p q js ks old mid other new a none b =
       let whole = sym (append_nil_of (concat a.lines) t.unended none) ∙ sym a.cut.whole in
-      let cut = more_lines a.lines b.lines q u.unended a.cut.each b.cut.each b.cut.no_end
+      let cut = more_lines (end_byte s.rule.ending) a.lines b.lines q u.unended a.cut.each b.cut.each b.cut.no_end
       (ap (λ l. l ++ q) whole ∙ append_assoc s.unended p q ∙ b.cut.whole) in
       let marks = ap (marked_off s.at_front) cut.1 ∙ marked_append s.at_front a.lines cut.0 in
-      let parts = split_judged s.filter s.prefixes (marked_off s.at_front a.lines) (marked_off (s.at_front && is_empty a.lines) cut.0) ks
-      (subst (λ l. AreJudged s.filter s.prefixes l ks) marks b.judges) in
-      let first = one_judging s.filter s.prefixes same (marked_off s.at_front a.lines) parts.0 js parts.3 a.judges in (
+      let parts = split_judged s.rule (marked_off s.at_front a.lines) (marked_off (s.at_front && is_empty a.lines) cut.0) ks
+      (subst (λ l. AreJudged s.rule l ks) marks b.judges) in
+      let first = one_judging s.rule same (marked_off s.at_front a.lines) parts.0 js parts.3 a.judges in (
         parts.1,
         parts.2 ∙ ap (λ l. l ++ parts.1) first,
         λ nothing ended.
@@ -209,86 +225,113 @@ module _ (same : OneVersion) (total : IsTotalOrder precedence) where
 
 -- ---- a whole text
 
--- the first line, and the lines after it
-lines_from : (x : ℕ) (xs : List ℕ) → lines_of (x ∷ xs) ≡ take_through 10 (x ∷ xs) ∷ lines_of (drop_through 10 (x ∷ xs))
-lines_from x [] = search rules
-lines_from x (y ∷ ys) = grind (arith, drop_through, onto_first, lines_from y ys)
+module _ (end : ℕ) where
+  -- the first line, and the lines after it
+  lines_from : (x : ℕ) (xs : List ℕ) → lines_of end (x ∷ xs) ≡ take_through end (x ∷ xs) ∷ lines_of end (drop_through end (x ∷ xs))
+  lines_from x [] = search rules
+  lines_from x (y ∷ ys) = grind (arith, drop_through, onto_first, lines_from y ys)
 
-first_line : (xs : List ℕ) → 0 < length xs → lines_of xs ≡ take_through 10 xs ∷ lines_of (drop_through 10 xs)
-first_line [] some = absurd (omega arith)
-first_line (x ∷ xs) some = lines_from x xs
+  first_line : (xs : List ℕ) → 0 < length xs → lines_of end xs ≡ take_through end xs ∷ lines_of end (drop_through end xs)
+  first_line [] some = absurd (omega arith)
+  first_line (x ∷ xs) some = lines_from x xs
 
-pub lines_before : (line rest : Text) → IsWholeLine line → lines_of (line ++ rest) ≡ line ∷ lines_of rest
-lines_before line rest whole =
-    let first = through line rest whole in
-    first_line (line ++ rest) (omega (arith, length-append line rest)) ∙ ap₂ (λ l more. l ∷ lines_of more) first.0 first.1
+  pub lines_before : (line rest : Text) → IsWholeLine end line → lines_of end (line ++ rest) ≡ line ∷ lines_of end rest
+  lines_before line rest whole =
+      let first = through end line rest whole in
+      first_line (line ++ rest) (omega (arith, length-append line rest)) ∙ ap₂ (λ l more. l ∷ lines_of end more) first.0 first.1
 
-cut_lines : (lines : List Text) (rest : Text) → AllByRecursion IsWholeLine lines → lines_of (concat lines ++ rest) ≡ lines ++ lines_of rest
-cut_lines [] rest each = refl
-cut_lines (line ∷ lines) rest each = grind (arith, append_assoc, lines_before, cut_lines lines rest each.1)
+  cut_lines : (lines : List Text) (rest : Text) → AllByRecursion (IsWholeLine end) lines
+      → lines_of end (concat lines ++ rest) ≡ lines ++ lines_of end rest
+  cut_lines [] rest each = refl
+  cut_lines (line ∷ lines) rest each = grind (arith, append_assoc, lines_before, cut_lines lines rest each.1)
 
-pub whole_tail : (x y : ℕ) (ys : Text) → IsWholeLine (x ∷ y ∷ ys) → IsWholeLine (y ∷ ys)
-whole_tail x y ys (some, stops, ends) =
-    let long : length (x ∷ y ∷ ys) - 1 ≡ suc (length ys) = omega arith in
-    let less : length (y ∷ ys) - 1 ≡ length ys = omega arith in
-    let before = All-tail (λ b. b ≢ 10) x _ (rw long at stops) in (
-      omega arith,
-      rw less before,
-      λ more. ap (λ n. get_or (y ∷ ys) n 0) less ∙ sym (cc) ∙ ends (omega arith),
-    )
+  pub whole_tail : (x y : ℕ) (ys : Text) → IsWholeLine end (x ∷ y ∷ ys) → IsWholeLine end (y ∷ ys)
+  whole_tail x y ys (some, stops, ends) =
+      let long : length (x ∷ y ∷ ys) - 1 ≡ suc (length ys) = omega arith in
+      let less : length (y ∷ ys) - 1 ≡ length ys = omega arith in
+      let before = All-tail (λ b. b ≢ end) x _ (rw long at stops) in (
+        omega arith,
+        rw less before,
+        λ more. ap (λ n. get_or (y ∷ ys) n 0) less ∙ sym (cc) ∙ ends (omega arith),
+      )
 
 abbrev is_mark : ℕ → ℕ → ℕ → Bool
 is_mark a b c = (a == 0xEF) && ((b == 0xBB) && (c == 0xBF))
 
+-- three bytes that end with the one that ends lines are no mark
+last_of_three : (end a b c : ℕ) → IsWholeLine end (a ∷ b ∷ c ∷ []) → c ≡ end
+last_of_three end a b c (some, stops, ends) = ends (omega arith)
+
+no_mark : (ending : LineEnd) (a b c : ℕ) → c ≡ end_byte ending → is_mark a b c ≡ false
+no_mark LineFeed a b c is = search rules
+no_mark ZeroByte a b c is = search rules
+
 -- a mark at the front of a text is at the front of its first line, of which more is left
-first_marked : (line rest : Text) → IsWholeLine line
-    → (without_mark (line ++ rest) ≡ without_mark line ++ rest) × IsWholeLine (without_mark line)
-first_marked [] rest whole = absurd (omega arith)
-first_marked (a ∷ []) rest whole = search rules
-first_marked (a ∷ b ∷ []) rest whole = search rules
-first_marked (a ∷ b ∷ c ∷ []) rest whole = search rules
-first_marked (a ∷ b ∷ c ∷ d ∷ more) rest whole = by_mark _
+first_marked : (ending : LineEnd) (line rest : Text) → IsWholeLine (end_byte ending) line
+    → (without_mark (line ++ rest) ≡ without_mark line ++ rest) × IsWholeLine (end_byte ending) (without_mark line)
+first_marked ending [] rest whole = absurd (omega arith)
+first_marked LineFeed (a ∷ []) rest whole = search rules
+first_marked ZeroByte (a ∷ []) rest whole = search rules
+first_marked LineFeed (a ∷ b ∷ []) rest whole = search rules
+first_marked ZeroByte (a ∷ b ∷ []) rest whole = search rules
+first_marked ending (a ∷ b ∷ c ∷ []) rest whole =
+    by_mark _ (no_mark ending a b c (last_of_three (end_byte ending) a b c whole))
+  where
+    by_mark : (m : Bool) → m ≡ false → (cond m rest (a ∷ b ∷ c ∷ rest) ≡ cond m [] (a ∷ b ∷ c ∷ []) ++ rest)
+        × IsWholeLine (end_byte ending) (cond m [] (a ∷ b ∷ c ∷ []))
+    by_mark true e = cc
+    by_mark false e = (refl, whole)
+first_marked ending (a ∷ b ∷ c ∷ d ∷ more) rest whole = by_mark _
   where
     by_mark : (m : Bool) → (cond m (d ∷ more ++ rest) (a ∷ b ∷ c ∷ d ∷ more ++ rest) ≡ cond m (d ∷ more) (a ∷ b ∷ c ∷ d ∷ more) ++ rest)
-        × IsWholeLine (cond m (d ∷ more) (a ∷ b ∷ c ∷ d ∷ more))
-    by_mark true = (refl, whole_tail c d more (whole_tail b c (d ∷ more) (whole_tail a b (c ∷ d ∷ more) whole)))
+        × IsWholeLine (end_byte ending) (cond m (d ∷ more) (a ∷ b ∷ c ∷ d ∷ more))
+    by_mark true = (
+      refl,
+      whole_tail (end_byte ending) c d more
+          (whole_tail (end_byte ending) b c (d ∷ more) (whole_tail (end_byte ending) a b (c ∷ d ∷ more) whole)),
+    )
     by_mark false = (refl, whole)
 
-marked_lines : (lines : List Text) (rest : Text) → AllByRecursion IsWholeLine lines
-    → lines_of (without_mark (concat lines ++ rest)) ≡ marked_off true lines ++ lines_of (after_mark (is_empty lines) rest)
-marked_lines [] rest each = refl
-marked_lines (line ∷ lines) rest each =
-    let first = first_marked line _ each.0 in
-    ap (λ l. lines_of (without_mark l)) (append_assoc line (concat lines) rest) ∙ ap lines_of first.0
-    ∙ lines_before (without_mark line) _ first.1 ∙ ap (λ l. without_mark line ∷ l) (cut_lines lines rest each.1)
+marked_lines : (ending : LineEnd) (lines : List Text) (rest : Text) → AllByRecursion (IsWholeLine (end_byte ending)) lines
+    → lines_of (end_byte ending) (without_mark (concat lines ++ rest))
+    ≡ marked_off true lines ++ lines_of (end_byte ending) (after_mark (is_empty lines) rest)
+marked_lines ending [] rest each = refl
+marked_lines ending (line ∷ lines) rest each =
+    let first = first_marked ending line _ each.0 in
+    ap (λ l. lines_of (end_byte ending) (without_mark l)) (append_assoc line (concat lines) rest)
+    ∙ ap (lines_of (end_byte ending)) first.0
+    ∙ lines_before (end_byte ending) (without_mark line) _ first.1
+    ∙ ap (λ l. without_mark line ∷ l) (cut_lines (end_byte ending) lines rest each.1)
 
 -- all of a text was taken, and its end
 pub took_text : IsTotalOrder precedence → (s t u : LinesValue) (text : Text) (js ks : List JudgedLine) (old mid new : Text)
     → TakesAll (begun s) text js t old mid → Finishes t ks u mid new → Completes (begun s) (without_mark text) (js ++ ks) u old new
 took_text total s t u text js ks old mid new a b =
-    let filter = ap (λ (v : LinesValue). v.filter) a.state in
-    let prefixes = ap (λ (v : LinesValue). v.prefixes) a.state in
+    let end = end_byte s.rule.ending in
+    let rule = ap (λ (v : LinesValue). v.rule) a.state in
     let front = ap (λ (v : LinesValue). v.at_front) a.state in
-    let last = lines_of (after_mark (is_empty a.lines) t.unended) in
-    let later = rw front at (as_chosen s t (lines_of (after_mark t.at_front t.unended)) ks filter prefixes b.judges) in
-    let lines = ap (λ l. lines_of (without_mark l)) a.cut.whole ∙ marked_lines a.lines t.unended a.cut.each in
-    let wanted = same_wanted (begun s).held.wanted (begun s).held t.held (kept_of js) a.added a.holds in
+    let last = lines_of end (after_mark (is_empty a.lines) t.unended) in
+    let ended = subst (λ (r : LineRule). AreJudged s.rule (lines_of (end_byte r.ending) (after_mark t.at_front t.unended)) ks) rule
+    (as_chosen s t _ ks rule b.judges) in
+    let later = rw front at ended in
+    let lines = ap (λ l. lines_of end (without_mark l)) a.cut.whole ∙ marked_lines s.rule.ending a.lines t.unended a.cut.each in
+    let selection = same_wanted (begun s).held.selection (begun s).held t.held (selected_of js) a.added a.holds in
     record {
       judges = grind (arith, common_steps);
       held = b.held;
       added = a.added ++ b.added;
       rest = b.rest;
       holds =
-          rw (kept_append js ks) (holds_more total (begun s).held t.held b.held (kept_of js) (kept_of ks) a.added b.added a.holds b.holds);
-      answers = b.answers;
+          rw (kept_append js ks) (holds_more total (begun s).held t.held b.held (selected_of js) (selected_of ks) a.added b.added a.holds b.holds);
+      answers = subst (λ (r : LineRule). Answers (end_byte r.ending) b.held b.rest) rule b.answers;
       appended = grind (arith, common_steps);
       state = b.state
-          ∙ ap (λ (v : LinesValue). record v { at_front = true; unended = []; held = emptied t.held; counts = counted v.counts ks }) a.state
+          ∙ ap (λ (v : LinesValue). record v { at_front = true; unended = []; held = emptied t.held; counts = counted v.rule.ending v.counts ks }) a.state
           ∙ (λ i. record (begun s) {
             at_front = true;
             unended = [];
-            held = record { wanted = wanted i; best = None; sorted = [] };
-            counts = sym (counted_append s.counts js ks) i;
+            held = record { selection = selection i; best = None; sorted = [] };
+            counts = sym (counted_append s.rule.ending s.counts js ks) i;
           });
     }
 
@@ -390,5 +433,35 @@ module _ (same : OneVersion) (total : IsTotalOrder precedence) (s r t u : LinesV
   pub no_bad_end : (old new : Text) (f : LinesError) → Ends s t old new → RefusesEnd r f → (n : ℕ) → ¬ (f ≡ NoVersion n)
   no_bad_end old new f (js, a, valid) b n is =
       let bad = subst (λ x. RefusesEnd s x) is (subst (λ (x : LinesValue). RefusesEnd x f) (sym states) b) in
-      let those = one_judging s.filter s.prefixes same (lines_of (after_mark s.at_front s.unended)) js bad.1.0 a.judges bad.1.1 in
+      let those = one_judging s.rule same (lines_of (end_byte s.rule.ending) (after_mark s.at_front s.unended)) js bad.1.0 a.judges bad.1.1 in
       not_both (ap has_invalid those ∙ bad.1.2) (valid bad.0)
+
+-- what a call of `end_file` gave
+abbrev pub EndedFile : LinesValue → LinesValue → Text → Text → Type 0
+EndedFile s t old new = (judged : List JudgedLine) × EndsFile s judged t old new × (IsTrue s.is_strict → has_invalid judged ≡ false)
+
+module _ (same : OneVersion) (total : IsTotalOrder precedence) (s r t u : LinesValue) (old before new other : Text) (states : s ≡ r)
+    (bytes : old ≡ before) where
+  from_first : (P : LinesValue → Text → Type 0) → P r before → P s old
+  from_first P p = subst (λ (x : LinesValue). P x old) (sym states) (subst (P r) (sym bytes) p)
+
+  pub two_files_ended : EndedFile s t old new → EndedFile r u before other → (t ≡ u) × (new ≡ other)
+  two_files_ended (js, a, _) b =
+      let b' = from_first (λ (x : LinesValue) (l : Text). EndedFile x u l other) b in
+      let one = one_file_end same total s t u js b'.0 old new other a b'.1 in (one.1, one.2)
+
+  pub one_file_error : (e f : LinesError) → RefusesFile e s t old new → RefusesFile f r u before other → (n m : ℕ) → e ≡ NoVersion n
+      → f ≡ NoVersion m → (n ≡ m) × (t ≡ u) × (new ≡ other)
+  one_file_error e f a b n m is so =
+      let first = subst (λ x. RefusesFile x s t old new) is a in
+      let second = subst (λ x. RefusesFile x s u old other) so
+      (from_first (λ (x : LinesValue) (l : Text). RefusesFile f x u l other) b) in
+      let one = one_file_end same total s t u first.1 second.1 old new other first.2 second.2 in
+      (first.4 ∙ ap (λ (v : LinesValue). v.counts.lines) one.1 ∙ sym second.4, one.1, one.2)
+
+  pub no_bad_file : (f : LinesError) → EndedFile s t old new → RefusesFile f r u before other → (n : ℕ) → ¬ (f ≡ NoVersion n)
+  no_bad_file f (js, a, valid) b n is =
+      let bad = subst (λ x. RefusesFile x s u old other) is
+      (from_first (λ (x : LinesValue) (l : Text). RefusesFile f x u l other) b) in
+      let one = one_file_end same total s t u js bad.1 old new other a bad.2 in
+      not_both (ap has_invalid one.0 ∙ bad.3) (valid bad.0)

@@ -5,7 +5,7 @@ use Rattle.std.proofs.Common.{append_assoc, append-nil, length-append, length-ta
 use Rattle.std.specs.Prelude.{◌&&◌, ◌==◌, slice_range}
 use Rattle.std.specs.Io.BufRead.{ends_with_byte, strip_last}
 use Rattle.std.proofs.lemmas.List.{drop_at, take_at, take-append-drop, take-take}
-use Rattle.semver_parser.specs.Texts.{Text}
+use Rattle.semver_texts.specs.Texts.{Text}
 use Rattle.semver_texts.proofs.Lists.{by_test}
 use Rattle.release_filter.specs.LineTexts.{after_mark}
 use Rattle.release_filter.specs.Skipping.{without_room}

@@ -4,8 +4,8 @@ use Rattle.std.proofs.Common.{◌≡◌, ◌++◌, ◌∷◌, [], List, ℕ, Boo
 use Rattle.std.proofs.Common.{Bor, IsTrue, MatchOption, Option, Some, None, length, length-append, ◌↔◌}
 use Rattle.std.specs.Prelude.{is_some}
 use Rattle.std.proofs.lemmas.List.{append_cancel_left}
-use Rattle.semver_parser.specs.Texts.{Text}
-use Rattle.semver_parser.specs.declared.version.Grammar.{Grammar}
+use Rattle.semver_texts.specs.Texts.{Text}
+use Rattle.semver_texts.specs.declared.grammar.Grammar.{Grammar}
 use Rattle.text_prefixes.specs.VersionPrefixes.{IsPrefixIn}
 use Rattle.release_filter.specs.Skipping.{BeginsAfter}
 use Rattle.std.proofs.lemmas.Grind.{common_steps}

@@ -7,30 +7,36 @@ use Rattle.std.specs.Io.BufRead.{strip_last}
 use Rattle.std.proofs.lemmas.Bool.{cases_lt}
 use Rattle.std.proofs.Math.Seq.{take-append_seam}
 use Rattle.std.proofs.lemmas.List.{take-append-le}
-use Rattle.semver_parser.specs.Texts.{Text, is_empty}
-use Rattle.semver_parser.specs.Versions.{VersionValue}
-use Rattle.semver_parser.specs.ToolVersions.{SpellsIn}
-use Rattle.semver_parser.specs.declared.version.Grammar.{Grammar}
+use Rattle.tool_ranges.specs.VersionRanges.{versions_grammar}
+use Rattle.semver_texts.specs.Texts.{Text, is_empty}
+use Rattle.semver_texts.specs.Versions.{VersionValue}
+use Rattle.semver_texts.specs.ToolVersions.{SpellsIn}
+use Rattle.semver_texts.specs.declared.grammar.Grammar.{Grammar}
 use Rattle.release_filter.specs.Counting.{CountsValue, counted_as, first_of, one_more}
-use Rattle.release_filter.specs.Filters.{FilterValue}
-use Rattle.release_filter.specs.LineTexts.{after_mark, line_text}
+use Rattle.release_filter.specs.LineTexts.{after_mark, end_byte, line_text}
+use Rattle.release_filter.specs.declared.line_texts.LineEnd.{LineEnd}
+use Rattle.release_filter.specs.declared.line_texts.LineEnd.TheVariants.{LineFeed, ZeroByte}
 use Rattle.release_filter.specs.Skipping.{BeginsAfter, BeginsAfterOne, IsLeft, MayHaveVersion, MayUpTo, ShowsNone}
-use Rattle.release_filter.specs.Verdicts.{HasNoVersion, HasVersion, IsVerdictOn, Verdict, asked, dropped, empty, invalid, kept}
+use Rattle.release_filter.specs.Verdicts.{HasNoVersion, HasVersion, IsVerdictOn, LineRule, Verdict, tried, dropped, empty, invalid, kept}
 use Rattle.release_filter.proofs.Looks.{looked_least, may_longer}
 use Rattle.release_filter.proofs.NumberedLines.{strip_after}
-use Rattle.release_filter.proofs.Passing.{not_both}
+use Rattle.release_filter.proofs.Matching.{not_both}
 use Rattle.release_filter.proofs.Rooms.{after_text}
 use Rattle.release_filter.proofs.TakenPieces.{NoEnd, no_end_marked}
 use Rattle.std.proofs.lemmas.Grind.{common_steps}
 
 -- ---- the text of a line, and a front of it
 
-text_front : (front more : Text) → NoEnd front → (rest : Text) × (line_text (front ++ more) ≡ strip_last 13 front ++ rest)
-text_front front [] none = search rules
-text_front front (x ∷ xs) none = by_rest _ (ap (strip_last 13) (strip_after 10 front _ (omega arith)))
+strip_none : (byte : ℕ) (xs : Text) → NoEnd byte xs → strip_last byte xs ≡ xs
+strip_none byte xs none = grind (arith, common_steps)
+
+text_front : (ending : LineEnd) (front more : Text) → NoEnd (end_byte ending) front
+    → (rest : Text) × (line_text ending (front ++ more) ≡ strip_last 13 front ++ rest)
+text_front LineFeed front [] none = search rules
+text_front LineFeed front (x ∷ xs) none = by_rest _ (ap (strip_last 13) (strip_after 10 front _ (omega arith)))
   where
-    by_rest : (rest : Text) → line_text (front ++ x ∷ xs) ≡ strip_last 13 (front ++ rest)
-        → (r : Text) × (line_text (front ++ x ∷ xs) ≡ strip_last 13 front ++ r)
+    by_rest : (rest : Text) → line_text LineFeed (front ++ x ∷ xs) ≡ strip_last 13 (front ++ rest)
+        → (r : Text) × (line_text LineFeed (front ++ x ∷ xs) ≡ strip_last 13 front ++ r)
     by_rest [] e = grind (arith, common_steps)
     by_rest (y ∷ ys) e =
         let end = after_text 13 front in (
@@ -38,6 +44,14 @@ text_front front (x ∷ xs) none = by_rest _ (ap (strip_last 13) (strip_after 10
           e ∙ strip_after 13 front _ (omega arith) ∙ ap (λ l. l ++ strip_last 13 (y ∷ ys)) end.1
               ∙ append_assoc _ end.0 _,
         )
+text_front ZeroByte front [] none =
+    let end = after_text 13 front in
+    (end.0, ap (strip_last 0) (append-nil front) ∙ strip_none 0 front none ∙ end.1)
+text_front ZeroByte front (x ∷ xs) none =
+    let end = after_text 13 front in (
+      end.0 ++ strip_last 0 (x ∷ xs),
+      strip_after 0 front _ (omega arith) ∙ ap (λ l. l ++ strip_last 0 (x ∷ xs)) end.1 ∙ append_assoc _ end.0 _,
+    )
 
 -- ---- what begins a line with a version
 
@@ -47,11 +61,12 @@ spells_front grammar [] front rest text v e spells = search rules
 spells_front grammar (p ∷ ps) [] rest text v e spells = inr (p, ps, refl)
 spells_front grammar (p ∷ ps) (x ∷ xs) rest text v e spells = grind (arith, spells_front grammar ps xs rest text v (cc) spells)
 
-has_front : (grammar : Grammar) (prefixes : List Text) (line front rest : Text) (v : VersionValue) → line_text line ≡ front ++ rest
-    → HasVersion grammar prefixes line v → BeginsAfterOne grammar prefixes front
-has_front grammar [] line front rest v e has = absurd has
-has_front grammar (p ∷ ps) line front rest v e (inl (text, is, spells)) = grind (arith, spells_front)
-has_front grammar (p ∷ ps) line front rest v e (inr (none, has)) = inr (has_front grammar ps line front rest v e has)
+has_front : (grammar : Grammar) (prefixes : List Text) (text front rest p : Text) (v : VersionValue) → text ≡ front ++ rest
+    → HasVersion grammar prefixes text p v → BeginsAfterOne grammar prefixes front
+has_front grammar [] text front rest p v e contains = absurd contains
+has_front grammar (q ∷ qs) text front rest p v e (inl (so, (more, is, spells))) =
+    inl (spells_front grammar q front rest more v (sym e ∙ is) spells)
+has_front grammar (q ∷ qs) text front rest p v e (inr (none, contains)) = inr (has_front grammar qs text front rest p v e contains)
 
 -- ---- a front after a mark
 
@@ -72,8 +87,8 @@ marked_length true (a ∷ b ∷ c ∷ rest) = search rules
 
 -- ---- lines that begin with this front, which are skipped
 
-module _ (filter : FilterValue) (prefixes : List Text) (at_front : Bool) (front : Text) (none : NoEnd front)
-    (shows : ShowsNone filter.grammar prefixes at_front front)
+module _ (rule : LineRule) (at_front : Bool) (front : Text) (none : NoEnd (end_byte rule.ending) front)
+    (shows : ShowsNone (versions_grammar rule.filter) rule.prefixes at_front front)
   where
     long : 4096 ≤ length front
     long = looked_least (length front) shows.looked_at
@@ -84,19 +99,19 @@ module _ (filter : FilterValue) (prefixes : List Text) (at_front : Bool) (front 
     abbrev seen : Text
     seen = strip_last 13 (after_mark at_front front)
 
-    text_is : (more : Text) → (rest : Text) × (line_text (line_with more) ≡ seen ++ rest)
+    text_is : (more : Text) → (rest : Text) × (line_text rule.ending (line_with more) ≡ seen ++ rest)
     text_is more =
-        let text = text_front _ more (no_end_marked at_front front none) in
-        (text.0, ap line_text (marked_front at_front front more (omega (arith, long))) ∙ text.1)
+        let text = text_front rule.ending _ more (no_end_marked (end_byte rule.ending) at_front front none) in
+        (text.0, ap (line_text rule.ending) (marked_front at_front front more (omega (arith, long))) ∙ text.1)
 
     enough : 81 ≤ length seen
     enough = search rules
 
-    has_none : (more : Text) → HasNoVersion filter.grammar prefixes (line_with more)
-    has_none more = λ v has. let text = text_is more in shows.none
-        (has_front filter.grammar (asked prefixes) (line_with more) seen text.0 v text.1 has)
+    has_none : (more : Text) → HasNoVersion rule (line_with more)
+    has_none more = λ p v contains. let text = text_is more in shows.none
+        (has_front (versions_grammar rule.filter) (tried rule.prefixes) _ seen text.0 p v text.1 contains)
 
-    has_text : (more : Text) → is_empty (line_text (line_with more)) ≡ false
+    has_text : (more : Text) → is_empty (line_text rule.ending (line_with more)) ≡ false
     has_text more =
         let text = text_is more in
         some _ (omega (arith, enough, ap length text.1, length-append seen text.0))
@@ -106,21 +121,21 @@ module _ (filter : FilterValue) (prefixes : List Text) (at_front : Bool) (front 
         some _ less = refl
 
     -- such a line is invalid, and nothing else
-    pub is_skipped : (more : Text) → IsVerdictOn filter prefixes (line_with more) invalid
+    pub is_skipped : (more : Text) → IsVerdictOn rule (line_with more) invalid
     is_skipped more = (has_none more, has_text more)
 
-    pub must_be_skipped : (more : Text) (v : Verdict) → IsVerdictOn filter prefixes (line_with more) v → v ≡ invalid
-    must_be_skipped more (kept p) on = absurd (has_none more on.0 on.1)
-    must_be_skipped more dropped on = absurd (has_none more on.0 on.1)
+    pub must_be_skipped : (more : Text) (v : Verdict) → IsVerdictOn rule (line_with more) v → v ≡ invalid
+    must_be_skipped more (kept p g) on = absurd (has_none more on.0 on.1 on.2)
+    must_be_skipped more dropped on = absurd (has_none more on.0 on.1 on.2)
     must_be_skipped more invalid on = refl
     must_be_skipped more empty on = absurd (not_both on.1 (has_text more))
 
-    counted_front : (more : Text) → take 81 (line_text (line_with more)) ≡ take 81 seen
+    counted_front : (more : Text) → take 81 (line_text rule.ending (line_with more)) ≡ take 81 seen
     counted_front more = let text = text_is more in ap (take 81) text.1 ∙ take-append-le 81 seen text.0 enough
 
     -- and is counted as each other one
     pub counted_alike : (more other : Text) (c : CountsValue)
-        → counted_as invalid c (line_with more) ≡ counted_as invalid c (line_with other)
+        → counted_as rule.ending invalid c (line_with more) ≡ counted_as rule.ending invalid c (line_with other)
     counted_alike more other c =
         ap (λ t. record c {
           lines = one_more c.lines;

@@ -13,11 +13,12 @@ use Rattle.std.specs.List.{AllPairs}
 use Rattle.std.specs.List.Sorted.{IsSortedBy}
 use Rattle.std.specs.Ordering.{is_eq, is_lt, nat_cmp, on, ordering_reverse, ordering_then, then_cmp}
 use Rattle.std.specs.declared.cmp.Ordering.{Ordering}
-use Rattle.semver_parser.specs.Precedence.{precedence}
-use Rattle.semver_parser.specs.Versions.{PlainVersion}
-use Rattle.release_filter.specs.Steps.Taking.{kept_value, read_plain}
-use Rattle.release_filter.specs.Wanted.{IsStableSort, KeptValue}
-use Rattle.release_filter.specs.declared.wanted.IndexedLine.{IndexedLine}
+use Rattle.semver_texts.specs.Precedence.{precedence}
+use Rattle.semver_texts.specs.Versions.{PlainVersion}
+use Rattle.semver_versions.specs.ReadVersions.{read_plain}
+use Rattle.release_filter.specs.Steps.Taking.{selected_value}
+use Rattle.release_filter.specs.Selections.{IsStableSort, SelectedValue}
+use Rattle.release_filter.specs.declared.selection.IndexedLine.{IndexedLine}
 use Rattle.release_filter.proofs.HeldLines.{seen_lines}
 use Rattle.release_filter.proofs.OneOrder.{AreIndexed, same_order}
 
@@ -46,9 +47,9 @@ abbrev is_equal : PlainVersion → IndexedLine → Bool
 is_equal v l = is_eq (precedence (plain_of l) v)
 
 filter_seen : (v : PlainVersion) (lines : List IndexedLine)
-    → filter (λ (k : KeptValue). is_eq (precedence k.version v)) (seen_lines lines) ≡ seen_lines (filter (is_equal v) lines)
+    → filter (λ (k : SelectedValue). is_eq (precedence k.version v)) (seen_lines lines) ≡ seen_lines (filter (is_equal v) lines)
 filter_seen v [] = refl
-filter_seen v (x ∷ xs) = grind (arith, seen_lines, kept_value, filter_seen v xs)
+filter_seen v (x ∷ xs) = grind (arith, seen_lines, selected_value, filter_seen v xs)
 
 not_below : (m n : ℕ) → is_lt (nat_cmp n m) ≡ false → m ≤ n
 not_below m n low = grind (arith, nat_tests)
@@ -70,17 +71,17 @@ module _ (total : IsTotalOrder precedence) where
       not_below x.index y.index (subst (λ (r : Ordering). is_lt (ordering_then r (nat_cmp y.index x.index)) ≡ false) equal low)
 
   rises : (ys : List IndexedLine) → IsSortedBy is_below ys
-      → AllPairs (λ (x y : KeptValue). precedence x.version y.version ≡ Greater → ⊥) (seen_lines ys)
+      → AllPairs (λ (x y : SelectedValue). precedence x.version y.version ≡ Greater → ⊥) (seen_lines ys)
   rises [] up i j d before inside = absurd (omega (arith, inside))
   rises (y ∷ ys) up i j d before inside =
       let zs = y ∷ ys in
-      let within : j < length zs = subst (λ n. j < n) (length-map zs (λ (l : IndexedLine). kept_value l.line.now)) inside in
+      let within : j < length zs = subst (λ n. j < n) (length-map zs (λ (l : IndexedLine). selected_value l.line.now)) inside in
       let first : i < length zs = omega (arith, before, within) in
       let low = sorted_far is_below ranks zs up i j y (omega (arith, before)) within in
-      let a = get_or-map (λ (l : IndexedLine). kept_value l.line.now) zs i y d first in
-      let b = get_or-map (λ (l : IndexedLine). kept_value l.line.now) zs j y d within in
+      let a = get_or-map (λ (l : IndexedLine). selected_value l.line.now) zs i y d first in
+      let b = get_or-map (λ (l : IndexedLine). selected_value l.line.now) zs j y d within in
       λ above. isnt_above (get_or zs i y) (get_or zs j y) low
-      (ap₂ (λ (x y : KeptValue). precedence x.version y.version) (sym a) (sym b) ∙ above)
+      (ap₂ (λ (x y : SelectedValue). precedence x.version y.version) (sym a) (sym b) ∙ above)
 
   same_equal : (v : PlainVersion) (xs ys : List IndexedLine) → AreIndexed index_of xs → IsPermutation xs ys → IsSortedBy is_below ys
       → filter (is_equal v) ys ≡ filter (is_equal v) xs
@@ -91,7 +92,7 @@ module _ (total : IsTotalOrder precedence) where
   pub sorts : (xs ys : List IndexedLine) → AreIndexed index_of xs → IsPermutation xs ys → IsSortedBy is_below ys
       → IsStableSort (seen_lines xs) (seen_lines ys)
   sorts xs ys indexed moved up = record {
-    rearranged = IsPermutation-map (λ (l : IndexedLine). kept_value l.line.now) xs ys moved;
+    rearranged = IsPermutation-map (λ (l : IndexedLine). selected_value l.line.now) xs ys moved;
     rises = rises ys up;
     stable = λ v. filter_seen v ys ∙ ap seen_lines (same_equal v xs ys indexed moved up) ∙ sym (filter_seen v xs);
   }

@@ -1,7 +1,7 @@
 -- serves: release_filter::lines::Lines::push, stops
 -- What a piece of a text does, line by line.
 use Rattle.std.proofs.Common.{◌≡◌, ◌≢◌, ◌∙◌, ◌++◌, ◌∷◌, ◌≤◌, ◌+◌, ◌-◌, ◌&&◌, [], List, ℕ, Bool, true, false, refl, sym, subst, arith}
-use Rattle.std.proofs.Common.{length, take, drop, ap, append_assoc, append-nil, All, cond}
+use Rattle.std.proofs.Common.{length, length-drop, take, drop, zero, suc, ap, append_assoc, append-nil, All, cond}
 use Rattle.std.proofs.Common.{ne_eqb, rules}
 use Rattle.std.specs.Cmp.{IsTotalOrder}
 use Rattle.std.specs.List.{AllByRecursion, concat}
@@ -11,26 +11,29 @@ use Rattle.std.proofs.lemmas.List.Folds.{concat-append}
 use Rattle.std.proofs.Math.Seq.{take-add}
 use Rattle.std.proofs.lemmas.List.{take-append-drop, take_rest}
 use Rattle.std.proofs.lemmas.List.Elements.{All-drop, All-head, All-tail}
-use Rattle.semver_parser.specs.Precedence.{precedence}
-use Rattle.semver_parser.specs.Texts.{Text, is_empty}
+use Rattle.tool_ranges.specs.VersionRanges.{versions_grammar}
+use Rattle.semver_texts.specs.Precedence.{precedence}
+use Rattle.semver_texts.specs.Texts.{Text, is_empty}
 use Rattle.release_filter.specs.Counting.{CountsValue, counted, counted_as}
-use Rattle.release_filter.specs.LineTexts.{AreCut, IsWholeLine, after_mark, lines_of, marked_off, onto_first}
+use Rattle.release_filter.specs.LineTexts.{AreCut, IsWholeLine, after_mark, end_byte, lines_of, marked_off, onto_first}
+use Rattle.release_filter.specs.declared.line_texts.LineEnd.{LineEnd}
 use Rattle.release_filter.specs.Pieces.{LinesValue, Takes, TakesAll}
 use Rattle.release_filter.specs.Skipping.{IsLeft}
 use Rattle.release_filter.specs.Steps.Taking.{TakesLine, TakesRest}
-use Rattle.release_filter.specs.Verdicts.{AreJudged, IsVerdictOn, JudgedLine, Verdict}
-use Rattle.release_filter.specs.Wanted.{HeldValue, Holds, kept_of}
+use Rattle.release_filter.specs.Verdicts.{AreJudged, IsVerdictOn, JudgedLine, LineRule, Verdict}
+use Rattle.release_filter.specs.Selections.{HeldValue, Holds, selected_of}
 use Rattle.release_filter.proofs.Holding.{holds_more, holds_none, kept_append}
 use Rattle.release_filter.proofs.JudgedLines.{judged_more, judged_none}
+use Rattle.release_filter.proofs.NumberedLines.{whole_after}
 
-abbrev pub NoEnd : Text → Type 0
-NoEnd bytes = All (λ b. b ≢ 10) bytes
+abbrev pub NoEnd : ℕ → Text → Type 0
+NoEnd end bytes = All (λ b. b ≢ end) bytes
+
+-- the byte that ends the lines of a state
+abbrev pub end_in : LinesValue → ℕ
+end_in s = end_byte s.rule.ending
 
 -- ---- one line, or none
-
--- a line that ends in a piece is whole
-pub whole_after : (begun end : Text) → NoEnd begun → IsWholeLine end → IsWholeLine (begun ++ end)
-whole_after begun end none (some, stops, ends) = grind (arith, common_steps)
 
 -- what is after a mark is the whole of it if it is as long
 pub not_marked : (front : Bool) (text : Text) → length (after_mark front text) ≡ length text → after_mark front text ≡ text
@@ -40,6 +43,28 @@ not_marked true (a ∷ []) same = refl
 not_marked true (a ∷ b ∷ []) same = refl
 not_marked true (a ∷ b ∷ c ∷ rest) same = search rules
 
+marked_within : (front : Bool) (text : Text) → length (after_mark front text) ≤ length text
+marked_within false text = omega arith
+marked_within true [] = omega arith
+marked_within true (a ∷ []) = omega arith
+marked_within true (a ∷ b ∷ []) = omega arith
+marked_within true (a ∷ b ∷ c ∷ rest) = search rules
+
+none_dropped : (n : ℕ) (xs : Text) → length (drop n xs) ≡ length xs → drop n xs ≡ xs
+none_dropped zero xs same = refl
+none_dropped (suc n) [] same = refl
+none_dropped (suc n) (x ∷ xs) same = absurd (omega (arith, same, length-drop n xs))
+
+-- what is given of a line is all of it if it is as long
+pub all_given : (strips front : Bool) (n : ℕ) (bytes line given : Text) → line ≡ after_mark front bytes
+    → given ≡ cond strips (drop n line) line → length given ≡ length bytes → given ≡ bytes
+all_given false front n bytes line given is so long =
+    so ∙ is ∙ not_marked front bytes (sym (ap length (so ∙ is)) ∙ long)
+all_given true front n bytes line given is so long =
+    let most = marked_within front bytes in
+    let within : length line ≡ length bytes = omega (arith, ap length is, ap length so, length-drop n line, most, long) in
+    so ∙ none_dropped n line (sym (ap length so) ∙ long ∙ sym within) ∙ is ∙ not_marked front bytes (sym (ap length is) ∙ within)
+
 -- the line that this ends
 abbrev pub line_with : LinesValue → Text → Text
 line_with s end = after_mark s.at_front (s.unended ++ end)
@@ -48,16 +73,16 @@ abbrev pub judged_as : LinesValue → Text → Verdict → JudgedLine
 judged_as s end verdict = record { line = line_with s end; verdict = verdict }
 
 -- the end of a line was taken
-pub took_line : (s : LinesValue) (end left : Text) (verdict : Verdict) (g : HeldValue) (d : CountsValue) (old new : Text) → IsWholeLine end
-    → NoEnd s.unended → IsVerdictOn s.filter s.prefixes (line_with s end) verdict
-    → TakesLine s.held s.counts (line_with s end) verdict g d old new → left ≡ []
+pub took_line : (s : LinesValue) (end left : Text) (verdict : Verdict) (g : HeldValue) (d : CountsValue) (old new : Text) → IsWholeLine (end_in s) end
+    → NoEnd (end_in s) s.unended → IsVerdictOn s.rule (line_with s end) verdict
+    → TakesLine s.rule.ending s.held s.counts (line_with s end) verdict g d old new → left ≡ []
     → TakesAll s end (judged_as s end verdict ∷ []) (record s { at_front = false; unended = left; held = g; counts = d }) old new
 took_line s end left verdict g d old new whole none is takes none_left =
     let line = s.unended ++ end in
     record {
       lines = line ∷ [];
       cut = record {
-        each = (whole_after s.unended end none whole, tt);
+        each = (whole_after (end_in s) s.unended end none whole, tt);
         no_end = search rules;
         whole = search rules;
       };
@@ -69,20 +94,20 @@ took_line s end left verdict g d old new whole none is takes none_left =
     }
 
 -- what ends no line was taken
-pub took_rest : (s : LinesValue) (rest left old : Text) → NoEnd s.unended → NoEnd rest → left ≡ s.unended ++ rest
+pub took_rest : (s : LinesValue) (rest left old : Text) → NoEnd (end_in s) s.unended → NoEnd (end_in s) rest → left ≡ s.unended ++ rest
     → TakesAll s rest [] (record s { unended = left }) old old
 took_rest s rest left old none more is =
     record {
       lines = [];
       cut = grind (arith, common_steps);
-      judges = judged_none s.filter s.prefixes;
+      judges = judged_none s.rule;
       added = [];
       holds = holds_none s.held;
       appended = sym (append-nil old);
       state = search rules;
     }
 
-pub took_nothing : (s : LinesValue) (old : Text) → NoEnd s.unended → TakesAll s [] [] s old old
+pub took_nothing : (s : LinesValue) (old : Text) → NoEnd (end_in s) s.unended → TakesAll s [] [] s old old
 took_nothing s old none = took_rest s [] s.unended old none (omega arith) (sym (append-nil s.unended))
 
 -- a value with private fields is seen as this
@@ -92,33 +117,34 @@ seen inside s t piece judged old new is takes = search rules
 
 -- ---- what is left at the end
 
-one_left : (x : ℕ) (xs : Text) → NoEnd (x ∷ xs) → lines_of (x ∷ xs) ≡ (x ∷ xs) ∷ []
-one_left x [] none = search rules
-one_left x (y ∷ ys) none =
-    ap (λ b. cond b ((x ∷ []) ∷ lines_of (y ∷ ys)) (onto_first x (lines_of (y ∷ ys)))) (ne_eqb x 10 (All-head (λ z. z ≢ 10) x (y ∷ ys)
+one_left : (end x : ℕ) (xs : Text) → NoEnd end (x ∷ xs) → lines_of end (x ∷ xs) ≡ (x ∷ xs) ∷ []
+one_left end x [] none = search rules
+one_left end x (y ∷ ys) none =
+    ap (λ b. cond b ((x ∷ []) ∷ lines_of end (y ∷ ys)) (onto_first x (lines_of end (y ∷ ys)))) (ne_eqb x end (All-head (λ z. z ≢ end) x (y ∷ ys)
     none))
-    ∙ ap (onto_first x) (one_left y ys (All-tail (λ z. z ≢ 10) x (y ∷ ys) none))
+    ∙ ap (onto_first x) (one_left end y ys (All-tail (λ z. z ≢ end) x (y ∷ ys) none))
 
-pub only_line : (l : Text) → (l ≡ [] → ⊥) → NoEnd l → lines_of l ≡ l ∷ []
-only_line [] some none = absurd (some refl)
-only_line (x ∷ xs) some none = one_left x xs none
+pub only_line : (end : ℕ) (l : Text) → (l ≡ [] → ⊥) → NoEnd end l → lines_of end l ≡ l ∷ []
+only_line end [] some none = absurd (some refl)
+only_line end (x ∷ xs) some none = one_left end x xs none
 
-pub no_end_marked : (front : Bool) (line : Text) → NoEnd line → NoEnd (after_mark front line)
-no_end_marked false line none = none
-no_end_marked true [] none = none
-no_end_marked true (a ∷ []) none = none
-no_end_marked true (a ∷ b ∷ []) none = none
-no_end_marked true (a ∷ b ∷ c ∷ text) none = by_mark _
+pub no_end_marked : (end : ℕ) (front : Bool) (line : Text) → NoEnd end line → NoEnd end (after_mark front line)
+no_end_marked end false line none = none
+no_end_marked end true [] none = none
+no_end_marked end true (a ∷ []) none = none
+no_end_marked end true (a ∷ b ∷ []) none = none
+no_end_marked end true (a ∷ b ∷ c ∷ text) none = by_mark _
   where
-    by_mark : (is : Bool) → NoEnd (cond is text (a ∷ b ∷ c ∷ text))
-    by_mark true = All-drop (λ x. x ≢ 10) 3 (a ∷ b ∷ c ∷ text) none
+    by_mark : (is : Bool) → NoEnd end (cond is text (a ∷ b ∷ c ∷ text))
+    by_mark true = All-drop (λ x. x ≢ end) 3 (a ∷ b ∷ c ∷ text) none
     by_mark false = none
 
 -- ---- one piece after another
 
-each_append : (xs ys : List Text) → AllByRecursion IsWholeLine xs → AllByRecursion IsWholeLine ys → AllByRecursion IsWholeLine (xs ++ ys)
-each_append [] ys none those = those
-each_append (x ∷ xs) ys (first, those) more = grind (arith, common_steps)
+each_append : (end : ℕ) (xs ys : List Text) → AllByRecursion (IsWholeLine end) xs → AllByRecursion (IsWholeLine end) ys
+    → AllByRecursion (IsWholeLine end) (xs ++ ys)
+each_append end [] ys none those = those
+each_append end (x ∷ xs) ys (first, those) more = (first, each_append end xs ys those more)
 
 pub marked_append : (front : Bool) (xs ys : List Text) → marked_off front (xs ++ ys) ≡ marked_off front xs ++ marked_off (front && is_empty
     xs) ys
@@ -129,11 +155,11 @@ front_append : (front : Bool) (xs ys : List Text) → ((front && is_empty xs) &&
 front_append front [] ys = search rules
 front_append front (x ∷ xs) ys = search rules
 
-cut_append : (begun middle end p q : Text) (xs ys : List Text) → AreCut (begun ++ p) xs middle → AreCut (middle ++ q) ys end
-    → AreCut (begun ++ (p ++ q)) (xs ++ ys) end
-cut_append begun middle end p q xs ys a b =
+cut_append : (byte : ℕ) (begun middle end p q : Text) (xs ys : List Text) → AreCut byte (begun ++ p) xs middle
+    → AreCut byte (middle ++ q) ys end → AreCut byte (begun ++ (p ++ q)) (xs ++ ys) end
+cut_append byte begun middle end p q xs ys a b =
     record {
-      each = each_append xs ys a.each b.each;
+      each = each_append byte xs ys a.each b.each;
       no_end = b.no_end;
       whole = sym (append_assoc begun p q) ∙ ap (λ l. l ++ q) a.whole ∙ append_assoc (concat xs) middle q
           ∙ ap (λ l. concat xs ++ l) b.whole ∙ sym (append_assoc (concat xs) (concat ys) end)
@@ -148,47 +174,48 @@ line_within : (piece line : Text) (taken : ℕ) → taken ≤ length piece → S
     → taken + length line ≤ length piece
 line_within piece line taken within begins = grind (arith, common_steps)
 
--- what one state says of lines, another does that has its filter and its prefixes
-pub as_chosen : (s t : LinesValue) (lines : List Text) (judged : List JudgedLine) → t.filter ≡ s.filter → t.prefixes ≡ s.prefixes
-    → AreJudged t.filter t.prefixes lines judged → AreJudged s.filter s.prefixes lines judged
-as_chosen s t lines judged filter prefixes those = search rules
+-- what one state says of lines, another does that has its rule
+pub as_chosen : (s t : LinesValue) (lines : List Text) (judged : List JudgedLine) → t.rule ≡ s.rule → AreJudged t.rule lines judged
+    → AreJudged s.rule lines judged
+as_chosen s t lines judged rule those = subst (λ r. AreJudged r lines judged) rule those
 
-pub counted_append : (c : CountsValue) (js ks : List JudgedLine) → counted c (js ++ ks) ≡ counted (counted c js) ks
-counted_append c [] ks = refl
-counted_append c (j ∷ js) ks = counted_append (counted_as j.verdict c j.line) js ks
+pub counted_append : (ending : LineEnd) (c : CountsValue) (js ks : List JudgedLine)
+    → counted ending c (js ++ ks) ≡ counted ending (counted ending c js) ks
+counted_append ending c [] ks = refl
+counted_append ending c (j ∷ js) ks = counted_append ending (counted_as ending j.verdict c j.line) js ks
 
 module _ (total : IsTotalOrder precedence) where
   -- pieces that are taken one after another do what they do as one
   pub took_both : (s t u : LinesValue) (p q : Text) (js ks : List JudgedLine) (old mid new : Text) → TakesAll s p js t old mid
       → TakesAll t q ks u mid new → TakesAll s (p ++ q) (js ++ ks) u old new
   took_both s t u p q js ks old mid new a b =
-      let filter = ap (λ (v : LinesValue). v.filter) a.state in
-      let prefixes = ap (λ (v : LinesValue). v.prefixes) a.state in
+      let rule = ap (λ (v : LinesValue). v.rule) a.state in
       let front = ap (λ (v : LinesValue). v.at_front) a.state in
-      let later = subst (λ f. AreJudged s.filter s.prefixes (marked_off f b.lines) ks) front
-      (as_chosen s t (marked_off t.at_front b.lines) ks filter prefixes b.judges) in
+      let later = subst (λ f. AreJudged s.rule (marked_off f b.lines) ks) front
+      (as_chosen s t (marked_off t.at_front b.lines) ks rule b.judges) in
+      let cut = subst (λ (r : LineRule). AreCut (end_byte r.ending) (t.unended ++ q) b.lines u.unended) rule b.cut in
       record {
         lines = a.lines ++ b.lines;
-        cut = cut_append s.unended t.unended u.unended p q a.lines b.lines a.cut b.cut;
-        judges = subst (λ l. AreJudged s.filter s.prefixes l (js ++ ks)) (sym (marked_append s.at_front a.lines b.lines))
-            (judged_more s.filter s.prefixes (marked_off s.at_front a.lines) (marked_off (s.at_front && is_empty a.lines) b.lines) js ks
+        cut = cut_append (end_in s) s.unended t.unended u.unended p q a.lines b.lines a.cut cut;
+        judges = subst (λ l. AreJudged s.rule l (js ++ ks)) (sym (marked_append s.at_front a.lines b.lines))
+            (judged_more s.rule (marked_off s.at_front a.lines) (marked_off (s.at_front && is_empty a.lines) b.lines) js ks
             a.judges later);
         added = a.added ++ b.added;
         holds = subst (λ l. Holds s.held l u.held (a.added ++ b.added)) (sym (kept_append js ks))
-            (holds_more total s.held t.held u.held (kept_of js) (kept_of ks) a.added b.added a.holds b.holds);
+            (holds_more total s.held t.held u.held (selected_of js) (selected_of ks) a.added b.added a.holds b.holds);
         appended = b.appended ∙ ap (λ l. l ++ b.added) a.appended ∙ append_assoc old a.added b.added;
         state = b.state
             ∙ ap (λ (v : LinesValue). record v {
               at_front = v.at_front && is_empty b.lines;
               unended = u.unended;
               held = u.held;
-              counts = counted v.counts ks;
+              counts = counted v.rule.ending v.counts ks;
             }) a.state
             ∙ (λ i. record s {
               at_front = front_append s.at_front a.lines b.lines i;
               unended = u.unended;
               held = u.held;
-              counts = sym (counted_append s.counts js ks) i;
+              counts = sym (counted_append s.rule.ending s.counts js ks) i;
             });
       }
 
@@ -217,21 +244,20 @@ module _ (total : IsTotalOrder precedence) where
 
   -- a piece of which what ends no line was taken last
   pub took_piece : (s m n t : LinesValue) (piece : Text) (js : List JudgedLine) (old mid new : Text) (taken : ℕ)
-      → TakesAll s (take taken piece) js m old mid → n ≡ m → NoEnd (left_of piece taken) → TakesRest n (left_of piece taken) t → new ≡ mid
+      → TakesAll s (take taken piece) js m old mid → n ≡ m → NoEnd (end_in m) (left_of piece taken) → TakesRest n (left_of piece taken) t → new ≡ mid
       → Takes s piece js t old new
   took_piece s m n t piece js old mid new taken a same none rest kept =
       let took = subst (λ x. TakesRest x (left_of piece taken) t) same rest in
       let whole = m.unended ++ left_of piece taken in
-      let last = took_rest m (left_of piece taken) whole mid a.cut.no_end none refl in
+      let rule = ap (λ (v : LinesValue). v.rule) a.state in
+      let held = subst (λ (r : LineRule). NoEnd (end_byte r.ending) m.unended) (sym rule) a.cut.no_end in
+      let last = took_rest m (left_of piece taken) whole mid held none refl in
       let all = took_all s m (record m { unended = whole }) piece js old mid mid taken a last in
-      let grammar = ap (λ (v : LinesValue). v.filter.grammar) a.state in
-      let prefixes = ap (λ (v : LinesValue). v.prefixes) a.state in
       let front = ap (λ (v : LinesValue). v.at_front) took.0 in
       record {
         unended = whole;
         all = subst (λ l. TakesAll s piece js (record t { unended = whole }) old l) (sym kept)
             (subst (λ x. TakesAll s piece js x old mid) (λ i. record (sym took.0 i) { unended = whole }) all);
-        left = subst (λ d. IsLeft d s.prefixes t.at_front whole t.unended) grammar
-            (subst (λ ps. IsLeft m.filter.grammar ps t.at_front whole t.unended) prefixes
-            (subst (λ f. IsLeft m.filter.grammar m.prefixes f whole t.unended) (sym front) took.1));
+        left = subst (λ (r : LineRule). IsLeft (versions_grammar r.filter) r.prefixes t.at_front whole t.unended) rule
+            (subst (λ f. IsLeft (versions_grammar m.rule.filter) m.rule.prefixes f whole t.unended) (sym front) took.1);
       }

@@ -1,9 +1,9 @@
 -- What a range text keeps of a list of versions.
 use Rattle.std.specs.Prelude.{List, filter}
-use Rattle.semver_parser.specs.VersionViews.{version_value}
-use Rattle.semver_parser.specs.declared.version.Version.{Version}
-use Rattle.semver_parser.specs.declared.Compat.{Compat}
-use Rattle.semver_parser.specs.RangeTree.{SetTree}
+use Rattle.semver_texts.specs.VersionViews.{version_value}
+use Rattle.semver_texts.specs.declared.version.Version.{Version}
+use Rattle.semver_ranges.specs.declared.range.Compat.{Compat}
+use Rattle.semver_ranges.specs.RangeTree.{SetTree}
 use Rattle.version_sets.specs.PreReleaseRules.{is_kept}
 
 -- those of the versions that are kept, in their order and with repeats

@@ -1,12 +1,11 @@
 pub mod KeptReleases
-pub mod Filters
+pub mod Matching
 pub mod Judging
-pub mod Extremes
 pub mod LineTexts
 pub mod Verdicts
 pub mod Skipping
 pub mod Counting
-pub mod Wanted
+pub mod Selections
 pub mod Pieces
 pub mod Steps
 pub use Rattle.version_sets.specs.PreReleaseRules

@@ -4,31 +4,40 @@ use Rattle.std.specs.Prelude.{if◌then◌else◌, length}
 use Rattle.std.specs.Io.{StopsAt, IsEmptyOrEndsWith}
 use Rattle.std.specs.Io.BufRead.{strip_last}
 use Rattle.std.specs.List.{AllByRecursion, concat}
-use Rattle.semver_parser.specs.Texts.{Text}
+use Rattle.semver_texts.specs.Texts.{Text}
+use Rattle.release_filter.specs.declared.line_texts.LineEnd.{LineEnd}
+use Rattle.release_filter.specs.declared.line_texts.LineEnd.TheVariants.{LineFeed, ZeroByte}
+
+-- the byte that ends a line
+abbrev pub end_byte : LineEnd → ℕ
+end_byte LineFeed = 10
+end_byte ZeroByte = 0
 
 -- a byte at the front of the first line
 abbrev pub onto_first : ℕ → List Text → List Text
 onto_first x [] = (x ∷ []) ∷ []
 onto_first x (line ∷ lines) = (x ∷ line) ∷ lines
 
--- the lines of a text, each with the line feed that ends it; the last may have none
-abbrev pub lines_of : Text → List Text
-lines_of [] = []
-lines_of (x ∷ xs) = if x == 10 then (x ∷ []) ∷ lines_of xs else onto_first x (lines_of xs)
+-- the lines of a text, each with the byte that ends it; the last may have none
+abbrev pub lines_of : ℕ → Text → List Text
+lines_of end [] = []
+lines_of end (x ∷ xs) =
+    if x == end then (x ∷ []) ∷ lines_of end xs else onto_first x (lines_of end xs)
 
 -- the text of a line: without the line feed at its end, and then without one carriage return at its
--- end
-abbrev pub line_text : Text → Text
-line_text line = strip_last 13 (strip_last 10 line)
+-- end; or without the zero byte at its end
+abbrev pub line_text : LineEnd → Text → Text
+line_text LineFeed line = strip_last 13 (strip_last 10 line)
+line_text ZeroByte line = strip_last 0 line
 
--- a line that ends with a line feed
-abbrev pub IsWholeLine : Text → Type 0
-IsWholeLine line = (0 < length line) × StopsAt line 10 × IsEmptyOrEndsWith line 10
+-- a line that ends with this byte
+abbrev pub IsWholeLine : ℕ → Text → Type 0
+IsWholeLine end line = (0 < length line) × StopsAt line end × IsEmptyOrEndsWith line end
 
--- the bytes are these lines, each with the line feed that ends it, and the beginning of another
-pub record AreCut (bytes : Text) (lines : List Text) (unended : Text) : Type 0 where
-  pub each : AllByRecursion IsWholeLine lines
-  pub no_end : All (λ b. b ≢ 10) unended
+-- the bytes are these lines, each with the byte that ends it, and the beginning of another
+pub record AreCut (end : ℕ) (bytes : Text) (lines : List Text) (unended : Text) : Type 0 where
+  pub each : AllByRecursion (IsWholeLine end) lines
+  pub no_end : All (λ b. b ≢ end) unended
   pub whole : bytes ≡ concat lines ++ unended
 
 -- the text after a byte order mark, if it begins with one

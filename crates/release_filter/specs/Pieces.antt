@@ -3,24 +3,24 @@ use Rattle.std.specs.Prelude.{◌≡◌, ◌≢◌, ◌<◌, ◌⊎◌, ◌&&◌
 use Rattle.std.specs.Prelude.{IsTrue, None, length}
 use Rattle.std.specs.Io.{StartsWith}
 use Rattle.std.specs.List.{AllZip}
-use Rattle.semver_parser.specs.Texts.{Text, is_empty}
+use Rattle.tool_ranges.specs.VersionRanges.{versions_grammar}
+use Rattle.semver_texts.specs.Texts.{Text, is_empty}
 use Rattle.release_filter.specs.Counting.{CountsValue, LineAllocates, counted, one_more}
-use Rattle.release_filter.specs.Filters.{FilterValue}
-use Rattle.release_filter.specs.LineTexts.{AreCut, IsWholeLine, after_mark, lines_of, marked_off}
+use Rattle.release_filter.specs.LineTexts.{AreCut, IsWholeLine, after_mark, end_byte, lines_of}
+use Rattle.release_filter.specs.LineTexts.{marked_off}
 use Rattle.release_filter.specs.Skipping.{IsLeft}
-use Rattle.release_filter.specs.Verdicts.{AreJudged, IsVerdictOn, JudgedLine, Verdict, has_invalid}
-use Rattle.release_filter.specs.Verdicts.{invalid}
-use Rattle.release_filter.specs.Wanted.{AnswerAllocates, Answers, HeldValue, Holds, emptied}
-use Rattle.release_filter.specs.Wanted.{kept_of}
+use Rattle.release_filter.specs.Verdicts.{AreJudged, IsVerdictOn, JudgedLine, LineRule, Verdict}
+use Rattle.release_filter.specs.Verdicts.{has_invalid, invalid}
+use Rattle.release_filter.specs.Selections.{AnswerAllocates, Answers, HeldValue, Holds, emptied}
+use Rattle.release_filter.specs.Selections.{selected_of}
 use Rattle.release_filter.specs.declared.lines.LinesError.{LinesError}
 use Rattle.release_filter.specs.declared.lines.LinesError.TheVariants.{OutOfMemory, NoVersion}
 
--- what holds the lines of a text: the filter, the prefixes, whether a line without a version is an
--- error, whether no line has ended yet, the bytes of the line that hasn't as far as they are left,
--- what is held for the end of the text, and the counts of the lines
+-- what holds the lines of a text: which are kept, whether a line without a version is an error,
+-- whether no line has ended yet, the bytes of the line that hasn't as far as they are left, what is
+-- held for the end of the text, and the counts of the lines
 pub record LinesValue : Type 0 where
-  pub filter : FilterValue
-  pub prefixes : List Text
+  pub rule : LineRule
   pub is_strict : Bool
   pub at_front : Bool
   pub unended : Text
@@ -32,16 +32,16 @@ pub record LinesValue : Type 0 where
 pub record TakesAll (s : LinesValue) (piece : Text) (judged : List JudgedLine) (t : LinesValue)
     (old new : Text) : Type 0 where
   pub lines : List Text
-  pub cut : AreCut (s.unended ++ piece) lines t.unended
-  pub judges : AreJudged s.filter s.prefixes (marked_off s.at_front lines) judged
+  pub cut : AreCut (end_byte s.rule.ending) (s.unended ++ piece) lines t.unended
+  pub judges : AreJudged s.rule (marked_off s.at_front lines) judged
   pub added : Text
-  pub holds : Holds s.held (kept_of judged) t.held added
+  pub holds : Holds s.held (selected_of judged) t.held added
   pub appended : new ≡ old ++ added
   pub state : t ≡ record s {
     at_front = s.at_front && is_empty lines;
     unended = t.unended;
     held = t.held;
-    counts = counted s.counts judged;
+    counts = counted s.rule.ending s.counts judged;
   }
 
 -- a piece was taken, and of the line that it does not end is left what may be needed
@@ -49,24 +49,24 @@ pub record Takes (s : LinesValue) (piece : Text) (judged : List JudgedLine) (t :
     (old new : Text) : Type 0 where
   pub unended : Text
   pub all : TakesAll s piece judged (record t { unended = unended }) old new
-  pub left : IsLeft s.filter.grammar s.prefixes t.at_front unended t.unended
+  pub left : IsLeft (versions_grammar s.rule.filter) s.rule.prefixes t.at_front unended t.unended
 
 -- all lines of a text were taken, and the rest of the answer was appended. Then no byte of a text
 -- was taken and nothing is held; the counts stay
 pub record Completes (s : LinesValue) (text : Text) (judged : List JudgedLine) (t : LinesValue)
     (old new : Text) : Type 0 where
-  pub judges : AreJudged s.filter s.prefixes (lines_of text) judged
+  pub judges : AreJudged s.rule (lines_of (end_byte s.rule.ending) text) judged
   pub held : HeldValue
   pub added : Text
   pub rest : Text
-  pub holds : Holds s.held (kept_of judged) held added
-  pub answers : Answers held rest
+  pub holds : Holds s.held (selected_of judged) held added
+  pub answers : Answers (end_byte s.rule.ending) held rest
   pub appended : new ≡ old ++ (added ++ rest)
   pub state : t ≡ record s {
     at_front = true;
     unended = [];
     held = emptied s.held;
-    counts = counted s.counts judged;
+    counts = counted s.rule.ending s.counts judged;
   }
 
 -- the lines are the same, but for the bytes of invalid ones
@@ -84,6 +84,28 @@ Finishes s judged t old new = Completes s (after_mark s.at_front s.unended) judg
 abbrev pub begun : LinesValue → LinesValue
 begun s = record s { at_front = true; unended = []; held = emptied s.held }
 
+-- the state before the first byte of another file of the same text
+abbrev pub begun_file : LinesValue → LinesValue
+begun_file s = record s { at_front = true; unended = [] }
+
+-- the end of a file was taken that another one follows: nothing is left of a line that had no end;
+-- or something is, and it got an end
+abbrev pub EndsFileBy : Bool → LinesValue → List JudgedLine → LinesValue → Text → Text → Type 0
+EndsFileBy true s judged t old new = (judged ≡ []) × (t ≡ begun_file s) × (new ≡ old)
+EndsFileBy false s judged t old new = (m : LinesValue)
+    × TakesAll s (end_byte s.rule.ending ∷ []) judged m old new × (t ≡ begun_file m)
+
+abbrev pub EndsFile : LinesValue → List JudgedLine → LinesValue → Text → Text → Type 0
+EndsFile s judged t old new =
+    EndsFileBy (is_empty (after_mark s.at_front s.unended)) s judged t old new
+
+-- it was not taken, as memory ran out; or it was, and the line has a text and no version
+abbrev pub RefusesFile : LinesError → LinesValue → LinesValue → Text → Text → Type 0
+RefusesFile OutOfMemory s t old new = (t ≡ s) × (new ≡ old)
+RefusesFile (NoVersion number) s t old new =
+    IsTrue s.is_strict × (judged : List JudgedLine) × EndsFile s judged t old new
+    × (has_invalid judged ≡ true) × (number ≡ t.counts.lines)
+
 -- a piece was taken up to an error. The memory ran out; or the last line that was taken is the
 -- first one that has a text and no version, and this is its number
 abbrev pub StopsAs : LinesError → LinesValue → Text → LinesValue → Text → Text → Type 0
@@ -98,23 +120,25 @@ StopsAs (NoVersion number) s piece t old new =
 -- what taking these next bytes allocates for: bytes that end no line; a line that began before them
 -- or may have a byte order mark; or their first line, if it is kept or the first invalid one
 abbrev pub NextAllocates : LinesValue → Text → Type 0
-NextAllocates s bytes = All (λ byte. byte ≢ 10) bytes ⊎ IsTrue s.at_front ⊎ (0 < length s.unended)
-    ⊎ ((line : Text) × (verdict : Verdict) × StartsWith bytes line × IsWholeLine line
-    × IsVerdictOn s.filter s.prefixes line verdict × LineAllocates s.counts verdict)
+NextAllocates s bytes = All (λ byte. byte ≢ end_byte s.rule.ending) bytes ⊎ IsTrue s.at_front
+    ⊎ (0 < length s.unended)
+    ⊎ ((line : Text) × (verdict : Verdict) × StartsWith bytes line
+    × IsWholeLine (end_byte s.rule.ending) line
+    × IsVerdictOn s.rule line verdict × LineAllocates s.counts verdict)
 
 -- the line that no line feed ends has a text and no version
 abbrev pub EndsInvalid : LinesValue → Type 0
 EndsInvalid s = (judged : List JudgedLine)
-    × AreJudged s.filter s.prefixes (lines_of (after_mark s.at_front s.unended)) judged
+    × AreJudged s.rule (lines_of (end_byte s.rule.ending) (after_mark s.at_front s.unended)) judged
     × (has_invalid judged ≡ true)
 
 -- what the end of the text allocates for: the line that no line feed ends, if it is the first
 -- invalid one; or the rest of the answer
 abbrev pub EndAllocates : LinesValue → Text → Type 0
 EndAllocates s old = (judged : List JudgedLine)
-    × AreJudged s.filter s.prefixes (lines_of (after_mark s.at_front s.unended)) judged
+    × AreJudged s.rule (lines_of (end_byte s.rule.ending) (after_mark s.at_front s.unended)) judged
     × ((IsTrue (has_invalid judged) × (s.counts.first_invalid ≡ None))
-    ⊎ AnswerAllocates s.held (kept_of judged) old)
+    ⊎ AnswerAllocates s.held (selected_of judged) old)
 
 -- the end of the text was not taken
 abbrev pub RefusesEnd : LinesValue → LinesError → Type 0

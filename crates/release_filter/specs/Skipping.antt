@@ -2,11 +2,11 @@
 use Rattle.std.specs.Prelude.{◌≡◌, ◌≢◌, ◌⊎◌, ◌<◌, ◌-◌, ◌*◌, ◌^◌, ℕ, Bool, List, [], ◌∷◌, ◌++◌, All}
 use Rattle.std.specs.Prelude.{IsTrue, length, take}
 use Rattle.std.specs.Io.BufRead.{strip_last}
-use Rattle.semver_parser.specs.Texts.{Text}
-use Rattle.semver_parser.specs.declared.version.Grammar.{Grammar}
+use Rattle.semver_texts.specs.Texts.{Text}
+use Rattle.semver_texts.specs.declared.grammar.Grammar.{Grammar}
 use Rattle.text_prefixes.specs.VersionPrefixes.{IsPrefixIn}
 use Rattle.release_filter.specs.LineTexts.{after_mark}
-use Rattle.release_filter.specs.Verdicts.{asked}
+use Rattle.release_filter.specs.Verdicts.{tried}
 
 -- bytes but for the last 8, which are room for what completes a version
 abbrev pub without_room : Text → Text
@@ -29,14 +29,15 @@ BeginsAfterOne grammar (prefix ∷ prefixes) front =
 abbrev pub IsLookedAt : ℕ → Type 0
 IsLookedAt size = (k : ℕ) × (size ≡ 4096 * 2 ^ k)
 
--- what shows in bytes that begin a line: these, without a carriage return that may end it
+-- what shows in bytes that begin a line: these, without a carriage return, which may be no part of
+-- its text
 abbrev pub shown : Bool → Text → Text
 shown at_front front = strip_last 13 (after_mark at_front front)
 
 module _ (grammar : Grammar) (prefixes : List Text) (at_front : Bool) where
   -- a line that begins with these bytes may have a version, as far as shows
   abbrev pub MayHaveVersion : Text → Type 0
-  MayHaveVersion front = BeginsAfterOne grammar (asked prefixes) (shown at_front front)
+  MayHaveVersion front = BeginsAfterOne grammar (tried prefixes) (shown at_front front)
 
   -- a line may have one wherever it is looked at before so many bytes
   abbrev pub MayUpTo : Text → ℕ → Type 0
@@ -55,7 +56,7 @@ module _ (grammar : Grammar) (prefixes : List Text) (at_front : Bool) where
       ⊎ ((rest : Text) × (unended ≡ left ++ rest) × ShowsNone left)
 
   -- what is left of it between two pieces, and whether it is skipped
-  pub record IsHeld (left : Text) (is_skipped : Bool) : Type 0 where
-    pub no_end : All (λ b. b ≢ 10) left
+  pub record IsHeld (end : ℕ) (left : Text) (is_skipped : Bool) : Type 0 where
+    pub no_end : All (λ b. b ≢ end) left
     pub may : MayUpTo left (length left)
     pub skipped : IsTrue is_skipped → ShowsNone left

@@ -1,4 +1,4 @@
 pub mod Outlined
-pub mod Rules
 pub mod Taking
 pub mod Noting
+pub mod Members

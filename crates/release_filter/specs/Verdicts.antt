@@ -1,38 +1,51 @@
 -- What a line is to a filter, after one of some prefixes.
-use Rattle.std.specs.Prelude.{◌≡◌, ◌⊎◌, Bool, true, false, List, [], ◌∷◌, ◌++◌, map, IsTrue}
+use Rattle.std.specs.Prelude.{◌≡◌, ◌⊎◌, ℕ, Bool, true, false, List, [], ◌∷◌, ◌++◌, map, IsTrue}
+use Rattle.std.specs.Prelude.{if◌then◌else◌, drop, length}
 use Rattle.std.specs.List.{AllByRecursion, list_any}
-use Rattle.semver_parser.specs.Texts.{Text, is_empty}
-use Rattle.semver_parser.specs.Versions.{PlainVersion, VersionValue}
-use Rattle.semver_parser.specs.ToolVersions.{SpellsIn}
-use Rattle.semver_parser.specs.declared.version.Grammar.{Grammar}
-use Rattle.release_filter.specs.Filters.{FilterValue, passes}
+use Rattle.tool_ranges.specs.VersionRanges.{RangeValue, versions_grammar}
+use Rattle.semver_texts.specs.Texts.{Text, is_empty}
+use Rattle.semver_texts.specs.Versions.{PlainVersion, VersionValue}
+use Rattle.semver_texts.specs.ToolVersions.{SpellsIn}
+use Rattle.semver_texts.specs.declared.grammar.Grammar.{Grammar}
+use Rattle.release_filter.specs.Matching.{matches}
 use Rattle.release_filter.specs.LineTexts.{line_text}
+use Rattle.release_filter.specs.declared.line_texts.LineEnd.{LineEnd}
 
--- the text of the line is the prefix and then the text of a version in a dialect
+-- which lines are kept, after which prefixes; what ends a line; and whether a kept line is given
+-- without its prefix
+pub record LineRule : Type 0 where
+  pub filter : RangeValue
+  pub prefixes : List Text
+  pub ending : LineEnd
+  pub strips_prefix : Bool
+
+-- the text is the prefix and then the text of a version in a dialect
 abbrev pub SpellsAfter : Grammar → Text → Text → VersionValue → Type 0
-SpellsAfter grammar prefix line v =
-    (text : Text) × (line_text line ≡ prefix ++ text) × SpellsIn grammar v text
+SpellsAfter grammar prefix text v =
+    (rest : Text) × (text ≡ prefix ++ rest) × SpellsIn grammar v rest
 
--- the first of the prefixes after which the line spells a version decides, and it is this version
-abbrev pub HasVersion : Grammar → List Text → Text → VersionValue → Type 0
-HasVersion grammar [] line v = ⊥
-HasVersion grammar (prefix ∷ prefixes) line v = SpellsAfter grammar prefix line v
-    ⊎ (((w : VersionValue) → ¬ (SpellsAfter grammar prefix line w))
-    × HasVersion grammar prefixes line v)
+-- the first of the prefixes after which the text spells a version decides: it is this prefix, and
+-- this version
+abbrev pub HasVersion : Grammar → List Text → Text → Text → VersionValue → Type 0
+HasVersion grammar [] text first v = ⊥
+HasVersion grammar (prefix ∷ prefixes) text first v =
+    ((first ≡ prefix) × SpellsAfter grammar prefix text v)
+    ⊎ (((w : VersionValue) → ¬ (SpellsAfter grammar prefix text w))
+    × HasVersion grammar prefixes text first v)
 
 -- without a prefix it is as with the empty one
-abbrev pub asked : List Text → List Text
-asked [] = [] ∷ []
-asked (prefix ∷ prefixes) = prefix ∷ prefixes
+abbrev pub tried : List Text → List Text
+tried [] = [] ∷ []
+tried (prefix ∷ prefixes) = prefix ∷ prefixes
 
--- a line is kept, and has this version, told without its build; or dropped; or it has no version:
--- then it is invalid, or empty
+-- a line is kept: it has this version, without its build, and this is given of it; or it is
+-- dropped; or it has no version: then it is invalid, or empty
 pub data Verdict : Type 0 where
-  kept : PlainVersion → Verdict
+  kept : PlainVersion → Text → Verdict
   dropped invalid empty : Verdict
 
 abbrev pub is_invalid : Verdict → Bool
-is_invalid (kept version) = false
+is_invalid (kept version given) = false
 is_invalid dropped = false
 is_invalid invalid = true
 is_invalid empty = false
@@ -46,22 +59,29 @@ pub record JudgedLine : Type 0 where
 abbrev pub has_invalid : List JudgedLine → Bool
 has_invalid judged = list_any (λ j. is_invalid j.verdict) judged
 
-abbrev pub HasNoVersion : Grammar → List Text → Text → Type 0
-HasNoVersion grammar prefixes line =
-    (v : VersionValue) → ¬ (HasVersion grammar (asked prefixes) line v)
+module _ (rule : LineRule) where
+  -- the line has this version after this prefix
+  abbrev pub HasAfter : Text → Text → VersionValue → Type 0
+  HasAfter line prefix v =
+      HasVersion (versions_grammar rule.filter) (tried rule.prefixes) (line_text rule.ending line)
+      prefix v
 
-module _ (filter : FilterValue) (prefixes : List Text) where
-  -- the line is that: its version passes, or doesn't; or it has none, with a text or without one
+  abbrev pub HasNoVersion : Text → Type 0
+  HasNoVersion line = (prefix : Text) (v : VersionValue) → ¬ (HasAfter line prefix v)
+
+  -- what is given of a line that has a version after a prefix of so many bytes
+  abbrev pub given_after : ℕ → Text → Text
+  given_after count line = if rule.strips_prefix then drop count line else line
+
+  -- the line is that: its version matches, or doesn't; or it has none, with a text or without one
   abbrev pub IsVerdictOn : Text → Verdict → Type 0
-  IsVerdictOn line (kept version) = (v : VersionValue)
-      × HasVersion filter.grammar (asked prefixes) line v × IsTrue (passes filter v)
-      × (version ≡ v.plain)
-  IsVerdictOn line dropped = (v : VersionValue)
-      × HasVersion filter.grammar (asked prefixes) line v × (passes filter v ≡ false)
-  IsVerdictOn line invalid =
-      HasNoVersion filter.grammar prefixes line × (is_empty (line_text line) ≡ false)
-  IsVerdictOn line empty =
-      HasNoVersion filter.grammar prefixes line × (is_empty (line_text line) ≡ true)
+  IsVerdictOn line (kept version given) = (prefix : Text) × (v : VersionValue)
+      × HasAfter line prefix v × IsTrue (matches rule.filter v) × (version ≡ v.plain)
+      × (given ≡ given_after (length prefix) line)
+  IsVerdictOn line dropped = (prefix : Text) × (v : VersionValue)
+      × HasAfter line prefix v × (matches rule.filter v ≡ false)
+  IsVerdictOn line invalid = HasNoVersion line × (is_empty (line_text rule.ending line) ≡ false)
+  IsVerdictOn line empty = HasNoVersion line × (is_empty (line_text rule.ending line) ≡ true)
 
   -- these are the lines, each with what it is
   pub record AreJudged (lines : List Text) (judged : List JudgedLine) : Type 0 where

@@ -2,25 +2,15 @@
 //! function that does nothing, or that makes a call twice.
 
 ghost use Rattle.std.specs.Prelude.{◌≡◌, ◌++◌, ℕ, List, IfErr, IfOk};
-ghost use Rattle.semver_parser.specs.Texts.{Text};
-ghost use Rattle.version_sets.specs.VersionSets.{IsNormal};
+ghost use Rattle.semver_texts.specs.Texts.{Text};
 ghost use Rattle.release_filter.specs.LineTexts.{without_mark};
 ghost use Rattle.release_filter.specs.Pieces.{AreAlike, Completes, Finishes, LinesValue, Takes};
 ghost use Rattle.release_filter.specs.Pieces.{TakesAll, begun};
 ghost use Rattle.release_filter.specs.Verdicts.{JudgedLine};
 ghost use Rattle.release_filter.specs.declared.lines.LinesError.TheVariants.{NoVersion};
 
-use crate::filter::Filter;
 use crate::lines::{Lines, LinesError, Stopped};
-use semver_parser::laws;
 use std::alloc::Global;
-
-/// The set of a filter is in the normal form. It does nothing.
-pub fn filters_are_normal(filter: &Filter)
-    ensures normal { IsNormal filter.now.set }
-{
-    version_sets::laws::sets_are_normal(&filter.versions);
-}
 
 /// However a text is cut into pieces, what is appended is the same. It does nothing.
 pub fn pieces_do_not_matter()
@@ -40,7 +30,7 @@ pub fn pieces_do_not_matter()
         → (lines : List JudgedLine) × AreAlike more lines
         × Completes (begun s) (without_mark text) (judged ++ lines) u old new }
 {
-    laws::precedence_is_total();
+    semver_texts::laws::precedence_is_total();
 }
 
 /// One state comes of a piece and of the end of a text, and one text is appended. It does nothing.
@@ -52,8 +42,8 @@ pub fn one_outcome()
         (old new other : Text) → Completes s text judged t old new
         → Completes s text others u old other → (judged ≡ others) × (t ≡ u) × (new ≡ other) }
 {
-    laws::precedence_is_total();
-    laws::one_version_in();
+    semver_texts::laws::precedence_is_total();
+    semver_versions::laws::one_version_in();
 }
 
 /// `Lines::push` has one answer: equal states and bytes before it are equal after it, if the piece
@@ -79,8 +69,8 @@ pub fn one_push(
     ensures no_line { first.old ≡ second.old → kept.old.items ≡ other.old.items
         → IfOk result.0 (λ _. IfErr result.1 (λ b. (n : ℕ) → ¬ (b.error ≡ NoVersion n))) }
 {
-    laws::precedence_is_total();
-    laws::one_version_in();
+    semver_texts::laws::precedence_is_total();
+    semver_versions::laws::one_version_in();
     (
         first.push(alloc, piece, kept),
         second.push(alloc, piece, other),
@@ -103,7 +93,32 @@ pub fn one_finish(
     ensures no_line { first.old ≡ second.old → IfOk result.0 (λ _. IfErr result.1 (λ b.
         (n : ℕ) → ¬ (b ≡ NoVersion n))) }
 {
-    laws::precedence_is_total();
-    laws::one_version_in();
+    semver_texts::laws::precedence_is_total();
+    semver_versions::laws::one_version_in();
     (first.finish(alloc, kept), second.finish(alloc, other))
+}
+
+/// `Lines::end_file` has one answer: equal states and bytes before it are equal after it, if both
+/// calls take the end of the file or find the same error; and if one takes it, the other does or is
+/// out of memory.
+pub fn one_end_file(
+    alloc: Global,
+    first: &mut Lines,
+    second: &mut Lines,
+    kept: &mut Vec<u8>,
+    other: &mut Vec<u8>,
+) -> (Result<(), LinesError>, Result<(), LinesError>)
+    ensures one { first.old ≡ second.old → kept.old.items ≡ other.old.items
+        → IfOk result.0 (λ _. IfOk result.1 (λ _. (first.new ≡ second.new)
+        × (kept.new.items ≡ other.new.items))) }
+    ensures one_error { first.old ≡ second.old → kept.old.items ≡ other.old.items
+        → IfErr result.0 (λ a. IfErr result.1 (λ b. (n m : ℕ) → a ≡ NoVersion n
+        → b ≡ NoVersion m → (n ≡ m) × (first.new ≡ second.new)
+        × (kept.new.items ≡ other.new.items))) }
+    ensures no_line { first.old ≡ second.old → kept.old.items ≡ other.old.items
+        → IfOk result.0 (λ _. IfErr result.1 (λ b. (n : ℕ) → ¬ (b ≡ NoVersion n))) }
+{
+    semver_texts::laws::precedence_is_total();
+    semver_versions::laws::one_version_in();
+    (first.end_file(alloc, kept), second.end_file(alloc, other))
 }

@@ -1,82 +1,126 @@
 //! What a filter says of a line, after one of some prefixes.
 
-ghost use Rattle.std.specs.Prelude.{◌≡◌, ◌≢◌, None, [], All, IfSome};
+ghost use Rattle.std.specs.Prelude.{◌≡◌, ◌≢◌, None, All, IfSome};
 ghost use Rattle.std.specs.Io.{StartsWith};
-ghost use Rattle.release_filter.specs.LineTexts.{IsWholeLine, line_text};
-ghost use Rattle.release_filter.specs.Steps.Outlined.{IsOutlined, JudgesBy};
-ghost use Rattle.release_filter.specs.Steps.Taking.{texts};
-ghost use Rattle.release_filter.specs.Verdicts.{HasVersion, SpellsAfter, asked};
+ghost use Rattle.tool_ranges.specs.VersionRanges.{versions_grammar};
+ghost use Rattle.release_filter.specs.LineTexts.{IsWholeLine, end_byte, line_text};
+ghost use Rattle.release_filter.specs.Steps.Outlined.{IsOutlined, JudgesAfter, JudgesBy};
+ghost use Rattle.release_filter.specs.Steps.Taking.{JudgesLine, rule_of, texts};
+ghost use Rattle.release_filter.specs.Verdicts.{HasVersion, SpellsAfter, given_after};
 
-use crate::filter::Filter;
-use crate::judging::Judged;
-use crate::line_texts::{text_after, text_of, whole_line};
-use semver_parser::laws;
-use semver_parser::version::{Grammar, Outline, outline_in};
+use crate::line_texts::{LineEnd, text_after, text_of, whole_line};
+use crate::verdict::{Judged, judge, judge_outline};
 use semver_texts::decimals::numbers;
-use semver_versions::version::outline_of_numbers;
+use semver_versions::laws;
+use semver_versions::version::{Grammar, Outline, outline_in, outline_of_numbers};
+use tool_ranges::version_range::VersionRange;
 
-/// Which lines are kept.
+/// Which lines are kept, and what is given of one.
 #[derive(Drop)]
 pub(crate) struct LineFilter {
-    pub(crate) filter: Filter,
+    pub(crate) filter: VersionRange,
     pub(crate) prefixes: Vec<String>,
+    pub(crate) ending: LineEnd,
+    pub(crate) strips_prefix: bool,
 }
 
 impl LineFilter {
-    /// The first line with its end, if some line has one, and what the filter says of it. For
-    /// speed, where nothing is before a version its numbers are read first.
+    /// The first line with its end, if some line has one, what the filter says of it, and after how
+    /// many bytes it has a version. For speed, where nothing is before a version its numbers are
+    /// read first.
     #[inline(always)]
-    pub(crate) fn first_judged<'l>(&self, bytes: &'l [u8]) -> Option<(&'l [u8], Judged<'l>)>
-        ensures none { result ≡ None → All (λ byte. byte ≢ 10) bytes.now }
+    pub(crate) fn first_judged<'l>(
+        &self,
+        bytes: &'l [u8],
+        count: &mut usize,
+    ) -> Option<(&'l [u8], Judged<'l>)>
+        ensures none { result ≡ None → All (λ byte. byte ≢ end_byte self.now.ending) bytes.now }
         ensures front { IfSome result (λ found. StartsWith bytes.now found.0.now) }
-        ensures whole { IfSome result (λ found. IsWholeLine found.0.now) }
-        ensures judged { IfSome result (λ found. JudgesBy (HasVersion self.now.filter.grammar
-            (asked (texts self.now.prefixes.items)) found.0.now) self.now.filter found.1) }
+        ensures whole { IfSome result (λ found.
+            IsWholeLine (end_byte self.now.ending) found.0.now) }
+        ensures judged { IfSome result (λ found. JudgesLine (rule_of self.now) found.0.now
+            (given_after (rule_of self.now) count.new found.0.now) found.1) }
     {
         laws::one_outlined_version();
         if self.prefixes.is_empty() {
-            let (line, outline) = first_outlined(bytes, self.filter.grammar())?;
-            return Some((line, self.filter.judge_outline(outline)));
+            let (line, outline) = first_outlined(
+                bytes,
+                self.ending,
+                self.filter.meaning().dialect.grammar(),
+            )?;
+            *count = 0;
+            return Some((line, judge_outline(&self.filter, outline)));
         }
-        let line = whole_line(bytes)?;
-        Some((line, self.judge_line(line)))
+        let line = whole_line(bytes, self.ending)?;
+        Some((line, self.judge_line(line, count)))
     }
 
-    /// What the filter says of a line, after the first prefix after which it spells a version.
+    /// What the filter says of a line, after the first prefix after which it spells a version, and
+    /// how many bytes that has.
     #[inline(always)]
-    pub(crate) fn judge_line<'l>(&self, line: &'l [u8]) -> Judged<'l>
-        ensures { JudgesBy (HasVersion self.now.filter.grammar
-            (asked (texts self.now.prefixes.items)) line.now) self.now.filter result }
+    pub(crate) fn judge_line<'l>(&self, line: &'l [u8], count: &mut usize) -> Judged<'l>
+        ensures { JudgesLine (rule_of self.now) line.now
+            (given_after (rule_of self.now) count.new line.now) result }
     {
+        laws::one_outlined_version();
+        let text = text_of(line, self.ending);
         match self.prefixes.as_slice() {
-            [] => judge_after(&self.filter, "", line),
-            prefixes => judge_after_each(&self.filter, prefixes, line),
+            [] => {
+                *count = 0;
+                judge(&self.filter, text)
+            }
+            prefixes => judge_after_each(&self.filter, prefixes, text, count),
+        }
+    }
+
+    /// What is given of a line that has a version after so many bytes.
+    #[inline(always)]
+    pub(crate) fn given<'l>(&self, line: &'l [u8], count: usize) -> &'l [u8]
+        ensures { result.now ≡ given_after (rule_of self.now) count line.now }
+    {
+        if self.strips_prefix {
+            &line[count.min(line.len())..]
+        } else {
+            line
         }
     }
 }
 
-/// What a filter says of a line, after the first of the prefixes after which it spells a version.
-fn judge_after_each<'l>(filter: &Filter, prefixes: &[String], line: &'l [u8]) -> Judged<'l>
-    ensures { JudgesBy (HasVersion filter.now.grammar (texts prefixes.now) line.now) filter.now
-        result }
+/// What a filter says of a text after the first of the prefixes after which it spells a version,
+/// and how many bytes that prefix has.
+fn judge_after_each<'l>(
+    filter: &VersionRange,
+    prefixes: &[String],
+    text: &'l [u8],
+    count: &mut usize,
+) -> Judged<'l>
+    ensures { JudgesAfter (HasVersion (versions_grammar filter.now) (texts prefixes.now) text.now)
+        filter.now count.new result }
 {
     match prefixes {
-        [] => Judged::NoVersion,
-        [prefix, prefixes @ ..] => match judge_after(filter, prefix.as_str(), line) {
-            Judged::NoVersion => judge_after_each(filter, prefixes, line),
-            judged => judged,
+        [] => {
+            *count = 0;
+            Judged::NoVersion
+        }
+        [prefix, prefixes @ ..] => match judge_after(filter, prefix.as_str(), text) {
+            Judged::NoVersion => judge_after_each(filter, prefixes, text, count),
+            judged => {
+                *count = prefix.len();
+                judged
+            }
         },
     }
 }
 
-/// What a filter says of a line after a prefix.
+/// What a filter says of a text after a prefix.
 #[inline(always)]
-fn judge_after<'l>(filter: &Filter, prefix: &str, line: &'l [u8]) -> Judged<'l>
-    ensures { JudgesBy (SpellsAfter filter.now.grammar prefix.now line.now) filter.now result }
+fn judge_after<'l>(filter: &VersionRange, prefix: &str, text: &'l [u8]) -> Judged<'l>
+    ensures { JudgesBy (SpellsAfter (versions_grammar filter.now) prefix.now text.now) filter.now
+        result }
 {
     laws::one_outlined_version();
-    match text_after(prefix, line) {
-        Some(text) => filter.judge(text),
+    match text_after(prefix, text) {
+        Some(rest) => judge(filter, rest),
         None => Judged::NoVersion,
     }
 }
@@ -84,21 +128,25 @@ fn judge_after<'l>(filter: &Filter, prefix: &str, line: &'l [u8]) -> Judged<'l>
 /// The first line with its end, if some line has one, and the outline of the version that it
 /// spells. The numbers at its front are read first, and the end of the line is sought after them.
 #[inline(always)]
-fn first_outlined(bytes: &[u8], grammar: Grammar) -> Option<(&[u8], Option<Outline<'_>>)>
-    ensures none { result ≡ None → All (λ x. x ≢ 10) bytes.now }
+fn first_outlined(
+    bytes: &[u8],
+    ending: LineEnd,
+    grammar: Grammar,
+) -> Option<(&[u8], Option<Outline<'_>>)>
+    ensures none { result ≡ None → All (λ x. x ≢ end_byte ending) bytes.now }
     ensures front { IfSome result (λ found. StartsWith bytes.now found.0.now) }
-    ensures whole { IfSome result (λ found. IsWholeLine found.0.now) }
+    ensures whole { IfSome result (λ found. IsWholeLine (end_byte ending) found.0.now) }
     ensures outlined { IfSome result (λ found.
-        IsOutlined grammar (line_text found.0.now) found.1) }
+        IsOutlined grammar (line_text ending found.0.now) found.1) }
 {
     if let Some((major, minor, patch, rest)) = numbers(bytes) {
-        let after = whole_line(rest)?;
+        let after = whole_line(rest, ending)?;
         let numbers_end = bytes.len() - rest.len();
         let line = &bytes[..numbers_end + after.len()];
-        let text = text_of(after);
+        let text = text_of(after, ending);
         let outline = outline_of_numbers(major, minor, patch, numbers_end, text, grammar);
         return Some((line, outline));
     }
-    let line = whole_line(bytes)?;
-    Some((line, outline_in(text_of(line), grammar)))
+    let line = whole_line(bytes, ending)?;
+    Some((line, outline_in(text_of(line, ending), grammar)))
 }

@@ -4,38 +4,39 @@ ghost use Rattle.std.specs.Prelude.{◌≡◌, ◌≤◌, ◌<◌, ◌≢◌, �
 ghost use Rattle.std.specs.Prelude.{All, IfErr, IfOk, IsTrue, List, MatchOption, None, not};
 ghost use Rattle.std.specs.Prelude.{drop, string_bytes, take};
 ghost use Rattle.std.specs.Io.{StartsWith};
-ghost use Rattle.semver_parser.specs.Versions.{PlainVersion};
+ghost use Rattle.tool_ranges.specs.VersionRanges.{versions_grammar};
+ghost use Rattle.semver_texts.specs.Versions.{PlainVersion};
 ghost use Rattle.release_filter.specs.Counting.{LineAllocates, counts_value, no_counts};
-ghost use Rattle.release_filter.specs.LineTexts.{IsWholeLine, after_mark};
-ghost use Rattle.release_filter.specs.Pieces.{EndAllocates, Finishes, NextAllocates, RefusesEnd};
-ghost use Rattle.release_filter.specs.Pieces.{StopsAs, Takes, begun};
-ghost use Rattle.release_filter.specs.Steps.Taking.{PassesAs, TakesJudged, TakesLine, TakesRest};
-ghost use Rattle.release_filter.specs.Steps.Taking.{TakesWhole, held_value, texts, verdict_of};
+ghost use Rattle.release_filter.specs.LineTexts.{IsWholeLine, after_mark, end_byte};
+ghost use Rattle.release_filter.specs.Pieces.{EndAllocates, EndsFile, Finishes, NextAllocates};
+ghost use Rattle.release_filter.specs.Pieces.{RefusesEnd, RefusesFile, StopsAs, Takes, begun};
+ghost use Rattle.release_filter.specs.Pieces.{begun_file};
+ghost use Rattle.release_filter.specs.Steps.Taking.{MatchesAs, TakesJudged, TakesLine, TakesRest};
+ghost use Rattle.release_filter.specs.Steps.Taking.{TakesWhole, held_value, rule_of, verdict_of};
 ghost use Rattle.release_filter.specs.Verdicts.{JudgedLine, has_invalid, is_invalid};
 
-use crate::counts::{Counts, Noted, is_invalid};
-use crate::filter::Filter;
-use crate::judging::Judged;
 use crate::line_filter::LineFilter;
-use crate::line_texts::{after_mark, whole_line};
-use crate::wanted::{Held, Wanted, without_build};
-use semver_parser::laws;
+use crate::line_options::LineOptions;
+use crate::line_statistics::{Counts, Noted, is_invalid};
+use crate::line_texts::{LineEnd, after_mark, whole_line};
+use crate::selection::{Held, Selection};
+use crate::verdict::Judged;
+use semver_versions::read_version::ReadVersion;
 use std::alloc::{AllocError, Global};
 use std::marker::Model;
 use std::mem;
 use thiserror::Error;
-
-/// What ends a line.
-const LINE_FEED: &[u8] = b"\n";
+use tool_ranges::version_range::VersionRange;
 
 /// Why lines were not taken to the end.
 ///
 /// ```
-/// use semver_parser::filters::{Filter, Lines, LinesError, Wanted};
-/// use semver_parser::{Compat, PreReleases};
+/// use semver_parser::filters::{LineOptions, Lines, LinesError};
+/// use semver_parser::{Dialect, VersionRange};
 ///
-/// let filter = Filter::new("^1", Compat::Npm, PreReleases::Excluded)?;
-/// let mut lines = Lines::new(filter, vec![], Wanted::Each, true);
+/// let range = VersionRange::parse("^1", Dialect::Npm)?;
+/// let options = LineOptions { is_strict: true, ..LineOptions::new() };
+/// let mut lines = Lines::new(range, vec![], options);
 /// lines.push(b"1.4.0\n1.2", &mut Vec::new()).unwrap();
 /// let error = lines.finish(&mut Vec::new()).unwrap_err();
 /// assert!(matches!(error, LinesError::NoVersion(2)));
@@ -55,11 +56,12 @@ pub enum LinesError {
 /// A piece was not taken to its end.
 ///
 /// ```
-/// use semver_parser::filters::{Filter, Lines, LinesError, Wanted};
-/// use semver_parser::{Compat, PreReleases};
+/// use semver_parser::filters::{LineOptions, Lines, LinesError};
+/// use semver_parser::{Dialect, VersionRange};
 ///
-/// let filter = Filter::new("^1", Compat::Npm, PreReleases::Excluded)?;
-/// let mut lines = Lines::new(filter, vec![], Wanted::Each, true);
+/// let range = VersionRange::parse("^1", Dialect::Npm)?;
+/// let options = LineOptions { is_strict: true, ..LineOptions::new() };
+/// let mut lines = Lines::new(range, vec![], options);
 /// let stopped = lines.push(b"1.4.0\n1.2\n1.5.0\n", &mut Vec::new()).unwrap_err();
 /// assert_eq!(stopped.taken, 10);
 /// assert!(matches!(stopped.error, LinesError::NoVersion(2)));
@@ -76,12 +78,12 @@ pub struct Stopped {
 
 /// The lines of a text that comes in pieces of any length, and which of them a filter keeps.
 ///
-/// A line ends with a line feed, and the last one may have none. Its text is the line without that
-/// line feed, and then without one carriage return at its end. A line is kept if its text is one
-/// of the prefixes and then spells a version that passes, by the dialect of the filter
-/// (docs/GRAMMAR.md): by the crate's, spaces, tabs and carriage returns may be around the version.
-/// The first prefix after which it spells a version decides. Without a prefix it is as with the
-/// empty one.
+/// A line ends with a line feed, or with a zero byte ([`LineEnd`](crate::line_texts::LineEnd)), and
+/// the last one may have none. Its text is the line without that, and without one carriage return
+/// before a line feed. A line is kept if its text is one of the prefixes and then spells a version
+/// that matches, by the dialect of the filter (docs/GRAMMAR.md): by the crate's and npm's, white
+/// space may be around the version. The first prefix after which it spells a version decides.
+/// Without a prefix it is as with the empty one.
 ///
 /// A byte order mark at the front of the text is dropped, also one that is cut between pieces.
 ///
@@ -90,11 +92,11 @@ pub struct Stopped {
 /// these are held, and the rest of the line is skipped.
 ///
 /// ```
-/// use semver_parser::filters::{Filter, Lines, Wanted};
-/// use semver_parser::{Compat, PreReleases};
+/// use semver_parser::filters::{LineOptions, Lines};
+/// use semver_parser::{Dialect, VersionRange};
 ///
-/// let filter = Filter::new("^1", Compat::Npm, PreReleases::Excluded)?;
-/// let mut lines = Lines::new(filter, vec![], Wanted::Each, false);
+/// let range = VersionRange::parse("^1", Dialect::Npm)?;
+/// let mut lines = Lines::new(range, vec![], LineOptions::new());
 /// let mut kept = Vec::new();
 /// lines.push(b"2.0.0\n1.4.0", &mut kept).unwrap();
 /// lines.finish(&mut kept).unwrap();
@@ -113,17 +115,17 @@ pub struct Lines {
 }
 
 impl Model for Lines {
-    ghost use Rattle.std.specs.Prelude.{map, string_bytes};
+    ghost use Rattle.tool_ranges.specs.VersionRanges.{versions_grammar};
     ghost use Rattle.release_filter.specs.Counting.{counts_value};
+    ghost use Rattle.release_filter.specs.LineTexts.{end_byte};
     ghost use Rattle.release_filter.specs.Pieces.{LinesValue};
     ghost use Rattle.release_filter.specs.Skipping.{IsHeld};
-    ghost use Rattle.release_filter.specs.Steps.Taking.{held_value, texts};
+    ghost use Rattle.release_filter.specs.Steps.Taking.{held_value, rule_of, texts};
 
     ghost Value = { LinesValue };
 
     ghost view = { λ l. record {
-      filter = l.chosen.filter;
-      prefixes = map (λ prefix. string_bytes prefix) l.chosen.prefixes.items;
+      rule = rule_of l.chosen;
       is_strict = l.is_strict;
       at_front = l.at_front;
       unended = l.unended.items;
@@ -131,22 +133,21 @@ impl Model for Lines {
       counts = counts_value l.counts;
     } };
 
-    ghost invariant = { λ l. IsHeld l.chosen.filter.grammar (texts l.chosen.prefixes.items)
-        l.at_front l.unended.items l.is_skipped };
+    ghost invariant = { λ l. IsHeld (versions_grammar l.chosen.filter) (texts
+        l.chosen.prefixes.items)
+        l.at_front (end_byte l.chosen.ending) l.unended.items l.is_skipped };
 }
 
 impl Lines {
     // Answer: equation.
     /// Returns the lines of a text of which no byte was taken yet.
     ///
-    /// Where `is_strict` is true, a line that isn't empty and has no version is an error.
-    ///
     /// ```
-    /// use semver_parser::filters::{Filter, Lines, Wanted};
-    /// use semver_parser::{Compat, PreReleases};
+    /// use semver_parser::filters::{LineOptions, Lines};
+    /// use semver_parser::{Dialect, VersionRange};
     ///
-    /// let filter = Filter::new("^1", Compat::Npm, PreReleases::Excluded)?;
-    /// let mut lines = Lines::new(filter, vec!["v".to_string()], Wanted::Each, false);
+    /// let range = VersionRange::parse("^1", Dialect::Npm)?;
+    /// let mut lines = Lines::new(range, vec!["v".to_string()], LineOptions::new());
     /// let mut kept = Vec::new();
     /// lines.push(b"v1.4.0\nv2.0.0\n1.4.0\nv1.9.2\n", &mut kept).unwrap();
     /// assert_eq!(kept, b"v1.4.0\nv1.9.2\n");
@@ -154,28 +155,36 @@ impl Lines {
     /// ```
     pub fn new(
         alloc: Global,
-        filter: Filter,
+        filter: VersionRange,
         prefixes: Vec<String>,
-        wanted: Wanted,
-        is_strict: bool,
+        options: LineOptions,
     ) -> Lines
         ensures { result ≡ record {
-          filter = filter;
-          prefixes = map (λ prefix. string_bytes prefix) prefixes.items;
-          is_strict = is_strict;
+          rule = record {
+            filter = filter;
+            prefixes = map (λ prefix. string_bytes prefix) prefixes.items;
+            ending = options.ending;
+            strips_prefix = options.strips_prefix;
+          };
+          is_strict = options.is_strict;
           at_front = true;
           unended = [];
-          held = record { wanted = wanted; best = None; sorted = [] };
+          held = record { selection = options.selection; best = None; sorted = [] };
           counts = no_counts;
         } }
     {
         Lines {
-            chosen: LineFilter { filter, prefixes },
-            is_strict,
+            chosen: LineFilter {
+                filter,
+                prefixes,
+                ending: options.ending,
+                strips_prefix: options.strips_prefix,
+            },
+            is_strict: options.is_strict,
             at_front: true,
             unended: Vec::new(alloc),
             is_skipped: false,
-            held: Held::new(alloc, wanted),
+            held: Held::new(alloc, options.selection),
             counts: Counts::new(),
         }
     }
@@ -194,15 +203,16 @@ impl Lines {
     ///
     /// # Details
     ///
-    /// A kept line is appended as it is, with the line feed that ends it, but for a byte order mark
-    /// at the front of the text. What a text appends doesn't depend on how it is cut into pieces.
+    /// A kept line is appended as it is, with the byte that ends it, but for a byte order mark at
+    /// the front of the text, and for its prefix where prefixes are stripped. What a text appends
+    /// doesn't depend on how it is cut into pieces.
     ///
     /// ```
-    /// use semver_parser::filters::{Filter, Lines, Wanted};
-    /// use semver_parser::{Compat, PreReleases};
+    /// use semver_parser::filters::{LineOptions, Lines};
+    /// use semver_parser::{Dialect, VersionRange};
     ///
-    /// let filter = Filter::new("^1", Compat::Npm, PreReleases::Excluded)?;
-    /// let mut lines = Lines::new(filter, vec![], Wanted::Each, false);
+    /// let range = VersionRange::parse("^1", Dialect::Npm)?;
+    /// let mut lines = Lines::new(range, vec![], LineOptions::new());
     /// let mut kept = Vec::new();
     /// lines.push(b"1.4.0\n2.0.0\n1.", &mut kept).unwrap();
     /// assert_eq!(kept, b"1.4.0\n");
@@ -225,7 +235,7 @@ impl Lines {
         ensures allocates { IfErr result (λ stopped. stopped.error ≡ LinesError.OutOfMemory
             → NextAllocates self.new (drop stopped.taken piece.now)) }
     {
-        laws::precedence_is_total();
+        semver_texts::laws::precedence_is_total();
         let _ = &self.unended;
         let mut taken = 0;
         'lines: loop {
@@ -248,8 +258,8 @@ impl Lines {
     }
 
     // Answer: law release_filter::laws::one_finish.
-    /// Takes the end of the text, with the last line if no line feed ends it, and appends the rest
-    /// of the answer.
+    /// Takes the end of the text, with the last line if it has no end of its own, and appends the
+    /// rest of the answer.
     ///
     /// # Errors
     ///
@@ -260,16 +270,17 @@ impl Lines {
     ///
     /// # Details
     ///
-    /// But for `Wanted::Sorted` a line is appended as it is, with no line feed added. Then no byte
+    /// But for `Selection::Sorted` a line is appended as it is, with no byte added. Then no byte
     /// of a text was taken, as after [`Lines::new`], so that another text can be pushed; the lines
     /// of both are counted.
     ///
     /// ```
-    /// use semver_parser::filters::{Filter, Lines, Wanted};
-    /// use semver_parser::{Compat, PreReleases};
+    /// use semver_parser::filters::{LineOptions, Lines, Selection};
+    /// use semver_parser::{Dialect, VersionRange};
     ///
-    /// let filter = Filter::new("^1", Compat::Npm, PreReleases::Excluded)?;
-    /// let mut lines = Lines::new(filter, vec![], Wanted::Sorted, false);
+    /// let range = VersionRange::parse("^1", Dialect::Npm)?;
+    /// let options = LineOptions { selection: Selection::Sorted, ..LineOptions::new() };
+    /// let mut lines = Lines::new(range, vec![], options);
     /// let mut kept = Vec::new();
     /// lines.push(b"1.9.0\n1.4.0", &mut kept).unwrap();
     /// lines.finish(&mut kept).unwrap();
@@ -287,24 +298,28 @@ impl Lines {
         ensures out_of_memory { IfErr result (λ error. error ≡ LinesError.OutOfMemory
             → EndAllocates self.old kept.old.items) }
     {
-        laws::one_version_in();
+        semver_versions::laws::one_version_in();
+        let ending = self.chosen.ending;
         let line = after_mark(self.at_front, self.unended.as_slice());
         if line.is_empty() {
-            let Ok(_) = self.held.finish(alloc, line, &Judged::NoVersion, kept) else {
+            let none = Judged::NoVersion;
+            let Ok(_) = self.held.finish(alloc, ending, line, &none, kept) else {
                 return Err(LinesError::OutOfMemory);
             };
             self.begin();
             return Ok(());
         }
-        let judged = self.chosen.judge_line(line);
-        let is_bad = is_invalid(line, &judged);
+        let mut count = 0;
+        let judged = self.chosen.judge_line(line, &mut count);
+        let given = self.chosen.given(line, count);
+        let is_bad = is_invalid(ending, given, &judged);
         if self.is_strict && is_bad {
             return Err(LinesError::NoVersion(self.counts.lines.saturating_add(1)));
         }
-        let Ok(noted) = self.counts.noted(alloc, line, &judged) else {
+        let Ok(noted) = self.counts.noted(alloc, ending, given, &judged) else {
             return Err(LinesError::OutOfMemory);
         };
-        let Ok(_) = self.held.finish(alloc, line, &judged, kept) else {
+        let Ok(_) = self.held.finish(alloc, ending, given, &judged, kept) else {
             return Err(LinesError::OutOfMemory);
         };
         self.counts.add(noted);
@@ -312,15 +327,64 @@ impl Lines {
         Ok(())
     }
 
+    // Answer: law release_filter::laws::one_end_file.
+    /// Takes the end of a file that another one follows in the same text: its last line gets an end
+    /// if it has none of its own, and a byte order mark at the front of the next file is dropped.
+    ///
+    /// # Errors
+    ///
+    /// `OutOfMemory` if an allocation fails: then nothing was appended, the lines are as they were,
+    /// and the call can be repeated. `NoVersion`, exactly where the lines are strict and the last
+    /// line isn't empty and has no version: the end of the file was taken, too.
+    ///
+    /// ```
+    /// use semver_parser::filters::{LineOptions, Lines};
+    /// use semver_parser::{Dialect, VersionRange};
+    ///
+    /// let range = VersionRange::parse("^1", Dialect::Npm)?;
+    /// let mut lines = Lines::new(range, vec![], LineOptions::new());
+    /// let mut kept = Vec::new();
+    /// lines.push(b"1.4.0", &mut kept).unwrap();
+    /// lines.end_file(&mut kept).unwrap();
+    /// lines.push(b"\xEF\xBB\xBF1.9.0", &mut kept).unwrap();
+    /// lines.finish(&mut kept).unwrap();
+    /// assert_eq!(kept, b"1.4.0\n1.9.0");
+    /// # Ok::<(), semver_parser::RangeError>(())
+    /// ```
+    pub fn end_file(&mut self, alloc: Global, kept: &mut Vec<u8>) -> Result<(), LinesError>
+        ensures ends { IfOk result (λ _. (judged : List JudgedLine) × EndsFile self.old judged
+            self.new kept.old.items kept.new.items
+            × (IsTrue self.old.is_strict → has_invalid judged ≡ false)) }
+        ensures refuses { IfErr result (λ error. RefusesFile error self.old self.new
+            kept.old.items kept.new.items) }
+        // Memory runs out only for a line that has no end of its own.
+        ensures out_of_memory { IfErr result (λ error. error ≡ LinesError.OutOfMemory
+            → 0 < length self.old.unended) }
+    {
+        let mut is_valid = true;
+        if !after_mark(self.at_front, self.unended.as_slice()).is_empty() {
+            let end = [self.chosen.ending.byte()];
+            let Ok(valid) = self.take_line(alloc, &end, kept) else {
+                return Err(LinesError::OutOfMemory);
+            };
+            is_valid = valid;
+        }
+        self.begin_file();
+        if self.is_strict && !is_valid {
+            return Err(LinesError::NoVersion(self.counts.lines));
+        }
+        Ok(())
+    }
+
     // Answer: equation.
     /// Returns the counts of the lines so far. It does not allocate.
     ///
     /// ```
-    /// use semver_parser::filters::{Filter, Lines, Wanted};
-    /// use semver_parser::{Compat, PreReleases};
+    /// use semver_parser::filters::{LineOptions, Lines};
+    /// use semver_parser::{Dialect, VersionRange};
     ///
-    /// let filter = Filter::new("^1", Compat::Npm, PreReleases::Excluded)?;
-    /// let mut lines = Lines::new(filter, vec![], Wanted::Each, false);
+    /// let range = VersionRange::parse("^1", Dialect::Cargo)?;
+    /// let mut lines = Lines::new(range, vec![], LineOptions::new());
     /// lines.push(b"v1.2.0\n\n1.4.0\n", &mut Vec::new()).unwrap();
     /// assert_eq!((lines.counts().lines, lines.counts().empty), (3, 1));
     /// assert_eq!(lines.counts().first_invalid.as_ref().unwrap().front, b"v1.2.0");
@@ -337,13 +401,20 @@ impl Lines {
         ensures { self.new ≡ begun self.old }
     {
         self.held.clear();
+        self.begin_file();
+    }
+
+    /// Makes this the state before the first byte of a file.
+    fn begin_file(&mut self)
+        ensures { self.new ≡ begun_file self.old }
+    {
         self.at_front = true;
         self.unended.clear();
         self.is_skipped = false;
     }
 
     /// Takes the bytes up to the first end of a line, if there is one: these bytes, and whether the
-    /// line is no invalid one. For speed, a line of which no byte was taken before is judged where
+    /// line is no invalid one. For speed, a line of which no byte was taken before is checked where
     /// it is.
     #[inline(always)]
     fn take_first<'p>(
@@ -353,9 +424,10 @@ impl Lines {
         kept: &mut Vec<u8>,
     ) -> Result<Option<(&'p [u8], bool)>, AllocError>
         ensures takes { IfOk result (λ found. MatchOption found
-            (All (λ byte. byte ≢ 10) bytes.now × (self.new ≡ self.old)
+            (All (λ byte. byte ≢ end_byte self.old.rule.ending) bytes.now × (self.new ≡ self.old)
             × (kept.new.items ≡ kept.old.items))
-            (λ end. StartsWith bytes.now end.0.now × IsWholeLine end.0.now
+            (λ end. StartsWith bytes.now end.0.now
+            × IsWholeLine (end_byte self.old.rule.ending) end.0.now
             × TakesWhole self.old end.0.now self.new kept.old.items kept.new.items end.1)) }
         ensures unchanged { IfErr result (λ _. (self.new ≡ self.old)
             × (kept.new.items ≡ kept.old.items)) }
@@ -363,22 +435,32 @@ impl Lines {
         ensures allocates { IfErr result (λ _. NextAllocates self.old bytes.now) }
     {
         if self.at_front || !self.unended.is_empty() {
-            let Some(end) = whole_line(bytes) else {
+            let Some(end) = whole_line(bytes, self.chosen.ending) else {
                 return Ok(None);
             };
             let is_valid = self.take_line(alloc, end, kept)?;
             return Ok(Some((end, is_valid)));
         }
-        let Some((line, judged)) = self.chosen.first_judged(bytes) else {
+        let mut count = 0;
+        let Some((line, judged)) = self.chosen.first_judged(bytes, &mut count) else {
             return Ok(None);
         };
-        let is_valid = take(alloc, line, &judged, &mut self.held, &mut self.counts, kept)?;
+        let given = self.chosen.given(line, count);
+        let is_valid = take(
+            alloc,
+            self.chosen.ending,
+            given,
+            &judged,
+            &mut self.held,
+            &mut self.counts,
+            kept,
+        )?;
         Ok(Some((line, is_valid)))
     }
 
     /// Takes bytes that end no line. Of a line that is skipped none are held or looked at.
     fn take_rest(&mut self, rest: &[u8]) -> Result<(), AllocError>
-        requires { All (λ byte. byte ≢ 10) rest.now }
+        requires { All (λ byte. byte ≢ end_byte self.old.rule.ending) rest.now }
         ensures takes { IfOk result (λ _. TakesRest self.old rest.now self.new) }
         ensures unchanged { IfErr result (λ _. self.new ≡ self.old) }
         ensures out_of_memory { IfErr result (λ _. 0 < length rest.now) }
@@ -398,21 +480,22 @@ impl Lines {
     }
 
     /// Ends the line that has not ended, and returns whether it isn't an invalid one. Of a skipped
-    /// line nothing more is held but a line feed.
+    /// line nothing more is held but the byte that ends it.
     fn take_line(
         &mut self,
         alloc: Global,
         end: &[u8],
         kept: &mut Vec<u8>,
     ) -> Result<bool, AllocError>
-        requires { IsWholeLine end.now }
+        requires { IsWholeLine (end_byte self.old.rule.ending) end.now }
         ensures takes { IfOk result (λ is_valid. TakesWhole self.old end.now self.new
             kept.old.items kept.new.items is_valid) }
         ensures unchanged { IfErr result (λ _. (self.new ≡ self.old)
             × (kept.new.items ≡ kept.old.items)) }
     {
         let begun = self.unended.len();
-        let end = if self.is_skipped { LINE_FEED } else { end };
+        let last = [self.chosen.ending.byte()];
+        let end = if self.is_skipped { &last } else { end };
         self.unended.extend_from_slice(end)?;
         match take_ended(
             alloc,
@@ -448,10 +531,9 @@ fn take_ended(
     counts: &mut Counts,
     kept: &mut Vec<u8>,
 ) -> Result<bool, AllocError>
-    ensures takes { IfOk result (λ is_valid. TakesJudged chosen.now.filter
-        (texts chosen.now.prefixes.items) (held_value held.old) (counts_value counts.old)
-        (after_mark at_front bytes.old.items) (held_value held.new) (counts_value counts.new)
-        kept.old.items kept.new.items is_valid) }
+    ensures takes { IfOk result (λ is_valid. TakesJudged (rule_of chosen.now)
+        (held_value held.old) (counts_value counts.old) (after_mark at_front bytes.old.items)
+        (held_value held.new) (counts_value counts.new) kept.old.items kept.new.items is_valid) }
     ensures unchanged { IfErr result (λ _. (bytes.new.items ≡ bytes.old.items)
         × (held_value held.new ≡ held_value held.old)
         × (counts_value counts.new ≡ counts_value counts.old)
@@ -459,76 +541,80 @@ fn take_ended(
 {
     let marked = bytes.as_slice();
     let line = after_mark(at_front, marked);
-    let may_hand_over = may_hand_over(held.wanted, line, marked, kept.as_slice());
-    let may_hold = may_hold(held.wanted, line, marked);
-    let judged = chosen.judge_line(line);
-    if let Judged::Passes(outline) = &judged {
+    let mut count = 0;
+    let judged = chosen.judge_line(line, &mut count);
+    let given = chosen.given(line, count);
+    let may_hand_over = may_hand_over(held.selection, given, marked, kept.as_slice());
+    let may_hold = may_hold(held.selection, given, marked);
+    if let Judged::Matches(outline) = &judged {
         if may_hand_over {
-            counts.add(Noted::Version);
+            counts.add(Noted::Kept);
             mem::swap(kept, bytes);
             return Ok(true);
         }
         if may_hold {
-            let version = without_build(alloc, outline)?;
+            let version = ReadVersion::of(alloc, outline)?;
             held.hold_whole(alloc, version, bytes);
-            counts.add(Noted::Version);
+            counts.add(Noted::Kept);
             return Ok(true);
         }
     }
-    take(alloc, line, &judged, held, counts, kept)
+    take(alloc, chosen.ending, given, &judged, held, counts, kept)
 }
 
-/// Whether a kept line may take the place of what was appended, since it is all that is: it has no
-/// byte order mark before it, and nothing was appended.
-fn may_hand_over(wanted: Wanted, line: &[u8], marked: &[u8], kept: &[u8]) -> bool
-    ensures { result ≡ true → (wanted ≡ Wanted.Each) × (length line.now ≡ length marked.now)
+/// Whether a kept line may take the place of what was appended, since it is all that is: all of it
+/// is given, it has no byte order mark before it, and nothing was appended.
+fn may_hand_over(selection: Selection, given: &[u8], marked: &[u8], kept: &[u8]) -> bool
+    ensures { result ≡ true → (selection ≡ Selection.Each) × (length given.now ≡ length marked.now)
         × (kept.now ≡ []) }
 {
-    match wanted {
-        Wanted::Each => line.len() == marked.len() && kept.is_empty(),
-        Wanted::Greatest | Wanted::Least | Wanted::Sorted => false,
+    match selection {
+        Selection::Each => given.len() == marked.len() && kept.is_empty(),
+        Selection::Highest | Selection::Lowest | Selection::Sorted => false,
     }
 }
 
-/// Whether a kept line may be held as it is: it has no byte order mark before it, and the best
-/// line is wanted.
-fn may_hold(wanted: Wanted, line: &[u8], marked: &[u8]) -> bool
-    ensures { result ≡ true → ((wanted ≡ Wanted.Greatest) ⊎ (wanted ≡ Wanted.Least))
-        × (length line.now ≡ length marked.now) }
+/// Whether a kept line may be held as it is: all of it is given, it has no byte order mark before
+/// it, and the best line is wanted.
+fn may_hold(selection: Selection, given: &[u8], marked: &[u8]) -> bool
+    ensures { result ≡ true → ((selection ≡ Selection.Highest) ⊎ (selection ≡ Selection.Lowest))
+        × (length given.now ≡ length marked.now) }
 {
-    match wanted {
-        Wanted::Greatest | Wanted::Least => line.len() == marked.len(),
-        Wanted::Each | Wanted::Sorted => false,
+    match selection {
+        Selection::Highest | Selection::Lowest => given.len() == marked.len(),
+        Selection::Each | Selection::Sorted => false,
     }
 }
 
-/// Takes a line of which a filter says this, and returns whether it is no invalid one.
+/// Takes a line of which a filter says this and this is given, and returns whether it is no invalid
+/// one. All is given of a line that has no version.
 #[inline(always)]
 fn take(
     alloc: Global,
-    line: &[u8],
+    ending: LineEnd,
+    given: &[u8],
     judged: &Judged<'_>,
     held: &mut Held,
     counts: &mut Counts,
     kept: &mut Vec<u8>,
 ) -> Result<bool, AllocError>
-    ensures takes { (plain : PlainVersion) → PassesAs judged.now plain → IfOk result (λ is_valid.
-        TakesLine (held_value held.old) (counts_value counts.old) line.now
-        (verdict_of judged.now plain line.now) (held_value held.new) (counts_value counts.new)
-        kept.old.items kept.new.items
-        × (is_valid ≡ not (is_invalid (verdict_of judged.now plain line.now)))) }
+    ensures takes { (plain : PlainVersion) → MatchesAs judged.now plain → IfOk result (λ is_valid.
+        TakesLine ending (held_value held.old) (counts_value counts.old) given.now
+        (verdict_of ending judged.now plain given.now) (held_value held.new)
+        (counts_value counts.new) kept.old.items kept.new.items
+        × (is_valid ≡ not (is_invalid (verdict_of ending judged.now plain given.now)))) }
     ensures unchanged { IfErr result (λ _. (held_value held.new ≡ held_value held.old)
         × (counts_value counts.new ≡ counts_value counts.old)
         × (kept.new.items ≡ kept.old.items)) }
     ensures out_of_memory { (plain : PlainVersion) → IfErr result (λ _.
-        LineAllocates (counts_value counts.old) (verdict_of judged.now plain line.now)) }
+        LineAllocates (counts_value counts.old) (verdict_of ending judged.now plain given.now)) }
 {
-    let noted = counts.noted(alloc, line, judged)?;
-    if let Judged::Passes(outline) = judged {
-        held.keep(alloc, outline, line, kept)?;
+    let noted = counts.noted(alloc, ending, given, judged)?;
+    if let Judged::Matches(outline) = judged {
+        held.keep(alloc, outline, given, kept)?;
     }
     counts.add(noted);
-    Ok(!is_invalid(line, judged))
+    Ok(!is_invalid(ending, given, judged))
 }
 
 /// The memory ran out after so many bytes of a piece.

@@ -1,22 +1,25 @@
-//! The program `release-filter`: arguments, standard input and output, and exit status, nothing
-//! else. Its filter is of the versions that `meaning::read` returns, and `Lines` of the library
-//! says what is written: this program alone reads and writes.
+//! The program `release-filter`: arguments, reading, writing, and exit status. `Lines` of the
+//! library says which lines are kept, and what is given of them; the versions are those of a set.
 #![tactic(auto)]
 
 mod arguments;
+mod copying;
+mod json;
 mod output;
+mod report;
 
-use arguments::{Filtering, Request};
+use arguments::{Filtering, Kind, Request};
 use command_line::Program;
-use output::Output;
-use release_filter::{Counts, Filter, Lines, LinesError};
+use copying::{Copying, Error};
+use report::report_invalid;
 use semver_parser::RangeError;
-use semver_parser::version::outline_in;
-use std::fs;
-use std::io::{self, ErrorKind, Read};
+use std::alloc::Global;
+use std::io::ErrorKind;
 use std::process::ExitCode;
 use tool_ranges::dialect::Dialect;
-use tool_ranges::meaning;
+use tool_ranges::meaning::{self, Meaning};
+use tool_ranges::version_range::VersionRange;
+use version_sets::{PreReleases, VersionSet};
 
 /// The program.
 const PROGRAM: Program = Program {
@@ -42,6 +45,9 @@ version which RANGE means. Without a file, and for -, it reads standard input.
       --pre                too, and not only those that the tool matches
     --releases-only        copy releases only
       --releases
+    --only KIND            copy only one kind of these versions: KIND is releases
+                           or pre-releases
+    --invert               copy the versions that RANGE does not contain instead
     --highest, --lowest    print only the line with the highest or the lowest
       --greatest, --least  version (the first, if several are equal)
     --sort                 print the lines from the lowest version to the
@@ -53,7 +59,9 @@ version which RANGE means. Without a file, and for -, it reads standard input.
     --strip-prefix         print the lines without their prefix
     --count                print only how many lines match
     --strict               fail at the first line that is not empty and has no
-                           version
+                           version, and name it
+    --json                 read an array of strings in JSON, each of them a line,
+                           and print an array; also a string for an array of it
     --null                 lines end with a zero byte instead of a line feed,
                            in the input and in the output
     --line-buffered        accepted, and changes nothing: each line is written
@@ -67,47 +75,6 @@ standard error describes. semver-ranges(7) says what ranges mean.";
 
 /// The version of this program, as the file VERSION has it.
 const VERSION: &str = "release-filter 1.0.0";
-
-/// So many bytes of the input are read at once.
-const AT_ONCE: usize = 65536;
-
-/// So many bytes of a line without a version are shown.
-const SHOWN: usize = 80;
-
-/// The byte order mark, which some programs write before a text in UTF-8.
-const MARK: &[u8] = b"\xEF\xBB\xBF";
-
-/// Why a run ended by an error.
-#[derive(Drop)]
-enum Error {
-    /// The range text was refused.
-    Range(RangeError),
-    /// The lines were not taken to the end.
-    Lines(LinesError),
-    /// Reading failed.
-    Read(io::Error),
-    /// This file can't be read.
-    File(String, io::Error),
-    /// Writing failed.
-    Write(io::Error),
-}
-
-/// The lines that are taken, and what is done with those that are kept.
-#[derive(Drop)]
-struct Copying {
-    /// The lines.
-    lines: Lines,
-    /// How they are written.
-    output: Output,
-    /// The bytes that are read at once.
-    buffer: Vec<u8>,
-    /// The lines that are kept, and not yet written.
-    kept: Vec<u8>,
-    /// Whether a byte was taken.
-    has_taken: bool,
-    /// Whether the last byte that was taken ended a line, or none was taken.
-    is_ended: bool,
-}
 
 fn main(rt: HostRuntime) -> ExitCode {
     match arguments::requested(&rt) {
@@ -128,212 +95,41 @@ fn run(rt: &HostRuntime, filtering: &Filtering) -> ExitCode {
     }
 }
 
-/// Filters, and returns whether a line was kept. If none was, lines without a version are reported.
+/// Filters, and returns whether a line was kept.
 fn filtered(rt: &HostRuntime, filtering: &Filtering) -> Result<bool, Error> {
-    let meaning = filtering.meaning;
-    let versions = meaning::read(rt.alloc(), meaning, filtering.range.as_str()).map_err(
-        Error::Range,
-    )?;
-    let filter = Filter::of_versions(versions, meaning.dialect.grammar());
-    let Ok(mut run) = begun(rt, filtering, filter) else {
-        return Err(Error::Lines(LinesError::OutOfMemory));
+    let versions = versions(rt.alloc(), filtering).map_err(Error::Range)?;
+    let range = VersionRange::of_versions(versions, filtering.meaning);
+    let Ok(mut copying) = Copying::new(rt.alloc(), &filtering.options, range) else {
+        return Err(Error::OutOfMemory);
     };
-    run.take_all(rt, filtering)?;
-    let has_lines = run.output.has_lines();
-    if !has_lines {
-        report_invalid(rt, run.lines.counts(), filtering);
-    }
+    let has_lines = copying.run(rt, filtering.files.as_slice())?;
+    report_invalid(rt, copying.counts(), filtering, has_lines);
     Ok(has_lines)
 }
 
-/// What there is before the first byte is taken.
-fn begun(
-    rt: &HostRuntime,
-    filtering: &Filtering,
-    filter: Filter,
-) -> Result<Copying, std::alloc::AllocError> {
-    let options = &filtering.options;
-    let mut prefixes = Vec::new(rt.alloc());
-    for prefix in options.prefixes.iter() {
-        prefixes.push(prefix.as_str().to_string(rt.alloc())?)?;
+/// The versions that are wanted: those of the range, or all others; and of them all, or one kind.
+fn versions(alloc: Global, filtering: &Filtering) -> Result<VersionSet, RangeError> {
+    let mut versions = meaning::read(alloc, filtering.meaning, filtering.range.as_str())?;
+    if filtering.options.is_inverted {
+        let Ok(others) = all_versions(alloc)?.difference(alloc, &versions) else {
+            return Err(RangeError::OutOfMemory);
+        };
+        versions = others;
     }
-    let grammar = filtering.meaning.dialect.grammar();
-    Ok(Copying {
-        lines: options.lines(rt.alloc(), filter)?,
-        output: Output::new(options.form, prefixes, grammar),
-        buffer: vec![in rt.alloc(); 0; AT_ONCE]?,
-        kept: Vec::new(rt.alloc()),
-        has_taken: false,
-        is_ended: true,
+    Ok(match filtering.options.only {
+        Some(Kind::Releases) => versions.only_releases(alloc),
+        Some(Kind::PreReleases) => versions.only_pre_releases(alloc),
+        None => versions,
     })
 }
 
-impl Copying {
-    /// Takes the lines of all files, or of standard input, and writes those that are kept before
-    /// more is read.
-    fn take_all(&mut self, rt: &HostRuntime, filtering: &Filtering) -> Result<(), Error> {
-        if filtering.files.is_empty() {
-            self.take(rt, &mut rt.reader()).map_err(in_reading)?;
-        }
-        for file in filtering.files.iter() {
-            self.end_line(rt)?;
-            let name = file.as_str();
-            let taken = if name == "-" {
-                self.take(rt, &mut rt.reader())
-            } else {
-                match fs::open(rt, name) {
-                    Ok(mut opened) => self.take(rt, &mut opened),
-                    Err(error) => Err(Stop::Read(error)),
-                }
-            };
-            match taken {
-                Err(Stop::Read(error)) => return Err(of_file(rt, name, error)),
-                taken => taken.map_err(in_reading)?,
-            }
-        }
-        let finished = self.lines.finish(rt.alloc(), &mut self.kept);
-        finished.map_err(Error::Lines)?;
-        self.write(rt)?;
-        let mut output = io::writer(rt);
-        self.output
-            .finish(rt.alloc(), &mut output)
-            .map_err(Error::Write)
-    }
-
-    /// Takes the lines of a reader.
-    fn take<R: Read>(&mut self, rt: &HostRuntime, input: &mut R) -> Result<(), Stop> {
-        let mut is_first = true;
-        for _ in 0..u64::MAX {
-            let count = read(input, &mut self.buffer).map_err(Stop::Read)?;
-            if count == 0 {
-                break;
-            }
-            self.take_piece(rt, count, is_first).map_err(Stop::Other)?;
-            is_first = false;
-        }
-        Ok(())
-    }
-
-    /// Takes the bytes that were read. The lines drop a byte order mark at the front of the first
-    /// file, and of another one it is dropped here.
-    fn take_piece(&mut self, rt: &HostRuntime, count: usize, is_first: bool) -> Result<(), Error> {
-        let buffer = self.buffer.as_mut_slice();
-        let piece = buffer.get_mut(..count).unwrap_or_default();
-        self.output.take(piece);
-        let mut piece: &[u8] = piece;
-        if is_first && self.has_taken {
-            piece = piece.strip_prefix(MARK).unwrap_or(piece);
-        }
-        if let Some(last) = piece.last() {
-            self.is_ended = *last == b'\n';
-            self.has_taken = true;
-        }
-        let pushed = self.lines.push(rt.alloc(), piece, &mut self.kept);
-        self.write(rt)?;
-        match pushed {
-            Ok(()) => Ok(()),
-            Err(stopped) => Err(Error::Lines(stopped.error)),
-        }
-    }
-
-    /// Ends the last line of a file, where another file follows.
-    fn end_line(&mut self, rt: &HostRuntime) -> Result<(), Error> {
-        if self.is_ended {
-            return Ok(());
-        }
-        self.is_ended = true;
-        let pushed = self.lines.push(rt.alloc(), b"\n", &mut self.kept);
-        self.write(rt)?;
-        match pushed {
-            Ok(()) => Ok(()),
-            Err(stopped) => Err(Error::Lines(stopped.error)),
-        }
-    }
-
-    /// Writes what was kept.
-    fn write(&mut self, rt: &HostRuntime) -> Result<(), Error> {
-        let mut output = io::writer(rt);
-        self.output
-            .write(rt.alloc(), &mut output, &mut self.kept)
-            .map_err(Error::Write)
-    }
-}
-
-/// Why the lines of one reader were not taken to the end.
-#[derive(Drop)]
-enum Stop {
-    /// It can't be read.
-    Read(io::Error),
-    /// Something else.
-    Other(Error),
-}
-
-/// The error of standard input.
-fn in_reading(stop: Stop) -> Error {
-    match stop {
-        Stop::Read(error) => Error::Read(error),
-        Stop::Other(error) => error,
-    }
-}
-
-/// The error of a file.
-fn of_file(rt: &HostRuntime, name: &str, error: io::Error) -> Error {
-    match name.to_string(rt.alloc()) {
-        Ok(name) => Error::File(name, error),
-        Err(_) => Error::Read(error),
-    }
-}
-
-/// Reads the next bytes: how many.
-fn read<R: Read>(input: &mut R, buffer: &mut [u8]) -> io::Result<usize> {
-    for _ in 0..u64::MAX {
-        match input.read(buffer) {
-            Err(error) if error.kind() == ErrorKind::Interrupted => {}
-            read => return read,
-        }
-    }
-    Ok(0)
-}
-
-/// Reports on standard error how many lines have no version, and the first, with a hint if a prefix
-/// is missing.
-fn report_invalid(rt: &impl Eprint, counts: &Counts, filtering: &Filtering) {
-    let Some(first) = &counts.first_invalid else {
-        return;
+/// All versions: `*` to npm, with each pre-release.
+fn all_versions(alloc: Global) -> Result<VersionSet, RangeError> {
+    let meaning = Meaning {
+        dialect: Dialect::Npm,
+        pre_releases: PreReleases::Included,
     };
-    let all = counts.lines.saturating_sub(counts.empty);
-    let lines = if all == 1 { "line" } else { "lines" };
-    let are = if counts.invalid == 1 { "is" } else { "are" };
-    let front = first.front.as_slice();
-    let (shown, more) = shown(front);
-    let lacks_prefix = filtering.options.prefixes.is_empty() && has_v(front, filtering);
-    let hint = if lacks_prefix {
-        "; --prefix v takes it"
-    } else {
-        ""
-    };
-    let _ = eprintln!(rt;
-        "release-filter: {} of {all} {lines} {are} no version; the first, line {}: {}{more}{hint}",
-        counts.invalid,
-        first.number,
-        shown.escape_ascii()
-    );
-}
-
-/// Whether a line is a version after a `v`.
-fn has_v(front: &[u8], filtering: &Filtering) -> bool {
-    match front.strip_prefix(b"v") {
-        Some(version) => outline_in(version, filtering.meaning.dialect.grammar()).is_some(),
-        None => false,
-    }
-}
-
-/// The first 80 bytes of the front of a line, and dots if there are more.
-fn shown(front: &[u8]) -> (&[u8], &'static str) {
-    match front.get(..SHOWN) {
-        Some(shown) if front.len() > SHOWN => (shown, "..."),
-        _ => (front, ""),
-    }
+    meaning::read(alloc, meaning, "*")
 }
 
 /// Reports on standard error what the error is, and returns status 2.
@@ -344,7 +140,8 @@ fn failed(rt: &HostRuntime, error: &Error, filtering: &Filtering) -> ExitCode {
             return PROGRAM.refuse_range(rt, dialect, error, filtering.range.as_str());
         }
         Error::Write(error) => return PROGRAM.cannot_write(rt, error),
-        Error::Lines(error) => eprintln!(rt; "release-filter: {error}"),
+        Error::OutOfMemory => eprintln!(rt; "release-filter: out of memory"),
+        Error::Invalid(line) | Error::Json(line) => eprintln!(rt; "release-filter: {line}"),
         Error::Read(error) => eprintln!(rt; "release-filter: cannot read input: {error}"),
         Error::File(name, error) => eprintln!(rt; "release-filter: cannot read {name}: {error}"),
     };

@@ -1,178 +1,81 @@
-//! How kept lines are written: without their prefix, in reverse, as records, or only counted.
+//! How kept lines are written: as they are, in reverse, as JSON, or only counted.
 
-use crate::arguments::Form;
-use semver_parser::version::{Grammar, outline_in};
-use semver_parser::writing::write_whole;
+use crate::arguments::Options;
+use crate::json::{push_end, push_items};
+use command_line::write_whole;
+use release_filter::Selection;
 use std::alloc::{AllocError, Global};
 use std::io::{self, Write};
 
-/// What is done with kept lines, and what was done.
-#[derive(Drop)]
-pub struct Output {
-    /// How they are written.
-    form: Form,
-    /// The prefixes of versions, and how these are read.
-    prefixes: Vec<String>,
-    grammar: Grammar,
-    /// How many lines were kept.
-    count: u64,
-}
-
-impl Output {
-    /// Nothing was kept yet.
-    pub fn new(form: Form, prefixes: Vec<String>, grammar: Grammar) -> Output {
-        Output {
-            form,
-            prefixes,
-            grammar,
-            count: 0,
-        }
-    }
-
-    /// Whether something was kept.
-    pub fn has_lines(&self) -> bool {
-        self.count > 0
-    }
-
-    /// Makes lines of the records of a piece of the input.
-    pub fn take(&self, piece: &mut [u8]) {
-        if self.form.is_null {
-            exchange(piece);
-        }
-    }
-
-    /// Writes and drops lines that were kept.
-    pub fn write<W: Write>(
-        &mut self,
-        alloc: Global,
-        output: &mut W,
-        kept: &mut Vec<u8>,
-    ) -> io::Result<()> {
-        if kept.is_empty() {
-            return Ok(());
-        }
-        self.count = self.count.saturating_add(count_lines(kept.as_slice()));
-        if !self.form.is_counted {
-            let mut written = Vec::new(alloc);
-            let written = self.shown(kept, &mut written)?;
-            write_whole(output, written.as_slice())?;
-            output.flush()?;
-        }
+/// Writes lines that were kept, after others or as the first, and drops them.
+pub fn write_lines<W: Write>(
+    alloc: Global,
+    output: &mut W,
+    options: &Options,
+    are_first: bool,
+    kept: &mut Vec<u8>,
+) -> io::Result<()> {
+    if options.is_counted {
         kept.clear();
-        Ok(())
     }
-
-    /// Writes the number of lines, if that is wanted.
-    pub fn finish<W: Write>(&self, alloc: Global, output: &mut W) -> io::Result<()> {
-        if !self.form.is_counted {
-            return Ok(());
-        }
-        let line = counted(alloc, self.count)?;
-        write_whole(output, line.as_bytes())?;
-        output.flush()
+    if kept.is_empty() {
+        return Ok(());
     }
-
-    /// The lines as they are written: those that were kept, or others that are made of them.
-    fn shown<'k>(
-        &self,
-        kept: &'k mut Vec<u8>,
-        made: &'k mut Vec<u8>,
-    ) -> Result<&'k mut Vec<u8>, AllocError> {
-        let is_changed = self.form.is_stripped || self.form.is_reversed;
-        if is_changed {
-            self.make(kept.as_slice(), made)?;
-        }
-        let shown = if is_changed { made } else { kept };
-        if self.form.is_null {
-            exchange(shown.as_mut_slice());
-        }
-        Ok(shown)
+    if options.is_reversed {
+        *kept = reversed(alloc, kept, options.lines.ending.byte())?;
     }
-
-    /// Appends the lines without their prefixes, and in the order that is wanted.
-    fn make(&self, kept: &[u8], made: &mut Vec<u8>) -> Result<(), AllocError> {
-        let mut rest = kept;
-        for _ in 0..kept.len() {
-            let (line, others) = if self.form.is_reversed {
-                last_line(rest)
-            } else {
-                first_line(rest)
-            };
-            made.extend_from_slice(self.stripped(line))?;
-            rest = others;
-        }
-        Ok(())
+    if options.is_json {
+        let mut items = Vec::new(alloc);
+        push_items(kept, are_first, &mut items)?;
+        *kept = items;
     }
-
-    /// A line without the first of the prefixes after which it has a version.
-    fn stripped<'l>(&self, line: &'l [u8]) -> &'l [u8] {
-        if !self.form.is_stripped {
-            return line;
-        }
-        for prefix in self.prefixes.iter() {
-            if let Some(rest) = line.strip_prefix(prefix.as_bytes()) {
-                if outline_in(without_end(rest), self.grammar).is_some() {
-                    return rest;
-                }
-            }
-        }
-        line
-    }
+    write_whole(output, kept.as_slice())?;
+    kept.clear();
+    output.flush()
 }
 
-/// Exchanges line feeds and zero bytes, so that records that end with a zero byte are lines.
-fn exchange(bytes: &mut [u8]) {
-    for at in 0..bytes.len() {
-        bytes[at] = match bytes[at] {
-            b'\n' => 0,
-            0 => b'\n',
-            byte => byte,
-        };
-    }
+/// Writes the end of the array of JSON.
+pub fn write_end<W: Write>(alloc: Global, output: &mut W, has_items: bool) -> io::Result<()> {
+    let mut end = Vec::new(alloc);
+    push_end(has_items, &mut end)?;
+    write_whole(output, end.as_slice())?;
+    output.flush()
 }
 
-/// How many lines there are, the last of which may have no line feed.
-fn count_lines(bytes: &[u8]) -> u64 {
-    let mut count = 0u64;
-    for byte in bytes {
-        if *byte == b'\n' {
-            count = count.saturating_add(1);
-        }
-    }
-    match bytes.last() {
-        Some(b'\n') | None => count,
-        Some(_) => count.saturating_add(1),
-    }
-}
-
-/// A number in a line of its own.
-fn counted(alloc: Global, count: u64) -> Result<String, AllocError> {
+/// Writes the number of lines, of which the options want one or all.
+pub fn write_count<W: Write>(
+    alloc: Global,
+    output: &mut W,
+    selection: Selection,
+    kept: u64,
+) -> io::Result<()> {
+    let count = match selection {
+        Selection::Highest | Selection::Lowest => kept.min(1),
+        Selection::Each | Selection::Sorted => kept,
+    };
     let mut line = count.to_string(alloc)?;
     line.push('\n')?;
-    Ok(line)
+    write_whole(output, line.as_bytes())?;
+    output.flush()
 }
 
-/// A line without the line feed at its end, and then without one carriage return.
-fn without_end(line: &[u8]) -> &[u8] {
-    let text = line.strip_suffix(b"\n").unwrap_or(line);
-    text.strip_suffix(b"\r").unwrap_or(text)
-}
-
-/// The first line with its end, and the lines after it.
-fn first_line(lines: &[u8]) -> (&[u8], &[u8]) {
-    for at in 0..lines.len() {
-        if lines[at] == b'\n' {
-            return lines.split_at(at + 1);
-        }
+/// The lines in reverse order. Each has an end.
+fn reversed(alloc: Global, lines: &[u8], end: u8) -> Result<Vec<u8>, AllocError> {
+    let mut made = Vec::with_capacity(alloc, lines.len())?;
+    let mut rest = lines;
+    for _ in 0..lines.len() {
+        let (line, before) = last_line(rest, end);
+        made.extend_from_slice(line)?;
+        rest = before;
     }
-    (lines, &[])
+    Ok(made)
 }
 
-/// The last line with its end, and the lines before it.
-fn last_line(lines: &[u8]) -> (&[u8], &[u8]) {
+/// The last line, and the lines before it.
+fn last_line(lines: &[u8], end: u8) -> (&[u8], &[u8]) {
     for back in 1..lines.len() {
         let at = lines.len() - back;
-        if lines[at - 1] == b'\n' {
+        if lines[at - 1] == end {
             let (before, line) = lines.split_at(at);
             return (line, before);
         }

@@ -1,11 +1,15 @@
-//! What the filter keeps, and which versions meet a set.
+//! What the filter keeps, and which versions a set contains.
 
-use release_filter::{Filter, Lines, PreReleases, Wanted, filter_text, version_meets};
+use release_filter::{LineOptions, Lines, Selection, filter_text, version_meets};
 use semver_parser::version::Version;
 use semver_parser::{Compat, RangeError, RangeSet, version};
 use std::alloc::{AllocError, Global};
 use std::io;
 use std::io::Write;
+use tool_ranges::dialect::Dialect;
+use tool_ranges::meaning::Meaning;
+use tool_ranges::version_range::VersionRange;
+use version_sets::PreReleases;
 
 /// Writes the versions of a list, separated by blanks, that are kept of it, or the error of the
 /// text.
@@ -22,8 +26,8 @@ pub fn write_kept<W: Write>(
     }
 }
 
-/// Writes the versions of a list, separated by blanks, that pass a filter, or the error of the
-/// text. Where the filter reads other ones of the texts itself, that is told after them.
+/// Writes the versions of a list, separated by blanks, that a range contains, or the error of the
+/// text. If it contains other ones by their texts, they follow.
 pub fn write_passed<W: Write>(
     alloc: Global,
     text: &str,
@@ -35,36 +39,73 @@ pub fn write_passed<W: Write>(
     let Some(versions) = versions_of(alloc, list)? else {
         return write!(out, "not all are versions");
     };
-    match Filter::new(alloc, text, compat, pre_releases) {
-        Ok(filter) => {
-            let kept = filter.kept(alloc, &versions)?;
-            let are_read = are_read(alloc, &filter, list, &kept)?;
+    match VersionRange::parse(alloc, text, meaning_of(compat, pre_releases)) {
+        Ok(range) => {
+            let kept = contained(alloc, &range, &versions)?;
+            let are_same = are_contained(&range, list, &kept, &versions);
             write_answer(&Ok(kept), out)?;
-            if are_read {
+            if are_same {
                 Ok(())
             } else {
-                write!(out, ", and others are read")
+                write!(out, ", and others by their texts")
             }
         }
         Err(error) => write_answer(&Err(error), out),
     }
 }
 
-/// Whether a filter reads these versions of a list, and no other ones.
-fn are_read(alloc: Global, filter: &Filter, list: &str, kept: &[&Version]) -> io::Result<bool> {
+/// A mode and a rule as a meaning.
+fn meaning_of(compat: Compat, pre_releases: PreReleases) -> Meaning {
+    let dialect = match compat {
+        Compat::Cargo => Dialect::CrateCargo,
+        Compat::Npm => Dialect::CrateNpm,
+    };
+    Meaning {
+        dialect,
+        pre_releases,
+    }
+}
+
+/// Those of the versions that a range contains.
+fn contained<'v>(
+    alloc: Global,
+    range: &VersionRange,
+    versions: &'v [Version],
+) -> Result<Vec<&'v Version>, AllocError> {
+    let mut kept = Vec::new(alloc);
+    for version in versions {
+        if range.contains_version(version) {
+            kept.push(version)?;
+        }
+    }
+    Ok(kept)
+}
+
+/// Whether a range contains by their texts just those versions of a list that were kept.
+fn are_contained(
+    range: &VersionRange,
+    list: &str,
+    kept: &[&Version],
+    versions: &[Version],
+) -> bool {
+    let mut all = versions.iter();
     let mut left = kept.iter();
     for item in list.split(' ') {
-        if let Some(version) = filter.read(alloc, item)? {
-            match left.next() {
-                Some(next) if **next == version => {}
-                _ => return Ok(false),
+        if item.is_empty() {
+            continue;
+        }
+        let version = all.next();
+        if range.contains_bytes(item.as_bytes()) == Ok(true) {
+            match (version, left.next()) {
+                (Some(version), Some(next)) if *version == **next => {}
+                _ => return false,
             }
         }
     }
-    Ok(left.next().is_none())
+    left.next().is_none()
 }
 
-/// Writes the greatest of those, if there is one.
+/// Writes the highest of those, if there is one.
 pub fn write_greatest<W: Write>(
     alloc: Global,
     text: &str,
@@ -75,17 +116,27 @@ pub fn write_greatest<W: Write>(
     let Some(versions) = versions_of(alloc, list)? else {
         return write!(out, "not all are versions");
     };
-    let filter = match Filter::new(alloc, text, Compat::Npm, pre_releases) {
-        Ok(filter) => filter,
+    let meaning = meaning_of(Compat::Npm, pre_releases);
+    let range = match VersionRange::parse(alloc, text, meaning) {
+        Ok(range) => range,
         Err(error) => return write!(out, "{error}"),
     };
-    match filter.greatest(&versions) {
+    let mut texts = Vec::new(alloc);
+    for item in list.split(' ') {
+        if !item.is_empty() {
+            texts.push(item.as_bytes())?;
+        }
+    }
+    match range
+        .highest_of(&texts)
+        .and_then(|index| versions.get(index))
+    {
         Some(version) => write!(out, "{version}"),
         None => write!(out, "none"),
     }
 }
 
-/// Writes the line of the greatest version after a prefix, and how many bytes are left.
+/// Writes the line of the highest version after a prefix, and how many bytes are left.
 pub fn write_greatest_line<W: Write>(
     alloc: Global,
     text: &str,
@@ -93,7 +144,7 @@ pub fn write_greatest_line<W: Write>(
     lines: &str,
     out: &mut W,
 ) -> io::Result<()> {
-    let mut chosen = match lines_of(alloc, text, prefix, Wanted::Greatest)? {
+    let mut chosen = match lines_of(alloc, text, prefix, Selection::Highest)? {
         Ok(chosen) => chosen,
         Err(error) => return write!(out, "{error}"),
     };
@@ -115,7 +166,7 @@ pub fn write_copied<W: Write>(
     lines: &str,
     out: &mut W,
 ) -> io::Result<()> {
-    let mut chosen = match lines_of(alloc, text, prefix, Wanted::Each)? {
+    let mut chosen = match lines_of(alloc, text, prefix, Selection::Each)? {
         Ok(chosen) => chosen,
         Err(error) => return write!(out, "{error}"),
     };
@@ -130,17 +181,20 @@ fn lines_of(
     alloc: Global,
     text: &str,
     prefix: &str,
-    wanted: Wanted,
+    wanted: Selection,
 ) -> io::Result<Result<Lines, RangeError>> {
-    let filter = match Filter::new(alloc, text, Compat::Npm, PreReleases::Default) {
-        Ok(filter) => filter,
+    let meaning = meaning_of(Compat::Npm, PreReleases::Default);
+    let range = match VersionRange::parse(alloc, text, meaning) {
+        Ok(range) => range,
         Err(error) => return Ok(Err(error)),
     };
     let mut prefixes = Vec::new(alloc);
     if !prefix.is_empty() {
         prefixes.push(prefix.to_string(alloc)?)?;
     }
-    Ok(Ok(Lines::new(alloc, filter, prefixes, wanted, false)))
+    let mut options = LineOptions::new();
+    options.selection = wanted;
+    Ok(Ok(Lines::new(alloc, range, prefixes, options)))
 }
 
 /// What a text appends in pieces of so many bytes, and how many of its bytes are not taken.
@@ -208,8 +262,8 @@ fn write_answer<W: Write>(kept: &Result<Vec<&Version>, RangeError>, out: &mut W)
     }
 }
 
-/// Writes the versions of a list, separated by blanks, that meet the set of a text, pre-releases
-/// too, or the error of the text.
+/// Writes the versions of a list, separated by blanks, that the set of a text contains, with
+/// pre-releases, or the error of the text.
 pub fn write_met<W: Write>(
     alloc: Global,
     text: &str,

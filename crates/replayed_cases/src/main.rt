@@ -22,8 +22,7 @@ mod tools;
 mod versions;
 
 use checksum::Checksum;
-use filtering::write_greatest as greatest;
-use release_filter::PreReleases;
+use filtering::write_greatest as highest;
 use semver_parser::version::Grammar;
 use semver_parser::{Compat, version};
 use std::alloc::Global;
@@ -31,6 +30,7 @@ use std::io;
 use std::io::{BufRead, BufReader, BufWriter, Write};
 use tool_ranges::dialect::Dialect;
 use tool_ranges::meaning::Meaning;
+use version_sets::PreReleases;
 
 /// A dialect with the default rule for pre-releases, and with each pre-release within the bounds.
 const CARGO: Meaning = Meaning {
@@ -114,9 +114,9 @@ fn answer<W: Write>(
         "copy-tags" => filtering::write_copied(alloc, text, "v", steps, out),
         "greatest-line" => filtering::write_greatest_line(alloc, text, "", steps, out),
         "greatest-tag" => filtering::write_greatest_line(alloc, text, "v", steps, out),
-        "greatest-release" => greatest(alloc, text, PreReleases::Excluded, steps, out),
-        "greatest-stated" => greatest(alloc, text, PreReleases::Default, steps, out),
-        "greatest-of-all" => greatest(alloc, text, PreReleases::Included, steps, out),
+        "greatest-release" => highest(alloc, text, PreReleases::Excluded, steps, out),
+        "greatest-stated" => highest(alloc, text, PreReleases::Default, steps, out),
+        "greatest-of-all" => highest(alloc, text, PreReleases::Included, steps, out),
         "refused-range-as-cargo" => places::write_refused(alloc, text, Dialect::Cargo, out),
         "refused-range-as-npm" => places::write_refused(alloc, text, Dialect::Npm, out),
         "refused-range-as-crate-cargo" => {

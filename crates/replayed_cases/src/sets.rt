@@ -1,4 +1,4 @@
-//! Sets of the versions that range texts mean, and how two of them stand to each other.
+//! Sets of the versions that range texts mean, and how two of them compare.
 
 use crate::filtering::versions_of;
 use semver_parser::version::{self, Version};
@@ -12,7 +12,7 @@ use version_sets::{PreReleases, VersionSet};
 pub type Dialect = (PreReleases, Compat);
 
 /// Writes the versions of a list, separated by blanks, that are in the set of a text, then its
-/// least version and its least release, or the error of the text.
+/// lowest version and its lowest release, or the error of the text.
 pub fn write_set<W: Write>(
     alloc: Global,
     dialect: Dialect,
@@ -28,21 +28,21 @@ pub fn write_set<W: Write>(
         Err(error) => return write!(out, "{error}"),
     };
     for version in versions.iter() {
-        if set.has(version) {
+        if set.contains(version) {
             write!(out, "{version} ")?;
         }
     }
     write!(out, "end, least ")?;
-    write_least(alloc, &set, out)?;
+    write_lowest(alloc, &set, out)?;
     write!(out, ", least release ")?;
-    match set.least_release() {
+    match set.lowest_release() {
         Some(release) => write!(out, "{}", release.version(alloc))?,
         None => write!(out, "none")?,
     }
     write!(out, ", empty {}", set.is_empty())
 }
 
-/// Writes how the sets of two texts stand to each other, or the error of a text. The second text
+/// Writes how the sets of two texts compare, or the error of a text. The second text
 /// may have a semicolon after it and then versions, separated by blanks: of each is written what
 /// it is in.
 pub fn write_pair<W: Write>(
@@ -139,8 +139,8 @@ impl Parts {
     }
 }
 
-/// Writes the least versions that the first set has alone, the second has alone, and both have, and
-/// whether the first is within the second, both overlap, and are the same.
+/// Writes the lowest versions that the first set has alone, the second has alone, and both have,
+/// and whether the first is within the second, both overlap, and are the same.
 fn write_compared<W: Write>(
     alloc: Global,
     first: &VersionSet,
@@ -149,12 +149,12 @@ fn write_compared<W: Write>(
     out: &mut W,
 ) -> io::Result<()> {
     write!(out, "lost ")?;
-    write_least(alloc, &parts.lost, out)?;
+    write_lowest(alloc, &parts.lost, out)?;
     write!(out, ", gained ")?;
-    write_least(alloc, &parts.gained, out)?;
+    write_lowest(alloc, &parts.gained, out)?;
     write!(out, ", shared ")?;
-    write_least(alloc, &parts.shared, out)?;
-    let (within, overlaps) = (first.is_within(second), first.overlaps(second));
+    write_lowest(alloc, &parts.shared, out)?;
+    let (within, overlaps) = (first.is_subset(second), !first.is_disjoint(second));
     let same = first == second;
     write!(out, ", within {within}, overlaps {overlaps}, same {same}")
 }
@@ -176,16 +176,16 @@ fn write_places<W: Write>(
         (" union", &parts.union),
     ];
     for (place, set) in places {
-        if set.has(version) {
+        if set.contains(version) {
             write!(out, "{place}")?;
         }
     }
     Ok(())
 }
 
-/// Writes the least version of a set, if there is one.
-fn write_least<W: Write>(alloc: Global, set: &VersionSet, out: &mut W) -> io::Result<()> {
-    match set.least(alloc)? {
+/// Writes the lowest version of a set, if there is one.
+fn write_lowest<W: Write>(alloc: Global, set: &VersionSet, out: &mut W) -> io::Result<()> {
+    match set.lowest(alloc)? {
         Some(version) => write!(out, "{version}"),
         None => write!(out, "none"),
     }

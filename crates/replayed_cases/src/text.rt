@@ -1,5 +1,5 @@
-//! Texts of the table, where `\n`, `\r`, `\t` and `\\` stand for characters, and `\(3,a,-)` for
-//! `a-a-a`. In a unit that is so repeated `\#` stands for its place: `\(3,a\#,.)` is `a0.a1.a2`.
+//! Texts of the table, where `\n`, `\r`, `\t` and `\\` are characters, and `\(3,a,-)` for
+//! `a-a-a`. In a unit that is so repeated `\#` is its index: `\(3,a\#,.)` is `a0.a1.a2`.
 
 use std::alloc::{AllocError, Global};
 
@@ -25,7 +25,7 @@ pub fn expanded(alloc: Global, escaped: &str) -> Result<Option<String>, AllocErr
     Ok(Some(text))
 }
 
-/// Appends what `count,unit,joiner` stands for: so many units, joined. False where it isn't well
+/// Appends what `count,unit,joiner` means: so many units, joined. False where it isn't well
 /// written.
 fn push_repeated(text: &mut String, repeated: &str) -> Result<bool, AllocError> {
     let Some((count, rest)) = repeated.split_once(',') else {
@@ -74,7 +74,7 @@ fn push_unescaped(
     Ok(!is_escape)
 }
 
-/// The character that an escape stands for.
+/// The character that an escape means.
 fn escape(character: char) -> Option<char> {
     match character {
         'n' => Some('\n'),

@@ -1,5 +1,4 @@
 pub mod RowFacts
-pub mod Writes
 pub mod ReportSteps
 pub mod ParseFacts
 pub mod VersionExamples

@@ -20,7 +20,7 @@ use Rattle.semver_ranges.specs.RangeTree.{SetTree, Spells}
 use Rattle.semver_ranges.specs.RangeTexts.{RefusesExactly}
 use Rattle.semver_ranges.specs.RewritingTable.{PlainSet, fits, rewritten}
 use Rattle.semver_ranges.specs.PrintedRanges.{set_text}
-use Rattle.semver_parser.specs.Writing.{WritesOrBegins}
+use Rattle.semver_texts.specs.Writing.{WritesOrBegins}
 use Rattle.semver_parser.specs.ReportLines.{VersionLine, version_printed, version_refused, version_unread, version_unprinted}
 use Rattle.semver_parser.specs.ReportLines.{version_error_word, range_error_word, RangeLine, set_printed, not_a_range, number_too_large}
 use Rattle.semver_parser.specs.ReportLines.{no_memory, AreLines, WritesLines, lines}

@@ -1,5 +1,4 @@
 pub mod Examples
-pub mod Writing
 pub mod ReportLines
 pub mod Steps
 pub use Rattle.semver_texts.specs.Texts

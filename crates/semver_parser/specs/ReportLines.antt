@@ -17,7 +17,7 @@ use Rattle.semver_ranges.specs.RangeTexts.{IsRangeText}
 use Rattle.semver_ranges.specs.RangeTree.{SetTree, Spells}
 use Rattle.semver_ranges.specs.RewritingTable.{fits, rewritten}
 use Rattle.semver_ranges.specs.PrintedRanges.{set_text}
-use Rattle.semver_parser.specs.Writing.{AppendsBeginning}
+use Rattle.semver_texts.specs.Writing.{AppendsBeginning}
 
 -- the word for an error of a version text
 abbrev pub version_error_word : ErrorValue → Text

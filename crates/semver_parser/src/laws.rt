@@ -1,4 +1,5 @@
-//! Laws over the definitions: each is the contract of a function that does nothing.
+//! Laws over the definitions: each is the contract of a function that does nothing. Most are of the
+//! crates below; here are those of tokens and versions together, and examples.
 ghost use Rattle.std.specs.Prelude.{◌≡◌, [], ◌∷◌, true, false, codes, Result};
 ghost use Rattle.semver_ranges.specs.declared.range.Compat.{Compat};
 ghost use Rattle.semver_ranges.specs.declared.range.Compat.TheVariants.{Cargo, Npm};
@@ -23,10 +24,10 @@ pub fn one_outcome()
         → IsOutcomeOf text y → x ≡ y }
 {}
 
-/// What some versions meet: first by the text's own meaning, and then by its comparators.
+/// What some versions satisfy: first the text, and then its comparators.
 pub fn row_facts()
     // A version keeps `01` as a text, and a range as a number: the version read from `1.2.3-01`
-    // doesn't meet `=1.2.3-01`.
+    // doesn't satisfy `=1.2.3-01`.
     ensures leading_zero { IsVersionText (codes "1.2.3-01") × ((mode : Compat) (v : VersionValue)
         → SpellsVersion v (codes "1.2.3-01")
         → IsMet (codes "=1.2.3-01") mode v.plain false false) }
@@ -56,7 +57,7 @@ pub fn row_facts()
         true }
 {}
 
-/// What some pre-releases meet: first by the text's own meaning, and then as stated.
+/// What some pre-releases satisfy: first the text by itself, and then as stated.
 pub fn stated_row_facts()
     ensures stated { (mode : Compat)
         → IsMetAsStated (codes "^1.2.3-beta.4") mode

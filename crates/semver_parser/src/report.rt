@@ -1,6 +1,7 @@
-//! The lines of the program, and its status.
+//! What the program `semver-parser` writes of a text, as a version and as a range in each mode, and
+//! its exit status.
 ghost use Rattle.std.specs.Prelude.{◌≡◌, true, false, ◌||◌, IfOk, codes};
-ghost use Rattle.semver_parser.specs.Writing.{WritesOrBegins};
+ghost use Rattle.semver_texts.specs.Writing.{WritesOrBegins};
 ghost use Rattle.semver_parser.specs.ReportLines.{VersionLine, RangeLine, version_error_word};
 ghost use Rattle.semver_parser.specs.ReportLines.{range_error_word, line, lines, WritesLines};
 ghost use Rattle.semver_parser.specs.ReportLines.{status_of};
@@ -13,8 +14,8 @@ ghost use Rattle.semver_parser.specs.Steps.Shown.{shown_text, is_value_of};
 
 use crate::parser;
 use crate::version::{self, Version};
-use crate::writing::write_whole;
 use semver_ranges::{Compat, RangeError, RangeSet};
+use semver_texts::writing::write_whole;
 use std::alloc::Global;
 use std::io::{self, Write};
 

@@ -1,5 +1,5 @@
-//! Version texts as plain data, and back: read from bytes, and by [`parse`], which also says what is
-//! wrong with an invalid version.
+//! Version texts as plain data, and back: read from bytes, and by [`parse`], which also says what
+//! is wrong with an invalid version.
 ghost use Rattle.std.specs.Prelude.{◌≡◌, ◌↔◌, [], Ok, IfOk};
 ghost use Rattle.semver_texts.specs.Versions.{VersionValue};
 ghost use Rattle.semver_texts.specs.PrintedText.{version_text};
@@ -11,8 +11,8 @@ ghost use Rattle.semver_tokens.specs.ParserViews.{answer_of, UnlessOutOfMemory, 
 
 use crate::parser::{self, Parser};
 pub use semver_versions::version::{
-    Grammar, Identifier, Outline, Version, cmp_precedence, outline, outline_bytes, outline_in,
-    read, read_bytes,
+    Digits, Grammar, Identifier, Outline, Version, cmp_precedence, outline, outline_bytes,
+    outline_in, read, read_bytes,
 };
 use std::alloc::Global;
 

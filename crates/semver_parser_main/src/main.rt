@@ -50,7 +50,7 @@ fn refused(rt: &impl Eprint, why: &str) -> ExitCode {
     ExitCode::from(2)
 }
 
-/// Says why on standard error. Where that can't be written, nobody is told, and the status stays.
+/// Writes why to standard error. If that fails, the exit status stays as it is.
 fn say(rt: &impl Eprint, why: &str) {
     let _ = eprintln!(rt; "{why}");
 }

@@ -1,4 +1,4 @@
--- serves: semver_ranges::range_set::RangeSet::parse
+-- serves: semver_ranges::desugared_texts::read_by
 -- What the loops over the events of a text keep, and what they answer of its tree.
 use Rattle.std.proofs.Common.{◌≡◌, Bool, true, false, ◌&&◌, List, [], ◌∷◌, ◌++◌, Option, Some, None, refl, sym, ap, ◌∙◌, arith}
 use Rattle.std.proofs.Common.{append-nil, append_assoc, Result, Ok, Err}
@@ -17,7 +17,7 @@ use Rattle.semver_ranges.specs.RangeTree.{Simple, RangeTree, SetTree}
 use Rattle.semver_texts.specs.Texts.{Text}
 use Rattle.semver_ranges.specs.RewritingTable.{PlainComparator, PlainRange, PlainSet, fits_by}
 use Rattle.semver_ranges.specs.Steps.Answers.{IsAnswerBy, IsAnswerOf}
-use Rattle.semver_ranges.specs.Steps.BoundsViews.{range_of_simples, ranges_by}
+use Rattle.semver_ranges.specs.Steps.DesugaredViews.{range_of_simples, ranges_by}
 use Rattle.semver_ranges.specs.Steps.CursorViews.{HasLeft, IsFirst}
 use Rattle.semver_ranges.specs.Steps.Reading.{read}
 use Rattle.semver_ranges.specs.Steps.RangeEvents.{Event, one_simple, next_range, put, in_front, yielded, events_of}

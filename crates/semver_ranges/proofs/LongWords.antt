@@ -2,18 +2,16 @@
 -- Words that are too long to npm: what their bytes say of their numbers and identifiers, and that no word of up to 250 bytes is one.
 use Rattle.std.proofs.Common.{◌≡◌, ℕ, ◌+◌, ◌-◌, ◌≤◌, Bool, true, false, ◌&&◌, ◌||◌, not, List, [], ◌∷◌, ◌++◌, codes, length, take}
 use Rattle.std.proofs.Common.{refl, sym, ap, ◌∙◌}
-use Rattle.std.proofs.Common.{All, Some, None, arith, length-append, subst, append-nil}
+use Rattle.std.proofs.Common.{◌<◌, Some, None, arith, length-append, subst, append-nil}
 use Rattle.std.specs.Prelude.{nat_le, if◌then◌else◌, ◌==◌}
 use Rattle.std.specs.Char.{is_ascii_digit}
-use Rattle.std.specs.List.{list_all, slice_split, join_with_byte}
+use Rattle.std.specs.List.{AllByRecursion, list_all, join_with_byte}
 use Rattle.std.specs.Str.{all_ascii_digits}
 use Rattle.std.proofs.lemmas.Bool.Decides.{nat_tests}
 use Rattle.std.proofs.lemmas.Bool.{and_parts, and_from}
-use Rattle.std.proofs.lemmas.List.Elements.{All-nil, All-cons}
-use Rattle.std.proofs.lemmas.List.Splits.{join_with_byte-slice_split, slice_split_none, slice_split_at}
 use Rattle.std.proofs.lemmas.List.Sums.{prefix_len-le-length}
-use Rattle.semver_texts.specs.Texts.{Text, cut_at_dots, is_dot, is_empty, marked}
-use Rattle.semver_texts.proofs.Lists.{by_test}
+use Rattle.semver_texts.specs.Texts.{Text, cut_at_dots, is_dot, marked, marked_length}
+use Rattle.semver_texts.proofs.Lists.{all_more, by_test, each_passes}
 use Rattle.semver_ranges.specs.declared.partial.Components.{Components}
 use Rattle.semver_ranges.specs.RangeTree.{PartialTree, one, two, three, Role, SpellsPartial, is_component, components, pre_parts}
 use Rattle.semver_ranges.specs.RangeTree.{build_parts}
@@ -21,7 +19,8 @@ use Rattle.semver_ranges.specs.RangeTree.{qualifier, has_short_parts, states_thr
 use Rattle.semver_ranges.specs.NpmLengths.{is_short_number, is_short_pre, is_short_build, is_short_version, leading_digits}
 use Rattle.semver_texts.specs.declared.grammar.Grammar.{Grammar}
 use Rattle.semver_texts.specs.declared.grammar.Grammar.TheVariants.{Npm}
-use Rattle.semver_ranges.specs.Steps.NpmLimits.{are_short_parts, marked_length, IsBefore}
+use Rattle.semver_ranges.specs.Steps.NpmLimits.{are_short_parts, IsBefore}
+use Rattle.semver_texts.proofs.PartRuns.{joined_some, marked_is, some_cut, split_joined}
 use Rattle.semver_ranges.specs.Steps.Reading.{after_v, component, with_first, whole_word, partial, takes, ends_word}
 use Rattle.semver_texts.proofs.DottedParts.{found_same}
 use Rattle.semver_ranges.proofs.ReadingPieces.{PartialAt, component_sound, first_sound, length_before, no_v, partial_starts, starts}
@@ -44,39 +43,24 @@ spelled_parts : (p : PartialTree) (t : Text) → SpellsPartial p t
 spelled_parts p t h = h.2 ∙ ap (λ q. numbers_of p ++ q) (qualified p)
 
 -- components have no dot, and so come back where the text is cut at its dots
-no_dot_in_digits : (t : Text) → all_ascii_digits t ≡ true → All (λ b. is_dot b ≡ false) t
-no_dot_in_digits [] e = All-nil _
-no_dot_in_digits (b ∷ t) e = All-cons (λ b. is_dot b ≡ false) b t (grind (arith, nat_tests)) (no_dot_in_digits t (grind arith))
+no_dot_in_digits : (t : Text) → all_ascii_digits t ≡ true → AllByRecursion (λ b. is_dot b ≡ false) t
+no_dot_in_digits [] e = tt
+no_dot_in_digits (b ∷ t) e = (grind (arith, nat_tests), no_dot_in_digits t (grind arith))
 
-no_dot : (t : Text) → is_component t ≡ true → All (λ b. is_dot b ≡ false) t
-no_dot [] e = All-nil _
-no_dot (b ∷ []) e = All-cons (λ b. is_dot b ≡ false) b [] (grind (arith, nat_tests)) (All-nil _)
+no_dot : (t : Text) → is_component t ≡ true → AllByRecursion (λ b. is_dot b ≡ false) t
+no_dot [] e = tt
+no_dot (b ∷ []) e = (grind (arith, nat_tests), tt)
 no_dot (b ∷ c ∷ t) e = no_dot_in_digits (b ∷ c ∷ t) (grind arith)
 
-components_split : (x : Text) (xs : List Text) → list_all is_component (x ∷ xs) ≡ true
-    → slice_split is_dot (join_with_byte 46 (x ∷ xs)) ≡ x ∷ xs
-components_split x [] e = slice_split_none is_dot x (no_dot x (and_parts _ _ e).0)
-components_split x (y ∷ ys) e =
-    let parts = and_parts (is_component x) _ e in
-    slice_split_at is_dot x 46 (join_with_byte 46 (y ∷ ys)) (no_dot x parts.0) refl ∙ rw (components_split y ys parts.1)
-
-some_component : (x : Text) (t : Text) → is_component x ≡ true → is_empty (x ++ t) ≡ false
-some_component [] t e = cc
-some_component (b ∷ x) t e = refl
-
-some_joined : (x : Text) (xs : List Text) → is_component x ≡ true → is_empty (join_with_byte 46 (x ∷ xs)) ≡ false
-some_joined [] [] e = cc
-some_joined (b ∷ x) [] e = refl
-some_joined x (y ∷ ys) e = some_component x (46 ∷ join_with_byte 46 (y ∷ ys)) e
-
-cut_some : (t : Text) → is_empty t ≡ false → cut_at_dots t ≡ slice_split is_dot t
-cut_some [] e = cc
-cut_some (b ∷ t) e = refl
+some_component : (t : Text) → is_component t ≡ true → 0 < length t
+some_component [] e = cc
+some_component (b ∷ t) e = omega arith
 
 cut_components : (x : Text) (xs : List Text) → list_all is_component (x ∷ xs) ≡ true
     → cut_at_dots (join_with_byte 46 (x ∷ xs)) ≡ x ∷ xs
 cut_components x xs e =
-    cut_some (join_with_byte 46 (x ∷ xs)) (some_joined x xs (and_parts _ _ e).0) ∙ components_split x xs e
+    some_cut (join_with_byte 46 (x ∷ xs)) (joined_some x xs (some_component x (and_parts _ _ e).0))
+    ∙ split_joined x xs (all_more no_dot (x ∷ xs) (each_passes is_component (x ∷ xs) e))
 
 pub numbers_cut : (p : PartialTree) → list_all is_component (components p) ≡ true → cut_at_dots (numbers_of p) ≡ components p
 numbers_cut (one a) e = cut_components a [] e
@@ -84,22 +68,6 @@ numbers_cut (two a b) e = cut_components a (b ∷ []) e
 numbers_cut (three a b c pre build) e = cut_components a (b ∷ c ∷ []) e
 
 -- ---- how long they are
-
-joined_cut : (t : Text) → join_with_byte 46 (cut_at_dots t) ≡ t
-joined_cut [] = refl
-joined_cut (b ∷ t) = join_with_byte-slice_split 46 (b ∷ t)
-
--- parts after a mark of one byte
-marked_is : (mark : ℕ) (xs : List Text) (t : Text) → xs ≡ cut_at_dots t → length (marked (mark ∷ []) xs) ≡ marked_length t
-marked_is mark [] [] e = refl
-marked_is mark [] (b ∷ t) e =
-    let same : length (b ∷ t) ≡ 0 = sym (ap length (joined_cut (b ∷ t))) ∙ ap (λ l. length (join_with_byte 46 l)) (sym e) in
-    absurd (omega (arith, same))
-marked_is mark (x ∷ xs) [] e = cc
-marked_is mark (x ∷ xs) (b ∷ t) e =
-    let same : length (join_with_byte 46 (x ∷ xs)) ≡ length (b ∷ t) =
-    ap (λ l. length (join_with_byte 46 l)) e ∙ ap length (joined_cut (b ∷ t)) in
-    omega (arith, same)
 
 -- the bytes that were read of a word
 pub record Sizes (p : PartialTree) (c : Components) (t : Text) : Type 0 where

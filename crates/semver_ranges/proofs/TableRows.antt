@@ -1,4 +1,4 @@
--- serves: semver_ranges::rewriting::rewritten
+-- serves: semver_ranges::desugaring::rewritten
 -- The comparators of a simple that was read, by the columns of the table.
 use Rattle.std.proofs.Common.{arith}
 use Rattle.std.proofs.Common.{◌≡◌, true, false, ◌&&◌, List, [], refl, sym, ap, ◌∙◌}
@@ -8,8 +8,8 @@ use Rattle.semver_ranges.specs.declared.partial.PartialKind.TheVariants.{XRangeO
 use Rattle.semver_ranges.specs.declared.partial.RaisedBounds.{RaisedBounds}
 use Rattle.semver_ranges.specs.declared.grammar.Simple as read
 use Rattle.semver_ranges.specs.declared.range.Compat.{Compat}
-use Rattle.semver_ranges.specs.declared.rewriting.Bounds.{Bounds}
-use Rattle.semver_ranges.specs.declared.rewriting.Bounds.TheVariants.{Against, Below, Between}
+use Rattle.semver_ranges.specs.declared.desugaring.Desugared.{Desugared}
+use Rattle.semver_ranges.specs.declared.desugaring.Desugared.TheVariants.{Against, Below, Between}
 use Rattle.semver_ranges.specs.RangeTree.{Form, bare, Simple}
 use Rattle.semver_texts.specs.Versions.{IdentifierValue}
 use Rattle.std.specs.List.{list_all}
@@ -18,7 +18,7 @@ use Rattle.semver_ranges.specs.RewritingTable.{cell, nothing_stated, cell_raised
 use Rattle.semver_ranges.specs.Steps.PartialViews.{stated_of, version_of, states_none, pre_of}
 use Rattle.semver_ranges.specs.Steps.CursorViews.{form_of, IsSimpleOf}
 use Rattle.semver_ranges.specs.RewritingTable.{simple_fits}
-use Rattle.semver_ranges.specs.Steps.BoundsViews.{cell_of, with_version, comparators_of, bounds_fit, IsPlaced, IsRow}
+use Rattle.semver_ranges.specs.Steps.DesugaredViews.{cell_of, with_version, comparators_of, bounds_fit, IsPlaced, IsRow}
 use Rattle.semver_texts.proofs.Lists.{by_test}
 
 -- the column where nothing is stated raises no bound, and compares with 0.0.0
@@ -38,14 +38,14 @@ none_fits : (p : Partial) → (p.fits ≡ false → states_none p.kind ≡ false
 none_fits p some kind = grind arith
 
 -- the comparators are those of the cell
-cell_comparators : (raised : RaisedBounds) (b : Bounds) (p : Partial)
+cell_comparators : (raised : RaisedBounds) (b : Desugared) (p : Partial)
     → comparators_of raised b p ≡ written_cell (pre_of raised) (cell_of b) (stated_of p) (version_of p)
 cell_comparators raised (Against op) p = refl
 cell_comparators raised (Below place) p = refl
 cell_comparators raised (Between place) p = refl
 
 -- cells that agree wherever the numbers fit
-row_of : (mode : Compat) (s : Simple) (simple : read.Simple) (b : Bounds) → IsPlaced b simple.partial → IsSimpleOf s simple
+row_of : (mode : Compat) (s : Simple) (simple : read.Simple) (b : Desugared) → IsPlaced b simple.partial → IsSimpleOf s simple
     → (simple.partial.fits ≡ true
     → cell_raised (cell_of b) (stated s.partial) ≡ cell_raised (cell mode s.form (stated s.partial)) (stated s.partial))
     → (simple.partial.fits ≡ true → (bound_pre : List IdentifierValue)
@@ -66,7 +66,7 @@ row_of mode s simple b placed is raised comparators = (
     fits f = rw ((is.1.1 f).0, sym is.1.0) (ap (λ bound. list_all fits_u64 (stated s.partial) && bound_fits bound) (raised f))
 
 -- the column where nothing is stated
-pub row_of_nothing : (mode : Compat) (s : Simple) (simple : read.Simple) (b : Bounds) → simple.partial.kind ≡ XRangeOnly
+pub row_of_nothing : (mode : Compat) (s : Simple) (simple : read.Simple) (b : Desugared) → simple.partial.kind ≡ XRangeOnly
     → cell_of b ≡ with_version (nothing_stated (form_of simple.form)) → IsPlaced b simple.partial
     → IsSimpleOf s simple → IsRow mode s simple.partial b
 row_of_nothing mode s simple b kind column placed is =
@@ -77,7 +77,7 @@ row_of_nothing mode s simple b kind column placed is =
     (λ _ bound_pre. rw (none, same) (nothing_written bound_pre s.form))
 
 -- the other columns
-pub row_of_cell : (mode : Compat) (s : Simple) (simple : read.Simple) (b : Bounds)
+pub row_of_cell : (mode : Compat) (s : Simple) (simple : read.Simple) (b : Desugared)
     → cell_of b ≡ cell mode (form_of simple.form) (stated_of simple.partial) → IsPlaced b simple.partial
     → IsSimpleOf s simple → IsRow mode s simple.partial b
 row_of_cell mode s simple b column placed is =

@@ -1,27 +1,26 @@
 -- serves: semver_ranges::laws::one_tree
 -- Each written piece, before a text that ends it, is read back: components, parts, partials, operators and simples.
 use Rattle.std.proofs.Common.{◌≡◌, ℕ, Bool, true, false, not, ◌||◌, ◌==◌, List, [], ◌∷◌, ◌++◌, codes, refl, ap, ◌∙◌, inl, inr}
-use Rattle.std.proofs.Common.{Some, All, append_assoc, append-nil, arith, ◌-◌, length, subst, sym}
+use Rattle.std.proofs.Common.{Some, append_assoc, append-nil, arith, ◌-◌, length, subst, sym}
 use Rattle.std.proofs.lemmas.Bool.Decides.{nat_tests}
 use Rattle.std.proofs.lemmas.Bool.{or_left, not_from_false}
-use Rattle.std.proofs.lemmas.List.Elements.{All-nil, All-cons}
 use Rattle.std.proofs.lemmas.List.Folds.{list_all-append}
-use Rattle.std.proofs.lemmas.List.Splits.{slice_split_none, slice_split_at}
 use Rattle.std.specs.Char.{is_ascii_digit}
 use Rattle.std.specs.Int.{is_in_range}
 use Rattle.std.specs.Str.{all_ascii_digits}
-use Rattle.std.specs.List.{list_all, slice_split, join_with_byte}
+use Rattle.std.specs.List.{list_all, join_with_byte}
 use Rattle.semver_texts.specs.declared.grammar.Grammar.{Grammar}
 use Rattle.semver_texts.specs.declared.grammar.Grammar.TheVariants.{Crate, Cargo, Npm}
 use Rattle.semver_ranges.specs.RangeTree.{PartialTree, one, two, three, Form, bare, less, greater, tilde}
 use Rattle.semver_ranges.specs.RangeTree.{Simple, is_blank, is_component, AreBlanks}
 use Rattle.semver_texts.specs.Texts.{is_part}
 use Rattle.semver_ranges.specs.RangeTree.{Role, after_form, SpellsPartial, SpellsWord, SpellsForm, SpellsSimple}
-use Rattle.semver_texts.specs.Texts.{is_part_byte, Text, marked, is_dot}
+use Rattle.semver_texts.specs.Texts.{is_part_byte, Text, marked}
 use Rattle.semver_ranges.specs.Steps.Reading.{front, back, after_blanks, ends_word, component, parts, after_pre}
 use Rattle.semver_texts.specs.Texts.{is_dotted_byte}
 use Rattle.semver_ranges.specs.Steps.Reading.{with_pre, after_three, after_two, after_one, with_first}
 use Rattle.semver_ranges.specs.Steps.Reading.{partial, takes, after_less, after_greater, after_tilde, operator, simple}
+use Rattle.semver_texts.proofs.PartRuns.{split_parts}
 use Rattle.semver_ranges.proofs.Tests.{list_all-weaker}
 use Rattle.semver_ranges.proofs.ReadingPieces.{starts, starts-append, is_word_byte, word_starts, word_parts, length_before}
 
@@ -88,17 +87,6 @@ component_read (b ∷ c ∷ t) u e s =
     let front = front-append is_ascii_digit (c ∷ t) u bytes s in
     let back = back-append is_ascii_digit (c ∷ t) u bytes s in grind (arith, nat_tests)
 
--- parts that are joined by dots come back where the text is cut at its dots
-no_dot : (t : Text) → list_all is_part_byte t ≡ true → All (λ b. is_dot b ≡ false) t
-no_dot [] e = All-nil _
-no_dot (b ∷ t) e = All-cons (λ b. is_dot b ≡ false) b t (grind (arith, nat_tests)) (no_dot t (grind arith))
-
-slice_split-join : (x : Text) (xs : List Text) → list_all is_part (x ∷ xs) ≡ true → slice_split is_dot (join_with_byte 46 (x ∷ xs)) ≡ x ∷ xs
-slice_split-join x [] e = slice_split_none is_dot x (no_dot x (grind arith))
-slice_split-join x (y ∷ ys) e =
-    slice_split_at is_dot x 46 (join_with_byte 46 (y ∷ ys)) (no_dot x (grind arith)) refl
-    ∙ rw (slice_split-join y ys (grind arith))
-
 in_part : (t : Text) → list_all is_part_byte t ≡ true → list_all is_dotted_byte t ≡ true
 in_part = list_all-weaker _ _ (λ b. or_left _ _)
 
@@ -110,7 +98,7 @@ parts_read : (x : Text) (xs : List Text) (u : Text) → list_all is_part (x ∷ 
     → parts (join_with_byte 46 (x ∷ xs) ++ u) ≡ Some (x ∷ xs, u)
 parts_read x xs u e s =
     let joined = in_joined x xs e in
-    rw (front-append is_dotted_byte _ u joined s, back-append is_dotted_byte _ u joined s, slice_split-join x xs e, e)
+    rw (front-append is_dotted_byte _ u joined s, back-append is_dotted_byte _ u joined s, split_parts x xs e, e)
 
 -- a partial: its build, its pre-release, its components
 module _ (a b c : Text) where

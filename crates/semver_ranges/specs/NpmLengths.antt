@@ -4,10 +4,11 @@ use Rattle.std.specs.Prelude.{ℕ, ◌+◌, Bool, ◌&&◌, ◌==◌, if◌then�
 use Rattle.std.specs.Char.{is_ascii_digit}
 use Rattle.std.specs.List.{prefix_len}
 use Rattle.semver_texts.specs.Texts.{Text}
+use Rattle.semver_texts.specs.NpmLimits.{max_build_length, max_length}
 
 -- a number: at most 257 digits, a first and 256 more
 abbrev pub is_short_number : Text → Bool
-is_short_number t = nat_le (length t) 257
+is_short_number t = nat_le (length t) (max_length + 1)
 
 -- how many digits a text begins with
 abbrev pub leading_digits : Text → ℕ
@@ -18,12 +19,13 @@ leading_digits t = prefix_len is_ascii_digit t
 abbrev pub is_short_pre : Text → Bool
 is_short_pre t =
     if leading_digits t == length t then is_short_number t
-    else nat_le (leading_digits t) 256 && nat_le (length t) (leading_digits t + 251)
+    else nat_le (leading_digits t) max_length
+    && nat_le (length t) (leading_digits t + (max_build_length + 1))
 
 -- an identifier of a build: at most 250 characters
 abbrev pub is_short_build : Text → Bool
-is_short_build t = nat_le (length t) 250
+is_short_build t = nat_le (length t) max_build_length
 
 -- the version of a comparator: at most 256 characters
 abbrev pub is_short_version : ℕ → Bool
-is_short_version n = nat_le n 256
+is_short_version n = nat_le n max_length

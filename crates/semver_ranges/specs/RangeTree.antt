@@ -13,6 +13,7 @@ use Rattle.semver_texts.specs.Texts.{Text, has_no_leading_zero, is_empty, is_num
 use Rattle.semver_texts.specs.Texts.{marked}
 use Rattle.semver_ranges.specs.NpmLengths.{is_short_number, is_short_pre, is_short_build}
 use Rattle.semver_ranges.specs.NpmLengths.{is_short_version}
+use Rattle.semver_texts.specs.WhiteSpace.{is_ascii_white_space}
 
 -- a partial: one to three components; after three, the parts of a pre-release and of a build
 pub data PartialTree : Type 0 where
@@ -50,7 +51,7 @@ SetTree = List RangeTree
 abbrev pub is_blank : Grammar → ℕ → Bool
 is_blank Crate b = (b == code " ") || (b == code "\t")
 is_blank Cargo b = b == code " "
-is_blank Npm b = (is_in_range 9 13 b || (b == code " ")) || is_in_range 128 255 b
+is_blank Npm b = is_ascii_white_space b || is_in_range 128 255 b
 
 -- any number of blanks, none included
 abbrev pub AreBlanks : Grammar → Text → Type 0

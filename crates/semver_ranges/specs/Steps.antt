@@ -3,5 +3,5 @@ pub mod RangeEvents
 pub mod Answers
 pub mod PartialViews
 pub mod CursorViews
-pub mod BoundsViews
+pub mod DesugaredViews
 pub mod NpmLimits

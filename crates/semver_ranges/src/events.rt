@@ -1,6 +1,6 @@
 //! The events of a range text, from the left to the right.
 //!
-//! Nothing here takes memory, and a call looks at each byte a fixed number of times.
+//! Nothing here allocates, and a call looks at each byte a fixed number of times.
 
 ghost use Rattle.std.specs.Prelude.{◌≡◌, ◌<◌, ◌≤◌, ◌++◌, Some, None, true, false, length, codes};
 ghost use Rattle.std.specs.Prelude.{[], Err, IfSome};

@@ -1,6 +1,6 @@
 //! What is at the front of a range text: a simple, or the right side of a hyphen range.
 //!
-//! Nothing here takes memory, and a call looks at each byte a fixed number of times. What can't be
+//! Nothing here allocates, and a call looks at each byte a fixed number of times. What can't be
 //! read is `None`.
 
 ghost use Rattle.std.specs.Prelude.{◌≡◌, ◌||◌, ◌<◌, ◌+◌, ◌-◌, ◌*◌, ◌++◌, ℕ, Some, None, []};
@@ -25,14 +25,13 @@ ghost use Rattle.semver_ranges.specs.Steps.CursorViews.{form_of, Finds, FindsPre
 ghost use Rattle.semver_ranges.specs.Steps.CursorViews.{IsSimpleOf, role_of};
 ghost use Rattle.semver_ranges.specs.Steps.NpmLimits.{IsBefore};
 
-use crate::limits::is_short_word;
+use crate::npm_lengths::is_short_word;
 use crate::partial::{Component, Components, Partial};
 use semver_texts::decimals;
 use semver_texts::dotted::{Hyphens, have_no_leading_zeros, marked_part, strip_mark};
 use semver_texts::grammar::Grammar;
-
-/// A word of so many bytes is never too long to npm.
-const SHORT: usize = 250;
+use semver_texts::npm_limits::MAX_SAFE_BUILD_LENGTH;
+use semver_texts::white_space::is_ascii_white_space;
 
 /// What is before a partial: nothing, or an operator.
 #[derive(Clone, Copy, PartialEq, Eq)]
@@ -183,7 +182,8 @@ fn has_no_leading_zeros(written: &Components<'_>) -> bool
     written.count < 3 || have_no_leading_zeros(written.pre)
 }
 
-/// Whether the word isn't too long to npm that is before a rest.
+/// Whether the word isn't too long to npm that is before a rest. For speed, its length is compared
+/// with the smallest limit first.
 #[inline(always)]
 fn is_short(text: &[u8], rest: &[u8], role: Role) -> bool
     requires { (p : PartialTree) × IsBefore grammar.Npm p text.now rest.now }
@@ -191,7 +191,7 @@ fn is_short(text: &[u8], rest: &[u8], role: Role) -> bool
         → result ≡ is_short_word (role_of role) p (length text.now - length rest.now) }
 {
     let len = text.len() - rest.len();
-    if len <= SHORT {
+    if len <= MAX_SAFE_BUILD_LENGTH {
         return true;
     }
     is_short_word(&text[..len], role)
@@ -392,5 +392,5 @@ fn is_blank(byte: u8, grammar: Grammar) -> bool
 fn is_white_space(byte: u8) -> bool
     ensures { result ≡ blank grammar.Npm byte }
 {
-    matches!(byte, b'\t'..=b'\r' | b' ' | 128..=255)
+    is_ascii_white_space(byte) || byte >= 128
 }

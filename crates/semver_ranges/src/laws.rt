@@ -19,12 +19,12 @@ pub fn one_tree()
         → tree ≡ tree' }
 {}
 
-/// A version meets the comparators of a range text exactly if, in some range, it meets each term or
-/// is a pre-release of the term's raised bound.
+/// A version satisfies the comparators of a range text exactly if, in some range, it satisfies each
+/// term or is a pre-release of the term's raised bound.
 pub fn meanings_agree()
     ensures exact { (mode : Compat) (tree : SetTree) (v : PlainVersion) →
         meets_set v (rewritten mode tree) ≡ meets_tree_or_bounds mode tree v }
-    // What meets the text's own meaning meets the comparators.
+    // What satisfies the text satisfies the comparators.
     ensures implied { (mode : Compat) (tree : SetTree) (v : PlainVersion) →
         IsTrue (meets_tree mode tree v) → IsTrue (meets_set v (rewritten mode tree)) }
     // On releases both are equal.
@@ -32,8 +32,8 @@ pub fn meanings_agree()
         meets_set v (rewritten mode tree) ≡ meets_tree mode tree v }
 {}
 
-/// With exact bounds, `<2.0.0-0` for a raised `<2.0.0`, nothing is excepted: a version meets the
-/// comparators of a range text exactly if it meets the text's own meaning.
+/// With exact bounds, `<2.0.0-0` for a raised `<2.0.0`, nothing is excepted: a version satisfies
+/// the comparators of a range text exactly if it satisfies the text.
 pub fn exact_bounds_mean_the_text()
     ensures exact { (mode : Compat) (tree : SetTree) (v : PlainVersion) →
         meets_set v (rewritten_exactly mode tree) ≡ meets_tree mode tree v }
@@ -44,12 +44,12 @@ pub fn exact_bounds_mean_the_text()
 {}
 
 /// With exact bounds, comparators tell pre-releases as stated too, which is the rule that npm and
-/// Cargo's `semver` have for them: a version meets them as stated exactly if it meets the text as
-/// stated. What a text means by itself differs there.
+/// Cargo's `semver` have for them: a version satisfies them as stated exactly if it satisfies the
+/// text as stated. What a text means by itself differs there.
 pub fn stated_pre_releases_mean_the_text()
     ensures exact { (mode : Compat) (tree : SetTree) (v : PlainVersion) →
         meets_set_as_stated v (rewritten_exactly mode tree) ≡ meets_tree_as_stated mode tree v }
-    // What meets the text as stated meets the text's own meaning.
+    // What satisfies the text as stated satisfies the text.
     ensures implied { (mode : Compat) (tree : SetTree) (v : PlainVersion) →
         IsTrue (meets_tree_as_stated mode tree v) → IsTrue (meets_tree mode tree v) }
     // On releases both are equal.

@@ -8,15 +8,15 @@
 #![tactic(auto)]
 
 pub mod comparing;
+pub mod desugared_texts;
+pub mod desugaring;
 pub mod events;
 pub mod grammar;
 pub mod laws;
-mod limits;
+mod npm_lengths;
 pub mod partial;
 mod range;
 mod range_set;
-pub mod rewriting;
-pub mod table;
 
 pub use range::{Comparator, Compat, Identifier, Op, Range};
 pub use range_set::{RangeError, RangeSet};

@@ -6,7 +6,7 @@ ghost use Rattle.semver_ranges.specs.RangeViews.{identifier_of, comparator_of, r
 use semver_texts::printing::{write_joined, write_part};
 use std::fmt;
 
-/// A range: comparators that a version meets all together.
+/// A range: comparators that a version satisfies all together.
 ///
 /// ```
 /// use semver_parser::{Compat, RangeSet};
@@ -37,7 +37,7 @@ pub struct Range {
 /// ```
 #[derive(Clone, PartialEq, Eq, PartialOrd, Ord, Hash, Debug, Drop)]
 pub struct Comparator {
-    /// How a version compares that meets it.
+    /// How a version compares that satisfies it.
     pub op: Op,
     /// The first number.
     pub major: u64,

@@ -17,21 +17,21 @@ ghost use Rattle.semver_ranges.specs.RangeViews.{set_of};
 ghost use Rattle.semver_ranges.specs.Steps.Reading.{read};
 ghost use Rattle.semver_ranges.specs.Steps.Answers.{IsAnswer};
 ghost use Rattle.semver_ranges.specs.Steps.PartialViews.{pre_of};
-ghost use Rattle.semver_ranges.specs.Steps.BoundsViews.{comparators_of, bounds_fit, IsBuildable};
-ghost use Rattle.semver_ranges.specs.Steps.BoundsViews.{IsRow};
+ghost use Rattle.semver_ranges.specs.Steps.DesugaredViews.{comparators_of, bounds_fit, IsBuildable};
+ghost use Rattle.semver_ranges.specs.Steps.DesugaredViews.{IsRow};
 
+use crate::desugared_texts::{Desugaring, read_by};
+use crate::desugaring::{Desugared, rewritten};
 use crate::grammar::{Simple, read_simple};
 use crate::partial::{LowerBounds, Partial, RaisedBounds};
 use crate::range::{Comparator, Compat, Range};
-use crate::rewriting::{Bounds, rewritten};
-use crate::table::{Table, read_by};
 use semver_texts::grammar::Grammar;
 use semver_texts::printing::write_joined;
 use std::alloc::{AllocError, Global};
 use std::fmt;
 use thiserror::Error;
 
-/// A range set: ranges of which a version meets at least one.
+/// A range set: ranges of which a version satisfies at least one.
 ///
 /// ```
 /// use semver_parser::{Compat, RangeSet};
@@ -80,16 +80,16 @@ impl RangeSet {
     /// The text is one or more ranges separated by `||`. A range is nothing, one or more simples
     /// separated by blanks, or two partials round a hyphen between blanks; a simple is a partial
     /// after `=`, `<`, `<=`, `>`, `>=`, `~`, `~>`, `^` or no operator. A blank is a space or a
-    /// tab. `docs/GRAMMAR.md` states the whole grammar, and `docs/MEANING.md` which comparators
-    /// stand for which simple, and what they mean.
+    /// tab. `docs/GRAMMAR.md` states the whole grammar, and `docs/CRATE.md` the comparators of
+    /// each simple, and what they mean.
     ///
     /// The answer has the ranges in the order of the text, each with its comparators in order, and
     /// `compat` in the set and in each range. It has at least one range, and each range at least
     /// one comparator. The mode decides how a bare version of three numbers is read, and nothing
     /// else. Builds are dropped.
     ///
-    /// A version meets the comparators where the text means it, or where it is a pre-release of a
-    /// raised bound: `2.0.0-alpha` is below the `<2.0.0` of `^1.2.3`. `RangeSet::parse_exact` has
+    /// A version satisfies the comparators where the text means it, or where it is a pre-release of
+    /// a raised bound: `2.0.0-alpha` is below the `<2.0.0` of `^1.2.3`. `RangeSet::parse_exact` has
     /// no such exception.
     ///
     /// # Errors
@@ -119,13 +119,13 @@ impl RangeSet {
         ensures as_rewritten { IfOk result (λ set. (tree : SetTree) → Spells tree input.now
             → set_of set ≡ rewritten compat tree) }
 
-        // A version meets the answer exactly if some range of the text has each term met, or the
-        // version is a pre-release of that term's raised bound.
+        // A version satisfies the answer exactly if some range of the text has each term satisfied,
+        // or the version is a pre-release of that term's raised bound.
         ensures meaning { IfOk result (λ set. (tree : SetTree) (v : PlainVersion)
             → Spells tree input.now →
             meets_set v (set_of set) ≡ meets_tree_or_bounds compat tree v) }
-        // So a release meets it exactly if it meets what the text means by itself, and what meets
-        // that always meets the answer.
+        // So a release satisfies it exactly if it satisfies the text, and what satisfies
+        // that always satisfies the answer.
         ensures releases { IfOk result (λ set. (tree : SetTree) (v : PlainVersion)
             → Spells tree input.now → v.pre ≡ [] →
             meets_set v (set_of set) ≡ meets_tree compat tree v) }
@@ -150,8 +150,8 @@ impl RangeSet {
     ///
     /// A bound that the text states stays as it is.
     ///
-    /// Nothing of 2.0.0 is below `2.0.0-0`. So a version, a pre-release too, meets the answer
-    /// exactly if it meets what the text means by itself, without the exception of
+    /// Nothing of 2.0.0 is below `2.0.0-0`. So a version, a pre-release too, satisfies the answer
+    /// exactly if it satisfies the text, without the exception of
     /// `RangeSet::parse` for the pre-releases of raised bounds.
     ///
     /// # Errors
@@ -176,7 +176,7 @@ impl RangeSet {
         ensures as_rewritten { IfOk result (λ set. (tree : SetTree) → Spells tree input.now
             → set_of set ≡ rewritten_exactly compat tree) }
 
-        // A version meets the answer exactly if it meets what the text means by itself.
+        // A version satisfies the answer exactly if it satisfies the text.
         ensures meaning { IfOk result (λ set. (tree : SetTree) (v : PlainVersion)
             → Spells tree input.now →
             meets_set v (set_of set) ≡ meets_tree compat tree v) }
@@ -240,7 +240,7 @@ const LONGEST_ONLY_SIMPLE: usize = 14;
 
 /// The comparators of a text that is one simple from its first byte on, and that fits. What it
 /// doesn't find, the two runs decide.
-fn read_only_simple(text: &[u8], compat: Compat) -> Option<(Partial<'_>, Bounds)>
+fn read_only_simple(text: &[u8], compat: Compat) -> Option<(Partial<'_>, Desugared)>
     ensures { IfSome result (λ found. (s : SimpleTree)
         × (read Crate text.now ≡ Some (simples s [] ∷ []))
         × IsRow compat s found.0 found.1 × (simple_fits compat s ≡ true)) }
@@ -264,7 +264,7 @@ fn read_only_simple(text: &[u8], compat: Compat) -> Option<(Partial<'_>, Bounds)
 fn build_only_simple(
     alloc: Global,
     partial: &Partial<'_>,
-    bounds: Bounds,
+    bounds: Desugared,
     compat: Compat,
     raised: RaisedBounds,
 ) -> Result<RangeSet, AllocError>
@@ -292,7 +292,7 @@ struct Rows {
     raised: RaisedBounds,
 }
 
-impl Table for Rows {
+impl Desugaring for Rows {
     ghost DIALECT = { Crate };
 
     ghost fit = { λ rows s. simple_fits rows.compat s };

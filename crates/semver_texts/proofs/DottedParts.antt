@@ -25,13 +25,6 @@ use Rattle.semver_texts.proofs.Lists.{Passes, ascii_from}
 
 -- ---- bytes
 
-pub run_dotted : (hyphens : Hyphens) (b : ℕ) → is_run_byte hyphens b ≡ true → is_dotted_byte b ≡ true
-run_dotted Any b h = rw h refl
-run_dotted BetweenRuns b h = rw h refl
-
-pub between_dotted : (b : ℕ) → (b == 45 || b == 46) ≡ true → is_dotted_byte b ≡ true
-between_dotted b h = grind (arith, nat_tests)
-
 other_byte : (hyphens : Hyphens) (b : ℕ) → is_run_byte hyphens b ≡ false → (b == 45 || b == 46) ≡ false → is_dotted_byte b ≡ false
 other_byte Any b h m = grind (arith, nat_tests)
 other_byte BetweenRuns b h m = grind (arith, nat_tests)

@@ -8,3 +8,4 @@ pub mod PartRuns
 pub mod Runs
 pub mod SpelledVersions
 pub mod OneOption
+pub mod Writes

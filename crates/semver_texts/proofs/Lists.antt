@@ -36,15 +36,6 @@ by_test false f g = g refl
 pub never : {b : Bool} → b ≡ true → b ≡ false → ⊥
 never t f = cc
 
--- and what is made of the first
-pub zip_mapped : {A B C : Type 0} {R : A → B → Type 0} {P : B → Type 0} (S : C → B → Type 0) (f : A → C)
-    → ((a : A) (b : B) → R a b → P b → S (f a) b) → (xs : List A) (ys : List B) → AllZip R xs ys → AllByRecursion P ys
-    → AllZip S (map f xs) ys
-zip_mapped S f each [] [] zip all = tt
-zip_mapped S f each [] (y ∷ ys) zip all = absurd zip
-zip_mapped S f each (x ∷ xs) [] zip all = absurd zip
-zip_mapped S f each (x ∷ xs) (y ∷ ys) zip all = (each x y zip.0 all.0, zip_mapped S f each xs ys zip.1 all.1)
-
 -- what is made of two lists is the same where it is so place by place
 pub zip_same : {X Y Z : Type 0} {R : X → Y → Type 0} (f : X → Z) (g : Y → Z) → ((x : X) (y : Y) → R x y → f x ≡ g y)
     → (xs : List X) (ys : List Y) → AllZip R xs ys → map f xs ≡ map g ys
@@ -52,6 +43,20 @@ zip_same f g each [] [] zip = refl
 zip_same f g each [] (y ∷ ys) zip = absurd zip
 zip_same f g each (x ∷ xs) [] zip = absurd zip
 zip_same f g each (x ∷ xs) (y ∷ ys) zip = λ i. each x y zip.0 i ∷ zip_same f g each xs ys zip.1 i
+
+pub zip_more : {A B : Type 0} {R S : A → B → Type 0} → ((a : A) (b : B) → R a b → S a b) → (xs : List A) (ys : List B)
+    → AllZip R xs ys → AllZip S xs ys
+zip_more each [] [] zip = tt
+zip_more each [] (y ∷ ys) zip = absurd zip
+zip_more each (x ∷ xs) [] zip = absurd zip
+zip_more each (x ∷ xs) (y ∷ ys) zip = (each x y zip.0, zip_more each xs ys zip.1)
+
+pub zip_is : {A B : Type 0} {R : A → B → Type 0} (f : A → B) → ((a : A) (b : B) → R a b → b ≡ f a) → (xs : List A) (ys : List B)
+    → AllZip R xs ys → ys ≡ map f xs
+zip_is f each [] [] zip = refl
+zip_is f each [] (y ∷ ys) zip = absurd zip
+zip_is f each (x ∷ xs) [] zip = absurd zip
+zip_is f each (x ∷ xs) (y ∷ ys) zip = λ i. each x y zip.0 i ∷ zip_is f each xs ys zip.1 i
 
 -- ---- bytes
 

@@ -1,11 +1,13 @@
 -- serves: semver_texts::dotted::have_no_leading_zeros
 -- Parts and dots at the front of a text, byte by byte, where each hyphen may stand.
-use Rattle.std.proofs.Common.{◌≡◌, ℕ, Bool, true, false, ◌&&◌, List, [], ◌∷◌, take, refl, subst, arith, one-add, if◌then◌else◌}
+use Rattle.std.proofs.Common.{◌≡◌, ◌∙◌, ℕ, Bool, true, false, ◌&&◌, List, [], ◌∷◌, length, take, refl, sym, ap, subst, arith, one-add}
+use Rattle.std.proofs.Common.{if◌then◌else◌, ◌<◌, length-append}
 use Rattle.std.specs.Prelude.{◌==◌, ◌||◌}
-use Rattle.std.specs.List.{join_with_byte, list_all, prefix_len, slice_split}
-use Rattle.std.proofs.lemmas.List.Splits.{join_with_byte-slice_split}
+use Rattle.std.specs.List.{AllByRecursion, join_with_byte, list_all, prefix_len, slice_split}
+use Rattle.std.proofs.lemmas.List.Elements.{All-from_recursion}
+use Rattle.std.proofs.lemmas.List.Splits.{join_with_byte-slice_split, slice_split_at, slice_split_none}
 use Rattle.std.proofs.lemmas.Bool.Decides.{nat_tests}
-use Rattle.semver_texts.specs.Texts.{Text, cut_at_dots, has_no_leading_zero, is_part, is_part_byte, is_dot, is_dotted_byte}
+use Rattle.semver_texts.specs.Texts.{Text, cut_at_dots, has_no_leading_zero, is_part, is_part_byte, is_dot, is_dotted_byte, marked, marked_length}
 use Rattle.semver_texts.specs.Steps.DottedParts.{begins_oddly, is_odd, odd_after, runs_stand}
 use Rattle.semver_texts.proofs.Lists.{Passes, all_more, by_test, each_passes, joined_pass}
 
@@ -70,6 +72,44 @@ no_zero_begins (b ∷ t) e = grind (arith, odd (b ∷ t))
 pub joined_cut : (t : Text) → join_with_byte 46 (cut_at_dots t) ≡ t
 joined_cut [] = refl
 joined_cut (b ∷ t) = join_with_byte-slice_split 46 _
+
+-- texts without dots, joined by dots, are what is between them
+pub split_joined : (t : Text) (ts : List Text) → AllByRecursion (AllByRecursion (λ b. is_dot b ≡ false)) (t ∷ ts)
+    → slice_split is_dot (join_with_byte 46 (t ∷ ts)) ≡ t ∷ ts
+split_joined t [] all = slice_split_none is_dot t (All-from_recursion _ t all.0)
+split_joined t (next ∷ ts) all =
+    slice_split_at is_dot t 46 _ (All-from_recursion _ t all.0) refl ∙ rw (split_joined next ts all.1)
+
+pub split_parts : (t : Text) (ts : List Text) → list_all is_part (t ∷ ts) ≡ true
+    → slice_split is_dot (join_with_byte 46 (t ∷ ts)) ≡ t ∷ ts
+split_parts t ts e = split_joined t ts (all_more no_dots (t ∷ ts) (each_passes is_part (t ∷ ts) e))
+  where
+    no_dot : (b : ℕ) → is_part_byte b ≡ true → is_dot b ≡ false
+    no_dot b h = grind (arith, nat_tests)
+
+    no_dots : (t : Text) → is_part t ≡ true → AllByRecursion (λ b. is_dot b ≡ false) t
+    no_dots [] e = tt
+    no_dots (b ∷ t) e = all_more no_dot (b ∷ t) (each_passes is_part_byte (b ∷ t) e)
+
+pub joined_some : (t : Text) (ts : List Text) → 0 < length t → 0 < length (join_with_byte 46 (t ∷ ts))
+joined_some t [] some = some
+joined_some t (next ∷ ts) some = omega (arith, some, length-append t (46 ∷ join_with_byte 46 (next ∷ ts)))
+
+pub some_cut : (t : Text) → 0 < length t → cut_at_dots t ≡ slice_split is_dot t
+some_cut [] some = absurd (omega (arith, some))
+some_cut (b ∷ t) some = refl
+
+-- how many bytes parts have with their mark
+pub marked_is : (mark : ℕ) (xs : List Text) (t : Text) → xs ≡ cut_at_dots t → length (marked (mark ∷ []) xs) ≡ marked_length t
+marked_is mark [] [] e = refl
+marked_is mark [] (b ∷ t) e =
+    let same : length (b ∷ t) ≡ 0 = sym (ap length (joined_cut (b ∷ t))) ∙ ap (λ l. length (join_with_byte 46 l)) (sym e) in
+    absurd (omega (arith, same))
+marked_is mark (x ∷ xs) [] e = cc
+marked_is mark (x ∷ xs) (b ∷ t) e =
+    let same : length (join_with_byte 46 (x ∷ xs)) ≡ length (b ∷ t) =
+    ap (λ l. length (join_with_byte 46 l)) e ∙ ap length (joined_cut (b ∷ t)) in
+    omega (arith, same)
 
 pub part_passes : (t : Text) → is_part t ≡ true → Passes is_dotted_byte t
 part_passes [] e = tt

@@ -1,9 +1,8 @@
 -- serves: semver_texts::laws::semver_texts_are_npms
 -- Version texts by the dialects: those of SemVer 2.0.0 beside npm's and the crate's.
-use Rattle.std.proofs.Common.{◌≡◌, ℕ, ◌^◌, ◌<◌, ◌≤◌, Bool, true, List, [], ◌∷◌, ◌++◌, length, map, codes, decimal}
+use Rattle.std.proofs.Common.{◌≡◌, ◌^◌, ◌<◌, ◌≤◌, Bool, true, List, [], ◌∷◌, ◌++◌, length, map, codes, decimal}
 use Rattle.std.proofs.Common.{refl, sym, ap, ◌∙◌, subst, inl, append_assoc, append-nil, arith}
 use Rattle.std.specs.Prelude.{IsTrue}
-use Rattle.std.specs.Char.{is_ascii_alphanumeric}
 use Rattle.std.specs.List.{AllByRecursion, AllZip, join_with_byte, list_all}
 use Rattle.std.proofs.lemmas.List.Folds.{list_all-map}
 use Rattle.std.specs.Str.Parse.{digits_value}
@@ -14,10 +13,12 @@ use Rattle.semver_texts.specs.declared.grammar.Digits.TheVariants.{AnySize}
 use Rattle.semver_texts.specs.Versions.{IdentifierValue, numeric, alphanumeric, VersionValue, numbers}
 use Rattle.semver_texts.specs.PrintedText.{identifier_text, numeral, version_text}
 use Rattle.semver_texts.specs.VersionGrammar.{IsIdentifierText, SpellsCore, SpellsIdentifier, SpellsPart}
-use Rattle.semver_texts.specs.ToolVersions.{AreWhiteSpaces, IsKeptAs, SpellsNpm, SpellsSemver, characters}
+use Rattle.semver_texts.specs.ToolVersions.{IsKeptAs, SpellsNpm, SpellsSemver, characters}
+use Rattle.semver_texts.specs.WhiteSpace.{AreWhiteSpaces}
 use Rattle.semver_texts.proofs.LargeNumbers.{is_number_of, no_number, number_numeral, small_numeral}
-use Rattle.semver_texts.proofs.Lists.{Passes, all_more, by_test, joined_pass}
+use Rattle.semver_texts.proofs.Lists.{Passes, all_more, by_test, joined_pass, zip_is}
 use Rattle.semver_texts.proofs.Numbers.{digits_value_number}
+use Rattle.semver_texts.proofs.Runs.{run_is_part}
 
 -- ---- what prints
 
@@ -26,10 +27,7 @@ kept_text (numeric n) text w = number_numeral text w.0 ∙ ap numeral w.1
 kept_text (alphanumeric kept) text w = w.0
 
 pub kept_texts : (ids : List IdentifierValue) (texts : List Text) → AllZip IsKeptAs ids texts → texts ≡ map identifier_text ids
-kept_texts [] [] all = refl
-kept_texts [] (t ∷ texts) all = absurd all
-kept_texts (id ∷ ids) [] all = absurd all
-kept_texts (id ∷ ids) (t ∷ texts) all = (λ i. kept_text id t all.0 i ∷ kept_texts ids texts all.1 i)
+kept_texts = zip_is identifier_text kept_text
 
 spelled_text : (id : IdentifierValue) (text : Text) → SpellsIdentifier id text → text ≡ identifier_text id
 spelled_text (numeric n) text w = w.1 ∙ sym (small_numeral n w.0)
@@ -37,10 +35,7 @@ spelled_text (alphanumeric kept) text w = w.0
 
 pub spelled_texts : (ids : List IdentifierValue) (texts : List Text) → AllZip SpellsIdentifier ids texts
     → texts ≡ map identifier_text ids
-spelled_texts [] [] all = refl
-spelled_texts [] (t ∷ texts) all = absurd all
-spelled_texts (id ∷ ids) [] all = absurd all
-spelled_texts (id ∷ ids) (t ∷ texts) all = (λ i. spelled_text id t all.0 i ∷ spelled_texts ids texts all.1 i)
+spelled_texts = zip_is identifier_text spelled_text
 
 pub part_text : (mark : Text) (ids : List IdentifierValue) (text : Text) → SpellsPart mark ids text
     → text ≡ marked mark (map identifier_text ids)
@@ -81,13 +76,10 @@ semver_is_npm v text w major minor patch short = (
 
 -- ---- the crate's
 
-run_is_part : (b : ℕ) → is_ascii_alphanumeric b ≡ true → is_part_byte b ≡ true
-run_is_part b h = rw h refl
-
 run_passes : (run : Text) → IsRun run → Passes is_part_byte run
 run_passes run w = all_more run_is_part run w.1
 
-pub all_passes : (p : ℕ → Bool) (t : Text) → Passes p t → list_all p t ≡ true
+pub all_passes : {X : Type 0} (p : X → Bool) (t : List X) → AllByRecursion (λ x. IsTrue (p x)) t → list_all p t ≡ true
 all_passes p [] all = refl
 all_passes p (b ∷ t) all = rw (all.0, all_passes p t all.1) refl
 

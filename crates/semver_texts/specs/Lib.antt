@@ -1,6 +1,9 @@
 pub mod Steps
 pub mod Texts
 pub mod ToolVersions
+pub mod WhiteSpace
+pub mod NpmLimits
+pub mod Writing
 pub mod Versions
 pub mod PrintedText
 pub mod VersionGrammar

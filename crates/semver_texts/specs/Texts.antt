@@ -1,7 +1,8 @@
 -- Texts as their bytes, and how they are joined.
 use Prim.Native.Char.{code}
 use Rattle.std.specs.Prelude.{◌≡◌, ℕ, ◌^◌, ◌<◌, Bool, true, false, ◌||◌, ◌==◌, List, [], ◌∷◌, ◌++◌}
-use Rattle.std.specs.Prelude.{◌&&◌, not, nat_lt, length, map, slice_index, IsTrue, decimal}
+use Rattle.std.specs.Prelude.{◌&&◌, ◌+◌, if◌then◌else◌, not, nat_lt, length, map, slice_index}
+use Rattle.std.specs.Prelude.{IsTrue, decimal}
 use Rattle.std.specs.Char.{is_ascii_alphanumeric, is_ascii_digit}
 use Rattle.std.specs.List.{AllByRecursion, join_with_byte, list_all, slice_split}
 use Rattle.std.specs.Str.{all_ascii_digits}
@@ -93,3 +94,7 @@ joined between (t ∷ next ∷ others) = t ++ between ++ joined between (next �
 abbrev pub marked : Text → List Text → Text
 marked mark [] = []
 marked mark (part ∷ parts) = mark ++ join_with_byte (code ".") (part ∷ parts)
+
+-- how many bytes parts have with a mark of one byte
+abbrev pub marked_length : Text → ℕ
+marked_length t = if is_empty t then 0 else length t + 1

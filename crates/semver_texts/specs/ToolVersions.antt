@@ -1,16 +1,18 @@
 -- Versions as the tools read them: those of SemVer 2.0.0, which Cargo reads, and npm's, as
 -- node-semver 7 reads without options.
 use Prim.Native.Char.{code}
-use Rattle.std.specs.Prelude.{◌≡◌, ◌⊎◌, ℕ, ◌^◌, ◌<◌, ◌≤◌, Bool, false, ◌&&◌, ◌||◌, ◌==◌, not, List}
-use Rattle.std.specs.Prelude.{[], ◌∷◌, ◌++◌, map, IsTrue, codes, decimal}
+use Rattle.std.specs.Prelude.{◌≡◌, ◌⊎◌, ℕ, ◌^◌, ◌<◌, ◌≤◌, Bool, false, not, List}
+use Rattle.std.specs.Prelude.{[], ◌++◌, map, IsTrue, codes, decimal}
 use Rattle.std.specs.Char.{is_ascii_digit}
 use Rattle.std.specs.Int.{is_in_range}
-use Rattle.std.specs.List.{AllZip, concat, count_by, join_with_byte, list_all, prefix_len}
+use Rattle.std.specs.List.{AllZip, count_by, join_with_byte, list_all, prefix_len}
 use Rattle.std.specs.Str.Parse.{digits_value}
 use Rattle.semver_texts.specs.Texts.{Text, has_no_leading_zero, is_number, is_part, marked}
 use Rattle.semver_texts.specs.Versions.{IdentifierValue, numeric, alphanumeric, VersionValue}
 use Rattle.semver_texts.specs.Versions.{numbers}
 use Rattle.semver_texts.specs.VersionGrammar.{SpellsVersion}
+use Rattle.semver_texts.specs.WhiteSpace.{AreWhiteSpaces}
+use Rattle.semver_texts.specs.NpmLimits.{max_length}
 use Rattle.semver_texts.specs.declared.grammar.Grammar.{Grammar}
 use Rattle.semver_texts.specs.declared.grammar.Grammar.TheVariants.{Crate, Cargo, Npm}
 
@@ -36,25 +38,6 @@ pub record SpellsSemver (v : VersionValue) (text : Text) : Type 0 where
   pub build : AllZip IsKeptAs v.build build_texts
   pub spelled : text ≡ join_with_byte (code ".") (map decimal (numbers v.plain))
       ++ (marked (codes "-") pre_texts ++ marked (codes "+") build_texts)
-
--- whether these are the bytes, in UTF-8, of a character that JavaScript calls white space: U+0009
--- to U+000D and U+0020; U+00A0; U+1680, U+2000 to U+200A, U+2028, U+2029, U+202F, U+205F, U+3000
--- and U+FEFF
-abbrev pub is_white_space : Text → Bool
-is_white_space (a ∷ []) = is_in_range 9 13 a || (a == 32)
-is_white_space (a ∷ b ∷ []) = (a == 0xC2) && (b == 0xA0)
-is_white_space (a ∷ b ∷ c ∷ []) = ((a == 0xE1) && ((b == 0x9A) && (c == 0x80)))
-    || (((a == 0xE2) && (((b == 0x80) && (is_in_range 0x80 0x8A c
-    || ((c == 0xA8) || ((c == 0xA9) || (c == 0xAF))))) || ((b == 0x81) && (c == 0x9F))))
-    || (((a == 0xE3) && ((b == 0x80) && (c == 0x80)))
-    || ((a == 0xEF) && ((b == 0xBB) && (c == 0xBF)))))
-is_white_space _ = false
-
--- any number of such characters, none included
-pub record AreWhiteSpaces (text : Text) : Type 0 where
-  pub each : List Text
-  pub are : IsTrue (list_all is_white_space each)
-  pub whole : text ≡ concat each
 
 -- a byte of a character that isn't its first one
 abbrev pub goes_on : ℕ → Bool
@@ -82,7 +65,7 @@ pub record SpellsNpmAtAnyLength (v : VersionValue) (text : Text) : Type 0 where
 
 -- so, and the text has at most 256 characters
 abbrev pub SpellsNpm : VersionValue → Text → Type 0
-SpellsNpm v text = SpellsNpmAtAnyLength v text × (characters text ≤ 256)
+SpellsNpm v text = SpellsNpmAtAnyLength v text × (characters text ≤ max_length)
 
 -- the text spells the version in a dialect
 abbrev pub SpellsIn : Grammar → VersionValue → Text → Type 0

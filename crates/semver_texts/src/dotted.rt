@@ -6,7 +6,7 @@ ghost use Rattle.std.specs.Char.{is_ascii_digit};
 ghost use Rattle.std.specs.List.{AllByRecursion, AllZip, list_all, prefix_len, slice_split};
 ghost use Rattle.std.specs.Fn.{FnReturnsAt};
 ghost use Rattle.semver_texts.specs.Texts.{begins_with, cut_at_dots, has_no_leading_zero, is_dot};
-ghost use Rattle.semver_texts.specs.Texts.{is_dotted_byte};
+ghost use Rattle.semver_texts.specs.Texts.{is_dotted_byte, marked_length};
 ghost use Rattle.semver_texts.specs.Steps.DottedParts.{begins_oddly, is_odd, is_run_byte};
 ghost use Rattle.semver_texts.specs.Steps.DottedParts.{marked_part, runs_stand};
 
@@ -95,6 +95,15 @@ pub fn marked_part(bytes: &[u8], mark: u8, hyphens: Hyphens) -> Option<(&[u8], &
     };
     let len = parts_len(after, hyphens)?;
     Some(after.split_at(len))
+}
+
+// Answer: equation.
+/// How many bytes parts have with their mark: 5 of `rc.1`, and 0 if there are none.
+#[inline(always)]
+pub fn marked_len(parts: &[u8]) -> usize
+    ensures { result ≡ marked_length parts.now }
+{
+    if parts.is_empty() { 0 } else { parts.len() + 1 }
 }
 
 // Answer: equation.
@@ -240,7 +249,7 @@ fn cut_parts<T: Drop, F: Fn(&str) -> Result<T, AllocError>>(
 }
 
 // Answer: equation.
-/// What is made of each part between the dots; nothing of an empty text, which takes no memory.
+/// What is made of each part between the dots; nothing of an empty text, which does not allocate.
 #[inline(always)]
 pub fn of_parts<T: Drop, F: Fn(&str) -> Result<T, AllocError>>(
     alloc: Global,

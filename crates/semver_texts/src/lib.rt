@@ -1,6 +1,7 @@
 //! What version texts and range texts share: versions as plain data and their precedence, bytes,
-//! numbers, identifiers joined by dots, dialects, and lists of printed values; and, in `specs/`,
-//! texts as their bytes, the grammar of versions, and their printed texts.
+//! numbers, identifiers joined by dots, white space, npm's limits, dialects, and how bytes and
+//! lists of printed values are written; and, in `specs/`, texts as their bytes, the grammar of
+//! versions, and their printed texts.
 #![tactic(auto)]
 
 pub mod bytes;
@@ -10,6 +11,9 @@ pub mod grammar;
 pub mod identifiers;
 pub mod large_number;
 pub mod laws;
+pub mod npm_limits;
 pub mod precedence;
 pub mod printing;
 pub mod version;
+pub mod white_space;
+pub mod writing;

@@ -1,7 +1,7 @@
 //! The tokens of a text: its signs, its white space, and its runs of ASCII letters and digits.
 //!
 //! The text is read by bytes, from the left; a character past ASCII is decoded only to be named in
-//! an error. Nothing here takes memory: each token that has a text borrows it from the input.
+//! an error. Nothing here allocates: each token that has a text borrows it from the input.
 ghost use Rattle.std.specs.Prelude.{◌^◌, [], ◌≡◌, ◌+◌, ◌<◌, length, option_map};
 ghost use Rattle.semver_tokens.specs.Tokens.{is_whitespace};
 ghost use Rattle.semver_texts.specs.Texts.{IsRun};

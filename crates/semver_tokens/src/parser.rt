@@ -398,7 +398,7 @@ impl<'input> Parser<'input> {
     ///   hyphen. It is taken too.
     /// - `UnexpectedEnd`: no token remains there. What came before stays taken.
     /// - `Lexer`: a bad character is pending and at most one token remains. That token stays, since
-    ///   it can't be told whether the identifier ends with it.
+    ///   it isn't known whether the identifier ends with it.
     /// - `OutOfMemory`: there is no memory for the text, which is taken at once. Its tokens stay
     ///   taken, and no more. A number does not allocate.
     ///
@@ -539,7 +539,7 @@ impl<'input> Parser<'input> {
     ///
     /// With a character pending it answers `Lexer` of it: no token remains then, and the character
     /// stays pending. `OutOfMemory` if its one allocation failed: nothing is changed then. It
-    /// asks for memory only where tokens remain and no character is pending, once, for exactly
+    /// allocates only if tokens remain and no character is pending, once, for exactly
     /// their number.
     ///
     /// ```
@@ -593,7 +593,7 @@ fn identifier_front(text: &str) -> &str
     &text[..len]
 }
 
-/// Appends where there is room.
+/// Appends where there is capacity.
 fn push_within<'input>(tokens: &mut Vec<Token<'input>>, token: Token<'input>)
     requires { vec_len tokens.old < vec_capacity tokens.old }
     ensures items { tokens.new.items ≡ tokens.old.items ++ token.entry ∷ [] }

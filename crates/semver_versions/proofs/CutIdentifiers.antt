@@ -18,11 +18,11 @@ use Rattle.semver_texts.specs.Steps.DottedParts.{is_run_byte, runs_stand, marked
 use Rattle.semver_versions.specs.Steps.Reading.{AreIdentifiers}
 use Rattle.semver_texts.proofs.Lists.{Passes, all_more, all_zipped, by_test, passes_append, prefix_stops, prefix_is}
 use Rattle.semver_texts.proofs.DottedParts.{found_same}
-use Rattle.semver_texts.proofs.PartRuns.{runs_ahead}
+use Rattle.semver_texts.proofs.PartRuns.{joined_some, runs_ahead, some_cut}
 use Rattle.semver_texts.proofs.Runs.{decimal_is_run}
 use Rattle.semver_texts.proofs.SpelledVersions.{identifier_is_part}
-use Rattle.semver_versions.proofs.KeptTexts.{are_parts, identifiers_are_parts, joined_some, marked_cut, no_identifiers, part_bytes}
-use Rattle.semver_versions.proofs.KeptTexts.{parts_cut, some_cut}
+use Rattle.semver_versions.proofs.KeptTexts.{are_parts, identifiers_are_parts, marked_cut, no_identifiers, part_bytes}
+use Rattle.semver_versions.proofs.KeptTexts.{parts_cut}
 use Rattle.semver_texts.proofs.PartRuns.{parts_pass}
 
 -- ---- one run more

@@ -1,16 +1,15 @@
 -- serves: semver_versions::laws::one_version
 -- Texts of letters, digits and hyphens, the identifiers that they are kept as, and such texts between dots.
-use Rattle.std.proofs.Common.{◌≡◌, ℕ, ◌<◌, ◌≤◌, ◌+◌, ◌^◌, Bool, true, false, List, [], ◌∷◌, ◌++◌, length, map, arith, ap, sym, refl}
-use Rattle.std.proofs.Common.{◌∙◌, subst, length-append}
-use Rattle.std.specs.Prelude.{◌==◌, ◌&&◌, nat_lt, if◌then◌else◌, slice_index}
+use Rattle.std.proofs.Common.{◌≡◌, ℕ, ◌<◌, ◌≤◌, ◌^◌, Bool, true, false, List, [], ◌∷◌, ◌++◌, length, map, arith, ap, sym, refl}
+use Rattle.std.proofs.Common.{◌∙◌, subst}
+use Rattle.std.specs.Prelude.{◌&&◌, nat_lt, if◌then◌else◌, slice_index}
 use Rattle.std.specs.Char.{is_ascii_digit}
-use Rattle.std.specs.List.{All, AllByRecursion, AllZip, join_with_byte, list_all, slice_split}
+use Rattle.std.specs.List.{AllByRecursion, AllZip, join_with_byte, list_all}
 use Rattle.std.specs.Str.Parse.{digits_value}
 use Rattle.std.proofs.lemmas.Bool.{and_parts}
 use Rattle.std.proofs.lemmas.Bool.Decides.{nat_tests}
 use Rattle.std.proofs.lemmas.Grind.{common_steps}
-use Rattle.std.proofs.lemmas.List.Elements.{All-nil, All-cons}
-use Rattle.std.proofs.lemmas.List.Splits.{join_with_byte-slice_split, length-slice_split, slice_split_none, slice_split_at}
+use Rattle.std.proofs.lemmas.List.Splits.{join_with_byte-slice_split, length-slice_split}
 use Rattle.semver_texts.specs.Digits.{any_size, identifier_by, identifiers_by}
 use Rattle.semver_texts.specs.PrintedText.{identifier_text, numeral}
 use Rattle.semver_texts.specs.Texts.{Text, IsNumber, cut_at_dots, is_dot, is_large, is_number, is_part, is_part_byte, marked}
@@ -21,8 +20,8 @@ use Rattle.semver_texts.specs.declared.grammar.Digits.{Digits}
 use Rattle.semver_texts.specs.declared.grammar.Digits.TheVariants.{Kept, AnySize}
 use Rattle.semver_texts.specs.declared.dotted.Hyphens.{Hyphens}
 use Rattle.semver_texts.specs.declared.dotted.Hyphens.TheVariants.{Any, BetweenRuns}
-use Rattle.semver_texts.proofs.Lists.{Passes, all_more, by_test, each_passes}
-use Rattle.semver_texts.proofs.PartRuns.{joined_cut}
+use Rattle.semver_texts.proofs.Lists.{Passes, all_more, all_zipped, by_test, each_passes, zip_is, zip_more}
+use Rattle.semver_texts.proofs.PartRuns.{joined_cut, joined_some, some_cut, split_parts}
 use Rattle.semver_texts.proofs.LargeNumbers.{canonical, is_number_of, number_numeral, number_some}
 use Rattle.semver_texts.proofs.Numbers.{IsNumber-from_canonical, all_digits, canonical_from_IsNumber, decimal_canonical}
 use Rattle.semver_texts.proofs.Numbers.{digits_value_number}
@@ -93,16 +92,10 @@ any_kept id t w = subst (λ x. IsKeptAs x t) (sym (w.1 ∙ of_any_size t)) (by_t
     (λ other. rw other (refl, w.0, other)))
 
 pub kept_any_all : (ids : List IdentifierValue) (ts : List Text) → AllZip IsKeptAs ids ts → AllZip (IsKeptBy AnySize) ids ts
-kept_any_all [] [] all = tt
-kept_any_all [] (t ∷ ts) all = absurd all
-kept_any_all (id ∷ ids) [] all = absurd all
-kept_any_all (id ∷ ids) (t ∷ ts) all = (kept_any id t all.0, kept_any_all ids ts all.1)
+kept_any_all = zip_more kept_any
 
 pub any_kept_all : (ids : List IdentifierValue) (ts : List Text) → AllZip (IsKeptBy AnySize) ids ts → AllZip IsKeptAs ids ts
-any_kept_all [] [] all = tt
-any_kept_all [] (t ∷ ts) all = absurd all
-any_kept_all (id ∷ ids) [] all = absurd all
-any_kept_all (id ∷ ids) (t ∷ ts) all = (any_kept id t all.0, any_kept_all ids ts all.1)
+any_kept_all = zip_more any_kept
 
 -- and what the crate's grammar spells
 number_spelled : (t : Text) → (is_number t && nat_lt (digits_value 10 t) (2 ^ 64)) ≡ true → IsNumber t
@@ -139,10 +132,7 @@ kept_spelled id t w is = subst (λ x. SpellsIdentifier x t) (sym w.1) (by_test (
     )))
 
 pub spelled_kept_all : (ids : List IdentifierValue) (ts : List Text) → AllZip SpellsIdentifier ids ts → AllZip (IsKeptBy Kept) ids ts
-spelled_kept_all [] [] all = tt
-spelled_kept_all [] (t ∷ ts) all = absurd all
-spelled_kept_all (id ∷ ids) [] all = absurd all
-spelled_kept_all (id ∷ ids) (t ∷ ts) all = (spelled_kept id t all.0, spelled_kept_all ids ts all.1)
+spelled_kept_all = zip_more spelled_kept
 
 pub kept_spelled_all : (ids : List IdentifierValue) (ts : List Text) → AllZip (IsKeptBy Kept) ids ts → AllByRecursion IsIdentifierText ts
     → AllZip SpellsIdentifier ids ts
@@ -153,23 +143,12 @@ kept_spelled_all (id ∷ ids) (t ∷ ts) all each = (kept_spelled id t all.0 eac
 
 -- ---- texts between dots
 
-parts_bytes : (ts : List Text) → list_all is_part ts ≡ true → AllByRecursion IsPartText ts
-parts_bytes [] e = tt
-parts_bytes (t ∷ ts) e = let both = and_parts (is_part t) _ e in (part_bytes t both.0, parts_bytes ts both.1)
-
 module _ (digits : Digits) where
   pub kept_parts : (ids : List IdentifierValue) (ts : List Text) → AllZip (IsKeptBy digits) ids ts → list_all is_part ts ≡ true
-  kept_parts [] [] all = refl
-  kept_parts [] (t ∷ ts) all = absurd all
-  kept_parts (id ∷ ids) [] all = absurd all
-  kept_parts (id ∷ ids) (t ∷ ts) all = rw (all.0.0, kept_parts ids ts all.1) refl
+  kept_parts ids ts all = all_passes is_part ts (all_zipped (λ id t kept. kept.0) ids ts all)
 
   pub kept_texts : (ids : List IdentifierValue) (ts : List Text) → AllZip (IsKeptBy digits) ids ts → ts ≡ map identifier_text ids
-  kept_texts [] [] all = refl
-  kept_texts [] (t ∷ ts) all = absurd all
-  kept_texts (id ∷ ids) [] all = absurd all
-  kept_texts (id ∷ ids) (t ∷ ts) all =
-      (λ i. (sym (text_of_kept digits t) ∙ ap identifier_text (sym all.0.1)) i ∷ kept_texts ids ts all.1 i)
+  kept_texts = zip_is identifier_text (λ id t kept. sym (text_of_kept digits t) ∙ ap identifier_text (sym kept.1))
 
 pub all_kept : (digits : Digits) (ts : List Text) → list_all is_part ts ≡ true
     → AllZip (IsKeptBy digits) (identifiers_by digits (map identifier_of ts)) ts
@@ -190,8 +169,7 @@ kept_is AnySize (id ∷ ids) [] all = absurd all
 kept_is AnySize (id ∷ ids) (t ∷ ts) all = (λ i. all.0.1 i ∷ kept_is AnySize ids ts all.1 i)
 
 pub identifiers_are_parts : (ts : List Text) → AllByRecursion IsIdentifierText ts → list_all is_part ts ≡ true
-identifiers_are_parts [] all = refl
-identifiers_are_parts (t ∷ ts) all = rw (identifier_is_part t all.0, identifiers_are_parts ts all.1) refl
+identifiers_are_parts ts all = all_passes is_part ts (all_more identifier_is_part ts all)
 
 -- so are identifiers, whichever hyphens they may have
 pub are_parts : (h : Hyphens) (ts : List Text) → AreIdentifiers h ts → list_all is_part ts ≡ true
@@ -202,33 +180,11 @@ pub no_identifiers : (h : Hyphens) → AreIdentifiers h []
 no_identifiers Any = refl
 no_identifiers BetweenRuns = tt
 
-pub joined_some : (t : Text) (ts : List Text) → 0 < length t → 0 < length (join_with_byte 46 (t ∷ ts))
-joined_some t [] some = some
-joined_some t (next ∷ ts) some = omega (arith, some, length-append t (46 ∷ join_with_byte 46 (next ∷ ts)))
-
-pub some_cut : (t : Text) → 0 < length t → cut_at_dots t ≡ slice_split is_dot t
-some_cut [] some = absurd (omega (arith, some))
-some_cut (b ∷ t) some = refl
-
-no_dots : (t : Text) → Passes is_part_byte t → All (λ b. (b == 46) ≡ false) t
-no_dots [] all = All-nil (λ b. (b == 46) ≡ false)
-no_dots (b ∷ t) all = All-cons (λ b. (b == 46) ≡ false) b t (no_dot b all.0) (no_dots t all.1)
-  where
-    no_dot : (b : ℕ) → is_part_byte b ≡ true → (b == 46) ≡ false
-    no_dot b h = grind (arith, nat_tests)
-
-split_joined : (t : Text) (ts : List Text) → AllByRecursion IsPartText (t ∷ ts) → slice_split is_dot (join_with_byte 46 (t ∷ ts)) ≡ t ∷ ts
-split_joined t [] each = slice_split_none is_dot t (no_dots t each.0.1)
-split_joined t (next ∷ ts) each =
-    slice_split_at is_dot t 46 _ (no_dots t each.0.1) refl
-    ∙ rw (split_joined next ts each.1)
-
 -- joined by dots and cut there they are the same
 pub parts_cut : (ts : List Text) → list_all is_part ts ≡ true → cut_at_dots (join_with_byte 46 ts) ≡ ts
 parts_cut [] e = refl
 parts_cut (t ∷ ts) e =
-    let each = parts_bytes (t ∷ ts) e in
-    some_cut (join_with_byte 46 (t ∷ ts)) (joined_some t ts each.0.0) ∙ split_joined t ts each
+    some_cut (join_with_byte 46 (t ∷ ts)) (joined_some t ts (part_bytes t (and_parts _ _ e).0).0) ∙ split_parts t ts e
 
 module _ (digits : Digits) where
   -- the text of identifiers is the one that they are kept from
@@ -257,11 +213,6 @@ pub begins_marked : (p : ℕ → Bool) (mark : ℕ) (ts : List Text) (more : Tex
     → p (slice_index (marked (mark ∷ []) ts ++ more) 0) ≡ false
 begins_marked p mark [] more here there = there
 begins_marked p mark (t ∷ ts) more here there = here
-
--- how many bytes a part has with its mark
-pub marked_size : (mark : ℕ) (part : Text) → (length part == 0) ≡ false → length part + 1 ≡ length (marked (mark ∷ []) (cut_at_dots part))
-marked_size mark [] some = cc
-marked_size mark (b ∷ part) some = omega (arith, ap length (marked_cut mark (b ∷ part) (omega arith)))
 
 pub part_fits : (mark : ℕ) (part : Text) → length part ≤ length (marked (mark ∷ []) (cut_at_dots part))
 part_fits mark [] = omega arith

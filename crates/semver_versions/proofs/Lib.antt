@@ -7,3 +7,4 @@ pub mod ReadTexts
 pub mod ReadVersions
 pub mod TextSlices
 pub mod WhiteSpaces
+mod ClonedIdentifiers

@@ -107,7 +107,3 @@ pub kept_of : (before : ℕ) (text : Text) (v : VersionValue) → SpellsVersion 
     → v ≡ kept_version_of o
 kept_of before text v w o is =
     its_version before text v w o is ∙ ap (λ digits. version_by digits (kept_version_of o)) (ap (λ (x : OutlineValue). x.digits) is.2)
-
--- what is read so of what is kept, of a result
-pub if_ok_by : {A E K V : Type 0} (f : K → V) (g : A → K) (k : K) (r : Result A E) → IfOk r (λ x. g x ≡ k) → IfOk r (λ x. f (g x) ≡ f k)
-if_ok_by f g k r is = if_ok_more r (λ x e. ap f e) is

@@ -10,7 +10,8 @@ use Rattle.std.proofs.lemmas.Bool.Decides.{nat_tests}
 use Rattle.std.proofs.lemmas.List.Sums.{count_by-le-length, sum_by-cons}
 use Rattle.std.proofs.lemmas.Fmt.{decimal_nonempty, length-decimal-le}
 use Rattle.semver_texts.specs.Texts.{Text, BeginsWithNumbers, has_no_leading_zero, is_dotted_byte, is_part, marked}
-use Rattle.semver_texts.specs.ToolVersions.{AreWhiteSpaces, SpellsIn, SpellsSemver, before_numbers, characters, goes_on}
+use Rattle.semver_texts.specs.WhiteSpace.{AreWhiteSpaces}
+use Rattle.semver_texts.specs.ToolVersions.{SpellsIn, SpellsSemver, before_numbers, characters, goes_on}
 use Rattle.semver_texts.specs.Versions.{VersionValue, numbers}
 use Rattle.semver_texts.specs.VersionGrammar.{SpellsVersion}
 use Rattle.semver_texts.specs.Digits.{digits_in}

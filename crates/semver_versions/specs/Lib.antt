@@ -1,3 +1,4 @@
 pub mod AnyLength
 pub mod Outlines
+pub mod ReadVersions
 pub mod Steps

@@ -1,5 +1,5 @@
 //! Laws over the definitions: each is the contract of a function that does nothing.
-ghost use Rattle.std.specs.Prelude.{◌≡◌, ◌↔◌};
+ghost use Rattle.std.specs.Prelude.{◌≡◌, ◌↔◌, ◌<◌, ◌^◌};
 ghost use Rattle.semver_texts.specs.Texts.{Text};
 ghost use Rattle.semver_texts.specs.Versions.{VersionValue};
 ghost use Rattle.semver_texts.specs.ToolVersions.{SpellsIn};
@@ -8,6 +8,8 @@ ghost use Rattle.semver_texts.specs.declared.grammar.Grammar.{Grammar};
 ghost use Rattle.semver_texts.specs.declared.grammar.Grammar.TheVariants.{Crate};
 ghost use Rattle.semver_versions.specs.Outlines.{IsOutlineIn, IsOutlineOf, OutlineValue};
 ghost use Rattle.semver_versions.specs.Outlines.{version_of};
+
+use crate::outlines::Outline;
 
 /// No text spells two versions.
 pub fn one_version()
@@ -29,3 +31,12 @@ pub fn one_outlined_version()
     ensures same_outline { (o : OutlineValue) (text : Text)
         → IsOutlineIn Crate text o ↔ IsOutlineOf text o }
 {}
+
+/// The numbers of an outline fit 64 bits. It does nothing.
+pub fn numbers_of_outlines_fit(version: &Outline<'_>)
+    ensures major { version.now.major < 2 ^ 64 }
+    ensures minor { version.now.minor < 2 ^ 64 }
+    ensures patch { version.now.patch < 2 ^ 64 }
+{
+    let _ = (version.major, version.minor, version.patch);
+}

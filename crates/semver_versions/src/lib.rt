@@ -6,5 +6,6 @@ pub mod comparing;
 pub mod identifiers;
 pub mod laws;
 mod outlines;
+pub mod read_version;
 mod reader;
 pub mod version;

@@ -14,7 +14,7 @@ ghost use Rattle.semver_versions.specs.Steps.Reading.{ArePartTexts, outline_with
 
 use crate::comparing::InVersions;
 use crate::identifiers::{identifiers, identifiers_of_text};
-use semver_texts::dotted::text_of_parts;
+use semver_texts::dotted::{marked_len, text_of_parts};
 use semver_texts::grammar::Digits;
 use semver_texts::identifiers::{ByDigits, Joined};
 use semver_texts::precedence::{Identifiers, compare};
@@ -66,6 +66,39 @@ impl<'t> Model for Outline<'t> {
 }
 
 impl<'t> Outline<'t> {
+    // Answer: equation.
+    /// The outline of 0.0.0.
+    ///
+    /// ```
+    /// use semver_parser::version::{self, Outline};
+    ///
+    /// let zero = version::outline("0.0.0").unwrap();
+    /// assert!(Outline::zero().compare(&zero).is_eq());
+    /// ```
+    pub fn zero() -> Outline<'t>
+        ensures { result ≡ record {
+          major = 0;
+          minor = 0;
+          patch = 0;
+          pre = [];
+          build = [];
+          pre_offset = 0;
+          build_offset = 0;
+          digits = Digits.Kept;
+        } }
+    {
+        Outline {
+            major: 0,
+            minor: 0,
+            patch: 0,
+            pre: &[],
+            build: &[],
+            before_pre: 0,
+            before_build: 0,
+            digits: Digits::Kept,
+        }
+    }
+
     // Answer: equation.
     /// The first number.
     ///
@@ -239,7 +272,7 @@ impl<'t> Outline<'t> {
     // Answer: equation.
     /// The identifiers of the pre-release. Digits from 2^64 on are kept as a text.
     ///
-    /// Memory is asked for where there are some: for their list, and for each that isn't a number.
+    /// It allocates if there are some: for their list, and for each that isn't a number.
     /// `Err` is out of memory.
     ///
     /// ```
@@ -268,7 +301,7 @@ impl<'t> Outline<'t> {
     }
 
     // Answer: equation.
-    /// The identifiers of the build. Memory is asked for as by [`Outline::pre_identifiers`].
+    /// The identifiers of the build. It allocates as [`Outline::pre_identifiers`].
     ///
     /// ```
     /// use semver_parser::version::{self, Identifier};
@@ -297,7 +330,7 @@ impl<'t> Outline<'t> {
     // Answer: equation.
     /// The version that the outline is of.
     ///
-    /// Memory is asked for where there is a pre-release or a build: for the lists of identifiers,
+    /// It allocates if there is a pre-release or a build: for the lists of identifiers,
     /// and for each identifier that isn't a number. `Err` is out of memory.
     ///
     /// ```
@@ -423,15 +456,6 @@ fn identifiers_at(
         return Ok(Vec::new(alloc));
     }
     identifiers_of_text(alloc, &text[offset..offset + parts.len()])
-}
-
-/// How many bytes a part has with its mark.
-#[inline(always)]
-fn marked_len(part: &[u8]) -> usize
-    requires { length part.now + 1 < 2 ^ 64 }
-    ensures { (mark : ℕ) → result ≡ length (marked (mark ∷ []) (cut_at_dots part.now)) }
-{
-    if part.is_empty() { 0 } else { part.len() + 1 }
 }
 
 /// Where a part begins whose mark is at the place; 0 where there is no part.

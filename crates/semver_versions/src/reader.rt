@@ -21,12 +21,8 @@ use crate::outlines::{Outline, with_parts};
 use semver_texts::decimals::{begins_with_digit, numbers_at_digit};
 use semver_texts::dotted::{Hyphens, have_no_leading_zeros, marked_part, strip_mark};
 use semver_texts::grammar::Grammar;
-
-/// No number of a version of npm is above this, the greatest that JavaScript has exactly.
-const GREATEST: u64 = 9_007_199_254_740_991;
-
-/// No version text of npm has more characters.
-const CHARACTERS: usize = 256;
+use semver_texts::npm_limits::{MAX_LENGTH, MAX_SAFE_INTEGER};
+use semver_texts::white_space::white_space_len;
 
 /// How many bytes the character at the front has, if it may be before and after a version; else 0.
 /// npm takes what JavaScript calls white space.
@@ -41,16 +37,7 @@ fn around_len(bytes: &[u8], grammar: Grammar) -> usize
             _ => 0,
         },
         Grammar::Cargo => 0,
-        Grammar::Npm => match bytes {
-            [9..=13 | 32, ..] => 1,
-            [0xC2, 0xA0, ..] => 2,
-            [0xE1, 0x9A, 0x80, ..]
-            | [0xE2, 0x80, 0x80..=0x8A | 0xA8 | 0xA9 | 0xAF, ..]
-            | [0xE2, 0x81, 0x9F, ..]
-            | [0xE3, 0x80, 0x80, ..]
-            | [0xEF, 0xBB, 0xBF, ..] => 3,
-            _ => 0,
-        },
+        Grammar::Npm => white_space_len(bytes),
     }
 }
 
@@ -120,7 +107,7 @@ fn are_small(major: u64, minor: u64, patch: u64) -> bool
     ensures yes { result ≡ true → NumbersFit Npm major minor patch }
     ensures no { result ≡ false → ¬ (NumbersFit Npm major minor patch) }
 {
-    major | minor | patch <= GREATEST
+    major | minor | patch <= MAX_SAFE_INTEGER
 }
 
 /// Whether the numbers of a version are within the limit, which npm alone has. For speed, small
@@ -146,12 +133,12 @@ fn is_short(before: usize, bytes: &[u8], grammar: Grammar) -> bool
     ensures yes { result ≡ true → IsShort grammar (before + characters bytes.now) }
     ensures no { result ≡ false → ¬ (IsShort grammar (before + characters bytes.now)) }
 {
-    if before + bytes.len() <= CHARACTERS {
+    if before + bytes.len() <= MAX_LENGTH {
         return true;
     }
     match grammar {
         Grammar::Crate | Grammar::Cargo => true,
-        Grammar::Npm => before + count_characters(bytes) <= CHARACTERS,
+        Grammar::Npm => before + count_characters(bytes) <= MAX_LENGTH,
     }
 }
 

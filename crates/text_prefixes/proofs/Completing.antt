@@ -11,7 +11,7 @@ NoneYet Is completions prefix i = (k : ℕ) → k < i → ¬ (Is (prefix ++ get_
 
 -- the completions are seen through references
 module _ {R : Type 0} (completions : List Text) (refs : List R) (now : R → Text) (same : map now refs ≡ completions) where
-  as_long : length refs ≡ length completions
+  pub as_long : length refs ≡ length completions
   as_long = sym (length-map refs now) ∙ ap length same
 
   at : (i : ℕ) (d : R) → i < length refs → get_or completions i [] ≡ now (get_or refs i d)

@@ -46,7 +46,7 @@ pub record IsCompletedBy (m : Measure) (Is : Text → Type 0) (completions : Lis
   pub uncut : is_cut rest ≡ false → is_cut more ≡ false
 
 pub record CompletesBy (m : Measure) (Is : Text → Type 0) (least : Text) (completions : List Text) : Type 0 where
-  pub has : Is least
+  pub contains : Is least
   pub utf8 : (t : Text) → Is t → IsMeasured m t
   pub least_short : (t : Text) → Is t → size m least ≤ size m t
   pub least_uncut : is_cut least ≡ false
@@ -121,13 +121,13 @@ abbrev pub is_one : List Text → Text → Bool
 is_one [] e = false
 is_one (o ∷ os) e = bytes_eq o e || is_one os e
 
-one_of : (os : List Text) (e : Text) → is_one os e ≡ true → Contains os e
+pub one_of : (os : List Text) (e : Text) → is_one os e ≡ true → Contains os e
 one_of [] e y = cc
 one_of (o ∷ os) e y =
     by_test (bytes_eq o e) (λ same. (0, omega arith, grind (arith, bytes_eq-Decides o e)))
     (λ n. Contains-append_right (o ∷ []) os e (one_of os e (rw n at y)))
 
-each_shown : (test : Text → Bool) (P : Text → Type 0) → ((e : Text) → test e ≡ true → P e)
+pub each_shown : (test : Text → Bool) (P : Text → Type 0) → ((e : Text) → test e ≡ true → P e)
     → (es : List Text) → list_all test es ≡ true → AllByRecursion P es
 each_shown test P shows [] y = tt
 each_shown test P shows (e ∷ es) y =
@@ -135,6 +135,9 @@ each_shown test P shows (e ∷ es) y =
 
 each_one : (os es : List Text) → list_all (is_one os) es ≡ true → AllByRecursion (Contains os) es
 each_one os es y = each_shown (is_one os) (Contains os) (one_of os) es y
+
+all_among : (os es : List Text) → list_all (is_one os) es ≡ true → (e : Text) → Contains es e → Contains os e
+all_among os es y e = All-contains (Contains os) es e (All-from_recursion (Contains os) es (each_one os es y))
 
 -- also that these others are short
 abbrev pub are_among : List Text → List Text → Bool
@@ -149,6 +152,27 @@ each_among others es y =
           (λ e one u. one_of others e (rw u at one)) es parts.1,
     )
 
+-- what completes a prefix, in other words: by other completions, in another language, after another text with the same more
+moves : {m : Measure} {Is Other : Text → Type 0} {completions others : List Text} {t u rest : Text}
+    (g : IsCompletedBy m Is completions t rest) → (Contains completions g.more → Contains others g.more)
+    → (Is (t ++ g.more) → Other (u ++ g.more)) → IsCompletedBy m Other others u rest
+moves g among to = record { more = g.more; completion = among g.completion; is = to g.is; short = g.short; uncut = g.uncut }
+
+says : {m : Measure} {Is Other : Text → Type 0} {completions : List Text} {t u rest : Text} (g : IsCompletedBy m Is completions t rest)
+    → (Is (t ++ g.more) → Other (u ++ g.more)) → IsCompletedBy m Other completions u rest
+says g to = moves g (λ one. one) to
+
+-- also where more was after it
+longer : {m : Measure} {Is : Text → Type 0} {completions : List Text} {t rest : Text} (r y : Text)
+    → IsCompletedBy m Is completions t r → rest ≡ r ++ y → IsCompletedBy m Is completions t rest
+longer {m = m} {rest = rest} r y g e = record {
+  more = g.more;
+  completion = g.completion;
+  is = g.is;
+  short = omega (arith, g.short, ap (size m) e ∙ size_append m r y);
+  uncut = λ u. g.uncut (cut_prefix r y rest e u);
+}
+
 -- ---- of one language
 
 module _ {m : Measure} {Is : Text → Type 0} {least : Text} {completions : List Text} (w : CompletesBy m Is least completions) where
@@ -157,26 +181,18 @@ module _ {m : Measure} {Is : Text → Type 0} {least : Text} {completions : List
   goes_all [] rest is = record {
     more = least;
     completion = (0, omega arith, refl);
-    is = w.has;
+    is = w.contains;
     short = w.least_short rest is;
     uncut = λ u. w.least_uncut;
   }
-  goes_all (b ∷ t) rest is = let g = w.goes b t rest is in
-      record {
-        more = g.more;
-        completion = Contains-append_right (least ∷ []) completions g.more g.completion;
-        is = g.is;
-        short = g.short;
-        uncut = g.uncut;
-      }
+  goes_all (b ∷ t) rest is = moves (w.goes b t rest is) (Contains-append_right (least ∷ []) completions _) (λ i. i)
 
   -- of any bytes
   pub bytes_go_on : (others : List Text) → list_all (is_one others) (least ∷ completions) ≡ true → (t rest : Text) → Is (t ++ rest)
       → GoesOn Is others t
   bytes_go_on others among t rest is =
       let g = goes_all t rest is in
-      let e = All-contains (Contains others) (least ∷ completions) g.more
-      (All-from_recursion (Contains others) (least ∷ completions) (each_one others (least ∷ completions) among)) g.completion in
+      let e = all_among others (least ∷ completions) among g.more g.completion in
       (e.0, g.more, e.1, e.2, g.is)
 
   -- of whole texts, by those that don't begin within a character
@@ -185,7 +201,7 @@ module _ {m : Measure} {Is : Text → Type 0} {least : Text} {completions : List
   are_completions others ascii among = record {
     ascii = ascii;
     short = (each_among others (least ∷ completions) among).0;
-    some = let e = is_among least (0, omega arith, refl) (w.least_uncut) in (e.0, least, e.1, e.2, w.has);
+    some = let e = is_among least (0, omega arith, refl) (w.least_uncut) in (e.0, least, e.1, e.2, w.contains);
     complete = λ t rest utf8 more is. let g = goes_all t rest is in
         let e = is_among g.more g.completion (g.uncut (utf8_uncut rest more)) in (e.0, g.more, e.1, e.2, g.is);
   }
@@ -198,59 +214,44 @@ module _ {m : Measure} {Is : Text → Type 0} {least : Text} {completions : List
   -- by others, which are these and more
   pub among : (others : List Text) → list_all (is_one others) completions ≡ true → CompletesBy m Is least others
   among others y = record {
-    has = w.has;
+    contains = w.contains;
     utf8 = w.utf8;
     least_short = w.least_short;
     least_uncut = w.least_uncut;
-    goes = λ b t rest is. let g = w.goes b t rest is in
-        let e = All-contains (Contains others) completions g.more (All-from_recursion (Contains others) completions
-        (each_one others completions y)) in
-        record { more = g.more; completion = e g.completion; is = g.is; short = g.short; uncut = g.uncut };
+    goes = λ b t rest is. moves (w.goes b t rest is) (all_among others completions y _) (λ i. i);
   }
 
   -- the same texts, said otherwise
   pub same : (Other : Text → Type 0) → ((t : Text) → Is t → Other t) → ((t : Text) → Other t → Is t) → CompletesBy m Other least completions
   same Other to from = record {
-    has = to least w.has;
+    contains = to least w.contains;
     utf8 = λ t is. w.utf8 t (from t is);
     least_short = λ t is. w.least_short t (from t is);
     least_uncut = w.least_uncut;
-    goes = λ b t rest is. let g = w.goes b t rest (from (b ∷ t ++ rest) is) in
-        record { more = g.more; completion = g.completion; is = to ((b ∷ t) ++ g.more) g.is; short = g.short; uncut = g.uncut };
+    goes = λ b t rest is. says (w.goes b t rest (from (b ∷ t ++ rest) is)) (to _);
   }
 
   -- those of no more than so many characters
   pub limited : (n : ℕ) → size m least ≤ n → CompletesBy m (λ t. Is t × (size m t ≤ n)) least completions
   limited n small = record {
-    has = (w.has, small);
+    contains = (w.contains, small);
     utf8 = λ t is. w.utf8 t is.0;
     least_short = λ t is. w.least_short t is.0;
     least_uncut = w.least_uncut;
-    goes = λ b t rest is. let g = w.goes b t rest is.0 in record {
-      more = g.more;
-      completion = g.completion;
-      is = (g.is, omega (arith, is.1, g.short, size_append m (b ∷ t) g.more, size_append m (b ∷ t) rest));
-      short = g.short;
-      uncut = g.uncut;
-    };
+    goes = λ b t rest is. let g = w.goes b t rest is.0 in
+        says g (λ i. (i, omega (arith, is.1, g.short, size_append m (b ∷ t) g.more, size_append m (b ∷ t) rest)));
   }
 
   -- or nothing
   pub optional : CompletesBy m (λ t. (t ≡ []) ⊎ Is t) [] completions
   optional = record {
-    has = inl refl;
+    contains = inl refl;
     utf8 = λ t is. elim is [ inl e ↦ subst (IsMeasured m) (sym e) (measured_nothing m) | inr i ↦ w.utf8 t i ];
     least_short = λ t is. omega (arith, size_nothing m);
     least_uncut = refl;
     goes = λ b t rest is. elim is [
       | inl e ↦ absurd (cc)
-      | inr i ↦ (let g = w.goes b t rest i in record {
-        more = g.more;
-        completion = g.completion;
-        is = inr g.is;
-        short = g.short;
-        uncut = g.uncut;
-      })
+      | inr i ↦ says (w.goes b t rest i) (λ x. inr x)
     ];
   }
 
@@ -259,7 +260,7 @@ pub choice : {m : Measure} {A B : Text → Type 0} {a b : Text} {ea eb : List Te
     → size m a ≤ size m b
     → CompletesBy m (λ t. A t ⊎ B t) a (ea ++ eb)
 choice {m} {A} {B} {a} {b} {ea} {eb} v w less = record {
-  has = inl v.has;
+  contains = inl v.contains;
   utf8 = λ t is. elim is [ inl i ↦ v.utf8 t i | inr i ↦ w.utf8 t i ];
   least_short = λ t is. elim is [
     | inl i ↦ v.least_short t i
@@ -267,22 +268,8 @@ choice {m} {A} {B} {a} {b} {ea} {eb} v w less = record {
   ];
   least_uncut = v.least_uncut;
   goes = λ c t rest is. elim is [
-    | inl i ↦ (let g = v.goes c t rest i in
-        record {
-          more = g.more;
-          completion = Contains-append_left ea eb g.more g.completion;
-          is = inl g.is;
-          short = g.short;
-          uncut = g.uncut;
-        })
-    | inr i ↦ (let g = w.goes c t rest i in
-        record {
-          more = g.more;
-          completion = Contains-append_right ea eb g.more g.completion;
-          is = inr g.is;
-          short = g.short;
-          uncut = g.uncut;
-        })
+    | inl i ↦ moves (v.goes c t rest i) (Contains-append_left ea eb _) (λ x. inl x)
+    | inr i ↦ moves (w.goes c t rest i) (Contains-append_right ea eb _) (λ x. inr x)
   ];
 }
 
@@ -291,18 +278,12 @@ pub any : {m : Measure} {I : Type 0} (L : I → Text → Type 0) (least : I → 
     → ((i : I) → CompletesBy m (L i) (least i) (completions i)) → ((i : I) → list_all (is_one all) (completions i) ≡ true)
     → (j : I) → ((i : I) → size m (least j) ≤ size m (least i)) → CompletesBy m (λ t. (i : I) × L i t) (least j) all
 any L least completions all w among j less = record {
-  has = (j, (w j).has);
+  contains = (j, (w j).contains);
   utf8 = λ t is. (w is.0).utf8 t is.1;
   least_short = λ t is. omega (arith, less is.0, (w is.0).least_short t is.1);
   least_uncut = (w j).least_uncut;
-  goes = λ b t rest is. let g = (w is.0).goes b t rest is.1 in record {
-    more = g.more;
-    completion = All-contains (Contains all) (completions is.0) g.more
-        (All-from_recursion (Contains all) (completions is.0) (each_one all (completions is.0) (among is.0))) g.completion;
-    is = (is.0, g.is);
-    short = g.short;
-    uncut = g.uncut;
-  };
+  goes = λ b t rest is.
+      moves ((w is.0).goes b t rest is.1) (all_among all (completions is.0) (among is.0) _) (λ i. (is.0, i));
 }
 
 -- ---- one byte
@@ -316,7 +297,7 @@ ascii_uncut b small = grind (arith, nat_tests)
 
 pub byte_by : (m : Measure) (b : ℕ) → b < 128 → CompletesBy m (λ t. t ≡ b ∷ []) (b ∷ []) ([] ∷ [])
 byte_by m b small = record {
-  has = refl;
+  contains = refl;
   utf8 = λ t e. subst (IsMeasured m) (sym e) (measured_byte m b small);
   least_short = λ t e. omega (arith, ap (size m) e);
   least_uncut = ascii_uncut b small;
@@ -348,60 +329,7 @@ pub record Seq (A B : Text → Type 0) (t : Text) : Type 0 where
 pub both : {A B : Text → Type 0} (x y : Text) → A x → B y → Seq A B (x ++ y)
 both x y a b = record { first = x; second = y; in_first = a; in_second = b; whole = refl }
 
-pub seq : {m : Measure} {A B : Text → Type 0} {a b : Text} {ea eb : List Text} → CompletesBy m A a ea → CompletesBy m B b eb
-    → CompletesBy m (Seq A B) (a ++ b) (map (λ m. m ++ b) ea ++ eb)
-seq {m} {A} {B} {a} {b} {ea} {eb} v w = record {
-  has = both a b v.has w.has;
-  utf8 = λ t is. subst (IsMeasured m) (sym is.whole)
-      (measured_append m is.first is.second (v.utf8 is.first is.in_first) (w.utf8 is.second is.in_second));
-  least_short = λ t is. omega (
-    arith,
-    v.least_short is.first is.in_first,
-    w.least_short is.second is.in_second,
-    size_append m a b,
-    ap (size m) is.whole ∙ size_append m is.first is.second,
-  );
-  least_uncut = append_uncut a b v.least_uncut w.least_uncut;
-  goes = goes;
-}
-  where
-    goes : (c : ℕ) (t rest : Text) → Seq A B (c ∷ t ++ rest) → IsCompletedBy m (Seq A B) (map (λ m. m ++ b) ea ++ eb) (c ∷ t) rest
-    goes c t rest is = elim (cut_at is.first is.second (c ∷ t) rest is.whole) [
-      | inl (r, x_is, rest_is) ↦ (let g = v.goes c t r (subst A x_is is.in_first) in record {
-        more = g.more ++ b;
-        completion = Contains-append_left _ eb _ (contains_mapped (λ m. m ++ b) ea g.more g.completion);
-        is = record {
-          first = c ∷ t ++ g.more;
-          second = b;
-          in_first = g.is;
-          in_second = w.has;
-          whole = sym (append_assoc (c ∷ t) g.more b);
-        };
-        short = omega (
-          arith,
-          g.short,
-          w.least_short is.second is.in_second,
-          size_append m g.more b,
-          ap (size m) rest_is ∙ size_append m r is.second,
-        );
-        uncut = λ u. append_uncut g.more b (g.uncut (cut_prefix r is.second rest rest_is u)) (w.least_uncut);
-      })
-      | inr (d, m, t_is, y_is) ↦ (let g = w.goes d m rest (subst B y_is is.in_second) in record {
-        more = g.more;
-        completion = Contains-append_right (map (λ m. m ++ b) ea) eb g.more g.completion;
-        is = record {
-          first = is.first;
-          second = d ∷ m ++ g.more;
-          in_first = is.in_first;
-          in_second = g.is;
-          whole = ap (λ x. x ++ g.more) t_is ∙ append_assoc is.first (d ∷ m) g.more;
-        };
-        short = g.short;
-        uncut = g.uncut;
-      })
-    ]
-
--- so where what the second may be depends on what the first is
+-- where what the second may be depends on what the first is
 module _ {F : Type 0} (A B : F → Text → Type 0) where
   abbrev pub Dependent : Text → Type 0
   Dependent t = (f : F) × Seq (A f) (B f) t
@@ -420,7 +348,7 @@ module _ {F : Type 0} (A B : F → Text → Type 0) where
             first = c ∷ t ++ g.more;
             second = b;
             in_first = g.is.1;
-            in_second = (w g.is.0).has;
+            in_second = (w g.is.0).contains;
             whole = sym (append_assoc (c ∷ t) g.more b);
           },
         );
@@ -433,27 +361,22 @@ module _ {F : Type 0} (A B : F → Text → Type 0) where
         );
         uncut = λ u. append_uncut g.more b (g.uncut (cut_prefix r is.second rest rest_is u)) (w f).least_uncut;
       })
-      | inr (d, s, t_is, y_is) ↦ (let g = (w f).goes d s rest (subst (B f) y_is is.in_second) in record {
-        more = g.more;
-        completion = Contains-append_right (map (λ x. x ++ b) ea) eb g.more g.completion;
-        is = (
-          f,
-          record {
-            first = is.first;
-            second = d ∷ s ++ g.more;
-            in_first = is.in_first;
-            in_second = g.is;
-            whole = ap (λ x. x ++ g.more) t_is ∙ append_assoc is.first (d ∷ s) g.more;
-          },
-        );
-        short = g.short;
-        uncut = g.uncut;
-      })
+      | inr (d, s, t_is, y_is) ↦ (let g = (w f).goes d s rest (subst (B f) y_is is.in_second) in
+          moves g (Contains-append_right (map (λ x. x ++ b) ea) eb _) (λ i. (
+            f,
+            record {
+              first = is.first;
+              second = d ∷ s ++ g.more;
+              in_first = is.in_first;
+              in_second = i;
+              whole = ap (λ x. x ++ g.more) t_is ∙ append_assoc is.first (d ∷ s) g.more;
+            },
+          )))
     ]
 
     pub dependent : CompletesBy m Dependent (a ++ b) (map (λ x. x ++ b) ea ++ eb)
     dependent = record {
-      has = (v.has.0, both a b v.has.1 (w v.has.0).has);
+      contains = (v.contains.0, both a b v.contains.1 (w v.contains.0).contains);
       utf8 = λ t (f, is). subst (IsMeasured m) (sym is.whole)
           (measured_append m is.first is.second (v.utf8 is.first (f, is.in_first)) ((w f).utf8 is.second is.in_second));
       least_short = λ t (f, is). omega (
@@ -463,9 +386,15 @@ module _ {F : Type 0} (A B : F → Text → Type 0) where
         size_append m a b,
         ap (size m) is.whole ∙ size_append m is.first is.second,
       );
-      least_uncut = append_uncut a b v.least_uncut (w v.has.0).least_uncut;
+      least_uncut = append_uncut a b v.least_uncut (w v.contains.0).least_uncut;
       goes = dependent_goes;
     }
+
+pub seq : {m : Measure} {A B : Text → Type 0} {a b : Text} {ea eb : List Text} → CompletesBy m A a ea → CompletesBy m B b eb
+    → CompletesBy m (Seq A B) (a ++ b) (map (λ m. m ++ b) ea ++ eb)
+seq {A = A} {B = B} v w =
+    same (dependent (λ (x : Unit {0}). A) (λ x. B) (same v (λ t. Unit {0} × A t) (λ t i. (tt, i)) (λ t i. i.1)) (λ x. w)) (Seq A B)
+    (λ t i. i.1) (λ t i. (tt, i))
 
 -- ---- any number of them, and at most so many
 
@@ -483,30 +412,18 @@ module _ {m : Measure} {P : Text → Type 0} {least : Text} {completions : List 
       → IsCompletedBy m (AtMost (length xs) P) completions (b ∷ t) rest
   many_goes [] all b t rest e = absurd (cc)
   many_goes (x ∷ xs) all b t rest e = elim (cut_at x (concat xs) (b ∷ t) rest e) [
-    | inl (r, x_is, rest_is) ↦ (let g = w.goes b t r (subst P x_is all.0) in record {
-      more = g.more;
-      completion = g.completion;
-      is = record {
-        many = record { texts = (b ∷ t ++ g.more) ∷ []; each = (g.is, tt); whole = sym (append-nil (b ∷ t ++ g.more)) };
-        few = omega arith;
+    | inl (r, x_is, rest_is) ↦ longer r (concat xs) (says (w.goes b t r (subst P x_is all.0)) (λ i. record {
+      many = record { texts = _ ∷ []; each = (i, tt); whole = sym (append-nil _) };
+      few = omega arith;
+    })) rest_is
+    | inr (c, m, t_is, y_is) ↦ (let g = many_goes xs all.1 c m rest (sym y_is) in says g (λ i. record {
+      many = record {
+        texts = x ∷ i.many.texts;
+        each = (all.0, i.many.each);
+        whole = ap (λ s. s ++ g.more) t_is ∙ append_assoc x (c ∷ m) g.more ∙ ap (λ s. x ++ s) i.many.whole;
       };
-      short = omega (arith, g.short, ap (size m) rest_is ∙ size_append m r (concat xs));
-      uncut = λ u. g.uncut (cut_prefix r (concat xs) rest rest_is u);
-    })
-    | inr (c, m, t_is, y_is) ↦ (let g = many_goes xs all.1 c m rest (sym y_is) in record {
-      more = g.more;
-      completion = g.completion;
-      is = record {
-        many = record {
-          texts = x ∷ g.is.many.texts;
-          each = (all.0, g.is.many.each);
-          whole = ap (λ s. s ++ g.more) t_is ∙ append_assoc x (c ∷ m) g.more ∙ ap (λ s. x ++ s) g.is.many.whole;
-        };
-        few = omega (arith, g.is.few);
-      };
-      short = g.short;
-      uncut = g.uncut;
-    })
+      few = omega (arith, i.few);
+    }))
   ]
 
   all_utf8 : (xs : List Text) → AllByRecursion P xs → IsMeasured m (concat xs)
@@ -521,28 +438,21 @@ module _ {m : Measure} {P : Text → Type 0} {least : Text} {completions : List 
 
   pub many : CompletesBy m (Many P) [] completions
   many = record {
-    has = none;
+    contains = none;
     utf8 = many_utf8;
     least_short = λ t is. omega (arith, size_nothing m);
     least_uncut = refl;
-    goes = λ b t rest is. let g = many_goes is.texts is.each b t rest is.whole in
-        record { more = g.more; completion = g.completion; is = g.is.many; short = g.short; uncut = g.uncut };
+    goes = λ b t rest is. says (many_goes is.texts is.each b t rest is.whole) (λ i. i.many);
   }
 
   pub at_most : (n : ℕ) → CompletesBy m (AtMost n P) [] completions
   at_most n = record {
-    has = record { many = none; few = omega arith };
+    contains = record { many = none; few = omega arith };
     utf8 = λ t is. many_utf8 t is.many;
     least_short = λ t is. omega (arith, size_nothing m);
     least_uncut = refl;
-    goes = λ b t rest is. let g = many_goes is.many.texts is.many.each b t rest is.many.whole in
-        record {
-          more = g.more;
-          completion = g.completion;
-          is = record { many = g.is.many; few = omega (arith, g.is.few, is.few) };
-          short = g.short;
-          uncut = g.uncut;
-        };
+    goes = λ b t rest is. says (many_goes is.many.texts is.many.each b t rest is.many.whole)
+        (λ i. record { many = i.many; few = omega (arith, i.few, is.few) });
   }
 
 -- ---- some, joined by a byte
@@ -557,45 +467,27 @@ module _ (between : ℕ) (small : between < 128) {m : Measure} {P : Text
     → Type 0} {least : Text} {completions : List Text} (w : CompletesBy m P least completions) where
   -- the first of them, as far as the prefix has it
   first_goes : (t rest : Text) → P (t ++ rest) → IsCompletedBy m (Joined between P) (least ∷ completions) t rest
-  first_goes t rest is = let g = goes_all w t rest is in record {
-    more = g.more;
-    completion = g.completion;
-    is = record { first = t ++ g.more; others = []; each = (g.is, tt); whole = refl };
-    short = g.short;
-    uncut = g.uncut;
-  }
+  first_goes t rest is = says (goes_all w t rest is) (λ i. record { first = _; others = []; each = (i, tt); whole = refl })
 
   joined_goes : (x : Text) (xs : List Text) → AllByRecursion P (x ∷ xs) → (t rest : Text)
       → t ++ rest ≡ join_with_byte between (x ∷ xs) → IsCompletedBy m (Joined between P) (least ∷ completions) t rest
   joined_goes x [] all t rest e = first_goes t rest (subst P (sym e) all.0)
   joined_goes x (y ∷ ys) all t rest e = elim (cut_at x (between ∷ join_with_byte between (y ∷ ys)) t rest e) [
-    | inl (r, x_is, rest_is) ↦ (let g = first_goes t r (subst P x_is all.0) in record {
-      more = g.more;
-      completion = g.completion;
-      is = g.is;
-      short = omega (arith, g.short, ap (size m) rest_is ∙ size_append m r (between ∷ join_with_byte between (y ∷ ys)));
-      uncut = λ u. g.uncut (cut_prefix r (between ∷ join_with_byte between (y ∷ ys)) rest rest_is u);
-    })
+    | inl (r, x_is, rest_is) ↦ longer r (between ∷ join_with_byte between (y ∷ ys)) (first_goes t r (subst P x_is all.0)) rest_is
     | inr (c, m, t_is, y_is) ↦ (
         let tails : join_with_byte between (y ∷ ys) ≡ m ++ rest = cc in
         let head : between ≡ c = cc in
-        let g = joined_goes y ys all.1 m rest (sym tails) in record {
-          more = g.more;
-          completion = g.completion;
-          is = record {
-            first = x;
-            others = g.is.first ∷ g.is.others;
-            each = (all.0, g.is.each);
-            whole = ap (λ s. s ++ g.more) t_is ∙ append_assoc x (c ∷ m) g.more ∙ (λ i. x ++ (sym head i ∷ g.is.whole i));
-          };
-          short = g.short;
-          uncut = g.uncut;
-        })
+        let g = joined_goes y ys all.1 m rest (sym tails) in says g (λ o. record {
+          first = x;
+          others = o.first ∷ o.others;
+          each = (all.0, o.each);
+          whole = ap (λ s. s ++ g.more) t_is ∙ append_assoc x (c ∷ m) g.more ∙ (λ i. x ++ (sym head i ∷ o.whole i));
+        }))
   ]
 
   pub joined : CompletesBy m (Joined between P) least (least ∷ completions)
   joined = record {
-    has = record { first = least; others = []; each = (w.has, tt); whole = refl };
+    contains = record { first = least; others = []; each = (w.contains, tt); whole = refl };
     utf8 = λ t is. subst (IsMeasured m) (sym is.whole) (joined_utf8 is.first is.others is.each);
     least_short = λ t is. omega (arith, w.least_short is.first is.each.0, ap (size m) is.whole, first_short is.first is.others);
     least_uncut = w.least_uncut;

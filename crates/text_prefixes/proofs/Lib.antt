@@ -1,6 +1,7 @@
 pub mod Completions
 pub mod Completing
 pub mod LongestPrefixes
+pub mod FiniteLanguages
 pub mod Leaves
 pub mod Cores
 pub mod VersionPrefixes

@@ -2,13 +2,14 @@
 -- The longest prefix of a text, as the search finds it.
 use Rattle.std.proofs.Common.{◌≡◌, ℕ, ◌<◌, ◌≤◌, ⊎_elim, [], ◌++◌, List, ap, refl, sym, ◌∙◌, rules}
 use Rattle.std.proofs.Common.{subst, append-nil, append_assoc, arith, length, length-take, take, drop}
+use Rattle.std.specs.Prelude.{Err, IfOk, Ok, Result}
 use Rattle.std.specs.List.{AllByRecursion, slice_range}
 use Rattle.std.specs.Str.{IsUtf8, IsCharBoundary}
 use Rattle.std.proofs.Math.Seq.{take-append_seam, take-length}
 use Rattle.std.proofs.lemmas.Bool.{cases_lt}
 use Rattle.std.proofs.lemmas.List.{take-append-drop, take-take}
 use Rattle.std.proofs.lemmas.List.Elements.{All-contains, All-from_recursion}
-use Rattle.std.proofs.lemmas.Str.{IsCharBoundary-at_seam, IsCharBoundary-end, IsCharBoundary-from_take, IsCharBoundary-start}
+use Rattle.std.proofs.lemmas.Str.{IsCharBoundary-at_seam, IsCharBoundary-end, IsCharBoundary-from_take}
 use Rattle.std.proofs.lemmas.Str.{IsUtf8-append, IsUtf8-drop, IsUtf8-nil, IsUtf8-take}
 use Rattle.std.proofs.lemmas.Str.{IsUtf8-from_ascii}
 use Rattle.std.proofs.lemmas.Str.Ascii.{IsAscii-from_all}
@@ -26,6 +27,12 @@ shorter_prefix Is x y utf8 (rest, more, text) = (y ++ rest, IsUtf8-append y rest
 
 pub one_longest : (Begins : Text → Type 0) (t : Text) (m n : ℕ) → IsLongestPrefix Begins t m → IsLongestPrefix Begins t n → m ≡ n
 one_longest Begins t m n a b = search rules
+
+pub one_of_each : {E : Type 0} (Begins : Text → Type 0) (t : Text) (r s : Result ℕ E) → IfOk r (IsLongestPrefix Begins t)
+    → IfOk s (IsLongestPrefix Begins t) → IfOk r (λ m. IfOk s (λ n. m ≡ n))
+one_of_each Begins t (Ok m) (Ok n) a b = one_longest Begins t m n a b
+one_of_each Begins t (Ok m) (Err e) a b = tt
+one_of_each Begins t (Err e) s a b = tt
 
 -- a shorter prefix of a text, between characters
 prefix_prefix : (Is : Text → Type 0) (t : Text) (m n : ℕ) → IsUtf8 t → IsCharBoundary t m → IsCharBoundary t n → m ≤ n
@@ -75,14 +82,40 @@ module _ (Is : Text → Type 0) (completions : List Text) (t : Text) (w : AreCom
   pub completed_text_longest : GoesOn Is completions t → IsLongestPrefix (Begins Is) t (length t)
   completed_text_longest goes = at_end (begins_from t goes)
 
-  pub first_searched : IsUtf8 t → ¬ (GoesOn Is completions t) → IsSearched Is t 0 (length t)
-  first_searched utf8 ends = record {
-    below = omega arith;
-    boundary = IsCharBoundary-start t utf8;
+  pub nothing_begins : Begins Is (take 0 t)
+  nothing_begins = begins_from [] w.some
+
+  pub first_searched : (good : ℕ) → IsCharBoundary t good → Begins Is (take good t) → IsUtf8 t → ¬ (GoesOn Is completions t)
+      → IsSearched Is t good (length t)
+  first_searched good boundary begins utf8 ends = record {
+    below = boundary.0;
+    boundary = boundary;
     end = IsCharBoundary-end t;
-    begins = begins_from [] w.some;
+    begins = begins;
     ends = λ begins. ends (goes_from t utf8 (subst (Begins Is) (take-length t) begins));
   }
+
+  pub taken_begins : (n : ℕ) (prefix : Text) → prefix ≡ slice_range t 0 n → GoesOn Is completions prefix → Begins Is (take n t)
+  taken_begins n prefix is goes =
+      let taken : prefix ≡ take n t = search rules in
+      subst (Begins Is) taken (begins_from prefix goes)
+
+  -- the next prefix, between characters, doesn't begin a text of the language
+  pub next_longest : IsUtf8 t → (good next : ℕ) → IsCharBoundary t good → Begins Is (take good t) → IsCharBoundary t next
+      → ((k : ℕ) → good < k → k < next → ¬ (IsCharBoundary t k)) → (prefix : Text) → prefix ≡ slice_range t 0 next
+      → ¬ (GoesOn Is completions prefix) → IsLongestPrefix (Begins Is) t good
+  next_longest utf8 good next boundary begins at none prefix is ends =
+      let taken : prefix ≡ take next t = search rules in
+      record {
+        within = boundary.0;
+        boundary = boundary;
+        prefix = begins;
+        no_longer = λ n longer here prefix. ⊎_elim
+            (λ less. none n longer less here)
+            (λ more. ends (subst (GoesOn Is completions) (sym taken) (goes_from (take next t) (IsUtf8-take t next utf8 at)
+            (prefix_prefix Is t next n utf8 at here more prefix))))
+            (cases_lt n next);
+      }
 
   -- one of them moves to a offset between them
   module _ (good bad middle : ℕ) (s : IsSearched Is t good bad) (after : good < middle) (before : middle < bad)
@@ -135,7 +168,7 @@ pub record IsTextPrefix (bytes text : Text) : Type 0 where
   pub utf8 : IsUtf8 text
 
 module _ (Is : Text → Type 0) (utf8 : (t : Text) → Is t → IsUtf8 t) (bytes text : Text) (f : IsTextPrefix bytes text) where
-  prefix_of : (n : ℕ) → n ≤ length text → take n text ≡ take n bytes
+  pub prefix_of : (n : ℕ) → n ≤ length text → take n text ≡ take n bytes
   prefix_of n within = ap (take n) f.prefix ∙ take-take n (length text) bytes within
 
   pub bytes_longest : (completions : List Text) → AreCompletions Is completions → (offset : ℕ)

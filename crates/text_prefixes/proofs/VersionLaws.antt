@@ -29,7 +29,7 @@ one_longest d t m n a b =
     (λ other. ⊎_elim (λ less. absurd (a.no_longer n less b.within b.prefix)) (λ more. absurd (b.no_longer m more a.within a.prefix)) other)
     (cases_order m n)
 
-same_test : (x y : Bool) (P : Type 0) → IsTrue x ↔ P → IsTrue y ↔ P → x ≡ y
+pub same_test : (x y : Bool) (P : Type 0) → IsTrue x ↔ P → IsTrue y ↔ P → x ≡ y
 same_test true true P f g = refl
 same_test true false P f g = sym (g.1 (f.0 refl))
 same_test false true P f g = f.1 (g.0 refl)

@@ -7,7 +7,8 @@ use Rattle.std.specs.Str.{IsUtf8}
 use Rattle.std.proofs.lemmas.Bool.{and_parts, and_from}
 use Rattle.semver_texts.specs.Texts.{Text, has_no_leading_zero, is_part, is_space, marked}
 use Rattle.semver_texts.specs.Digits.{identifiers_by}
-use Rattle.semver_texts.specs.ToolVersions.{AreWhiteSpaces, IsKeptAs, IsVersionTextIn, SpellsSemver, is_white_space}
+use Rattle.semver_texts.specs.ToolVersions.{IsKeptAs, IsVersionTextIn, SpellsSemver}
+use Rattle.semver_texts.specs.WhiteSpace.{AreWhiteSpaces, is_white_space}
 use Rattle.semver_texts.specs.VersionGrammar.{IsIdentifierText, SpellsIdentifier}
 use Rattle.semver_texts.specs.Versions.{IdentifierValue, VersionValue, numbers}
 use Rattle.semver_texts.specs.declared.grammar.Digits.TheVariants.{Kept, AnySize}

@@ -1,4 +1,5 @@
 pub mod Prefixes
+pub mod Buffers
 pub mod VersionCompletions
 pub mod VersionPrefixes
 pub mod Reasons

@@ -1,13 +1,13 @@
--- Why a text is not a version: a reason, by the longest prefix that it begins with and the byte after
--- it, if there is one.
+-- Why a text is not a version: a reason, by the longest prefix that it begins with and the byte
+-- after it, if there is one.
 use Prim.Native.Char.{code}
 use Rattle.std.specs.Prelude.{◌≡◌, ◌↔◌, ℕ, Bool, not, ◌&&◌, ◌||◌, ◌==◌, nat_lt, []}
 use Rattle.std.specs.Prelude.{◌∷◌, ◌++◌, if◌then◌else◌, IsTrue, Option, Some, None, codes, length}
 use Rattle.std.specs.Prelude.{reverse, slice_index}
 use Rattle.std.specs.Char.{is_ascii_digit}
-use Rattle.std.specs.Int.{is_in_range}
 use Rattle.std.specs.List.{list_all}
 use Rattle.semver_texts.specs.Texts.{Text, is_part_byte}
+use Rattle.semver_texts.specs.WhiteSpace.{is_ascii_white_space}
 use Rattle.semver_texts.specs.declared.grammar.Grammar.{Grammar}
 use Rattle.semver_texts.specs.declared.grammar.Grammar.TheVariants as grammar
 use Rattle.semver_versions.specs.AnyLength.{IsVersionAtAnyLength}
@@ -61,13 +61,9 @@ abbrev pub byte_text : Option ℕ → Text
 byte_text None = []
 byte_text (Some b) = b ∷ []
 
--- white space of ASCII
-abbrev pub is_ascii_white : ℕ → Bool
-is_ascii_white b = is_in_range 9 13 b || (b == 32)
-
 -- what may follow a number or an identifier somewhere
 abbrev pub is_separator : ℕ → Bool
-is_separator b = (b == code ".") || ((b == code "-") || ((b == code "+") || is_ascii_white b))
+is_separator b = (b == code ".") || ((b == code "-") || ((b == code "+") || is_ascii_white_space b))
 
 -- ---- the reason
 
@@ -99,7 +95,7 @@ reason_by g version letter zero too_long prefix (Some b) = if too_long then TooL
     else (if is_ascii_digit b && (ends_in_digit prefix && not letter) then
     (if ends_in_zero prefix then LeadingZero else too_large_in g)
     else (if version then
-    (if is_ascii_white b || not (ends_in_part prefix) then TextAfter else UnexpectedCharacter)
+    (if is_ascii_white_space b || not (ends_in_part prefix) then TextAfter else UnexpectedCharacter)
     else (if not (is_separator b) then unexpected_in g prefix b
     else (if not letter then (if has_no_digit prefix then UnexpectedCharacter
     else missing_after prefix)

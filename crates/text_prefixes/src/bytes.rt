@@ -46,7 +46,7 @@ pub(crate) enum Length {
 }
 
 // Answer: equation.
-/// Returns whether some version begins with these bytes but for the last 8, which are room for
+/// Returns whether some version begins with these bytes but for the last 8, which are free for
 /// completions. The prefix may end within a character: `1.2.` and byte 0xC2 alone begin versions of
 /// npm, and `1.x` begins none.
 ///

@@ -1,6 +1,6 @@
 //! Laws over the definitions: each is the contract of a function that does nothing, or that makes a
 //! call twice.
-ghost use Rattle.std.specs.Prelude.{◌≡◌, ◌≤◌, ◌+◌, ◌++◌, ℕ, [], Option, length};
+ghost use Rattle.std.specs.Prelude.{◌≡◌, ◌++◌, ℕ, [], IfOk, Option};
 ghost use Rattle.semver_texts.specs.Texts.{Text};
 ghost use Rattle.semver_texts.specs.ToolVersions.{IsVersionTextIn};
 ghost use Rattle.semver_texts.specs.declared.grammar.Grammar.{Grammar};
@@ -12,6 +12,7 @@ ghost use Rattle.text_prefixes.specs.declared.reasons.Reason.{Reason as SomeReas
 
 use crate::longest::{Language, longest_prefix};
 use crate::reasons::Reason;
+use std::alloc::{AllocError, Global};
 
 /// What begins a prefix is one, so is nothing, and so is each version.
 pub fn prefixes_begin_prefixes()
@@ -28,21 +29,19 @@ pub fn one_longest_prefix()
         → IsLongestVersionPrefix grammar text m → IsLongestVersionPrefix grammar text n → m ≡ n }
 {}
 
-/// `longest_prefix` has one answer, whatever the buffer holds.
+/// `longest_prefix` has one answer, unless memory runs out.
 pub fn one_offset<L: Language>(
+    alloc: Global,
     language: &L,
     text: &str,
-    buffer: &mut [u8],
-    other: &mut [u8],
-) -> (usize, usize)
+) -> (Result<usize, AllocError>, Result<usize, AllocError>)
     requires completions { AreCompletions (L.is_text language.now) (L.completions language.now) }
-    requires room { length text.now + 8 ≤ length buffer.old }
-    requires other_room { length text.now + 8 ≤ length other.old }
-    ensures one { result.0 ≡ result.1 }
+    ensures one { IfOk result.0 (λ first. IfOk result.1 (λ second. first ≡ second)) }
 {
-    let first = longest_prefix(language, text, buffer);
-    let second = longest_prefix(language, text, other);
-    (first, second)
+    (
+        longest_prefix(alloc, language, text),
+        longest_prefix(alloc, language, text),
+    )
 }
 
 /// A prefix and what follows it have one reason.

@@ -8,7 +8,7 @@ ghost use Rattle.text_prefixes.specs.declared.reasons.Reason.{Reason as SomeReas
 use semver_texts::grammar::Grammar;
 use std::fmt;
 
-/// Why a text is not a version, or not a range. It prints as its sentence.
+/// Why a text is no valid version, or not a range. It prints as its sentence.
 ///
 /// ```
 /// use semver_parser::refusals::{self, Reason};

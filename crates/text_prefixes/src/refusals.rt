@@ -1,28 +1,28 @@
-//! Where and why a text is not a version.
+//! Where and why a text is no valid version.
 
 ghost use Rattle.std.specs.Prelude.{◌≡◌, ◌<◌, ◌≤◌, ◌↔◌, ◌+◌, ◌++◌, ◌∷◌, []};
-ghost use Rattle.std.specs.Prelude.{IfErr, IfOk, IsTrue, MatchOption, false, length, take};
+ghost use Rattle.std.specs.Prelude.{IfErr, IfOk, IsTrue, MatchOption, false, length};
+ghost use Rattle.std.specs.Prelude.{string_capacity, take};
 ghost use Rattle.semver_texts.specs.Texts.{Text};
 ghost use Rattle.semver_texts.specs.ToolVersions.{IsVersionTextIn};
 ghost use Rattle.semver_versions.specs.AnyLength.{IsVersionAtAnyLength};
 ghost use Rattle.text_prefixes.specs.VersionPrefixes.{IsLongestVersionPrefix};
-ghost use Rattle.text_prefixes.specs.Reasons.{IsReason, IsTooLong, byte_at, byte_text, from_end};
-ghost use Rattle.text_prefixes.specs.Reasons.{has_no_digit, is_ascii_white, is_blank};
-ghost use Rattle.text_prefixes.specs.Reasons.{is_separator, missing_after, reason_by};
-ghost use Rattle.text_prefixes.specs.Reasons.{unexpected_in};
+ghost use Rattle.text_prefixes.specs.Reasons.{IsReason, IsTooLong, byte_at, byte_text, is_blank};
+ghost use Rattle.text_prefixes.specs.Reasons.{missing_after, reason_by, unexpected_in};
 
-use crate::buffers::write;
+use crate::buffers::join;
 use crate::bytes::{Length, begins, is_version};
+use crate::longest::{longest_prefix_in, text_prefix};
+use crate::prefix_bytes::{byte_at, ends_in_zero, from_end, has_no_digit, is_separator};
 use crate::reasons::Reason;
-use crate::versions::offset;
+use crate::versions::Versions;
 use semver_texts::bytes::is_part_byte;
 use semver_texts::grammar::Grammar;
+use semver_texts::npm_limits::MAX_LENGTH;
+use semver_texts::white_space::is_ascii_white_space;
 use std::alloc::{AllocError, Global};
 
-/// A version of npm has at most so many characters; the other dialects have no limit.
-const CHARACTERS: usize = 256;
-
-/// Where and why a text is not a version.
+/// Where and why a text is no valid version.
 ///
 /// ```
 /// use semver_parser::refusals::{self, Reason, VersionRefusal};
@@ -38,38 +38,6 @@ pub struct Refusal {
     pub offset: usize,
     /// Why.
     pub reason: Reason,
-}
-
-/// Whether the byte is white space of ASCII.
-fn is_ascii_white(byte: u8) -> bool
-    ensures { result ≡ is_ascii_white byte }
-{
-    matches!(byte, 9..=13 | 32)
-}
-
-/// Whether the byte follows a number or an identifier in some versions.
-fn is_separator(byte: u8) -> bool
-    ensures { result ≡ is_separator byte }
-{
-    matches!(byte, b'.' | b'-' | b'+') || is_ascii_white(byte)
-}
-
-/// A byte by its offset from the end; 0 before the first.
-fn from_end(prefix: &[u8], offset: usize) -> u8
-    ensures { result ≡ from_end prefix.now offset }
-{
-    if offset < prefix.len() {
-        prefix[prefix.len() - 1 - offset]
-    } else {
-        0
-    }
-}
-
-/// Whether it has no digit.
-fn has_no_digit(prefix: &[u8]) -> bool
-    ensures { result ≡ has_no_digit prefix.now }
-{
-    prefix.iter().all(|byte| !byte.is_ascii_digit())
 }
 
 /// Whether neither a number nor a `v` has begun.
@@ -131,13 +99,13 @@ fn reason_by(
     if too_long {
         Reason::TooLong
     } else if byte.is_ascii_digit() && (last.is_ascii_digit() && !letter) {
-        if last == b'0' && !from_end(prefix, 1).is_ascii_digit() {
+        if ends_in_zero(prefix) {
             Reason::LeadingZero
         } else {
             Reason::too_large_in(grammar)
         }
     } else if version {
-        if is_ascii_white(byte) || !is_part_byte(last) {
+        if is_ascii_white_space(byte) || !is_part_byte(last) {
             Reason::TextAfter
         } else {
             Reason::UnexpectedCharacter
@@ -157,15 +125,14 @@ fn reason_by(
     }
 }
 
-/// Whether the prefix and one more byte are a version of any length.
-fn takes(prefix: &[u8], byte: u8, grammar: Grammar, buffer: &mut [u8]) -> bool
-    requires { length prefix.now < length buffer.old }
-    ensures { IsTrue result ↔ IsVersionAtAnyLength grammar (prefix.now ++ byte ∷ []) }
+/// Whether the prefix and a letter or digit are a version of any length.
+fn takes(prefix: &str, part: &str, grammar: Grammar, buffer: &mut String) -> bool
+    requires { length prefix.now + length part.now ≤ string_capacity buffer.old }
+    ensures takes { IsTrue result ↔ IsVersionAtAnyLength grammar (prefix.now ++ part.now) }
+    ensures room { string_capacity buffer.old ≤ string_capacity buffer.new }
 {
-    let end = prefix.len();
-    write(buffer, 0, prefix);
-    write(buffer, end, &[byte]);
-    is_version(&buffer[..end + 1], Length::Any, grammar)
+    join(buffer, prefix, part);
+    is_version(buffer.as_bytes(), Length::Any, grammar)
 }
 
 /// Whether the dialect limits the length of a version.
@@ -181,28 +148,25 @@ fn has_limit(grammar: Grammar) -> bool
 
 /// Whether some version begins with the bytes, but each is longer than the dialect allows. For
 /// speed, of a short text the answer is known.
-fn is_too_long(text: &[u8], grammar: Grammar, buffer: &mut [u8]) -> bool
+fn is_too_long(alloc: Global, text: &[u8], grammar: Grammar) -> Result<bool, AllocError>
+    ensures { IfOk result (λ too_long. IsTrue too_long ↔ IsTooLong grammar text.now) }
+{
+    if !has_limit(grammar) {
+        return Ok(false);
+    }
+    if text.len() + 8 <= MAX_LENGTH {
+        return Ok(false);
+    }
+    let mut buffer = Vec::from_elem(alloc, 0, text.len().saturating_add(8))?;
+    Ok(is_too_long_in(text, grammar, buffer.as_mut_slice()))
+}
+
+/// The same, found in a buffer that has 8 bytes more than the text.
+fn is_too_long_in(text: &[u8], grammar: Grammar, buffer: &mut [u8]) -> bool
     requires { length text.now + 8 ≤ length buffer.old }
     ensures { IsTrue result ↔ IsTooLong grammar text.now }
 {
-    if !has_limit(grammar) {
-        return false;
-    }
-    if text.len() + 8 <= CHARACTERS {
-        return false;
-    }
     begins(text, Length::Any, grammar, buffer) && !begins(text, Length::Allowed, grammar, buffer)
-}
-
-/// The byte at an offset, if there is one.
-fn byte_at(input: &[u8], offset: usize) -> Option<u8>
-    ensures { result ≡ byte_at input.now offset }
-{
-    if offset < input.len() {
-        Some(input[offset])
-    } else {
-        None
-    }
 }
 
 /// The bytes up to an offset, and the one at it, if there is one.
@@ -219,7 +183,7 @@ fn with_next(input: &[u8], offset: usize) -> &[u8]
 }
 
 // Answer: law answer_laws::texts::one_explanation.
-/// Returns where and why a text is not a version, or `None` if it is one.
+/// Returns where and why a text is no valid version, or `None` if it is one.
 ///
 /// ```text
 /// explain(alloc, b"1.2.03", Grammar::Cargo)?    // at 5: LeadingZero
@@ -230,8 +194,8 @@ fn with_next(input: &[u8], offset: usize) -> &[u8]
 ///
 /// # Errors
 ///
-/// `AllocError` if an allocation fails. It allocates only if the text is not a version, and then
-/// one buffer of about its length.
+/// `AllocError` if an allocation fails. It allocates only if the text is no valid version, and then
+/// one buffer of about its length, or two if it is npm's and longer than 248 bytes.
 pub fn explain(alloc: Global, text: &[u8], grammar: Grammar) -> Result<Option<Refusal>, AllocError>
     ensures version { IfOk result (λ o. MatchOption o (IsVersionTextIn grammar text.now)
         (λ r. ¬ (IsVersionTextIn grammar text.now))) }
@@ -245,46 +209,39 @@ pub fn explain(alloc: Global, text: &[u8], grammar: Grammar) -> Result<Option<Re
     if is_version(text, Length::Allowed, grammar) {
         return Ok(None);
     }
-    let mut buffer = Vec::from_elem(alloc, 0, text.len().saturating_add(8))?;
-    Ok(refused(text, grammar, buffer.as_mut_slice()))
+    Ok(Some(refused(alloc, text, grammar)?))
 }
 
-/// What [`explain`] returns, found in a buffer that has 8 bytes more than the text.
-fn refused(input: &[u8], grammar: Grammar, buffer: &mut [u8]) -> Option<Refusal>
-    requires { length input.now + 8 ≤ length buffer.old }
-    ensures version { MatchOption result (IsVersionTextIn grammar input.now)
-        (λ r. ¬ (IsVersionTextIn grammar input.now)) }
-    ensures offset { MatchOption result (Unit {0})
-        (λ r. IsLongestVersionPrefix grammar input.now r.offset) }
-    ensures reason { MatchOption result (Unit {0})
-        (λ r. IsReason grammar (take r.offset input.now) (byte_at input.now r.offset) r.reason) }
+/// Where and why a text is an invalid version, if it is one.
+fn refused(alloc: Global, input: &[u8], grammar: Grammar) -> Result<Refusal, AllocError>
+    ensures offset { IfOk result (λ r. IsLongestVersionPrefix grammar input.now r.offset) }
+    ensures reason { IfOk result (λ r.
+        IsReason grammar (take r.offset input.now) (byte_at input.now r.offset) r.reason) }
 {
-    if is_version(input, Length::Allowed, grammar) {
-        return None;
-    }
-    let offset = offset(input, grammar, buffer);
-    let reason = reason_at(input, offset, grammar, buffer);
-    Some(Refusal { offset, reason })
+    let text = text_prefix(input);
+    let mut buffer = String::with_capacity(alloc, text.len().saturating_add(8))?;
+    let offset = longest_prefix_in(&Versions { grammar }, text, &mut buffer);
+    let too_long = is_too_long(alloc, with_next(input, offset), grammar)?;
+    let next = byte_at(input, offset);
+    let reason = reason_at(&text[..offset], next, too_long, grammar, &mut buffer);
+    Ok(Refusal { offset, reason })
 }
 
-/// The reason at an offset, up to which some version begins with the text.
-fn reason_at(input: &[u8], offset: usize, grammar: Grammar, buffer: &mut [u8]) -> Reason
-    requires within { offset ≤ length input.now }
-    requires room { length input.now + 8 ≤ length buffer.old }
-    ensures { IsReason grammar (take offset input.now) (byte_at input.now offset) result }
+/// The reason at the end of a prefix, by the byte after it, and whether both are too long.
+fn reason_at(
+    prefix: &str,
+    next: Option<u8>,
+    too_long: bool,
+    grammar: Grammar,
+    buffer: &mut String,
+) -> Reason
+    requires room { length prefix.now + 8 ≤ string_capacity buffer.old }
+    ensures { (IsTrue too_long ↔ IsTooLong grammar (prefix.now ++ byte_text next))
+        → IsReason grammar prefix.now next result }
 {
-    let prefix = &input[..offset];
-    let version = is_version(prefix, Length::Any, grammar);
-    let letter = takes(prefix, b'a', grammar, buffer);
-    let zero = takes(prefix, b'0', grammar, buffer);
-    let too_long = is_too_long(with_next(input, offset), grammar, buffer);
-    reason_by(
-        grammar,
-        version,
-        letter,
-        zero,
-        too_long,
-        prefix,
-        byte_at(input, offset),
-    )
+    let bytes = prefix.as_bytes();
+    let version = is_version(bytes, Length::Any, grammar);
+    let letter = takes(prefix, "a", grammar, buffer);
+    let zero = takes(prefix, "0", grammar, buffer);
+    reason_by(grammar, version, letter, zero, too_long, bytes, next)
 }

@@ -1,9 +1,7 @@
-//! The versions of a dialect as a language, and the end of the longest prefix of a text.
-ghost use Rattle.std.specs.Prelude.{◌≤◌, ◌+◌, length};
-ghost use Rattle.semver_texts.specs.ToolVersions.{IsVersionTextIn};
-ghost use Rattle.text_prefixes.specs.VersionPrefixes.{IsLongestVersionPrefix};
+//! The versions of a dialect as a language.
 
-use crate::longest::{Language, longest_prefix_of_bytes};
+use crate::longest::Language;
+use semver_texts::bytes::count_dots;
 use semver_texts::grammar::Grammar;
 use semver_versions::version::outline_in;
 
@@ -13,31 +11,41 @@ const COMPLETIONS: [&str; 7] = ["", "a", "0", ".0", "0.0", ".0.0", "0.0.0"];
 
 /// The versions of a dialect.
 #[derive(Clone, Copy)]
-struct Versions {
-    grammar: Grammar,
+pub(crate) struct Versions {
+    pub grammar: Grammar,
 }
 
 impl Language for Versions {
+    ghost use Rattle.std.specs.Prelude.{◌<◌, length};
+    ghost use Rattle.semver_texts.specs.ToolVersions.{IsVersionTextIn};
     ghost use Rattle.text_prefixes.specs.VersionCompletions.{version_completions};
 
     ghost is_text = { λ versions. IsVersionTextIn versions.grammar };
 
     ghost completions = { λ versions. version_completions };
 
-    fn has(&self, text: &str) -> bool {
+    fn contains(&self, text: &str) -> bool {
         outline_in(text.as_bytes(), self.grammar).is_some()
     }
 
     fn all_completions(&self) -> &[&str] {
         &COMPLETIONS
     }
-}
 
-/// The end of the longest prefix of a text that some version begins with, and goes on there with a
-/// character.
-pub(crate) fn offset(input: &[u8], grammar: Grammar, buffer: &mut [u8]) -> usize
-    requires { length input.now + 8 ≤ length buffer.old }
-    ensures { IsLongestVersionPrefix grammar input.now result }
-{
-    longest_prefix_of_bytes(&Versions { grammar }, input, buffer)
+    /// By how many of the numbers are missing.
+    fn likely(&self, prefix: &str) -> usize {
+        let dots = count_dots(prefix.as_bytes());
+        let ends = prefix
+            .as_bytes()
+            .last()
+            .is_some_and(u8::is_ascii_alphanumeric);
+        match (dots, ends) {
+            (0, false) => 6,
+            (0, true) => 5,
+            (1, false) => 4,
+            (1, true) => 3,
+            (_, false) => 2,
+            (_, true) => 0,
+        }
+    }
 }

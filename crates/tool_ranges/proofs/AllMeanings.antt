@@ -36,7 +36,7 @@ use Rattle.tool_ranges.specs.AllPreReleases.{meets_range_with_all, meets_npm_wit
 use Rattle.tool_ranges.specs.CargoGrammar.{is_of_cargo, SpellsComparators}
 use Rattle.tool_ranges.specs.CargoMeaning.{against, as_read}
 use Rattle.tool_ranges.specs.ToolTable.{is_greater, states_some, ends_at}
-use Rattle.tool_ranges.specs.declared.cargo.judging.JudgedVersions.TheVariants.{All}
+use Rattle.tool_ranges.specs.declared.cargo.checking.JudgedVersions.TheVariants.{All}
 use Rattle.tool_ranges.specs.Steps.CargoPreReleases.{judging, judging_one}
 use Rattle.tool_ranges.specs.Steps.LowerBounds.{begins_lowest, begun, lower_where, range_begun, set_begun, written_for}
 use Rattle.tool_ranges.proofs.NpmMeanings.{past_minor, past_major, lowest_ge, minor_ge, major_ge, below_none}

@@ -139,7 +139,7 @@ release_ranges v (r ∷ rs) e = λ i. release_comparators v r.comparators e i ||
 pub release_set : (v : PlainVersion) (s : PlainSet) → is_empty v.pre ≡ true → meets_set v (set_any s) ≡ meets_set v s
 release_set v s e = release_ranges v s.ranges e
 
--- ---- what npm asks nothing by
+-- ---- what npm matches everything by
 
 pub zero_any : (v : PlainVersion) → is_zero (plain_by AnySize v) ≡ is_zero v
 zero_any v = ap (λ b. list_all (λ n. n == 0) (numbers v) && b) (by_empty AnySize v.pre)

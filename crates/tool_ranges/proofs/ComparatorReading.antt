@@ -173,17 +173,17 @@ comparator_here_read s word after v u a p r e n (other, form) =
 
 pub comparator_read : (s : Simple) (w v : Text) → SpellsComparator s w → ends_partial v ≡ true → stops (is_blank Cargo) v ≡ true
     → comparator_at (w ++ v) ≡ at_end s v
-comparator_read s w v has e n =
-    let x = has.word ++ _ in
-    let whole : w ++ v ≡ has.before ++ ((sign s.form ++ has.gap) ++ x) = ap (λ y. y ++ v) has.text ∙ simp append_assoc in
+comparator_read s w v contains e n =
+    let x = contains.word ++ _ in
+    let whole : w ++ v ≡ contains.before ++ ((sign s.form ++ contains.gap) ++ x) = ap (λ y. y ++ v) contains.text ∙ simp append_assoc in
     ap comparator_at whole
-    ∙ comparator_here_read s has.word has.after v (after_blanks Cargo (has.before ++
-    ((sign s.form ++ has.gap) ++ x))) has.after_is has.partial has.is_read e n
-    (reads s.form has.before has.gap x has.before_is has.gap_is (starts-append is_word_byte has.word (has.after ++ v) (component_word
-    has.word (partial_starts s.partial has.word has.partial))))
+    ∙ comparator_here_read s contains.word contains.after v (after_blanks Cargo (contains.before ++
+    ((sign s.form ++ contains.gap) ++ x))) contains.after_is contains.partial contains.is_read e n
+    (reads s.form contains.before contains.gap x contains.before_is contains.gap_is (starts-append is_word_byte contains.word (contains.after ++ v) (component_word
+    contains.word (partial_starts s.partial contains.word contains.partial))))
 
 pub ended_read : (s : Simple) (t : Text) → SpellsComparator s t → comparator_at t ≡ Some (s, None)
-ended_read s t has = ap comparator_at (sym (append-nil t)) ∙ comparator_read s t [] has refl refl
+ended_read s t contains = ap comparator_at (sym (append-nil t)) ∙ comparator_read s t [] contains refl refl
 
 pub parted_read : (s : Simple) (w u : Text) → SpellsComparator s w → comparator_at (w ++ (44 ∷ u)) ≡ Some (s, Some u)
-parted_read s w u has = comparator_read s w _ has refl refl
+parted_read s w u contains = comparator_read s w _ contains refl refl

@@ -16,15 +16,16 @@ mod NpmSets
 mod NpmLaws
 mod PrintableSets
 mod AllMeanings
-mod AskedTerms
-mod AskedCrate
-mod AskedEvents
-mod AskedMeanings
-mod AskedRanges
-mod AskedRequirements
+mod MatchedTerms
+mod MatchedCrate
+mod MatchedEvents
+mod MatchedMeanings
+mod MatchedRanges
+mod MatchedRequirements
 pub mod ReadingLaws
 mod Places
 mod RangeErrors
+mod RangeReasons
 mod TooLargeTerms
 mod RangeLeaves
 mod PartialCompletions

@@ -1,5 +1,5 @@
 -- serves: tool_ranges::npm::rewrite
--- The comparators of a range text mean what it means to npm, where `>=0.0.0` asks nothing; on releases they do as they are.
+-- The comparators of a range text mean what it means to npm, where `>=0.0.0` matches everything; on releases they do as they are.
 use Rattle.std.proofs.Common.{◌≡◌, ℕ, ◌+◌, Bool, true, false, ◌&&◌, ◌||◌, ◌==◌, if◌then◌else◌, List, [], ◌∷◌, length, rules}
 use Rattle.std.proofs.Common.{refl, sym, ap, ◌∙◌, arith}
 use Rattle.std.proofs.Math.Bool.{and-true, and-false}
@@ -26,7 +26,7 @@ use Rattle.semver_ranges.proofs.SetMeanings.{stated_shape, set_meets_by}
 use Rattle.semver_ranges.proofs.Tests.{list_all-same, list_all-weaker, list_any-weaker, list_any-same}
 use Rattle.semver_texts.proofs.Lists.{by_test}
 use Rattle.tool_ranges.specs.ToolTable.{is_greater, states_some, ends_at, written_in}
-use Rattle.tool_ranges.specs.NpmMeaning.{is_zero, is_from, meets_by_count, meets_one, asks_nothing_by, asks_nothing, is_every_release}
+use Rattle.tool_ranges.specs.NpmMeaning.{is_zero, is_from, meets_by_count, meets_one, asks_nothing_by, matches_everything, is_every_release}
 use Rattle.tool_ranges.specs.NpmMeaning.{meets_npm}
 use Rattle.tool_ranges.specs.NpmTable.{rewritten_npm}
 use Rattle.tool_ranges.specs.Steps.NpmReading.{is_from_zero}
@@ -62,7 +62,7 @@ above same = refl
 above past = refl
 
 module _ (v : PlainVersion) where
-  -- whether a comparator asks nothing or is met
+  -- whether a comparator matches everything or is met
   abbrev pub passes : PlainComparator → Bool
   passes c = is_from_zero c || meets_comparator v c
 
@@ -183,7 +183,7 @@ module _ (v : PlainVersion) (release : v.pre ≡ []) where
   simple_meets : (s : Simple) → list_all (meets_comparator v) (written_any Npm s) ≡ meets_one (of_simple s) v
   simple_meets s = list_all-same (meets_comparator v) (passes v) same_test (written_any Npm s) ∙ simple_passes v s
 
-  -- a release meets what asks nothing
+  -- a release meets what matches everything
   met : (form : Form) {s : List ℕ} → Shape s → (p : List IdentifierValue) → asks_nothing_by form (is_empty s) (is_zero (filled s p)) ≡ true
       → meets_by_count form s (filled s p) v ≡ true
   met less s p e = cc
@@ -197,7 +197,7 @@ module _ (v : PlainVersion) (release : v.pre ≡ []) where
   met _ (Shape.two x y) p e = cc
   met _ (Shape.three x y w) p e = cc
 
-  term_met : (term : Term) → asks_nothing term ≡ true → meets_one term v ≡ true
+  term_met : (term : Term) → matches_everything term ≡ true → meets_one term v ≡ true
   term_met (of_simple s) e = met s.form (stated_shape s.partial) (pre_any s.partial)
       (asks_any s.form (stated s.partial) (zero_filled s.partial) ∙ e)
   term_met of_nothing e = refl
@@ -208,7 +208,7 @@ module _ (v : PlainVersion) (release : v.pre ≡ []) where
   some_range : (tree : SetTree) → list_any all_met tree ≡ meets_npm tree v
   some_range tree = by_test (list_any is_every_release tree)
       (λ y. rw y (list_any-weaker is_every_release all_met
-      (λ r e. list_all-weaker asks_nothing (λ term. meets_one term v) term_met (terms r) e) tree y ∙ sym is_release))
+      (λ r e. list_all-weaker matches_everything (λ term. meets_one term v) term_met (terms r) e) tree y ∙ sym is_release))
       (λ n. rw n (list_any-same all_met (λ r. all_met r && counts_in r v) (λ r. sym (counted r)) tree)) where
         counted : (r : RangeTree) → (all_met r && counts_in r v) ≡ all_met r
         counted r = rw is_release (and-true _)

@@ -1,4 +1,4 @@
--- serves: tool_ranges::npm::reading::read, refusals
+-- serves: tool_ranges::npm::range_sets::read, refusals
 -- What the comparators of npm's dialect mean, with pre-releases, is what its text means.
 use Rattle.std.proofs.Common.{◌≡◌, ℕ, ◌+◌, ◌<◌, Bool, true, false, not, ◌&&◌, ◌||◌, ◌==◌, nat_eq, List, [], ◌∷◌, ◌++◌, rules}
 use Rattle.std.proofs.Common.{length, map, take, drop, get_or, set, refl, sym, ap, ◌∙◌, arith}
@@ -31,7 +31,7 @@ use Rattle.semver_ranges.proofs.SetMeanings.{stated_shape, range_holds}
 use Rattle.semver_ranges.proofs.Tests.{list_any-mapped, some_of_all}
 use Rattle.semver_texts.proofs.Lists.{by_test}
 use Rattle.tool_ranges.specs.ToolTable.{is_greater, states_some, ends_at, written_in}
-use Rattle.tool_ranges.specs.NpmMeaning.{is_zero, asks_nothing_by, asks_nothing, is_every_release, meets_one, meets_npm}
+use Rattle.tool_ranges.specs.NpmMeaning.{is_zero, asks_nothing_by, matches_everything, is_every_release, meets_one, meets_npm}
 use Rattle.tool_ranges.specs.NpmTable.{rewritten_npm}
 use Rattle.tool_ranges.specs.Steps.NpmReading.{is_from_zero, has_no_other, others_of, others_in, is_meant}
 use Rattle.semver_texts.specs.declared.grammar.Digits.TheVariants.{AnySize}
@@ -70,7 +70,7 @@ others_written initial rs i d r within here so_far e =
     within) so_far
     (sym (get_or-map range_of rs i d _ here))
 
--- a range has no comparator but `>=0.0.0` exactly where npm asks nothing by its terms
+-- a range has no comparator but `>=0.0.0` exactly where npm matches everything by its terms
 abbrev RowAsks : Form → List ℕ → List IdentifierValue → Type 0
 RowAsks form s p = list_all is_from_zero (written_by form s p) ≡ asks_nothing_by form (is_empty s) (is_zero (filled s p))
 
@@ -81,7 +81,7 @@ row_asks form (Shape.two x y) p none = search rules
 row_asks form (Shape.three x y w) p none = search rules
 
 range_asks : (r : RangeTree) → list_all is_from_zero (range_by (written_any Npm) r) ≡ is_every_release r
-range_asks r = range_holds (any_table npm_table) is_from_zero asks_nothing
+range_asks r = range_holds (any_table npm_table) is_from_zero matches_everything
     (λ s. ap (list_all is_from_zero) (written_any_is Npm s)
     ∙ row_asks s.form (stated_shape s.partial) (pre_any s.partial) (λ n. rw n refl)
     ∙ asks_any s.form (stated s.partial) (zero_filled s.partial)) refl r

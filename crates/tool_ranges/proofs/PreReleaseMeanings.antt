@@ -1,4 +1,4 @@
--- serves: answer_laws::sets::meets_as_the_set
+-- serves: answer_laws::sets::satisfies_as_the_set
 -- On pre-releases the comparators that judge them mean what the requirement means, and the ranges of those that count are met by these.
 use Rattle.std.proofs.Common.{◌≡◌, ℕ, ◌^◌, ◌<◌, ◌≤◌, Bool, true, false, not, ◌&&◌, ◌||◌, ◌==◌, nat_eq, if◌then◌else◌}
 use Rattle.std.proofs.Common.{List, [], ◌∷◌, length, map, refl, sym, ap, ◌∙◌, inl, inr, arith}
@@ -27,7 +27,7 @@ use Rattle.version_sets.specs.VersionSets.{Fits}
 use Rattle.tool_ranges.specs.AnySize.{comparator_any, set_any}
 use Rattle.tool_ranges.proofs.AnySizes.{counting_any, judged_any, one_range_any, pre_any}
 use Rattle.tool_ranges.specs.CargoMeaning.{has_wildcard, as_read, meets_by_count, meets_one}
-use Rattle.tool_ranges.specs.declared.cargo.judging.JudgedVersions.TheVariants.{PreReleases}
+use Rattle.tool_ranges.specs.declared.cargo.checking.JudgedVersions.TheVariants.{PreReleases}
 use Rattle.tool_ranges.specs.Steps.CargoPreReleases.{below_all, counting, counting_one, greatest, judged_by_count, judging, judging_one}
 use Rattle.tool_ranges.specs.Steps.CargoPreReleases.{pre_releases_of}
 use Rattle.tool_ranges.proofs.ReadMeanings.{step, after, not_less, no_lower, is_less, is_caret, never_bare}

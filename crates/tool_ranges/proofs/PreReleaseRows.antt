@@ -15,7 +15,7 @@ use Rattle.semver_ranges.specs.ExactBounds.{lowest_pre_release}
 use Rattle.semver_ranges.specs.Steps.PartialViews.{stated_of, version_of}
 use Rattle.semver_ranges.specs.Steps.CursorViews.{form_of, IsSimpleOf}
 use Rattle.tool_ranges.specs.ToolTable.{fits_in, is_greater, states_some, written_in}
-use Rattle.tool_ranges.specs.declared.cargo.judging.JudgedVersions.TheVariants.{PreReleases}
+use Rattle.tool_ranges.specs.declared.cargo.checking.JudgedVersions.TheVariants.{PreReleases}
 use Rattle.tool_ranges.specs.Steps.CargoPreReleases.{below_all, judged_by_count, judging_read, some_judged}
 use Rattle.tool_ranges.proofs.ReadRows.{fit_numbers}
 
@@ -45,12 +45,6 @@ some_judge s simple is e some =
     let same = is_stated s simple is e in
     by_some (form_of simple.form) (stated_of simple.partial) (version_of simple.partial) some
     ∙ (cc)
-
--- three numbers are never `>` of one or two
-abbrev written_by : Form → List ℕ → PlainVersion → List PlainComparator
-written_by f x z =
-    if is_greater f && states_some x then comparator Gte (up (length x) x) ∷ []
-    else written_cell lowest_pre_release (cell Cargo f x) x z
 
 pub three_judge : (s : Simple) (simple : read.Simple) → IsSimpleOf s simple → fits_in Cargo s ≡ true
     → simple.partial.kind ≡ MajorMinorPatch → written_in Cargo s ≡ judging_read PreReleases s

@@ -29,8 +29,8 @@ use Rattle.semver_ranges.proofs.ReadingPieces.{word_parts}
 use Rattle.semver_ranges.proofs.SetMeanings.{stated_shape}
 use Rattle.version_sets.specs.Printable.{are_printable, HasPrintableRanges}
 use Rattle.version_sets.specs.SetRanges.{is_at_least}
-use Rattle.tool_ranges.specs.declared.cargo.judging.JudgedVersions.{JudgedVersions}
-use Rattle.tool_ranges.specs.declared.cargo.judging.JudgedVersions.TheVariants.{Releases, PreReleases, All}
+use Rattle.tool_ranges.specs.declared.cargo.checking.JudgedVersions.{JudgedVersions}
+use Rattle.tool_ranges.specs.declared.cargo.checking.JudgedVersions.TheVariants.{Releases, PreReleases, All}
 use Rattle.tool_ranges.specs.CargoGrammar.{SpellsComparators}
 use Rattle.tool_ranges.specs.CargoMeaning.{as_read}
 use Rattle.tool_ranges.specs.CargoTable.{requirement_fits}

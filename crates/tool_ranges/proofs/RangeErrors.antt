@@ -1,4 +1,4 @@
--- serves: tool_ranges::refusals::refused
+-- serves: tool_ranges::refusals::refused, refused
 -- What is refused of a range text without memory that ran out: it has one error, and no set.
 use Rattle.std.proofs.Common.{◌≡◌, ◌≢◌, Err, ◌↔◌, ◌∙◌, ap, arith}
 use Rattle.std.specs.Prelude.{Result}

@@ -13,10 +13,10 @@ use Rattle.text_prefixes.proofs.Completions.{CompletesBy, IsCompletedBy, in_byte
 use Rattle.text_prefixes.proofs.Leaves.{IsPartWith, byte_apart, digits_prefix, letter_part}
 
 -- each prefix of a text of the language is of it, but for nothing
-pub closed : (Is : Text → Type 0) (least : Text) → Is least → is_cut least ≡ false → ((t : Text) → Is t → length least ≤ length t)
-    → ((b : ℕ) (t rest : Text) → Is (b ∷ t ++ rest) → Is (b ∷ t)) → CompletesBy in_bytes Is least ([] ∷ [])
-closed Is least has uncut short prefix = record {
-  has = has;
+pub closed : (Is : Text → Type 0) (lowest : Text) → Is lowest → is_cut lowest ≡ false → ((t : Text) → Is t → length lowest ≤ length t)
+    → ((b : ℕ) (t rest : Text) → Is (b ∷ t ++ rest) → Is (b ∷ t)) → CompletesBy in_bytes Is lowest ([] ∷ [])
+closed Is lowest contains uncut short prefix = record {
+  contains = contains;
   utf8 = λ t is. tt;
   least_short = short;
   least_uncut = uncut;
@@ -30,7 +30,7 @@ closed Is least has uncut short prefix = record {
 }
 
 pub nothing : CompletesBy in_bytes (λ t. t ≡ []) [] []
-nothing = record { has = refl; utf8 = λ t is. tt; least_short = λ t is. omega arith; least_uncut = refl; goes = λ b t rest is. absurd (cc) }
+nothing = record { contains = refl; utf8 = λ t is. tt; least_short = λ t is. omega arith; least_uncut = refl; goes = λ b t rest is. absurd (cc) }
 
 -- ---- blanks
 
@@ -96,7 +96,7 @@ module _ (passes : Text → Bool) (alone : passes (codes "a") ≡ true)
   }
 
   pub part : CompletesBy in_bytes (IsPartWith passes) (codes "a") ([] ∷ codes "a" ∷ [])
-  part = record { has = (refl, alone); utf8 = λ t is. tt; least_short = λ t is. some t is.0; least_uncut = refl; goes = part_goes }
+  part = record { contains = (refl, alone); utf8 = λ t is. tt; least_short = λ t is. some t is.0; least_uncut = refl; goes = part_goes }
     where
       some : (t : Text) → is_part t ≡ true → 1 ≤ length t
       some [] is = cc

@@ -1,4 +1,4 @@
--- serves: tool_ranges::meaning::meets, meaning
+-- serves: tool_ranges::meaning::satisfies, meaning
 -- The cell of a simple that was read: where it is `>` of one or two numbers, below every pre-release, and else.
 use Rattle.std.proofs.Common.{◌≡◌, ℕ, Bool, true, false, ◌&&◌, [], ◌∷◌, List, length, refl, sym, ap, ◌∙◌, None, arith, rules}
 use Rattle.std.specs.Prelude.{Result, Ok, Err, IfOk}
@@ -11,21 +11,21 @@ use Rattle.semver_ranges.specs.declared.partial.RaisedBounds.TheVariants.{Exact}
 use Rattle.semver_ranges.specs.declared.range.Op.TheVariants.{Lt}
 use Rattle.semver_ranges.specs.declared.range.Compat.{Compat}
 use Rattle.semver_ranges.specs.declared.range.Compat.TheVariants.{Npm}
-use Rattle.semver_ranges.specs.declared.rewriting.Bounds.{Bounds}
+use Rattle.semver_ranges.specs.declared.desugaring.Desugared.{Desugared}
 use Rattle.semver_ranges.specs.RangeTree.{Form, less, greater, Simple}
 use Rattle.semver_texts.specs.Versions.{PlainVersion}
 use Rattle.semver_ranges.specs.Partials.{stated, fits_u64}
 use Rattle.semver_ranges.specs.RewritingTable.{comparator, cell, cell_raised}
 use Rattle.semver_ranges.specs.ExactBounds.{exact_bound}
 use Rattle.semver_ranges.specs.Steps.PartialViews.{stated_of, place_number, PartsPass}
-use Rattle.semver_ranges.specs.Steps.BoundsViews.{IsRow, place_of, cell_of as table_cell}
-use Rattle.semver_ranges.specs.declared.rewriting.Bounds.TheVariants.{Against, Below, Between}
+use Rattle.semver_ranges.specs.Steps.DesugaredViews.{IsRow, place_of, cell_of as table_cell}
+use Rattle.semver_ranges.specs.declared.desugaring.Desugared.TheVariants.{Against, Below, Between}
 use Rattle.semver_ranges.specs.Steps.CursorViews.{form_of, IsSimpleOf}
 use Rattle.semver_texts.proofs.Lists.{by_test}
-use Rattle.tool_ranges.specs.declared.rows.Cell.{Cell}
-use Rattle.tool_ranges.specs.declared.rows.Cell.TheVariants.{Above, BelowAll, Shared}
+use Rattle.tool_ranges.specs.declared.desugaring.ToolDesugared.{ToolDesugared}
+use Rattle.tool_ranges.specs.declared.desugaring.ToolDesugared.TheVariants.{Above, BelowAll, Shared}
 use Rattle.tool_ranges.specs.ToolTable.{begins_above, ends_at, ends_below, fits_in, is_greater, raised_in, states_some, written_in}
-use Rattle.tool_ranges.specs.Steps.Cells.{bound_at, cell_fits, cell_place, cell_written, IsCellOf, IsPlacedAt}
+use Rattle.tool_ranges.specs.Steps.ToolDesugared.{bound_at, desugared_fits, raised_place, desugared_written, IsDesugaredOf, IsPlacedAt}
 
 -- whether it is `>` of one or two numbers, as it was read
 abbrev pub above : read.Simple → Bool
@@ -51,32 +51,22 @@ same_ends : (mode : Compat) (s : Simple) (simple : read.Simple) → IsSimpleOf s
     → ends mode simple ≡ ends_below mode s
 same_ends mode s simple is f = search rules
 
--- what is below fewer than three numbers raises no bound
-raises_none : (mode : Compat) (form : Form) (ns : List ℕ) → ends_at mode form ns ≡ true → cell_raised (cell mode form ns) ns ≡ None
-raises_none Npm less [] e = refl
-raises_none Npm less (a ∷ []) e = refl
-raises_none Npm less (a ∷ b ∷ []) e = refl
-raises_none Npm less (a ∷ b ∷ c ∷ ns) e = refl
-raises_none Npm greater [] e = refl
-raises_none Npm greater (n ∷ ns) e = cc
-raises_none _ _ ns e = cc
-
 -- the three cells: where the numbers fit, what is there decides, and else nothing fits
 module _ (mode : Compat) (s : Simple) (simple : read.Simple) (is : IsSimpleOf s simple) where
   parts : PartsPass simple.partial
   parts = is.1.3
 
-  by_fit : (c : Cell) → IsPlacedAt c simple.partial → (simple.partial.fits ≡ false → cell_fits c simple.partial ≡ false)
-      → (simple.partial.fits ≡ true → (cell_fits c simple.partial ≡ fits_in mode s)
-      × (cell_fits c simple.partial ≡ true → cell_written c simple.partial ≡ written_in mode s))
-      → (simple.partial.fits ≡ true → bound_at (cell_place c) simple.partial ≡ raised_in mode s)
-      → IsCellOf mode s simple.partial c
+  by_fit : (c : ToolDesugared) → IsPlacedAt c simple.partial → (simple.partial.fits ≡ false → desugared_fits c simple.partial ≡ false)
+      → (simple.partial.fits ≡ true → (desugared_fits c simple.partial ≡ fits_in mode s)
+      × (desugared_fits c simple.partial ≡ true → desugared_written c simple.partial ≡ written_in mode s))
+      → (simple.partial.fits ≡ true → bound_at (raised_place c) simple.partial ≡ raised_in mode s)
+      → IsDesugaredOf mode s simple.partial c
   by_fit c placed none some bound = by_test simple.partial.fits
       (λ f. ((parts, placed), (some f).0, (some f).1, bound))
       (λ f. ((parts, placed), none f ∙ sym (unfit mode s (is.1.0 ∙ f)), λ e. absurd (both_ways _ (none f) e), bound))
 
   pub above_cell : (place : Place) → above simple ≡ true → place_number place ≡ length (stated_of simple.partial)
-      → IsCellOf mode s simple.partial (Above place)
+      → IsDesugaredOf mode s simple.partial (Above place)
   above_cell place here at = by_fit (Above place) (omega (arith, at)) (λ f. rw f refl)
       (λ f. let y : begins_above s ≡ true = sym (same_above s simple is f) ∙ here in
       let number : place_number place ≡ length (stated s.partial) = at ∙ ap length (is.1.1 f).0 in
@@ -85,26 +75,15 @@ module _ (mode : Compat) (s : Simple) (simple : read.Simple) (is : IsSimpleOf s 
       let number : place_number place ≡ length (stated s.partial) = at ∙ ap length (is.1.1 f).0 in
       rw (y, number, (is.1.1 f).0) refl)
 
-  pub below_cell : above simple ≡ false → ends mode simple ≡ true → IsCellOf mode s simple.partial BelowAll
-  below_cell other below = by_fit BelowAll tt (λ f. f)
-      (λ f. let n : begins_above s ≡ false = sym (same_above s simple is f) ∙ other in
-      let y : ends_below mode s ≡ true = sym (same_ends mode s simple is f) ∙ below in (
-        rw (n, raises_none mode s.form (stated s.partial) y) (sym is.1.0 ∙ sym (and-true _)),
-        λ e. ap (λ (v : PlainVersion). comparator Lt (exact_bound v) ∷ []) (is.1.1 f).1 ∙ rw (n, y) refl,
-      ))
-      (λ f. let n : begins_above s ≡ false = sym (same_above s simple is f) ∙ other in
-      let y : ends_below mode s ≡ true = sym (same_ends mode s simple is f) ∙ below in
-      rw n (sym (raises_none mode s.form (stated s.partial) y)))
-
-  pub shared_cell : (bounds : Bounds) → above simple ≡ false → ends mode simple ≡ false → IsRow mode s simple.partial bounds
-      → IsCellOf mode s simple.partial (Shared bounds)
+  pub shared_cell : (bounds : Desugared) → above simple ≡ false → ends mode simple ≡ false → IsRow mode s simple.partial bounds
+      → IsDesugaredOf mode s simple.partial (Shared bounds)
   shared_cell bounds other high row = by_fit (Shared bounds) row.0.1 (λ f. and_left _ _ f)
       (λ f. let n : begins_above s ≡ false = sym (same_above s simple is f) ∙ other in
       let m : ends_below mode s ≡ false = sym (same_ends mode s simple is f) ∙ high in
       (rw n row.1, λ e. rw (n, m) (row.2 e Exact)))
       (λ f. let n : begins_above s ≡ false = sym (same_above s simple is f) ∙ other in rw n (bound_of bounds ∙ row.3 f))
     where
-      bound_of : (b : Bounds) → bound_at (place_of b) simple.partial ≡ cell_raised (table_cell b) (stated_of simple.partial)
+      bound_of : (b : Desugared) → bound_at (place_of b) simple.partial ≡ cell_raised (table_cell b) (stated_of simple.partial)
       bound_of (Against op) = refl
       bound_of (Below place) = refl
       bound_of (Between place) = refl

@@ -1,4 +1,4 @@
--- serves: answer_laws::sets::meets_as_the_set
+-- serves: answer_laws::sets::satisfies_as_the_set
 -- The releases that meet what a requirement is rewritten to, and the pre-releases that count and are judged so, are what it means.
 use Rattle.std.proofs.Common.{◌≡◌, ℕ, ◌==◌, Bool, true, false, not, ◌&&◌, ◌||◌, List, [], ◌∷◌, length, map, refl, sym, ap, ◌∙◌, rules}
 use Rattle.std.specs.Prelude.{Result, Err}
@@ -18,7 +18,7 @@ use Rattle.tool_ranges.proofs.AnySizes.{release_set}
 use Rattle.tool_ranges.specs.CargoGrammar.{SpellsComparators}
 use Rattle.tool_ranges.specs.CargoMeaning.{meets_requirement}
 use Rattle.tool_ranges.specs.CargoTable.{rewritten_requirement}
-use Rattle.tool_ranges.specs.declared.cargo.judging.JudgedVersions.TheVariants.{PreReleases}
+use Rattle.tool_ranges.specs.declared.cargo.checking.JudgedVersions.TheVariants.{PreReleases}
 use Rattle.tool_ranges.specs.Steps.CargoPreReleases.{counting, counting_one, judging}
 use Rattle.tool_ranges.proofs.ReadMeanings.{requirement_meets}
 use Rattle.tool_ranges.proofs.PreReleaseMeanings.{judged, counted}

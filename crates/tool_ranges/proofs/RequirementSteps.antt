@@ -106,18 +106,6 @@ pub at_none : (text : Text) (done : List Simple) (rest : Text) → IsAt text don
     → (tree : List Simple) → SpellsRequirement tree text → ⊥
 at_none text done rest at e tree h = let l = at.whole tree h.comparators in none_left rest l.0 e l.2
 
--- more than 32
-some_left : (rest : Text) (left : List Simple) → SpellsComparators left rest → 1 ≤ length left
-some_left rest [] h = absurd h
-some_left rest (s ∷ left) h = omega arith
-
-pub at_most : (text : Text) (done : List Simple) (rest : Text) → IsAt text done rest → 32 ≤ length done
-    → (tree : List Simple) → SpellsRequirement tree text → ⊥
-at_most text done rest at many tree h =
-    let l = at.whole tree h.comparators in
-    let all : length tree ≡ length done + length l.0 = ap length l.1 ∙ length-append done l.0 in
-    let some = some_left rest l.0 l.2 in omega (arith, h.few)
-
 -- what was seen of those that were read: how many, whether each states a number, and whether they fit
 abbrev pub states_number : Simple → Bool
 states_number s = not (states_nothing s.partial)

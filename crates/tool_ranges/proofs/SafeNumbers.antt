@@ -14,10 +14,11 @@ use Rattle.semver_ranges.specs.RewritingTable.{bound_fits}
 use Rattle.semver_ranges.specs.Steps.PartialViews.{stated_of}
 use Rattle.semver_ranges.specs.Steps.CursorViews.{IsSimpleOf}
 use Rattle.semver_ranges.proofs.Tests.{list_all-weaker}
-use Rattle.tool_ranges.specs.declared.rows.Cell.{Cell}
-use Rattle.tool_ranges.specs.NpmTable.{is_safe, is_safe_bound, is_safe_simple}
+use Rattle.tool_ranges.specs.declared.desugaring.ToolDesugared.{ToolDesugared}
+use Rattle.semver_texts.specs.NpmLimits.{is_safe}
+use Rattle.tool_ranges.specs.NpmTable.{is_safe_bound, is_safe_simple}
 use Rattle.tool_ranges.specs.ToolTable.{begins_above, fits_in, raised_in}
-use Rattle.tool_ranges.specs.Steps.Cells.{bound_at, cell_place, is_safe_cell, IsCellOf}
+use Rattle.tool_ranges.specs.Steps.ToolDesugared.{bound_at, raised_place, is_safe_desugared, IsDesugaredOf}
 
 -- they fit 64 bits
 safe_number : (n : ℕ) → is_safe n ≡ true → fits_u64 n ≡ true
@@ -40,11 +41,11 @@ safe_fits s e =
     (λ n. rw n (cc))
 
 -- the cell of a simple that was read
-pub safe_cell : (s : Simple) (simple : read.Simple) (c : Cell) → IsSimpleOf s simple → IsCellOf Npm s simple.partial c
-    → is_safe_cell c simple.partial ≡ is_safe_simple s
+pub safe_cell : (s : Simple) (simple : read.Simple) (c : ToolDesugared) → IsSimpleOf s simple → IsDesugaredOf Npm s simple.partial c
+    → is_safe_desugared c simple.partial ≡ is_safe_simple s
 safe_cell s simple c is of = by_test simple.partial.fits
     (λ f. let p = simple.partial in
-    ap (λ fits. (fits && list_all is_safe (stated_of p)) && is_safe_bound (bound_at (cell_place c) p)) f
+    ap (λ fits. (fits && list_all is_safe (stated_of p)) && is_safe_bound (bound_at (raised_place c) p)) f
     ∙ ap (λ bound. list_all is_safe (stated_of p) && is_safe_bound bound) (of.3 f)
     ∙ ap (λ ns. list_all is_safe ns && is_safe_bound (raised_in Npm s)) (is.1.1 f).0)
     (λ n. let large = is.1.0 ∙ n in

@@ -2,7 +2,7 @@
 -- What is refused of a range, as it is answered, and that there is one answer.
 use Rattle.std.proofs.Common.{◌≡◌, ◌∙◌, Bool, Ok, Err, ap, inl, inr, refl, subst, sym, true≢false}
 use Rattle.std.specs.Prelude.{Result}
-use Rattle.semver_parser.specs.ToolVersions.{SpellsIn}
+use Rattle.semver_texts.specs.ToolVersions.{SpellsIn}
 use Rattle.semver_ranges.specs.declared.range_set.RangeError.{RangeError}
 use Rattle.semver_ranges.specs.declared.range_set.RangeError.TheVariants.{NotARange, NumberTooLarge, OutOfMemory}
 use Rattle.semver_texts.specs.Texts.{Text}

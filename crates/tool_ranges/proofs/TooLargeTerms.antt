@@ -20,10 +20,10 @@ use Rattle.semver_ranges.specs.Steps.RangeEvents.{Event, one_simple, next_range,
 use Rattle.semver_ranges.specs.Steps.RangeEvents.{wildcard}
 use Rattle.semver_ranges.proofs.ReadingComplete.{tree_read}
 use Rattle.semver_ranges.proofs.Tables.{IsTable, begun_stated}
-use Rattle.tool_ranges.specs.Steps.Asking.{grammar_of, lower_of, term_fits}
-use Rattle.tool_ranges.specs.declared.tally.Terms.{Terms}
+use Rattle.tool_ranges.specs.Steps.Matching.{grammar_of, lower_of, term_fits}
+use Rattle.tool_ranges.specs.declared.range_matching.Terms.{Terms}
 use Rattle.tool_ranges.specs.TooLarge.{end_of_word, is_separator, states_number, stating, terms_of, words}
-use Rattle.tool_ranges.proofs.AskedEvents.{table_of}
+use Rattle.tool_ranges.proofs.MatchedEvents.{table_of}
 
 -- ---- how many of some terms fit, of those that state a number
 
@@ -54,8 +54,8 @@ counted p k (Some es) = Some (k + fitting p (in_events es))
 -- two bars that come first
 pub bars_first : (d : Grammar) (o : Option (List Event)) (cursor : Events) → IsFirst d o event.NextRange cursor
     → (left : Option (List Event)) × HasLeft d cursor left × (o ≡ put next_range left)
-bars_first d o cursor (one_simple s, left, is, has, e) = absurd is
-bars_first d o cursor (next_range, left, is, has, e) = (left, has, e)
+bars_first d o cursor (one_simple s, left, is, contains, e) = absurd is
+bars_first d o cursor (next_range, left, is, contains, e) = (left, contains, e)
 
 module _ (p : Simple → Bool) (whole : Option ℕ) (k : ℕ) (o left : Option (List Event)) (so_far : whole ≡ counted p k o) where
   pub count_bars : o ≡ put next_range left → whole ≡ counted p k left
@@ -168,13 +168,6 @@ module _ (w : Text) (ws : List Text) (some : 1 ≤ length ws) where
       by_list [] some n = absurd (omega (arith, some))
       by_list (x ∷ xs) some zero = rw e (omega arith)
       by_list (x ∷ xs) some (suc n) = rw e (omega arith)
-
-  pub last_word : states_number w ≡ true → end_of_word 0 (w ∷ ws) ≡ length w
-  last_word e = by_list ws some
-    where
-      by_list : (ws : List Text) → 1 ≤ length ws → end_of_word 0 (w ∷ ws) ≡ length w
-      by_list [] some = refl
-      by_list (x ∷ xs) some = rw e refl
 
   pub next_word : (n : ℕ) → states_number w ≡ true → end_of_word (n + 1) (w ∷ ws) ≡ length w + 1 + end_of_word n ws
   next_word n e = by_list ws some

@@ -159,7 +159,7 @@ record AreMarks (k : Bool) (q : ℕ) (t : Text) : Type 0 where
   build_each : AllByRecursion NpmBuild build
   whole : t ≡ marked (45 ∷ []) pre ++ marked (43 ∷ []) build
   short : length (marked (45 ∷ []) pre) ≤ q
-  has : not (is_empty pre) ≡ true → k ≡ true
+  contains : not (is_empty pre) ≡ true → k ≡ true
   alone : k ≡ true → not (is_empty pre) ≡ false → t ≡ []
 
 marks_from : (k : Bool) (q : ℕ) (t : Text) → NpmMarks k q t → AreMarks k q t
@@ -170,7 +170,7 @@ marks_from true q t (inl e) = record {
   build_each = tt;
   whole = e;
   short = omega arith;
-  has = λ y. refl;
+  contains = λ y. refl;
   alone = λ y n. e;
 }
 marks_from true q t (inr w) =
@@ -184,7 +184,7 @@ marks_from true q t (inr w) =
       build_each = build.each;
       whole = w.whole ∙ (λ i. pre i ++ build.whole i);
       short = omega (arith, w.in_first.1, ap length pre);
-      has = λ y. refl;
+      contains = λ y. refl;
       alone = λ y n. absurd (cc);
     }
 marks_from false q t w = let build = marked_from 43 NpmBuild t w in record {
@@ -194,7 +194,7 @@ marks_from false q t w = let build = marked_from 43 NpmBuild t w in record {
   build_each = build.each;
   whole = build.whole;
   short = omega arith;
-  has = λ y. absurd (cc);
+  contains = λ y. absurd (cc);
   alone = λ y n. absurd (cc);
 }
 
@@ -405,7 +405,7 @@ module _ (role : Role) where
           (45 ∷ []) marks.pre))
       short x y z = stays role i.k (not (is_empty marks.pre)) i.n (length t) (length i.a + (length i.b + length i.c) + 2)
           (length o.a + (length o.b + length o.c) + 2) i.q (length (marked (45 ∷ []) marks.pre)) less
-          (omega (arith, o.in_a.2, o.in_b.2, o.in_c.2)) (within_extra marks.pre i.q marks.short) i.q_some marks.has alone_short
+          (omega (arith, o.in_a.2, o.in_b.2, o.in_c.2)) (within_extra marks.pre i.q marks.short) i.q_some marks.contains alone_short
           (i.is_short (not_wild i.a o.a o.in_a.3 x) (not_wild i.b o.b o.in_b.3 y) (not_wild i.c o.c o.in_c.3 z))
 
       three_word : IsWord Npm role t

@@ -13,5 +13,7 @@ pub mod DialectTable
 pub mod Prefixes
 pub mod TooLarge
 pub mod Meanings
+pub mod RangeReasons
 pub mod Refusals
 pub mod Satisfying
+pub mod VersionRanges

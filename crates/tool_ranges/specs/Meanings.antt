@@ -4,7 +4,7 @@ use Rattle.semver_texts.specs.Texts.{Text, is_empty}
 use Rattle.semver_texts.specs.Versions.{PlainVersion, VersionValue}
 use Rattle.semver_ranges.specs.declared.range.Compat.TheVariants as compat
 use Rattle.version_sets.specs.PreReleaseRules.{meant_with}
-use Rattle.version_sets.specs.VersionSets.{SetValue, has, Fits}
+use Rattle.version_sets.specs.VersionSets.{SetValue, contains, Fits}
 use Rattle.version_sets.specs.declared.rules.PreReleases.{PreReleases}
 use Rattle.version_sets.specs.declared.rules.PreReleases.TheVariants.{Default, Included, Excluded}
 use Rattle.tool_ranges.specs.declared.dialect.Dialect.{Dialect}
@@ -34,7 +34,7 @@ meant_as meaning tree v = meant_by meaning.dialect meaning.pre_releases tree v
 -- a set of exactly the versions that each tree of a text means
 abbrev pub MeansBy : Dialect → PreReleases → Text → SetValue → Type 0
 MeansBy dialect rule t set = (tree : TreeOf dialect) (v : VersionValue)
-    → SpellsAs dialect tree t → Fits v.plain → has set v.plain ≡ meant_by dialect rule tree v
+    → SpellsAs dialect tree t → Fits v.plain → contains set v.plain ≡ meant_by dialect rule tree v
 
 abbrev pub MeansAs : Meaning → Text → SetValue → Type 0
 MeansAs meaning t set = MeansBy meaning.dialect meaning.pre_releases t set
@@ -43,4 +43,4 @@ MeansAs meaning t set = MeansBy meaning.dialect meaning.pre_releases t set
 abbrev pub IsSetBy : (dialect : Dialect) → Text → (TreeOf dialect → PlainVersion → Bool) → SetValue
     → Type 0
 IsSetBy dialect t meets set = (tree : TreeOf dialect) (v : PlainVersion)
-    → SpellsAs dialect tree t → Fits v → has set v ≡ meets tree v
+    → SpellsAs dialect tree t → Fits v → contains set v ≡ meets tree v

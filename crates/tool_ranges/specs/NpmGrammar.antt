@@ -1,19 +1,14 @@
 -- A range text as npm reads it, and the trees that spell it: the port's trees in npm's dialect,
 -- which has the bounds of node-semver 7 on lengths, where each non-ASCII character is white space
 -- to JavaScript.
-use Rattle.std.specs.Prelude.{ℕ, Bool, ◌||◌, ◌==◌, IsTrue}
+use Rattle.std.specs.Prelude.{ℕ, Bool, ◌||◌, IsTrue}
 use Rattle.std.specs.Int.{is_in_range}
 use Rattle.std.specs.List.{list_all}
 use Rattle.std.specs.Str.{chars}
 use Rattle.semver_texts.specs.Texts.{Text}
+use Rattle.semver_texts.specs.WhiteSpace.{is_white_space_beyond_ascii}
 use Rattle.semver_texts.specs.declared.grammar.Grammar.TheVariants.{Npm}
 use Rattle.semver_ranges.specs.RangeTree.{SetTree, SpellsRangeIn}
-
--- what JavaScript calls white space, beyond ASCII
-abbrev pub is_white_space_beyond_ascii : ℕ → Bool
-is_white_space_beyond_ascii c = (c == 0xA0) || ((c == 0x1680) || (is_in_range 0x2000 0x200A c
-    || ((c == 0x2028) || ((c == 0x2029) || ((c == 0x202F) || ((c == 0x205F) || ((c == 0x3000)
-    || (c == 0xFEFF))))))))
 
 -- a character that may be in a range text
 abbrev pub may_stand : ℕ → Bool

@@ -63,23 +63,23 @@ meets_one (of_simple s) v =
     meets_by_count s.form (stated s.partial) (zero_filled_any s.partial) v
 meets_one of_nothing v = true
 
--- whether npm asks nothing of a version by a term: the empty range, `>=0.0.0`, and what states no
--- number, but for `<` and `>`
+-- whether npm matches everything of a version by a term: the empty range, `>=0.0.0`, and what
+-- states no number, but for `<` and `>`
 abbrev pub asks_nothing_by : Form → Bool → Bool → Bool
 asks_nothing_by less none zero = false
 asks_nothing_by greater none zero = false
 asks_nothing_by at_least none zero = zero
 asks_nothing_by _ none zero = none
 
-abbrev pub asks_nothing : Term → Bool
-asks_nothing (of_simple s) =
+abbrev pub matches_everything : Term → Bool
+matches_everything (of_simple s) =
     asks_nothing_by s.form (states_nothing s.partial) (is_zero (zero_filled s.partial))
-asks_nothing of_nothing = true
+matches_everything of_nothing = true
 
 abbrev pub is_every_release : RangeTree → Bool
-is_every_release range = list_all asks_nothing (terms range)
+is_every_release range = list_all matches_everything (terms range)
 
--- whether a version meets a text: where some range of it asks nothing, every release and no
+-- whether a version meets a text: where some range of it matches everything, every release and no
 -- pre-release does; else what meets each term of some range and counts in it
 abbrev pub meets_npm : SetTree → PlainVersion → Bool
 meets_npm tree v =

@@ -1,7 +1,8 @@
 -- The comparators that stand for a range text as npm reads it: those of each range by the tool's
--- table in npm's mode, `>=0.0.0` where it asks nothing.
-use Rattle.std.specs.Prelude.{ℕ, ◌-◌, ◌^◌, Bool, true, ◌&&◌, nat_le, Option, Some, None}
+-- table in npm's mode, `>=0.0.0` where it matches everything.
+use Rattle.std.specs.Prelude.{Bool, true, ◌&&◌, Option, Some, None}
 use Rattle.std.specs.List.{list_all}
+use Rattle.semver_texts.specs.NpmLimits.{is_safe}
 use Rattle.semver_texts.specs.Versions.{numbers, PlainVersion}
 use Rattle.semver_ranges.specs.declared.range.Compat.TheVariants.{Npm}
 use Rattle.semver_ranges.specs.RangeTree.{SetTree, Simple}
@@ -13,11 +14,7 @@ use Rattle.tool_ranges.specs.ToolTable.{raised_in, written_in}
 abbrev pub rewritten_npm : SetTree → PlainSet
 rewritten_npm tree = set_by (written_in Npm) Npm tree
 
--- whether a number is at most 2^53 - 1: `Number.MAX_SAFE_INTEGER` of JavaScript
-abbrev pub is_safe : ℕ → Bool
-is_safe n = nat_le n (2 ^ 53 - 1)
-
--- whether the numbers of a bound are, where there is one
+-- whether the numbers of a bound are at most 2^53 - 1, where there is one
 abbrev pub is_safe_bound : Option PlainVersion → Bool
 is_safe_bound None = true
 is_safe_bound (Some bound) = list_all is_safe (numbers bound)

@@ -1,13 +1,14 @@
 -- Where a text stops being a range, and why.
-use Rattle.std.specs.Prelude.{◌≡◌, ◌≢◌, ◌↔◌, Option, None, IfSome}
+use Rattle.std.specs.Prelude.{◌≡◌, ◌≢◌, ◌↔◌, Option, None, IfSome, take}
 use Rattle.semver_texts.specs.Texts.{Text}
 use Rattle.semver_ranges.specs.declared.range_set.RangeError.TheVariants.{NotARange}
 use Rattle.semver_ranges.specs.declared.range_set.RangeError.TheVariants.{NumberTooLarge}
 use Rattle.semver_ranges.specs.declared.range_set.RangeError.TheVariants.{OutOfMemory}
 use Rattle.text_prefixes.specs.Prefixes.{IsLongestPrefix}
-use Rattle.text_prefixes.specs.Reasons.{too_large_in}
+use Rattle.text_prefixes.specs.Reasons.{byte_at, too_large_in}
 use Rattle.tool_ranges.specs.Dialects.{HasSetAs, IsTextAs, IsTooLargeAs, grammar_of}
 use Rattle.tool_ranges.specs.Prefixes.{BeginsAs}
+use Rattle.tool_ranges.specs.RangeReasons.{IsReasonAs}
 use Rattle.tool_ranges.specs.TooLarge.{IsLimitOffset}
 use Rattle.tool_ranges.specs.declared.dialect.Dialect.{Dialect}
 use Rattle.tool_ranges.specs.declared.refusals.Refusal.{Refusal}
@@ -22,6 +23,9 @@ pub record IsRefusalAs (d : Dialect) (text : Text) (found : Option Refusal) : Ty
   -- some range text begins with what is before the offset, and none with a longer prefix
   pub offset : IfSome found (λ r.
       r.error ≡ NotARange → IsLongestPrefix (BeginsAs d) text r.offset)
+  -- the reason is that of what is before the offset, and of the byte there
+  pub reason : IfSome found (λ r. r.error ≡ NotARange
+      → IsReasonAs d (take r.offset text) (byte_at text r.offset) r.reason)
   -- it is the end of the first term that does not fit
   pub limit : IfSome found (λ r. r.error ≡ NumberTooLarge → IsLimitOffset d text r.offset)
   -- the reason of a number that is too large is the limit of the dialect

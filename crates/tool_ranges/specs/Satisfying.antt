@@ -1,6 +1,6 @@
 -- What is answered of a version text and a range text.
 use Rattle.std.specs.Prelude.{◌≡◌, ◌⊎◌, Bool, Result, Ok, Err}
-use Rattle.semver_parser.specs.ToolVersions.{IsVersionTextIn, SpellsIn}
+use Rattle.semver_texts.specs.ToolVersions.{IsVersionTextIn, SpellsIn}
 use Rattle.semver_ranges.specs.declared.range_set.RangeError.TheVariants.{NotARange}
 use Rattle.semver_ranges.specs.declared.range_set.RangeError.TheVariants.{NumberTooLarge}
 use Rattle.semver_ranges.specs.declared.range_set.RangeError.TheVariants.{OutOfMemory}

@@ -1,7 +1,7 @@
-pub mod Asking
+pub mod Matching
 pub mod CargoReading
 pub mod CargoPreReleases
 pub mod NpmReading
-pub mod Cells
+pub mod ToolDesugared
 pub mod Places
 pub mod LowerBounds

@@ -6,7 +6,7 @@ ghost use Rattle.semver_ranges.specs.RangeViews.{set_of};
 ghost use Rattle.semver_texts.specs.Versions.{VersionValue};
 ghost use Rattle.version_sets.specs.Printable.{HasPrintableRanges, IsPrintable};
 ghost use Rattle.version_sets.specs.PreReleaseRules.{meets_with};
-ghost use Rattle.version_sets.specs.VersionSets.{has, Fits};
+ghost use Rattle.version_sets.specs.VersionSets.{contains, Fits};
 ghost use Rattle.tool_ranges.specs.AnySize.{set_any};
 
 use semver_ranges::RangeSet;
@@ -14,14 +14,14 @@ use semver_texts::grammar::Digits;
 use std::alloc::{AllocError, Global};
 use version_sets::{PreReleases, VersionSet};
 
-/// The versions that meet comparators by a rule for pre-releases.
+/// The versions that satisfy comparators by a rule for pre-releases.
 pub(crate) fn set_of(
     alloc: Global,
     set: &RangeSet,
     pre_releases: PreReleases,
 ) -> Result<VersionSet, AllocError>
     ensures meaning { IfOk result (λ s. (v : VersionValue) → Fits v.plain
-        → has s v.plain ≡ meets_with pre_releases (set_any (set_of set.now)) v) }
+        → contains s v.plain ≡ meets_with pre_releases (set_any (set_of set.now)) v) }
     ensures printable { HasPrintableRanges (set_of set.now) → IfOk result IsPrintable }
 {
     VersionSet::of_set_by(alloc, set, pre_releases, Digits::AnySize)

@@ -19,24 +19,25 @@ ghost use Rattle.tool_ranges.specs.declared.dialect.Dialect.TheVariants as diale
 ghost use Rattle.tool_ranges.specs.Steps.CargoReading.{EndsAs, IsRefusal, IsRewritten};
 ghost use Rattle.tool_ranges.specs.Steps.CargoReading.{in_one_range, set_with, IsRewrittenOne};
 ghost use Rattle.tool_ranges.specs.Steps.CargoReading.{IsSetOf, IsSurveyedAs};
-ghost use Rattle.tool_ranges.specs.Steps.Cells.{cell_fits, cell_written, IsBuildableAt};
+ghost use Rattle.tool_ranges.specs.Steps.ToolDesugared.{desugared_fits, desugared_written};
+ghost use Rattle.tool_ranges.specs.Steps.ToolDesugared.{IsBuildableAt};
 ghost use Rattle.semver_ranges.specs.Steps.CursorViews.{IsSimpleOf};
 ghost use Rattle.tool_ranges.specs.Steps.CargoPreReleases.{counting_one, judging, judging_one};
 
-mod asking;
+mod checking;
 mod fitting;
 mod grammar;
-mod judging;
+mod matching;
 mod pre_releases;
-mod reading;
+mod requirement_sets;
 
-use crate::rows::{self, Cell};
-pub(crate) use asking::{ask, ask_with_all};
+use crate::desugaring::{self, ToolDesugared};
+use checking::{JudgedVersions, push_judging};
 pub(crate) use fitting::fitting;
 use grammar::read_comparator;
-use judging::{JudgedVersions, push_judging};
-pub use reading::read;
-pub(crate) use reading::read_with_all;
+pub(crate) use matching::{matches, matches_with_all};
+pub use requirement_sets::read;
+pub(crate) use requirement_sets::read_with_all;
 use semver_ranges::grammar::Simple;
 use semver_ranges::partial::{LowerBounds, Partial, RaisedBounds};
 use semver_ranges::{Comparator, Compat, Range, RangeError, RangeSet};
@@ -55,8 +56,8 @@ const MOST_COMPARATORS: usize = 32;
 /// `1.2` gives `>=1.2.0 <2.0.0-0`, `>=1.2.3, <2` gives `>=1.2.3 <2.0.0`, `>1.2` gives `>=1.3.0`,
 /// and `*` gives `>=0.0.0`.
 ///
-/// A release meets the answer exactly if the requirement means it. Which pre-releases Cargo takes
-/// comparators can't say.
+/// A release satisfies the answer exactly if the requirement means it. Which pre-releases Cargo
+/// takes comparators can't say.
 ///
 /// # Errors
 ///
@@ -70,7 +71,7 @@ pub fn rewrite(alloc: Global, requirement: &str) -> Result<RangeSet, RangeError>
     ensures refusals { RefusesAs dialect.Cargo requirement.now result }
     ensures as_rewritten { IfOk result (λ set. (tree : List SimpleTree)
         → SpellsRequirement tree requirement.now → set_of set ≡ rewritten_requirement tree) }
-    // A release meets the answer exactly if the requirement means it.
+    // A release satisfies the answer exactly if the requirement means it.
     ensures releases { IfOk result (λ set. (tree : List SimpleTree) (v : PlainVersion)
         → SpellsRequirement tree requirement.now → v.pre ≡ [] →
         meets_set v (set_of set) ≡ meets_requirement tree v) }
@@ -120,7 +121,7 @@ fn rewritten_one(alloc: Global, simple: &Simple<'_>) -> Result<RangeSet, RangeEr
     requires { (s : SimpleTree) × IsSimpleOf s simple.now }
     ensures { (s : SimpleTree) → IsSimpleOf s simple.now → IsRewrittenOne s result }
 {
-    let cell = rows::cell_of(simple, Compat::Cargo);
+    let cell = desugaring::desugared_by_tool(simple, Compat::Cargo);
     if !cell.fits(&simple.partial) {
         return Err(RangeError::NumberTooLarge);
     }
@@ -134,13 +135,17 @@ fn rewritten_one(alloc: Global, simple: &Simple<'_>) -> Result<RangeSet, RangeEr
 }
 
 /// The range of one cell that fits. For speed the most frequent comparators aren't pushed.
-fn build_one(alloc: Global, partial: &Partial<'_>, cell: Cell) -> Result<Vec<Range>, AllocError>
+fn build_one(
+    alloc: Global,
+    partial: &Partial<'_>,
+    cell: ToolDesugared,
+) -> Result<Vec<Range>, AllocError>
     requires buildable { IsBuildableAt cell partial.now }
-    requires fits { cell_fits cell partial.now ≡ true }
+    requires fits { desugared_fits cell partial.now ≡ true }
     ensures { IfOk result (λ ranges. set_with ranges.items
-        ≡ in_one_range (cell_written cell partial.now)) }
+        ≡ in_one_range (desugared_written cell partial.now)) }
 {
-    if let Cell::Shared(bounds) = cell {
+    if let ToolDesugared::Shared(bounds) = cell {
         return in_one_range(alloc, bounds.to_vec(alloc, partial, RaisedBounds::Exact)?);
     }
     let mut comparators = Vec::with_capacity(alloc, 1)?;
@@ -163,7 +168,7 @@ fn in_one_range(alloc: Global, comparator_set: Vec<Comparator>) -> Result<Vec<Ra
 }
 
 /// A requirement that was surveyed: its first comparator, what follows the comma after it, and how
-/// many comparators stand for all. For speed the first is kept: so one alone is read once.
+/// many comparators there are in all. For speed the first is kept: so one alone is read once.
 #[derive(Clone, Copy)]
 struct Surveyed<'t> {
     first: Simple<'t>,
@@ -187,7 +192,7 @@ fn survey(requirement: &str) -> Result<Surveyed<'_>, RangeError>
     let mut fit = true;
     for at in 0..MOST_COMPARATORS {
         states_all &= !simple.partial.states_nothing();
-        let cell = rows::cell_of(&simple, Compat::Cargo);
+        let cell = desugaring::desugared_by_tool(&simple, Compat::Cargo);
         fit &= cell.fits(&simple.partial);
         count = count.saturating_add(cell.count());
         let Some(rest) = after else {
@@ -221,8 +226,8 @@ fn ended<T: Copy>(stands_alone: bool, fit: bool, answer: T) -> Result<T, RangeEr
     Ok(answer)
 }
 
-/// The range of a requirement, by which some versions are judged, and the ranges of the
-/// pre-releases that count, if these are asked for.
+/// The range of a requirement, by which some versions are checked, and the ranges of the
+/// pre-releases that count, if these are wanted.
 fn build(
     alloc: Global,
     surveyed: &Surveyed<'_>,

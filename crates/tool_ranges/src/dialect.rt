@@ -127,8 +127,8 @@ impl Dialect {
 ///
 /// It is [`cargo::rewrite`](crate::cargo::rewrite), [`npm::rewrite`](crate::npm::rewrite) or
 /// `RangeSet::parse_exact`: `1.2` gives `>=1.2.0 <2.0.0-0` as Cargo reads it, and
-/// `>=1.2.0 <1.3.0-0` by the others. A release meets the answer exactly if the text means it, and
-/// the printed answer is a range text that `RangeSet::parse` rewrites to it again.
+/// `>=1.2.0 <1.3.0-0` by the others. A release satisfies the answer exactly if the text means it,
+/// and the printed answer is a range text that `RangeSet::parse` rewrites to it again.
 ///
 /// # Errors
 ///
@@ -137,11 +137,11 @@ impl Dialect {
 /// as npm reads it above 2^53 - 1. These two do not allocate; `OutOfMemory` comes only in place of
 /// a set.
 pub fn rewrite(alloc: Global, dialect: Dialect, range: &str) -> Result<RangeSet, RangeError>
-    // What the dialect hasn't and what is too large is refused, exactly. The result is what each
-    // tree of the text is rewritten to.
+    // What isn't a range of the dialect, and what is too large, is refused, exactly. The result is
+    // what each tree of the text is rewritten to.
     ensures refusals { RefusesAs dialect range.now result }
     ensures as_rewritten { IfOk result (λ set. IsRewrittenAs dialect range.now (set_of set)) }
-    // A release meets the answer exactly if the text means it.
+    // A release satisfies the answer exactly if the text means it.
     ensures releases { IfOk result (λ set. (tree : TreeOf dialect) (v : PlainVersion)
         → SpellsAs dialect tree range.now → v.pre ≡ [] →
         meets_set v (set_of set) ≡ means_release dialect tree v) }

@@ -1,17 +1,19 @@
 //! Laws over the definitions: each is the contract of a function that does nothing.
 
-ghost use Rattle.std.specs.Prelude.{◌≡◌, ◌++◌, ℕ, []};
+ghost use Rattle.std.specs.Prelude.{◌≡◌, ◌++◌, ℕ, [], Option};
 ghost use Rattle.semver_texts.specs.Texts.{Text};
 ghost use Rattle.text_prefixes.specs.Prefixes.{IsLongestPrefix};
 ghost use Rattle.tool_ranges.specs.Prefixes.{BeginsAs};
 ghost use Rattle.tool_ranges.specs.declared.dialect.Dialect.{Dialect as SomeDialect};
 ghost use Rattle.tool_ranges.specs.Dialects.{IsTextAs, SpellsAs, TreeOf};
+ghost use Rattle.text_prefixes.specs.declared.reasons.Reason.{Reason as SomeReason};
+ghost use Rattle.tool_ranges.specs.RangeReasons.{IsReasonAs};
 ghost use Rattle.tool_ranges.specs.TooLarge.{IsLimitOffset};
 
 use crate::dialect::Dialect;
 use crate::meaning::Meaning;
 use crate::satisfying::{SatisfiesError, satisfies};
-use semver_parser::laws::one_version_in;
+use semver_versions::laws::one_version_in;
 
 /// In no dialect a range text has two trees.
 pub fn one_tree()
@@ -38,6 +40,13 @@ pub fn one_offset()
 pub fn one_limit_offset()
     ensures same_offset { (dialect : SomeDialect) (t : Text) (m n : ℕ)
         → IsLimitOffset dialect t m → IsLimitOffset dialect t n → m ≡ n }
+{}
+
+/// A prefix and what follows it have one reason.
+pub fn one_reason()
+    ensures same_reason { (dialect : SomeDialect) (prefix : Text) (next : Option ℕ)
+        (x y : SomeReason) → IsReasonAs dialect prefix next x → IsReasonAs dialect prefix next y
+        → x ≡ y }
 {}
 
 /// A number has one dialect, or none.

@@ -2,18 +2,19 @@
 #![tactic(auto)]
 
 mod any_size;
-mod asked;
-mod asking;
 pub mod cargo;
+mod desugaring;
 pub mod dialect;
-mod ending;
 pub mod laws;
-mod limit;
 pub mod meaning;
 pub mod npm;
 pub mod offset;
+mod overflow_offset;
+mod range_matching;
+pub mod range_operations;
 mod reasons;
 pub mod refusals;
-mod rows;
 pub mod satisfying;
-mod tally;
+mod stated_numbers;
+mod term_matching;
+pub mod version_range;

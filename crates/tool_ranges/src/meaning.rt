@@ -5,20 +5,21 @@ ghost use Rattle.semver_texts.specs.Texts.{Text, is_empty};
 ghost use Rattle.semver_texts.specs.Versions.{PlainVersion, without_build};
 ghost use Rattle.tool_ranges.specs.declared.dialect.Dialect.{Dialect as SomeDialect};
 ghost use Rattle.tool_ranges.specs.declared.dialect.Dialect.TheVariants as dialect;
-ghost use Rattle.semver_parser.specs.Outlines.{version_of};
+ghost use Rattle.semver_versions.specs.Outlines.{version_of};
 ghost use Rattle.semver_ranges.specs.RangeTexts.{RefusesExactly};
 ghost use Rattle.semver_ranges.specs.RangeTree.{SetTree, Spells};
 ghost use Rattle.version_sets.specs.Printable.{IsPrintable};
 ghost use Rattle.version_sets.specs.PreReleaseRules.{meant_with, numbers_fit};
 ghost use Rattle.tool_ranges.specs.Dialects.{RefusesAs, SpellsAs, TreeOf};
 ghost use Rattle.tool_ranges.specs.Meanings.{IsSetBy, MeansAs, MeansBy, meant_as, meant_by};
-ghost use Rattle.tool_ranges.specs.Steps.Asking.{asked_of, of_releases};
+ghost use Rattle.tool_ranges.specs.Steps.Matching.{plain_of, of_releases};
 
-use crate::asked::Asked;
 use crate::dialect::Dialect;
-use crate::{cargo, npm, tally};
-use semver_parser::version::Outline;
+use crate::stated_numbers::is_release;
+use crate::{cargo, npm, range_matching};
 use semver_ranges::{Compat, RangeError};
+use semver_versions::laws;
+use semver_versions::version::Outline;
 use std::alloc::Global;
 use version_sets::{PreReleases, VersionSet};
 
@@ -29,7 +30,7 @@ use version_sets::{PreReleases, VersionSet};
 /// use semver_parser::{sets, Dialect, Meaning, PreReleases};
 ///
 /// let npm = Meaning { dialect: Dialect::Npm, pre_releases: PreReleases::Included };
-/// let lowest = sets::read(npm, "^1.2")?.least().unwrap();
+/// let lowest = sets::read("^1.2", npm)?.lowest().unwrap();
 /// assert_eq!(lowest.unwrap().to_string(), "1.2.0-0");
 /// # Ok::<(), semver_parser::RangeError>(())
 /// ```
@@ -56,7 +57,7 @@ pub struct Meaning {
 /// has, and a number that it states or a bound that is raised by one is above 2^64 - 1, or in npm's
 /// dialect above 2^53 - 1. These two do not allocate; `OutOfMemory` comes only in place of a set.
 pub fn read(alloc: Global, meaning: Meaning, range: &str) -> Result<VersionSet, RangeError>
-    // What the dialect hasn't and what is too large is refused, exactly.
+    // What isn't a range of the dialect, and what is too large, is refused, exactly.
     ensures refusals { RefusesAs meaning.dialect range.now result }
     // A version is in the set exactly if the text means it.
     ensures meaning { IfOk result (λ set. MeansAs meaning range.now set) }
@@ -116,13 +117,13 @@ fn releases_of(
     }
 }
 
-// Answer: law answer_laws::sets::one_meets.
-/// Returns whether a range text means a version: `^1.2` means 1.9.0 and not 2.0.0 in each dialect,
-/// and `>=1.2.3, <2` is a range in Cargo's alone.
+// Answer: law answer_laws::sets::one_satisfies.
+/// Returns whether a version satisfies a range: 1.9.0 satisfies `^1.2` in each dialect, 2.0.0 in
+/// none, and `>=1.2.3, <2` is a range in Cargo's alone.
 ///
-/// It is for a range that is asked once: the text is read once, from the left to the right, and
-/// nothing is allocated. For many versions, [`read`] the set of the range first. `docs/MEANING.md`
-/// states what each range means.
+/// The range is read once, from the left to the right, and nothing is allocated. For many versions
+/// and one range, read a [`VersionRange`](crate::version_range::VersionRange). `docs/MEANING.md`
+/// says what each range means.
 ///
 /// # Errors
 ///
@@ -130,8 +131,8 @@ fn releases_of(
 /// text, and `NumberTooLarge` exactly if it has, and a number that it states or a bound that
 /// is raised by one is above the dialect's limit.
 #[inline(always)]
-pub fn meets(meaning: Meaning, range: &str, version: &Outline<'_>) -> Result<bool, RangeError>
-    // What the dialect hasn't and what is too large is refused, exactly.
+pub fn satisfies(version: &Outline<'_>, range: &str, meaning: Meaning) -> Result<bool, RangeError>
+    // What isn't a range of the dialect, and what is too large, is refused, exactly.
     ensures refusals { RefusesAs meaning.dialect range.now result }
     ensures no_memory { result ≢ Err RangeError.OutOfMemory }
     // The answer is what the text says of the version.
@@ -139,19 +140,20 @@ pub fn meets(meaning: Meaning, range: &str, version: &Outline<'_>) -> Result<boo
         → SpellsAs meaning.dialect tree range.now
         → met ≡ meant_as meaning tree (version_of version.now)) }
 {
-    ask(meaning, range, &Asked::of(version))
+    laws::numbers_of_outlines_fit(version);
+    matches(meaning, range, version)
 }
 
 // Answer: equation.
-/// Returns whether a range text is read at all, with the errors of [`meets`]: `^1.2` is, and `1 ||`
-/// isn't in Cargo's dialect. It does not allocate.
+/// Returns whether a range text is read at all, with the errors of [`satisfies`]: `^1.2` is, and `1
+/// ||` isn't in Cargo's dialect. It does not allocate.
 #[inline(never)]
 pub fn check(meaning: Meaning, range: &str) -> Result<(), RangeError>
-    // What the dialect hasn't and what is too large is refused, exactly.
+    // What isn't a range of the dialect, and what is too large, is refused, exactly.
     ensures refusals { RefusesAs meaning.dialect range.now result }
     ensures no_memory { result ≢ Err RangeError.OutOfMemory }
 {
-    match ask(meaning, range, &Asked::zero()) {
+    match satisfies(&Outline::zero(), range, meaning) {
         Ok(_) => Ok(()),
         Err(refusal) => Err(refusal),
     }
@@ -159,85 +161,93 @@ pub fn check(meaning: Meaning, range: &str) -> Result<(), RangeError>
 
 /// What a range text says of a version.
 #[inline(always)]
-fn ask(meaning: Meaning, range: &str, version: &Asked<'_>) -> Result<bool, RangeError>
-    requires { numbers_fit (asked_of version.now) ≡ true }
+fn matches(meaning: Meaning, range: &str, version: &Outline<'_>) -> Result<bool, RangeError>
+    requires { numbers_fit (plain_of version.now) ≡ true }
     ensures refusals { RefusesAs meaning.dialect range.now result }
     ensures no_memory { result ≢ Err RangeError.OutOfMemory }
     ensures meaning { IfOk result (λ met. (tree : TreeOf meaning.dialect)
         → SpellsAs meaning.dialect tree range.now
-        → met ≡ meant_as meaning tree (without_build (asked_of version.now))) }
+        → met ≡ meant_as meaning tree (without_build (plain_of version.now))) }
 {
     let rule = meaning.pre_releases;
     match meaning.dialect {
-        Dialect::Cargo => ask_cargo(range, rule, version),
-        Dialect::Npm => ask_npm(range, rule, version),
-        Dialect::CrateCargo => ask_crate(range, Compat::Cargo, rule, version),
-        Dialect::CrateNpm => ask_crate(range, Compat::Npm, rule, version),
+        Dialect::Cargo => matches_cargo(range, rule, version),
+        Dialect::Npm => matches_npm(range, rule, version),
+        Dialect::CrateCargo => matches_crate(range, Compat::Cargo, rule, version),
+        Dialect::CrateNpm => matches_crate(range, Compat::Npm, rule, version),
     }
 }
 
 /// What a requirement of Cargo says of a version by a rule for pre-releases.
 #[inline(always)]
-fn ask_cargo(range: &str, rule: PreReleases, version: &Asked<'_>) -> Result<bool, RangeError>
+fn matches_cargo(range: &str, rule: PreReleases, version: &Outline<'_>) -> Result<bool, RangeError>
     ensures refusals { RefusesAs dialect.Cargo range.now result }
     ensures no_memory { result ≢ Err RangeError.OutOfMemory }
     ensures meaning { IfOk result (λ met. (tree : TreeOf dialect.Cargo)
         → SpellsAs dialect.Cargo tree range.now
-        → met ≡ meant_by dialect.Cargo rule tree (without_build (asked_of version.now))) }
+        → met ≡ meant_by dialect.Cargo rule tree (without_build (plain_of version.now))) }
 {
     match rule {
-        PreReleases::Default => cargo::ask(range, version),
-        PreReleases::Included => cargo::ask_with_all(range, version),
-        PreReleases::Excluded => of_releases(version, cargo::ask(range, version)),
+        PreReleases::Default => cargo::matches(range, version),
+        PreReleases::Included => cargo::matches_with_all(range, version),
+        PreReleases::Excluded => of_releases(version, cargo::matches(range, version)),
     }
 }
 
 /// What a range text of npm says of a version by a rule for pre-releases.
 #[inline(always)]
-fn ask_npm(range: &str, rule: PreReleases, version: &Asked<'_>) -> Result<bool, RangeError>
+fn matches_npm(range: &str, rule: PreReleases, version: &Outline<'_>) -> Result<bool, RangeError>
     ensures refusals { RefusesAs dialect.Npm range.now result }
     ensures no_memory { result ≢ Err RangeError.OutOfMemory }
     ensures meaning { IfOk result (λ met. (tree : TreeOf dialect.Npm)
         → SpellsAs dialect.Npm tree range.now
-        → met ≡ meant_by dialect.Npm rule tree (without_build (asked_of version.now))) }
+        → met ≡ meant_by dialect.Npm rule tree (without_build (plain_of version.now))) }
 {
     match rule {
-        PreReleases::Default => npm::ask(range, version),
-        PreReleases::Included => npm::ask_with_all(range, version),
-        PreReleases::Excluded => of_releases(version, npm::ask(range, version)),
+        PreReleases::Default => npm::matches(range, version),
+        PreReleases::Included => npm::matches_with_all(range, version),
+        PreReleases::Excluded => of_releases(version, npm::matches(range, version)),
     }
 }
 
 /// What a range text of the crate in one of its modes says of a version by a rule for pre-releases.
 #[inline(always)]
-fn ask_crate(
+fn matches_crate(
     range: &str,
     compat: Compat,
     rule: PreReleases,
-    version: &Asked<'_>,
+    version: &Outline<'_>,
 ) -> Result<bool, RangeError>
-    requires { numbers_fit (asked_of version.now) ≡ true }
+    requires { numbers_fit (plain_of version.now) ≡ true }
     ensures refusals { RefusesExactly compat range.now result }
     ensures no_memory { result ≢ Err RangeError.OutOfMemory }
     ensures meaning { IfOk result (λ met. (tree : SetTree) → Spells tree range.now
-        → met ≡ meant_with rule compat tree (without_build (asked_of version.now))) }
+        → met ≡ meant_with rule compat tree (without_build (plain_of version.now))) }
 {
     match rule {
         PreReleases::Excluded => {
-            of_releases(version, tally::ask_crate(range, compat, version, true))
+            of_releases(
+                version,
+                range_matching::matches_crate(range, compat, version, true),
+            )
         }
-        PreReleases::Default => tally::ask_crate(range, compat, version, version.is_release()),
-        PreReleases::Included => tally::ask_crate(range, compat, version, true),
+        PreReleases::Default => range_matching::matches_crate(
+            range,
+            compat,
+            version,
+            is_release(version),
+        ),
+        PreReleases::Included => range_matching::matches_crate(range, compat, version, true),
     }
 }
 
 /// What was answered, of a release.
 #[inline(always)]
-fn of_releases(version: &Asked<'_>, answer: Result<bool, RangeError>) -> Result<bool, RangeError>
-    ensures { result ≡ of_releases (asked_of version.now) answer }
+fn of_releases(version: &Outline<'_>, answer: Result<bool, RangeError>) -> Result<bool, RangeError>
+    ensures { result ≡ of_releases (plain_of version.now) answer }
 {
     match answer {
-        Ok(met) => Ok(version.is_release() && met),
+        Ok(met) => Ok(is_release(version) && met),
         Err(refusal) => Err(refusal),
     }
 }

@@ -13,24 +13,25 @@ ghost use Rattle.semver_ranges.specs.PrintedRanges.{IsPrintableSet, set_text};
 ghost use Rattle.semver_ranges.specs.RewritingTable.{fits, rewritten};
 ghost use Rattle.version_sets.specs.Printable.{HasPrintableRanges};
 ghost use Rattle.tool_ranges.specs.Steps.LowerBounds.{set_begun, written_for};
-ghost use Rattle.tool_ranges.specs.NpmGrammar.{is_white_space_beyond_ascii, may_stand, SpellsNpmRange};
+ghost use Rattle.tool_ranges.specs.NpmGrammar.{may_stand, SpellsNpmRange};
 ghost use Rattle.tool_ranges.specs.NpmMeaning.{meets_npm};
 ghost use Rattle.tool_ranges.specs.NpmTable.{is_safe_simple, rewritten_npm};
 ghost use Rattle.tool_ranges.specs.Dialects.{RefusesAs};
 ghost use Rattle.tool_ranges.specs.declared.dialect.Dialect.TheVariants as dialect;
 
-mod asking;
-mod reading;
+mod matching;
+mod range_sets;
 
-use crate::rows;
-pub(crate) use asking::{ask, ask_with_all};
-pub use reading::read;
-pub(crate) use reading::read_with_all;
+use crate::desugaring;
+pub(crate) use matching::{matches, matches_with_all};
+pub use range_sets::read;
+pub(crate) use range_sets::read_with_all;
+use semver_ranges::desugared_texts::{Desugaring, read_by};
 use semver_ranges::grammar::Simple;
 use semver_ranges::partial::LowerBounds;
-use semver_ranges::table::{Table, read_by};
 use semver_ranges::{Comparator, Compat, RangeError, RangeSet};
 use semver_texts::grammar::Grammar;
+use semver_texts::white_space::is_white_space_beyond_ascii;
 use std::alloc::{AllocError, Global};
 
 // Answer: law answer_laws::ranges::one_npm_rewrite.
@@ -38,12 +39,12 @@ use std::alloc::{AllocError, Global};
 ///
 /// The text is one or more ranges separated by `||`. `docs/GRAMMAR.md` states the grammar, and
 /// `docs/MEANING.md` what each range means to npm. The answer has the ranges in the order of the
-/// text, in Npm mode. A range by which npm asks nothing, as `*`, is `>=0.0.0`.
+/// text, in Npm mode. A range by which npm matches everything, as `*`, is `>=0.0.0`.
 ///
 /// `>1.2` gives `>=1.3.0`, `<2` gives `<2.0.0-0`, `v1.2.3` gives `=1.2.3`, and `^1.2 || 3.x` gives
 /// `>=1.2.0 <2.0.0-0 || >=3.0.0 <4.0.0-0`.
 ///
-/// A release meets the answer exactly if the text means it. Which pre-releases npm takes
+/// A release satisfies the answer exactly if the text means it. Which pre-releases npm takes
 /// comparators can't say: [`read`] answers them as a set.
 ///
 /// # Errors
@@ -60,7 +61,7 @@ pub fn rewrite(alloc: Global, range: &str) -> Result<RangeSet, RangeError>
     ensures refusals { RefusesAs dialect.Npm range.now result }
     ensures as_rewritten { IfOk result (λ set. (tree : SetTree) → SpellsNpmRange tree range.now
         → set_of set ≡ rewritten_npm tree) }
-    // A release meets the answer exactly if the text means it.
+    // A release satisfies the answer exactly if the text means it.
     ensures releases { IfOk result (λ set. (tree : SetTree) (v : PlainVersion)
         → SpellsNpmRange tree range.now → v.pre ≡ [] →
         meets_set v (set_of set) ≡ meets_npm tree v) }
@@ -74,7 +75,7 @@ pub fn rewrite(alloc: Global, range: &str) -> Result<RangeSet, RangeError>
     rewritten(alloc, range, LowerBounds::Stated)
 }
 
-/// The set of a text, with lower bounds as they are asked for.
+/// The set of a text, with lower bounds as they are wanted.
 fn rewritten(alloc: Global, range: &str, lower: LowerBounds) -> Result<RangeSet, RangeError>
     ensures refusals { RefusesAs dialect.Npm range.now result }
     ensures begun { IfOk result (λ set. (tree : SetTree) → SpellsNpmRange tree range.now
@@ -84,7 +85,13 @@ fn rewritten(alloc: Global, range: &str, lower: LowerBounds) -> Result<RangeSet,
     if !may_stand(range) {
         return Err(RangeError::NotARange);
     }
-    read_by(alloc, range.as_bytes(), Compat::Npm, lower, &Rows { lower })
+    read_by(
+        alloc,
+        range.as_bytes(),
+        Compat::Npm,
+        lower,
+        &NpmRows { lower },
+    )
 }
 
 /// Whether each character beyond ASCII is white space to JavaScript. For speed it is asked first
@@ -97,30 +104,13 @@ fn may_stand(range: &str) -> bool
             || is_white_space_beyond_ascii(character))
 }
 
-/// Whether a character beyond ASCII is white space to JavaScript.
-#[inline(always)]
-fn is_white_space_beyond_ascii(character: char) -> bool
-    ensures { result ≡ is_white_space_beyond_ascii character }
-{
-    matches!(
-        character,
-        '\u{a0}' | '\u{1680}' | '\u{2000}'..='\u{200a}'
-            | '\u{2028}'
-            | '\u{2029}'
-            | '\u{202f}'
-            | '\u{205f}'
-            | '\u{3000}'
-            | '\u{feff}'
-    )
-}
-
-/// npm's table, with lower bounds as they are asked for.
+/// npm's table, with lower bounds as they are wanted.
 #[derive(Clone, Copy)]
-struct Rows {
+struct NpmRows {
     lower: LowerBounds,
 }
 
-impl Table for Rows {
+impl Desugaring for NpmRows {
     ghost DIALECT = { grammar.Npm };
 
     ghost fit = { λ _ s. is_safe_simple s };
@@ -131,7 +121,7 @@ impl Table for Rows {
 
     #[inline(always)]
     fn size(&self, simple: &Simple<'_>) -> (bool, usize) {
-        let cell = rows::cell_of(simple, Compat::Npm);
+        let cell = desugaring::desugared_by_tool(simple, Compat::Npm);
         (cell.is_safe(&simple.partial), cell.count())
     }
 
@@ -142,6 +132,6 @@ impl Table for Rows {
         simple: &Simple<'_>,
         comparators: &mut Vec<Comparator>,
     ) -> Result<(), AllocError> {
-        rows::push(alloc, simple, Compat::Npm, self.lower, comparators)
+        desugaring::push(alloc, simple, Compat::Npm, self.lower, comparators)
     }
 }

@@ -2,7 +2,7 @@
 //! with. It is found by asking the dialect itself what completes a prefix, so there is no second
 //! grammar.
 
-ghost use Rattle.std.specs.Prelude.{◌≡◌, ◌≢◌, ◌↔◌, ◌+◌, ◌≤◌, IfErr, IfOk, IsTrue, length};
+ghost use Rattle.std.specs.Prelude.{◌≡◌, ◌≢◌, ◌↔◌, IfErr, IfOk, IsTrue};
 ghost use Rattle.text_prefixes.specs.Prefixes.{IsLongestPrefix};
 ghost use Rattle.tool_ranges.specs.Dialects.{IsTextAs, RefusesAs};
 ghost use Rattle.tool_ranges.specs.Prefixes.{BeginsAs};
@@ -27,6 +27,7 @@ struct RangeTexts {
 }
 
 impl Language for RangeTexts {
+    ghost use Rattle.std.specs.Prelude.{◌<◌, length};
     ghost use Rattle.tool_ranges.specs.Dialects.{IsTextAs};
     ghost use Rattle.tool_ranges.specs.Steps.Places.{range_completions};
 
@@ -34,13 +35,29 @@ impl Language for RangeTexts {
 
     ghost completions = { λ texts. range_completions };
 
-    fn has(&self, text: &str) -> bool {
+    fn contains(&self, text: &str) -> bool {
         is_range(self.dialect, text)
     }
 
     fn all_completions(&self) -> &[&str] {
         &COMPLETIONS
     }
+
+    /// Nothing is missing after a number, an identifier or two bars, nor after a space more; the
+    /// second bar is after one, and else a number is.
+    fn likely(&self, prefix: &str) -> usize {
+        match prefix.as_bytes() {
+            [.., b'|', b'|'] => 0,
+            [.., b'|'] => 3,
+            [.., last] | [.., last, b' '] if may_end(*last) => 0,
+            _ => 5,
+        }
+    }
+}
+
+/// Whether a range text may end in a byte.
+fn may_end(byte: u8) -> bool {
+    byte.is_ascii_alphanumeric() || matches!(byte, b'*' | b'|')
 }
 
 // Answer: law answer_laws::ranges::one_error_offset.
@@ -63,16 +80,14 @@ pub fn error_offset(alloc: Global, dialect: Dialect, text: &str) -> Result<usize
     if is_range(dialect, text) {
         return Ok(text.len());
     }
-    let mut buffer = Vec::from_elem(alloc, 0, text.len().saturating_add(8))?;
-    Ok(error_offset_in(dialect, text, buffer.as_mut_slice()))
+    prefix_end(alloc, dialect, text)
 }
 
-/// The offset, found in a buffer that has 8 bytes more than the text.
-pub(crate) fn error_offset_in(dialect: Dialect, text: &str, buffer: &mut [u8]) -> usize
-    requires { length text.now + 8 ≤ length buffer.old }
-    ensures { IsLongestPrefix (BeginsAs dialect) text.now result }
+/// The end of the longest prefix of a text that some range text begins with.
+pub(crate) fn prefix_end(alloc: Global, dialect: Dialect, text: &str) -> Result<usize, AllocError>
+    ensures { IfOk result (λ offset. IsLongestPrefix (BeginsAs dialect) text.now offset) }
 {
-    longest_prefix(&RangeTexts { dialect }, text, buffer)
+    longest_prefix(alloc, &RangeTexts { dialect }, text)
 }
 
 // Answer: equation.

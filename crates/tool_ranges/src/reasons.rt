@@ -1,101 +1,246 @@
 //! Why a text stops being a range at an offset: what another dialect takes there, which rule of the
-//! dialect is broken, or what is missing.
+//! dialect is broken, or what is missing. The dialect itself says whether the text before the
+//! offset is a range, and whether it ends within an identifier; the bytes at its end say the rest.
+
+ghost use Rattle.std.specs.Prelude.{◌≡◌, IfOk, take};
+ghost use Rattle.std.specs.Str.{IsCharBoundary};
+ghost use Rattle.text_prefixes.specs.Reasons.{byte_at};
+ghost use Rattle.tool_ranges.specs.RangeReasons.{IsReasonAs, begins_partial, ends_identifier};
+ghost use Rattle.tool_ranges.specs.RangeReasons.{ends_in_component, expects_number};
+ghost use Rattle.tool_ranges.specs.RangeReasons.{has_leading_zero, is_begun, is_long, is_open};
+ghost use Rattle.tool_ranges.specs.RangeReasons.{is_operator, is_spaces, is_wildcard, is_word};
+ghost use Rattle.tool_ranges.specs.RangeReasons.{reason_at_end, reason_by, reason_of};
+ghost use Rattle.tool_ranges.specs.RangeReasons.{reason_of_any, reason_of_cargo, reason_of_crate};
+ghost use Rattle.tool_ranges.specs.RangeReasons.{reason_of_npm};
 
 use crate::dialect::Dialect;
-use crate::ending::Ending;
+use crate::offset::is_range;
+use crate::overflow_offset::is_separator;
+use semver_texts::bytes::is_part_byte;
+use std::alloc::{AllocError, Global};
+use text_prefixes::buffers::join;
+use text_prefixes::prefix_bytes::{self, byte_at, ends_in_zero, from_end, has_no_digit};
 use text_prefixes::reasons::Reason;
 
+/// What npm bounds is no shorter.
+const LONG: usize = 250;
+
 /// Why a text stops being a range at an offset.
-pub(crate) fn reason_at(dialect: Dialect, text: &str, offset: usize) -> Reason {
-    let Some(prefix) = text.as_bytes().get(..offset) else {
-        return Reason::UnexpectedEnd;
+pub(crate) fn reason_at(
+    alloc: Global,
+    dialect: Dialect,
+    text: &str,
+    offset: usize,
+) -> Result<Reason, AllocError>
+    requires { IsCharBoundary text.now offset }
+    ensures { IfOk result (IsReasonAs dialect (take offset text.now) (byte_at text.now offset)) }
+{
+    let prefix = &text[..offset];
+    let complete = is_range(dialect, prefix);
+    let mut buffer = String::with_capacity(alloc, offset.saturating_add(1))?;
+    join(&mut buffer, prefix, "a");
+    let letter = is_range(dialect, buffer.as_str());
+    let next = byte_at(text.as_bytes(), offset);
+    Ok(reason_by(dialect, complete, letter, prefix.as_bytes(), next))
+}
+
+/// The reason, by whether the prefix is a range text, and whether a letter after it makes one.
+fn reason_by(
+    dialect: Dialect,
+    complete: bool,
+    letter: bool,
+    prefix: &[u8],
+    next: Option<u8>,
+) -> Reason
+    ensures { result ≡ reason_by dialect complete letter prefix.now next }
+{
+    let Some(byte) = next else {
+        return reason_at_end(letter, prefix);
     };
-    let next = text.as_bytes().get(offset).copied();
-    let ending = Ending::of(prefix);
-    let is_crate = matches!(dialect, Dialect::CrateCargo | Dialect::CrateNpm);
-    if ending.has_leading_zero(prefix, next, !is_crate) {
+    if has_leading_zero(complete, letter, prefix, byte) {
         return Reason::LeadingZero;
     }
-    let rule = match (dialect, next) {
-        (_, Some(b'-' | b'+')) if ending.is_partial() => Some(Reason::NotThreeNumbers),
-        (Dialect::Cargo, Some(next)) => of_cargo(prefix, ending, next),
-        (Dialect::Npm, Some(next)) if ending.may_be_too_long(prefix, next) => Some(Reason::TooLong),
-        (Dialect::Npm, Some(b',')) => Some(Reason::NpmComma),
-        (_, Some(b',')) => Some(Reason::CrateComma),
-        (_, Some(b'v')) if is_crate && may_begin(prefix) => Some(Reason::CrateV),
-        _ => None,
-    };
-    match rule {
-        Some(reason) => reason,
-        None => of_any(prefix, ending, next),
+    let other = of_any(complete, letter, prefix, byte);
+    match dialect {
+        Dialect::Cargo => of_cargo(complete, letter, prefix, byte, other),
+        Dialect::Npm => of_npm(complete, letter, prefix, byte, other),
+        Dialect::CrateCargo | Dialect::CrateNpm => of_crate(prefix, byte, other),
     }
 }
 
-/// What may have been meant to Cargo, by the text before the offset, its ending and the byte there.
-fn of_cargo(prefix: &[u8], ending: Ending, next: u8) -> Option<Reason> {
-    let after_comparator = ends_comparator(prefix);
-    let after_space = prefix.last() == Some(&b' ');
-    match next {
-        b'|' => Some(Reason::CargoBars),
-        b'v' if may_begin(prefix) => Some(Reason::CargoV),
-        b'-' if after_comparator && after_space => Some(Reason::CargoHyphen),
-        b'<'..=b'>' | b'^' | b'~' if after_comparator => Some(Reason::CargoCommas),
-        b'0'..=b'9' | b'*' | b'x' | b'X' if after_comparator && after_space => {
-            Some(Reason::CargoCommas)
-        }
-        b'*' | b'x' | b'X' if !after_comparator => Some(Reason::CargoWildcard),
-        b',' if ending.is_wildcard() => Some(Reason::CargoWildcard),
-        _ => None,
-    }
-}
-
-/// What is wrong or missing to each dialect.
-fn of_any(prefix: &[u8], ending: Ending, next: Option<u8>) -> Reason {
-    let is_digit = matches!(next, Some(b'0'..=b'9'));
-    if ending.has_empty_identifier(prefix.len()) && may_end_identifier(next) {
-        Reason::EmptyIdentifier
-    } else if !is_digit && ending.wants_number(last_seen(prefix), next) {
-        Reason::NumberExpected
-    } else if next.is_some() {
-        Reason::UnexpectedCharacter
-    } else if last_seen(prefix).is_none() {
+/// What is missing at the end of a text.
+fn reason_at_end(letter: bool, prefix: &[u8]) -> Reason
+    ensures { result ≡ reason_at_end letter prefix.now }
+{
+    let last = from_end(prefix, 0);
+    if is_spaces(prefix) {
         Reason::Empty
-    } else {
-        Reason::UnexpectedEnd
-    }
-}
-
-/// Whether a comparator may begin after a text: it doesn't end within one.
-fn may_begin(text: &[u8]) -> bool {
-    !matches!(
-        text.last(),
-        Some(b'0'..=b'9' | b'a'..=b'z' | b'A'..=b'Z' | b'*' | b'-' | b'+' | b'.')
-    )
-}
-
-/// Whether an identifier may end before a byte, or at the end of the text.
-fn may_end_identifier(next: Option<u8>) -> bool {
-    matches!(
-        next,
-        None | Some(b'.' | b'-' | b'+' | b'|' | b',' | b' ' | 9..=13)
-    )
-}
-
-/// Whether a text ends with a comparator, spaces after it aside.
-fn ends_comparator(text: &[u8]) -> bool {
-    matches!(
-        last_seen(text),
-        Some(b'0'..=b'9' | b'a'..=b'z' | b'A'..=b'Z' | b'*' | b'-')
-    )
-}
-
-/// The last byte of a text that isn't a space or a tab.
-fn last_seen(text: &[u8]) -> Option<u8> {
-    let mut last = None;
-    for byte in text {
-        if !matches!(*byte, b' ' | b'\t') {
-            last = Some(*byte);
+    } else if letter {
+        if last.is_ascii_digit() {
+            Reason::LeadingZero
+        } else {
+            Reason::EmptyIdentifier
         }
+    } else if last == b'|' {
+        Reason::UnexpectedEnd
+    } else {
+        Reason::NumberExpected
     }
-    last
+}
+
+/// What may have been meant to Cargo, or the other reason.
+fn of_cargo(complete: bool, letter: bool, prefix: &[u8], byte: u8, other: Reason) -> Reason
+    ensures { result ≡ reason_of_cargo complete letter prefix.now byte other }
+{
+    let last = from_end(prefix, 0);
+    let after_space = last == b' ';
+    if byte == b'|' {
+        Reason::CargoBars
+    } else if byte == b'v' && is_separator(last) {
+        Reason::CargoV
+    } else if complete && (byte == b'-' && after_space) {
+        Reason::CargoHyphen
+    } else if complete && (is_operator(byte) || (begins_partial(byte) && after_space)) {
+        Reason::CargoCommas
+    } else if is_begun(complete, letter) && is_wildcard(byte) {
+        Reason::CargoWildcard
+    } else if complete && (byte == b',' && has_no_digit(prefix)) {
+        Reason::CargoWildcard
+    } else {
+        other
+    }
+}
+
+/// The same to npm.
+fn of_npm(complete: bool, letter: bool, prefix: &[u8], byte: u8, other: Reason) -> Reason
+    ensures { result ≡ reason_of_npm complete letter prefix.now byte other }
+{
+    let is_dotted = is_part_byte(byte) || byte == b'.';
+    if is_dotted && (!is_open(complete, letter) && is_long(prefix)) {
+        Reason::TooLong
+    } else if byte == b',' {
+        Reason::NpmComma
+    } else {
+        other
+    }
+}
+
+/// The same to the crate.
+fn of_crate(prefix: &[u8], byte: u8, other: Reason) -> Reason
+    ensures { result ≡ reason_of_crate prefix.now byte other }
+{
+    if byte == b',' {
+        Reason::CrateComma
+    } else if byte == b'v' && is_separator(from_end(prefix, 0)) {
+        Reason::CrateV
+    } else {
+        other
+    }
+}
+
+/// What is wrong to each dialect.
+fn of_any(complete: bool, letter: bool, prefix: &[u8], byte: u8) -> Reason
+    ensures { result ≡ reason_of_any complete letter prefix.now byte }
+{
+    if matches!(byte, b'-' | b'+') && (ends_in_component(prefix) && !letter) {
+        Reason::NotThreeNumbers
+    } else if is_open(complete, letter) && ends_identifier(byte) {
+        Reason::EmptyIdentifier
+    } else if expects_number(complete, letter, prefix, byte) {
+        Reason::NumberExpected
+    } else {
+        Reason::UnexpectedCharacter
+    }
+}
+
+/// Whether the prefix ends within an identifier that is empty, or has a leading zero.
+fn is_open(complete: bool, letter: bool) -> bool
+    ensures { result ≡ is_open complete letter }
+{
+    letter && !complete
+}
+
+/// Whether a number or a wildcard is to come, or the second of two bars.
+fn is_begun(complete: bool, letter: bool) -> bool
+    ensures { result ≡ is_begun complete letter }
+{
+    !complete && !letter
+}
+
+/// Whether the identifier has a leading zero, or the number before a digit.
+fn has_leading_zero(complete: bool, letter: bool, prefix: &[u8], byte: u8) -> bool
+    ensures { result ≡ has_leading_zero complete letter prefix.now byte }
+{
+    (is_open(complete, letter) && from_end(prefix, 0).is_ascii_digit())
+        || (byte.is_ascii_digit() && (ends_in_zero(prefix) && !letter))
+}
+
+/// Whether a number is to come, and the byte begins none.
+fn expects_number(complete: bool, letter: bool, prefix: &[u8], byte: u8) -> bool
+    ensures { result ≡ expects_number complete letter prefix.now byte }
+{
+    let last = from_end(prefix, 0);
+    is_begun(complete, letter)
+        && !byte.is_ascii_digit()
+        && !(is_spaces(prefix) || (last == b'|' || last == b'-'))
+}
+
+/// Whether it is nothing but spaces.
+fn is_spaces(prefix: &[u8]) -> bool
+    ensures { result ≡ is_spaces prefix.now }
+{
+    prefix.iter().all(|byte| *byte == b' ')
+}
+
+/// Whether it ends in a digit or a wildcard.
+fn ends_in_component(prefix: &[u8]) -> bool
+    ensures { result ≡ ends_in_component prefix.now }
+{
+    let last = from_end(prefix, 0);
+    last.is_ascii_digit() || is_wildcard(last)
+}
+
+/// Whether it ends in one word of 250 bytes and more.
+fn is_long(prefix: &[u8]) -> bool
+    ensures { result ≡ is_long prefix.now }
+{
+    if prefix.len() < LONG {
+        return false;
+    }
+    is_word(&prefix[prefix.len() - LONG..])
+}
+
+/// Whether no byte of it separates words.
+fn is_word(bytes: &[u8]) -> bool
+    ensures { result ≡ is_word bytes.now }
+{
+    bytes.iter().all(|byte| !is_separator(*byte))
+}
+
+/// Whether an operator begins with the byte.
+fn is_operator(byte: u8) -> bool
+    ensures { result ≡ is_operator byte }
+{
+    matches!(byte, b'<'..=b'>' | b'^' | b'~')
+}
+
+/// Whether the byte is a wildcard.
+fn is_wildcard(byte: u8) -> bool
+    ensures { result ≡ is_wildcard byte }
+{
+    matches!(byte, b'x' | b'X' | b'*')
+}
+
+/// Whether a comparator without operator begins with the byte.
+fn begins_partial(byte: u8) -> bool
+    ensures { result ≡ begins_partial byte }
+{
+    byte.is_ascii_digit() || is_wildcard(byte)
+}
+
+/// Whether an identifier may end before the byte.
+fn ends_identifier(byte: u8) -> bool
+    ensures { result ≡ ends_identifier byte }
+{
+    prefix_bytes::is_separator(byte) || matches!(byte, b'|' | b',')
 }

@@ -1,18 +1,19 @@
 //! Where a text stops being a range, and why.
 
-ghost use Rattle.std.specs.Prelude.{◌≡◌, ◌≢◌, ◌+◌, ◌≤◌, IfErr, IfOk, length};
+ghost use Rattle.std.specs.Prelude.{◌≡◌, ◌≢◌, IfErr, IfOk, take};
 ghost use Rattle.semver_ranges.specs.declared.range_set.RangeError.TheVariants.{NotARange};
 ghost use Rattle.semver_ranges.specs.declared.range_set.RangeError.TheVariants.{NumberTooLarge};
 ghost use Rattle.text_prefixes.specs.Prefixes.{IsLongestPrefix};
 ghost use Rattle.tool_ranges.specs.Prefixes.{BeginsAs};
-ghost use Rattle.text_prefixes.specs.Reasons.{too_large_in};
+ghost use Rattle.text_prefixes.specs.Reasons.{byte_at, too_large_in};
 ghost use Rattle.tool_ranges.specs.Dialects.{IsTextAs, SpellsAs, TreeOf, grammar_of};
+ghost use Rattle.tool_ranges.specs.RangeReasons.{IsReasonAs};
 ghost use Rattle.tool_ranges.specs.Refusals.{IsRefusalAs};
 ghost use Rattle.tool_ranges.specs.TooLarge.{limit_offset};
 
 use crate::dialect::Dialect;
-use crate::limit::limit_offset;
-use crate::offset::{check, error_offset_in, is_range};
+use crate::offset::{check, prefix_end};
+use crate::overflow_offset::limit_offset;
 use crate::reasons::reason_at;
 use semver_ranges::RangeError;
 use std::alloc::{AllocError, Global};
@@ -41,7 +42,7 @@ pub struct Refusal {
     pub reason: Reason,
 }
 
-// Answer: free, the reason (else law answer_laws::ranges::one_refusal): ../replayed_cases/stdin.
+// Answer: law answer_laws::ranges::one_refusal.
 /// Returns where and why a text gives no range by a dialect, or `None` if it gives one.
 ///
 /// `1.2 || 3` by Cargo's is `NotARange` at 4, since Cargo takes no `||`.
@@ -49,53 +50,49 @@ pub struct Refusal {
 /// # Errors
 ///
 /// `AllocError` if an allocation fails. It allocates only if the text is no range text, and then
-/// one buffer of about its length.
+/// two buffers of about its length, one after the other.
 pub fn refused(alloc: Global, dialect: Dialect, text: &str) -> Result<Option<Refusal>, AllocError>
     ensures refused { IfOk result (IsRefusalAs dialect text.now) }
     // Memory runs out only in place of `NotARange`.
     ensures out_of_memory { IfErr result (λ _. ¬ (IsTextAs dialect text.now)) }
 {
-    if is_range(dialect, text) {
-        return Ok(refused_in(dialect, text, &mut []));
-    }
-    let mut buffer = Vec::from_elem(alloc, 0, text.len().saturating_add(8))?;
-    Ok(refused_in(dialect, text, buffer.as_mut_slice()))
-}
-
-/// What [`refused`] returns, found in a buffer that has 8 bytes more than a text that is no range
-/// text.
-fn refused_in(dialect: Dialect, text: &str, buffer: &mut [u8]) -> Option<Refusal>
-    requires { ¬ (IsTextAs dialect text.now) → length text.now + 8 ≤ length buffer.old }
-    ensures refused { IsRefusalAs dialect text.now result }
-{
     let Err(error) = check(dialect, text) else {
-        return None;
+        return Ok(None);
     };
-    let (offset, reason) = explained(dialect, text, &error, buffer);
-    Some(Refusal {
+    let (offset, reason) = explained(alloc, dialect, text, &error)?;
+    Ok(Some(Refusal {
         error,
         offset,
         reason,
-    })
+    }))
 }
 
 /// The offset of an error of a text, and the reason.
-fn explained(dialect: Dialect, text: &str, error: &RangeError, buffer: &mut [u8]) -> (usize, Reason)
-    requires { error.now ≢ NumberTooLarge → length text.now + 8 ≤ length buffer.old }
-    ensures offset { error.now ≡ NotARange → IsLongestPrefix (BeginsAs dialect) text.now result.0 }
-    ensures limit { error.now ≡ NumberTooLarge → (tree : TreeOf dialect)
-        → SpellsAs dialect tree text.now → result.0 ≡ limit_offset dialect tree text.now }
-    ensures limit_reason { error.now ≡ NumberTooLarge
-        → result.1 ≡ too_large_in (grammar_of dialect) }
+fn explained(
+    alloc: Global,
+    dialect: Dialect,
+    text: &str,
+    error: &RangeError,
+) -> Result<(usize, Reason), AllocError>
+    ensures offset { IfOk result (λ r.
+        error.now ≡ NotARange → IsLongestPrefix (BeginsAs dialect) text.now r.0) }
+    ensures reason { IfOk result (λ r. error.now ≡ NotARange
+        → IsReasonAs dialect (take r.0 text.now) (byte_at text.now r.0) r.1) }
+    ensures limit { IfOk result (λ r. error.now ≡ NumberTooLarge → (tree : TreeOf dialect)
+        → SpellsAs dialect tree text.now → r.0 ≡ limit_offset dialect tree text.now) }
+    ensures limit_reason { IfOk result (λ r. error.now ≡ NumberTooLarge
+        → r.1 ≡ too_large_in (grammar_of dialect)) }
+    ensures out_of_memory { IfErr result (λ _. error.now ≢ NumberTooLarge) }
 {
     match error {
         RangeError::NumberTooLarge => {
             let offset = limit_offset(dialect, text);
-            (offset, Reason::too_large_in(dialect.grammar()))
+            Ok((offset, Reason::too_large_in(dialect.grammar())))
         }
         _ => {
-            let offset = error_offset_in(dialect, text, buffer);
-            (offset, reason_at(dialect, text, offset))
+            let offset = prefix_end(alloc, dialect, text)?;
+            let reason = reason_at(alloc, dialect, text, offset)?;
+            Ok((offset, reason))
         }
     }
 }

@@ -3,8 +3,8 @@
 ghost use Rattle.tool_ranges.specs.Satisfying.{Satisfies};
 
 use crate::meaning::{self, Meaning};
-use semver_parser::version::outline_in;
 use semver_ranges::RangeError;
+use semver_versions::version::outline_in;
 use thiserror::Error;
 
 /// Why `satisfies` returns no answer. `refusals` says where and why.
@@ -40,7 +40,7 @@ pub fn satisfies(version: &[u8], range: &str, meaning: Meaning) -> Result<bool, 
     let Some(outline) = outline_in(version, meaning.dialect.grammar()) else {
         return Err(SatisfiesError::InvalidVersion);
     };
-    match meaning::meets(meaning, range, &outline) {
+    match meaning::satisfies(&outline, range, meaning) {
         Ok(met) => Ok(met),
         Err(error) => Err(SatisfiesError::InvalidRange(error)),
     }

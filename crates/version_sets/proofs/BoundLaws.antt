@@ -8,13 +8,13 @@ use Rattle.std.specs.Cmp.{nat_cmp_is}
 use Rattle.std.specs.Cmp.Lexicographic.{pointwise, slice_cmp}
 use Rattle.std.proofs.lemmas.Bool.Decides.{nat_tests}
 use Rattle.std.specs.Ordering.{ordering_then}
-use Rattle.semver_parser.specs.Precedence.{identifier_cmp, pre_cmp, precedence}
-use Rattle.semver_parser.specs.Texts.{is_empty}
-use Rattle.semver_parser.specs.Versions.{IdentifierValue, numeric, alphanumeric, numbers, PlainVersion}
+use Rattle.semver_texts.specs.Precedence.{identifier_cmp, pre_cmp, precedence}
+use Rattle.semver_texts.specs.Texts.{is_empty}
+use Rattle.semver_texts.specs.Versions.{IdentifierValue, numeric, alphanumeric, numbers, PlainVersion}
 use Rattle.version_sets.specs.declared.release.Release.{Release}
 use Rattle.version_sets.specs.Steps.Bounds.{lowest_place, numbers_cmp, reaches}
 use Rattle.version_sets.specs.Steps.Spans.{reached}
-use Rattle.version_sets.specs.Steps.SpanViews.{is_past, with_zero}
+use Rattle.version_sets.specs.Steps.SpanViews.{is_past, successor}
 use Rattle.version_sets.specs.Releases.{release_value}
 
 -- ---- precedence goes by the numbers, and then by the pre-releases
@@ -31,20 +31,20 @@ pub then_alike : (f g : Ordering → Bool) (o r s : Ordering) → f Less ≡ g L
     → f (ordering_then o r) ≡ g (ordering_then o s)
 then_alike f g o r s e h k = grind arith
 
--- the number 0 is the least list of identifiers
-pub zero_least : (x : IdentifierValue) (xs : List IdentifierValue) → is_ge (slice_cmp identifier_cmp (x ∷ xs) (numeric 0 ∷ [])) ≡ true
-zero_least (numeric zero) [] = refl
-zero_least (numeric zero) (x ∷ xs) = refl
-zero_least (numeric (suc n)) xs =
+-- the number 0 is the lowest list of identifiers
+pub zero_lowest : (x : IdentifierValue) (xs : List IdentifierValue) → is_ge (slice_cmp identifier_cmp (x ∷ xs) (numeric 0 ∷ [])) ≡ true
+zero_lowest (numeric zero) [] = refl
+zero_lowest (numeric zero) (x ∷ xs) = refl
+zero_lowest (numeric (suc n)) xs =
     ap (λ o. is_ge (ordering_then o (slice_cmp identifier_cmp xs []))) (sym (nat_cmp_is (suc n) 0 Greater (omega arith)))
-zero_least (alphanumeric t) xs = refl
+zero_lowest (alphanumeric t) xs = refl
 
 -- nothing is between a list and that with the number 0 after it
 nothing_between : (xs ws : List IdentifierValue)
     → is_ge (slice_cmp identifier_cmp xs (ws ++ numeric 0 ∷ [])) ≡ is_gt (slice_cmp identifier_cmp xs ws)
 nothing_between [] [] = refl
 nothing_between [] (w ∷ ws) = refl
-nothing_between (x ∷ xs) [] = zero_least x xs
+nothing_between (x ∷ xs) [] = zero_lowest x xs
 nothing_between (x ∷ xs) (w ∷ ws) = then_alike is_ge is_gt (identifier_cmp x w) _ _ refl refl (nothing_between xs ws)
 
 -- ---- releases and pre-releases against a version with a pre-release, and against one without
@@ -67,7 +67,7 @@ none_above xs ws e = grind arith
 
 from_lowest : (xs : List IdentifierValue) → is_empty xs ≡ false → is_ge Equal ≡ is_ge (pre_cmp xs (numeric 0 ∷ []))
 from_lowest [] e = absurd (search rules)
-from_lowest (x ∷ xs) e = sym (zero_least x xs)
+from_lowest (x ∷ xs) e = sym (zero_lowest x xs)
 
 pub right_after : (xs ws : List IdentifierValue) → is_empty xs ≡ false → is_empty ws ≡ false
     → is_ge (pre_cmp xs (ws ++ numeric 0 ∷ [])) ≡ is_gt (pre_cmp xs ws)
@@ -84,9 +84,9 @@ right_above w v f e =
 
 -- where the pre-releases at or above a version begin, or those above it
 pub past : (above : Bool) (w v : PlainVersion) → is_empty w.pre ≡ false → is_empty v.pre ≡ false
-    → is_ge (precedence v (record w { pre = with_zero w.pre (above || is_empty w.pre) })) ≡ is_past above (precedence v w)
+    → is_ge (precedence v (record w { pre = successor w.pre (above || is_empty w.pre) })) ≡ is_past above (precedence v w)
 past true w v f e = right_above w v f e
-past false w v f e = ap (λ b. is_ge (precedence v (record w { pre = with_zero w.pre b }))) f
+past false w v f e = ap (λ b. is_ge (precedence v (record w { pre = successor w.pre b }))) f
     ∙ ap (λ p. is_ge (precedence v (record w { pre = p }))) (append-nil w.pre)
 
 before_release : (xs ws : List IdentifierValue) → is_empty xs ≡ false → is_empty ws ≡ true → is_gt Equal ≡ is_ge (pre_cmp xs ws)

@@ -2,30 +2,29 @@
 -- What of identifiers and versions is the same however their digits are read, and how these are kept.
 use Rattle.std.proofs.Common.{◌≡◌, ℕ, ◌^◌, ◌<◌, ◌≤◌, Bool, true, false, ◌&&◌, not, List, [], ◌∷◌, map, arith, refl, sym, ap, ◌∙◌}
 use Rattle.std.specs.Prelude.{◌==◌, nat_lt, if◌then◌else◌}
-use Rattle.std.specs.List.{join_with_byte, list_all}
+use Rattle.std.specs.List.{list_all}
 use Rattle.std.specs.Str.Parse.{digits_value}
 use Rattle.std.proofs.lemmas.Bool.{and_parts}
 use Rattle.std.proofs.lemmas.Bool.Decides.{nat_tests}
 use Rattle.semver_texts.proofs.LargeNumbers.{large_size, number_numeral}
 use Rattle.semver_texts.proofs.Lists.{by_test}
 use Rattle.semver_texts.specs.Digits.{any_size, as_kept, identifier_by, identifiers_by, plain_by, plain_kept}
-use Rattle.semver_texts.specs.PrintedText.{identifier_text, numeral}
+use Rattle.semver_texts.specs.PrintedText.{numeral}
 use Rattle.semver_texts.specs.Texts.{Text, is_empty, is_large, is_number}
 use Rattle.semver_texts.specs.declared.grammar.Digits.{Digits}
 use Rattle.semver_texts.specs.declared.grammar.Digits.TheVariants.{Kept, AnySize}
-use Rattle.semver_parser.specs.Outlines.{dotted_text}
-use Rattle.semver_parser.specs.Partials.{fits_u64}
-use Rattle.semver_parser.specs.Precedence.{pre_cmp, precedence}
-use Rattle.semver_parser.specs.PrintedRanges.{is_kept, is_printable_version}
-use Rattle.semver_parser.specs.Versions.{IdentifierValue, numeric, alphanumeric, PlainVersion, numbers}
+use Rattle.semver_ranges.specs.Partials.{fits_u64}
+use Rattle.semver_texts.specs.Precedence.{pre_cmp, precedence}
+use Rattle.semver_ranges.specs.PrintedRanges.{is_kept, is_printable_version}
+use Rattle.semver_texts.specs.Versions.{IdentifierValue, numeric, alphanumeric, PlainVersion, numbers}
 use Rattle.version_sets.specs.Printable.{is_kept_by, prints_by}
 use Rattle.std.specs.Prelude.{Option, Some, None, IfSome}
-use Rattle.semver_parser.specs.declared.Op.{Op}
-use Rattle.semver_parser.specs.declared.Op.TheVariants.{Lt, Gte, Eq}
-use Rattle.semver_parser.specs.RewritingTable.{comparator}
+use Rattle.semver_ranges.specs.declared.range.Op.{Op}
+use Rattle.semver_ranges.specs.declared.range.Op.TheVariants.{Lt, Gte, Eq}
+use Rattle.semver_ranges.specs.RewritingTable.{comparator}
 use Rattle.version_sets.specs.DigitViews.{comparator_kept, range_kept}
 use Rattle.version_sets.specs.SetRanges.{bounds, interval, intervals, is_lowest, is_lowest_pre, is_same_end, npm_range}
-use Rattle.version_sets.specs.Steps.SpanViews.{with_zero}
+use Rattle.version_sets.specs.Steps.SpanViews.{successor}
 
 pub by_none : (d : Digits) → identifiers_by d [] ≡ []
 by_none Kept = refl
@@ -40,13 +39,13 @@ pub by_empty : (d : Digits) (ids : List IdentifierValue) → is_empty (identifie
 by_empty d [] = ap is_empty (by_none d)
 by_empty d (id ∷ ids) = ap is_empty (by_cons d id ids)
 
-map_zero : (ids : List IdentifierValue) (zero : Bool) → map any_size (with_zero ids zero) ≡ with_zero (map any_size ids) zero
+map_zero : (ids : List IdentifierValue) (zero : Bool) → map any_size (successor ids zero) ≡ successor (map any_size ids) zero
 map_zero [] true = refl
 map_zero [] false = refl
 map_zero (id ∷ ids) zero = ap (λ more. any_size id ∷ more) (map_zero ids zero)
 
 pub by_zero : (d : Digits) (ids : List IdentifierValue) (zero : Bool)
-    → identifiers_by d (with_zero ids zero) ≡ with_zero (identifiers_by d ids) zero
+    → identifiers_by d (successor ids zero) ≡ successor (identifiers_by d ids) zero
 by_zero Kept ids zero = refl
 by_zero AnySize ids zero = map_zero ids zero
 
@@ -73,21 +72,6 @@ lowest_by AnySize ((alphanumeric t) ∷ next ∷ ids) = other (any_size (alphanu
     other (alphanumeric t) y more = refl
 
 -- ---- their texts
-
-pub text_by : (d : Digits) (id : IdentifierValue) → identifier_text (identifier_by d id) ≡ identifier_text id
-text_by Kept id = refl
-text_by AnySize (numeric n) = refl
-text_by AnySize (alphanumeric t) =
-    by_test (is_large t)
-    (λ large. rw large (sym (number_numeral t (and_parts (is_number t) _ large).0)))
-    (λ small. rw small refl)
-
-texts_by : (d : Digits) (ids : List IdentifierValue) → map identifier_text (identifiers_by d ids) ≡ map identifier_text ids
-texts_by d [] = ap (map identifier_text) (by_none d)
-texts_by d (id ∷ ids) = ap (map identifier_text) (by_cons d id ids) ∙ (λ i. text_by d id i ∷ texts_by d ids i)
-
-pub dotted_by : (d : Digits) (ids : List IdentifierValue) → dotted_text (identifiers_by d ids) ≡ dotted_text ids
-dotted_by d ids = ap (join_with_byte 46) (texts_by d ids)
 
 -- ---- as they are kept
 

@@ -7,12 +7,12 @@ use Rattle.std.proofs.lemmas.Option.{get_or_from_slice_get, slice_get_within}
 use Rattle.std.specs.Borrow.{Bor}
 use Rattle.std.specs.Cmp.{IsTotalOrder, back_total}
 use Rattle.std.specs.declared.cmp.Ordering.{Ordering}
-use Rattle.semver_parser.specs.PrecedenceLaws.{precedence_total}
-use Rattle.semver_parser.specs.Texts.{Text}
-use Rattle.semver_parser.specs.ToolVersions.{SpellsIn}
-use Rattle.semver_parser.specs.Versions.{PlainVersion, VersionValue}
+use Rattle.semver_texts.specs.Steps.PrecedenceLaws.{precedence_total}
+use Rattle.semver_texts.specs.Texts.{Text}
+use Rattle.semver_texts.specs.ToolVersions.{SpellsIn}
+use Rattle.semver_texts.specs.Versions.{PlainVersion, VersionValue}
 use Rattle.semver_texts.specs.declared.grammar.Grammar.{Grammar}
-use Rattle.version_sets.specs.VersionSets.{SetValue, has}
+use Rattle.version_sets.specs.VersionSets.{SetValue, contains}
 use Rattle.version_sets.specs.Highest.{IsHighest, IsMember, IsMemberText, order_for}
 
 pub total_for : (lowest : Bool) → IsTotalOrder (order_for lowest)
@@ -32,9 +32,6 @@ module _ (order : PlainVersion → PlainVersion → Ordering) (total : IsTotalOr
 
 less_one : (k at : ℕ) → k < at + 1 → (k < at) ⊎ (k ≡ at)
 less_one k at within = grind arith
-
-not_less : (k : ℕ) → k < k → ⊥
-not_less k less = grind arith
 
 apart : (k at : ℕ) → k < at → k ≡ at → ⊥
 apart k at less e = grind arith
@@ -66,7 +63,7 @@ module _ (g : Grammar) (set : SetValue) (texts : List (Bor Text)) where
   member_text at x v member = (
     member.version,
     spelled at x v member,
-    subst (λ (p : PlainVersion). has set p ≡ true) (sym member.plain) member.is_in,
+    subst (λ (p : PlainVersion). contains set p ≡ true) (sym member.plain) member.is_in,
   )
 
   -- and it is the version that its string spells

@@ -1,21 +1,21 @@
 -- serves: version_sets::set_ranges::VersionSet::release_ranges
--- The ranges of intervals are met by the versions that the switches turn on, of a kind with a next version right above each.
+-- The ranges of intervals are met by the versions that the boundaries turn on, of a kind with a next version right above each.
 use Rattle.std.proofs.Common.{arith, ◌≡◌, Bool, true, false, not, ◌&&◌, ◌||◌, cond, List, [], ◌∷◌, refl, sym, ap, ap₂, ◌∙◌}
 use Rattle.std.proofs.Common.{Ordering, Less, is_eq, is_ge, is_gt, is_lt}
 use Rattle.std.specs.Prelude.{Option, Some, None}
 use Rattle.std.specs.List.{AllByRecursion, list_any, list_all}
-use Rattle.semver_parser.specs.declared.Op.TheVariants.{Lt, Gte, Eq}
-use Rattle.semver_parser.specs.Versions.{PlainVersion}
-use Rattle.semver_parser.specs.Precedence.{precedence}
-use Rattle.semver_parser.specs.PrecedenceLaws.{precedence_total, precedence-same}
-use Rattle.semver_parser.specs.RewritingTable.{comparator}
-use Rattle.semver_parser.specs.Meeting.{meets_comparator, meets_range}
-use Rattle.version_sets.specs.Switches.{switched, IsIncreasing}
+use Rattle.semver_ranges.specs.declared.range.Op.TheVariants.{Lt, Gte, Eq}
+use Rattle.semver_texts.specs.Versions.{PlainVersion}
+use Rattle.semver_texts.specs.Precedence.{precedence}
+use Rattle.semver_texts.specs.Steps.PrecedenceLaws.{precedence_total, precedence-same}
+use Rattle.semver_ranges.specs.RewritingTable.{comparator}
+use Rattle.semver_ranges.specs.Meeting.{meets_comparator, meets_range}
+use Rattle.version_sets.specs.Boundaries.{is_inside, IsIncreasing}
 use Rattle.version_sets.specs.SetRanges.{is_lowest, is_same_end, bounds, interval, intervals}
 use Rattle.version_sets.proofs.BoundLaws.{from, and_true, at_and_not_above}
 use Rattle.version_sets.proofs.SameSets.{equal_is}
-use Rattle.version_sets.proofs.SwitchLaws.{switched-below, below-first}
-use Rattle.version_sets.proofs.WalkLaws.{by_test}
+use Rattle.version_sets.proofs.BoundaryLaws.{is_inside-below, below-first}
+use Rattle.version_sets.proofs.SweepLaws.{by_test}
 
 pub below_is : (o : Ordering) → is_lt o ≡ not (is_ge o)
 below_is o = grind arith
@@ -63,11 +63,11 @@ module _ (P : PlainVersion → Type 0) (next : PlainVersion → Option PlainVers
       (λ e. ap (λ t. list_all (meets_comparator v) (cond t (comparator Eq a ∷ []) (bounds a to))) e ∙ bounds_meet a to pa)
 
   pub intervals_meet : (xs : List PlainVersion) → IsIncreasing precedence xs → AllByRecursion P xs
-      → list_any (meets_range v) (intervals next xs) ≡ switched precedence xs v
+      → list_any (meets_range v) (intervals next xs) ≡ is_inside precedence xs v
   intervals_meet [] s p = refl
   intervals_meet (a ∷ []) s p = or_false _ ∙ interval_meets a None p.0
   intervals_meet (a ∷ b ∷ xs) s p =
       ap₂ (λ t u. t || u) (interval_meets a (Some b) p.0) (intervals_meet xs s.1.1 p.1.1)
-      ∙ turned (is_ge (precedence v a)) (is_ge (precedence v b)) (switched precedence xs v) (λ l.
+      ∙ turned (is_ge (precedence v a)) (is_ge (precedence v b)) (is_inside precedence xs v) (λ l.
       let below = below-first precedence precedence_total v a (b ∷ xs) (is_below (precedence v a) l) s.0 in
-      switched-below precedence v xs (below-first precedence precedence_total v b xs below s.1.0))
+      is_inside-below precedence v xs (below-first precedence precedence_total v b xs below s.1.0))

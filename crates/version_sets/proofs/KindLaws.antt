@@ -4,13 +4,13 @@ use Rattle.std.proofs.Common.{arith, ◌≡◌, Bool, true, false, List, [], ◌
 use Rattle.std.proofs.Common.{Equal, is_ge, is_gt}
 use Rattle.std.specs.Prelude.{Option, Some, None}
 use Rattle.std.proofs.lemmas.Bool.Decides.{nat_tests}
-use Rattle.semver_parser.specs.Precedence.{pre_cmp, precedence}
-use Rattle.semver_parser.specs.Texts.{is_empty}
-use Rattle.semver_parser.specs.Versions.{IdentifierValue, numeric, alphanumeric, PlainVersion}
+use Rattle.semver_texts.specs.Precedence.{pre_cmp, precedence}
+use Rattle.semver_texts.specs.Texts.{is_empty}
+use Rattle.semver_texts.specs.Versions.{IdentifierValue, numeric, alphanumeric, PlainVersion}
 use Rattle.version_sets.specs.VersionSets.{Fits, IsRelease, IsPreRelease}
 use Rattle.version_sets.specs.SetRanges.{next_release, next_pre_release, is_lowest, is_lowest_pre}
 use Rattle.version_sets.specs.Steps.Bounds.{numbers_cmp}
-use Rattle.version_sets.proofs.BoundLaws.{from, zero_least, against, release_reaches, none_above, right_above}
+use Rattle.version_sets.proofs.BoundLaws.{from, zero_lowest, against, release_reaches, none_above, right_above}
 use Rattle.version_sets.proofs.IntervalLaws.{IsKind}
 
 -- by the numbers alone
@@ -49,7 +49,7 @@ lowest_pre [] ws e f l = cc
 lowest_pre (x ∷ xs) [] e f l = cc
 lowest_pre (x ∷ xs) (numeric n ∷ []) e f l =
     let zero : n ≡ 0 = grind (arith, nat_tests) in
-    sym (zero_least x xs) ∙ ap (λ m. is_ge (pre_cmp (x ∷ xs) (numeric m ∷ []))) (sym zero)
+    sym (zero_lowest x xs) ∙ ap (λ m. is_ge (pre_cmp (x ∷ xs) (numeric m ∷ []))) (sym zero)
 lowest_pre (x ∷ xs) (numeric n ∷ w ∷ ws) e f l = cc
 lowest_pre (x ∷ xs) (alphanumeric t ∷ ws) e f l = cc
 

@@ -1,23 +1,22 @@
-mod SwitchLaws
-mod WalkLaws
-mod ClonedPlaces
+mod BoundaryLaws
+mod SweepLaws
 mod SearchLaws
 mod EachAnswer
 pub mod DigitLaws
 mod Lists
 mod SetLaws
 mod SpanLaws
-mod HeldLimits
-mod PrintedLimits
+mod HeldEndpoints
+mod PrintedEndpoints
 pub mod PrintableRanges
 mod BoundLaws
 mod OutlinedPlaces
 mod SameSets
-mod FirstSwitches
+mod FirstBoundaries
 mod IntervalLaws
 mod KindLaws
 mod ReadBack
 mod SetRangeLaws
 mod MetLaws
 mod HighestMembers
-mod OneHighest
+pub mod OneHighest

@@ -1,19 +1,14 @@
--- serves: version_sets::comparing::VersionSet::is_empty
+-- serves: version_sets::lowest::VersionSet::lowest, lowest
 -- Lists by their length and by their halves, and the result of one.
-use Rattle.std.proofs.Common.{◌≡◌, ◌==◌, ◌||◌, ◌&&◌, ◌<◌, ℕ, Bool, true, false, get_or, List, [], ◌∷◌, map, length, refl, sym}
-use Rattle.std.proofs.Common.{ap, subst, arith, IfOk, IfErr, Result, Ok, Err}
+use Rattle.std.proofs.Common.{◌≡◌, ◌==◌, ◌||◌, ◌&&◌, ◌<◌, ℕ, Bool, true, false, get_or, List, [], ◌∷◌, map, length, refl}
+use Rattle.std.proofs.Common.{ap, arith, IfOk, IfErr, Result, Ok, Err}
 use Rattle.std.proofs.lemmas.Bool.Decides.{nat_tests}
 use Rattle.std.specs.List.{list_all, list_any}
-use Rattle.semver_parser.specs.Texts.{is_empty}
+use Rattle.semver_texts.specs.Texts.{is_empty}
 
 pub none_left : {X Y : Type 0} (f : X → Y) (xs : List X) (n : ℕ) (r : Bool) → r ≡ (n == 0) → n ≡ length xs → r ≡ is_empty (map f xs)
 none_left f [] n r e l = grind (arith, nat_tests)
 none_left f (x ∷ xs) n r e l = grind (arith, nat_tests)
-
--- what is so of a value, is so where it is answered
-pub answered : {T E : Type 0} (x : T) (P : T → Type 0) (r : Result T E) → IfOk r (λ y. y ≡ x) → P x → IfOk r P
-answered x P (Ok y) e p = subst P (sym e) p
-answered x P (Err e) _ p = tt
 
 pub answered_so : {T E : Type 0} {P : T → Type 0} (Q : T → Type 0) (r : Result T E) → IfOk r P → ((x : T) → P x → Q x) → IfOk r Q
 answered_so Q (Ok x) p f = f x p

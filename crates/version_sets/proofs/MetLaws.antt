@@ -7,16 +7,16 @@ use Rattle.std.proofs.lemmas.List.Folds.{list_all-map, list_all_more, list_any_m
 use Rattle.std.specs.List.{list_all, list_any}
 use Rattle.std.specs.Cmp.Lexicographic.{pointwise}
 use Rattle.std.specs.Prelude.{nat_eq}
-use Rattle.semver_parser.specs.StatedPreReleases.{has_pre_release_at}
-use Rattle.semver_parser.specs.declared.Comparator.{Comparator}
+use Rattle.semver_ranges.specs.StatedPreReleases.{has_pre_release_at}
+use Rattle.semver_ranges.specs.declared.range.Comparator.{Comparator}
 use Rattle.version_sets.proofs.Lists.{list_any-map}
-use Rattle.semver_parser.specs.declared.Op.{Op}
-use Rattle.semver_parser.specs.declared.Op.TheVariants.{Lt, Lte, Gt, Gte, Eq}
-use Rattle.semver_parser.specs.Meeting.{op_holds, meets_comparator}
-use Rattle.semver_parser.specs.Precedence.{precedence}
-use Rattle.semver_parser.specs.RewritingTable.{PlainComparator, comparator}
-use Rattle.semver_parser.specs.Texts.{is_empty}
-use Rattle.semver_parser.specs.Versions.{PlainVersion, numbers}
+use Rattle.semver_ranges.specs.declared.range.Op.{Op}
+use Rattle.semver_ranges.specs.declared.range.Op.TheVariants.{Lt, Lte, Gt, Gte, Eq}
+use Rattle.semver_ranges.specs.Meeting.{op_holds, meets_comparator}
+use Rattle.semver_texts.specs.Precedence.{precedence}
+use Rattle.semver_ranges.specs.RewritingTable.{PlainComparator, comparator}
+use Rattle.semver_texts.specs.Texts.{is_empty}
+use Rattle.semver_texts.specs.Versions.{PlainVersion, numbers}
 use Rattle.version_sets.specs.SetRanges.{is_lowest_pre}
 use Rattle.version_sets.specs.Steps.Bounds.{numbers_cmp}
 use Rattle.version_sets.specs.Steps.RangeRules.{states_pre_release}

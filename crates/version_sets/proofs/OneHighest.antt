@@ -5,8 +5,8 @@ use Rattle.std.specs.Borrow.{Bor}
 use Rattle.std.specs.Cmp.{IsTotalOrder}
 use Rattle.std.specs.declared.cmp.Ordering.{Ordering}
 use Rattle.semver_texts.specs.declared.grammar.Grammar.{Grammar}
-use Rattle.semver_parser.specs.Texts.{Text}
-use Rattle.semver_parser.specs.Versions.{PlainVersion}
+use Rattle.semver_texts.specs.Texts.{Text}
+use Rattle.semver_texts.specs.Versions.{PlainVersion}
 use Rattle.version_sets.specs.Highest.{FindsHighest, IsHighest, IsMember, order_for}
 use Rattle.version_sets.specs.VersionSets.{SetValue}
 use Rattle.version_sets.proofs.HighestMembers.{total_for}

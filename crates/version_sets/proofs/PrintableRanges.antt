@@ -1,11 +1,11 @@
--- serves: version_sets::reading::VersionSet::of_text, printable
+-- serves: version_sets::range_texts::VersionSet::of_text, printable
 -- Comparators whose text reads back to them have printable identifiers.
 use Rattle.std.proofs.Common.{◌≡◌, true, List, [], ◌∷◌, All, refl, ◌∙◌, ◌&&◌, ap}
 use Rattle.std.proofs.lemmas.List.Elements.{All-head, All-tail}
 use Rattle.std.specs.List.{list_all}
-use Rattle.semver_parser.specs.declared.Compat.{Compat}
-use Rattle.semver_parser.specs.PrintedRanges.{IsPrintableRange, IsPrintableSet}
-use Rattle.semver_parser.specs.RewritingTable.{PlainRange, PlainSet}
+use Rattle.semver_ranges.specs.declared.range.Compat.{Compat}
+use Rattle.semver_ranges.specs.PrintedRanges.{IsPrintableRange, IsPrintableSet}
+use Rattle.semver_ranges.specs.RewritingTable.{PlainRange, PlainSet}
 use Rattle.version_sets.specs.Printable.{are_printable, HasPrintableRanges}
 
 each_prints : (mode : Compat) (rs : List PlainRange) → All (IsPrintableRange mode) rs

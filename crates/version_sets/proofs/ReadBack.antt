@@ -8,25 +8,25 @@ use Rattle.std.proofs.lemmas.Bool.{and_from, and_parts}
 use Rattle.std.proofs.lemmas.Bool.Decides.{nat_tests}
 use Rattle.std.proofs.lemmas.Fmt.{decimal_digit}
 use Rattle.std.proofs.lemmas.List.Elements.{All-nil, All-cons}
-use Rattle.semver_parser.specs.declared.Op.{Op}
-use Rattle.semver_parser.specs.declared.Op.TheVariants.{Lt, Lte, Gt, Gte, Eq}
-use Rattle.semver_parser.specs.declared.Compat.TheVariants.{Npm}
-use Rattle.semver_parser.specs.Texts.{is_empty}
-use Rattle.semver_parser.specs.Versions.{numeric, PlainVersion}
-use Rattle.semver_parser.specs.Precedence.{precedence}
-use Rattle.semver_parser.specs.Partials.{zero_version}
-use Rattle.semver_parser.specs.RangeTree.{bare, one, simples, SetTree, Spells}
-use Rattle.semver_parser.specs.RewritingTable.{PlainComparator, PlainRange, PlainSet, comparator, fits, rewritten}
-use Rattle.semver_parser.specs.Meeting.{meets_comparator, meets_range, meets_set}
-use Rattle.semver_parser.specs.PrintedRanges.{is_printable_version, IsPrintableRange, IsPrintableSet, set_text}
-use Rattle.version_sets.specs.VersionSets.{SetValue, has, IsRelease}
+use Rattle.semver_ranges.specs.declared.range.Op.{Op}
+use Rattle.semver_ranges.specs.declared.range.Op.TheVariants.{Lt, Lte, Gt, Gte, Eq}
+use Rattle.semver_ranges.specs.declared.range.Compat.TheVariants.{Npm}
+use Rattle.semver_texts.specs.Texts.{is_empty}
+use Rattle.semver_texts.specs.Versions.{numeric, PlainVersion}
+use Rattle.semver_texts.specs.Precedence.{precedence}
+use Rattle.semver_ranges.specs.Partials.{zero_version}
+use Rattle.semver_ranges.specs.RangeTree.{bare, one, simples, SetTree, Spells}
+use Rattle.semver_ranges.specs.RewritingTable.{PlainComparator, PlainRange, PlainSet, comparator, fits, rewritten}
+use Rattle.semver_ranges.specs.Meeting.{meets_comparator, meets_range, meets_set}
+use Rattle.semver_ranges.specs.PrintedRanges.{is_printable_version, IsPrintableRange, IsPrintableSet, set_text}
+use Rattle.version_sets.specs.VersionSets.{SetValue, contains, IsRelease}
 use Rattle.version_sets.specs.SetRanges.{is_lowest, is_same_end, bounds, interval, npm_range, intervals}
 use Rattle.version_sets.specs.SetRanges.{is_from_lowest, is_whole, ranges_text, ReadsBack}
 use Rattle.version_sets.proofs.IntervalLaws.{below_is}
 use Rattle.version_sets.proofs.KindLaws.{release_lowest, pre_release_lowest}
-use Rattle.version_sets.proofs.WalkLaws.{by_test}
+use Rattle.version_sets.proofs.SweepLaws.{by_test}
 
--- ---- the ranges are printable where the switches are
+-- ---- the ranges are printable where the boundaries are
 
 abbrev Prints : List PlainComparator → Type 0
 Prints cs = IsTrue (not (is_empty cs)) × IsTrue (list_all (λ c. is_printable_version c.version) cs)
@@ -125,7 +125,7 @@ PrintedReadBack = (s : PlainSet) → IsPrintableSet s → (tree : SetTree)
     × Spells tree (set_text s) × IsTrue (fits s.compat tree) × (rewritten s.compat tree ≡ s)
 
 module _ (law : PrintedReadBack) (P : PlainVersion → Type 0) (set : SetValue) where
-  some_read : (s : PlainSet) → IsPrintableSet s → s.compat ≡ Npm → ((v : PlainVersion) → P v → meets_set v s ≡ has set v)
+  some_read : (s : PlainSet) → IsPrintableSet s → s.compat ≡ Npm → ((v : PlainVersion) → P v → meets_set v s ≡ contains set v)
       → ReadsBack (set_text s) P set
   some_read s p npm means =
       let read = law s p in (
@@ -135,13 +135,13 @@ module _ (law : PrintedReadBack) (P : PlainVersion → Type 0) (set : SetValue) 
         λ v pv. ap (λ mode. meets_set v (rewritten mode read.0)) (sym npm) ∙ ap (meets_set v) read.3 ∙ means v pv,
       )
 
-  none_read : ((v : PlainVersion) → P v → has set v ≡ false) → ReadsBack (codes "<0.0.0-0") P set
+  none_read : ((v : PlainVersion) → P v → contains set v ≡ false) → ReadsBack (codes "<0.0.0-0") P set
   none_read none =
       subst (λ t. ReadsBack t P set) none_text
       (some_read none_set (refl, All-cons (IsPrintableRange Npm) _ [] (refl, refl, refl) (All-nil (IsPrintableRange Npm))) refl
       (λ v pv. none_below v ∙ sym (none v pv)))
 
-  star_reads : ((v : PlainVersion) → P v → is_empty v.pre ≡ true) → ((v : PlainVersion) → P v → has set v ≡ true)
+  star_reads : ((v : PlainVersion) → P v → is_empty v.pre ≡ true) → ((v : PlainVersion) → P v → contains set v ≡ true)
       → ReadsBack (codes "*") P set
   star_reads kind all = (star, star_spells, refl, λ v pv. star_met v (kind v pv) ∙ sym (all v pv))
 
@@ -149,7 +149,7 @@ module _ (law : PrintedReadBack) (P : PlainVersion → Type 0) (set : SetValue) 
     abbrev made : PlainSet
     made = record { ranges = intervals next xs; compat = Npm }
 
-    module _ (prints : list_all is_printable_version xs ≡ true) (means : (v : PlainVersion) → P v → meets_set v made ≡ has set v) where
+    module _ (prints : list_all is_printable_version xs ≡ true) (means : (v : PlainVersion) → P v → meets_set v made ≡ contains set v) where
       pub reads : (is_whole (intervals next xs) ≡ true → ReadsBack (codes "*") P set) → ReadsBack (ranges_text made) P set
       reads whole =
           by_test (is_empty (intervals next xs))

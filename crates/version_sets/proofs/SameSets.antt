@@ -1,20 +1,20 @@
--- serves: version_sets::comparing::VersionSet::is_within
--- Sets with the same versions have the same switches.
+-- serves: version_sets::laws::one_set
+-- Sets with the same versions have the same boundaries.
 use Rattle.std.proofs.Common.{arith, ◌≡◌, ◌↔◌, Bool, true, not, ◌&&◌, sym}
 use Rattle.std.proofs.lemmas.Bool.{and_parts}
 use Rattle.std.proofs.Common.{ap, ap₂, ◌∙◌, subst, true≢false, Ordering, Equal, is_eq}
 use lib.Pointwise.{pointwise_decides}
 use Rattle.std.specs.Cmp.{tied_itself}
 use Rattle.std.specs.Ordering.{eq_by_cmp}
-use Rattle.semver_parser.specs.Versions.{PlainVersion}
-use Rattle.semver_parser.specs.Precedence.{precedence}
-use Rattle.version_sets.specs.declared.combination.Combination.TheVariants.{Difference}
-use Rattle.version_sets.specs.VersionSets.{SetValue, has, Fits, IsIn, same_switches, IsNormal}
+use Rattle.semver_texts.specs.Versions.{PlainVersion}
+use Rattle.semver_texts.specs.Precedence.{precedence}
+use Rattle.version_sets.specs.declared.set_operations.Combination.TheVariants.{Difference, Intersection}
+use Rattle.version_sets.specs.VersionSets.{SetValue, contains, Fits, IsIn, same_boundaries, IsNormal}
 use Rattle.version_sets.specs.Steps.Combined.{KeepsSome}
-use Rattle.semver_parser.specs.PrecedenceLaws.{precedence_total, precedence-same}
-use Rattle.version_sets.proofs.SetLaws.{has-release, has-pre_release}
-use Rattle.version_sets.proofs.SwitchLaws.{one_list}
-use Rattle.version_sets.proofs.WalkLaws.{by_test}
+use Rattle.semver_texts.specs.Steps.PrecedenceLaws.{precedence_total, precedence-same}
+use Rattle.version_sets.proofs.SetLaws.{contains-release, contains-pre_release}
+use Rattle.version_sets.proofs.BoundaryLaws.{one_list}
+use Rattle.version_sets.proofs.SweepLaws.{by_test}
 
 one_answer : (p q : Bool) → (p ≡ true → q ≡ true) → (q ≡ true → p ≡ true) → p ≡ q
 one_answer p q e f = grind arith
@@ -30,7 +30,7 @@ exact v w = (
 )
 
 -- it is to be one set
-pub same_is : (a b : SetValue) (r : Bool) → r ≡ same_switches a b → (r ≡ true) ↔ (a ≡ b)
+pub same_is : (a b : SetValue) (r : Bool) → r ≡ same_boundaries a b → (r ≡ true) ↔ (a ≡ b)
 same_is a b r e =
     let releases = pointwise_decides exact a.releases b.releases in
     let pre_releases = pointwise_decides exact a.pre_releases b.pre_releases in (
@@ -42,16 +42,16 @@ same_is a b r e =
 pub one_set : (a b : SetValue) → IsNormal a → IsNormal b → ((v : PlainVersion) → IsIn v a ↔ IsIn v b) → a ≡ b
 one_set a b s t h =
     let alike = λ (v : PlainVersion) (fits : Fits v).
-    one_answer (has a v) (has b v) (λ i. ((h v).0 (fits, i)).1) (λ i. ((h v).1 (fits, i)).1) in
+    one_answer (contains a v) (contains b v) (λ i. ((h v).0 (fits, i)).1) (λ i. ((h v).1 (fits, i)).1) in
     let releases = one_list precedence precedence_total precedence-same _ a.releases b.releases
     s.releases.increase t.releases.increase
-    s.releases.are_of_kind t.releases.are_of_kind (λ v k. sym (has-release a v k.1) ∙ alike v k.0 ∙ has-release b v k.1) in
+    s.releases.are_of_kind t.releases.are_of_kind (λ v k. sym (contains-release a v k.1) ∙ alike v k.0 ∙ contains-release b v k.1) in
     let pre_releases = one_list precedence precedence_total precedence-same _ a.pre_releases b.pre_releases s.pre_releases.increase
     t.pre_releases.increase s.pre_releases.are_of_kind t.pre_releases.are_of_kind
-    (λ v k. sym (has-pre_release a v k.1) ∙ alike v k.0 ∙ has-pre_release b v k.1) in
+    (λ v k. sym (contains-pre_release a v k.1) ∙ alike v k.0 ∙ contains-pre_release b v k.1) in
     λ i. record { releases = releases i; pre_releases = pre_releases i }
 
-pub same_versions : (a b : SetValue) → IsNormal a → IsNormal b → (r : Bool) → r ≡ same_switches a b
+pub same_versions : (a b : SetValue) → IsNormal a → IsNormal b → (r : Bool) → r ≡ same_boundaries a b
     → (r ≡ true) ↔ ((v : PlainVersion) → IsIn v a ↔ IsIn v b)
 same_versions a b s t r e =
     let is = same_is a b r e in
@@ -63,12 +63,23 @@ pub tells_within : (a b : SetValue) (k : Bool) → (k ≡ true) ↔ KeepsSome Di
 tells_within a b k some = (
   λ e v h. (
     h.0,
-    by_test (has b v) (λ t. t)
+    by_test (contains b v) (λ t. t)
         (λ f. absurd (true≢false (sym e ∙ ap not (some.1 (v, (h.0, ap₂ (λ p q. p && not q) h.1 f)))))),
   ),
   λ h. by_test k
       (λ t. let found = some.0 t in
       let parts = and_parts _ _ found.1.1 in
       absurd (true≢false (sym parts.1 ∙ ap not (h found.0 (found.1.0, parts.0)).1)))
+      (λ f. ap not f),
+)
+
+pub tells_apart : (a b : SetValue) (k : Bool) → (k ≡ true) ↔ KeepsSome Intersection a b
+    → (not k ≡ true) ↔ ((v : PlainVersion) → IsIn v a → ¬ (IsIn v b))
+tells_apart a b k some = (
+  λ e v h g. true≢false (sym e ∙ ap not (some.1 (v, (h.0, ap₂ (λ p q. p && q) h.1 g.1)))),
+  λ h. by_test k
+      (λ t. let found = some.0 t in
+      let parts = and_parts _ _ found.1.1 in
+      absurd (h found.0 (found.1.0, parts.0) (found.1.0, parts.1)))
       (λ f. ap not f),
 )

@@ -1,5 +1,5 @@
--- serves: version_sets::version_set::VersionSet::has
--- A binary search among switches finds how many are at or below a place, and so whether it is in the set.
+-- serves: version_sets::version_set::VersionSet::contains
+-- A binary search among boundaries finds how many are at or below a place, and so whether it is in the set.
 use Rattle.std.proofs.Common.{◌&&◌, ◌≡◌, ℕ, zero, suc, ◌≤◌, ◌<◌, ◌%◌, Bool, true, false, not, nat_eq, List, [], ◌∷◌}
 use Rattle.std.proofs.Common.{map, length, get_or, refl, sym, ap, ◌∙◌}
 use Rattle.std.proofs.Common.{Ordering, Less, is_ge, is_le, is_lt, is_gt, arith}
@@ -7,9 +7,9 @@ use Rattle.std.proofs.lemmas.Bool.Decides.{nat_tests}
 use Rattle.std.specs.Cmp.{IsTotalOrder, upto}
 use Rattle.std.specs.List.Sorted.{IsPartitionedBy, IsPartitionPoint}
 use Rattle.std.specs.Ordering.{ordering_reverse}
-use Rattle.version_sets.specs.Switches.{switched, IsBelowFirst, IsIncreasing}
-use Rattle.version_sets.specs.Steps.Walks.{differ}
-use Rattle.version_sets.proofs.SwitchLaws.{below-first, switched-below, switched-at}
+use Rattle.version_sets.specs.Boundaries.{is_inside, IsBelowFirst, IsIncreasing}
+use Rattle.version_sets.specs.Steps.Sweeps.{differ}
+use Rattle.version_sets.proofs.BoundaryLaws.{below-first, is_inside-below, is_inside-at}
 
 le-gt : (r : Ordering) → is_le r ≡ true → is_gt r ≡ false
 le-gt r e = grind arith
@@ -38,7 +38,7 @@ module _ {T X : Type 0} (cmp : T → T → Ordering) (o : IsTotalOrder cmp) (f :
   first_passed x [] d l h p = absurd (omega arith)
   first_passed x (y ∷ xs) d l h p = gt-le _ (upto o (f x) (f y) v (ap is_gt h) (le-gt _ p))
 
-  -- what is before a switch that is at or below the place, is so too
+  -- what is before a boundary that is at or below the place, is so too
   pub passed_before : (xs : List X) → IsIncreasing cmp (map f xs) → IsPartitionedBy is_passed xs
   passed_before [] s i j d k l p = absurd (omega arith)
   passed_before (x ∷ xs) s zero zero d k l p = p
@@ -48,37 +48,37 @@ module _ {T X : Type 0} (cmp : T → T → Ordering) (o : IsTotalOrder cmp) (f :
   passed_before (x ∷ xs) s (suc i) zero d k l p = absurd (omega arith)
   passed_before (x ∷ xs) s (suc i) (suc j) d k l p = passed_before xs s.1 i j d (omega arith) (omega arith) p
 
-  -- where n switches are at or below the place, it is in the set if n is odd
+  -- where n boundaries are at or below the place, it is in the set if n is odd
   pub odd_passed : (xs : List X) (n : ℕ) → n ≤ length xs → IsPartitionPoint (λ x. is_passed x ≡ true) (λ x. is_passed x ≡ false) xs n
-      → nat_eq (n % 2) 1 ≡ switched cmp (map f xs) v
+      → nat_eq (n % 2) 1 ≡ is_inside cmp (map f xs) v
   odd_passed [] zero l point = refl
   odd_passed [] (suc n) l point = absurd (omega arith)
   odd_passed (x ∷ xs) zero l point =
-      sym (switched-below cmp v (map f (x ∷ xs)) (o.antisymm v (f x)
+      sym (is_inside-below cmp v (map f (x ∷ xs)) (o.antisymm v (f x)
       ∙ less_reverse (cmp (f x) v) (point.1 0 x (omega arith) (omega arith))))
   odd_passed (x ∷ xs) (suc n) l point =
       odd_next n ∙ ap not (odd_passed xs n (omega arith) (
         λ k d p q. point.0 (suc k) d (omega arith) (omega arith),
         λ k d p q. point.1 (suc k) d (omega arith) (omega arith),
       ))
-      ∙ sym (switched-at cmp v (f x) (map f xs) (ap is_ge (o.antisymm v (f x))
+      ∙ sym (is_inside-at cmp v (f x) (map f xs) (ap is_ge (o.antisymm v (f x))
       ∙ ge_reverse (cmp (f x) v) (point.0 0 x (omega arith) (omega arith))))
 
--- ---- switches asked one by one
+-- ---- boundaries asked one by one
 
 -- whether it is in the set is what is known, turned by what is left
 pub record IsTurned {T : Type 0} (cmp : T → T → Ordering) (v : T) (all left : List T) (known : Bool) : Type 0 where
   pub increase : IsIncreasing cmp left
-  pub turned : switched cmp all v ≡ differ known (switched cmp left v)
+  pub turned : is_inside cmp all v ≡ differ known (is_inside cmp left v)
 
 turns : (known s below : Bool) (r : Ordering) → below ≡ is_lt r → (r ≡ Less → s ≡ false)
     → differ known (is_ge r && not s) ≡ differ (differ known (not below)) s
 turns known s below r told after = grind arith
 
 module _ {T : Type 0} (cmp : T → T → Ordering) (o : IsTotalOrder cmp) (v : T) (all : List T) where
-  -- the next switch is above it, and so are those after, or it isn't
+  -- the next boundary is above it, and so are those after, or it isn't
   pub turn_next : (b : T) (left : List T) (known below : Bool) → below ≡ is_lt (cmp v b) → IsTurned cmp v all (b ∷ left) known
       → IsTurned cmp v all left (differ known (not below))
   turn_next b left known below told w =
-      let after = λ (l : cmp v b ≡ Less). switched-below cmp v left (below-first cmp o v b left l w.increase.0) in
+      let after = λ (l : cmp v b ≡ Less). is_inside-below cmp v left (below-first cmp o v b left l w.increase.0) in
       record { increase = w.increase.1; turned = w.turned ∙ turns known _ below (cmp v b) told after }

@@ -2,30 +2,30 @@
 -- The ranges of a set are met by its versions, its text reads back, and there is one only where a version of the kind is in the set.
 use Rattle.std.proofs.Common.{arith, ◌≡◌, ◌<◌, not, List, [], ◌∷◌, map, length, IsTrue, sym, ◌∙◌, subst}
 use Rattle.std.specs.List.{list_all}
-use Rattle.semver_parser.specs.Versions.{PlainVersion}
-use Rattle.semver_parser.specs.Meeting.{meets_set}
-use Rattle.semver_parser.specs.PrintedRanges.{is_printable_version}
-use Rattle.version_sets.specs.VersionSets.{SetValue, has, IsIn, IsRelease, IsPreRelease, IsNormal}
+use Rattle.semver_texts.specs.Versions.{PlainVersion}
+use Rattle.semver_ranges.specs.Meeting.{meets_set}
+use Rattle.semver_ranges.specs.PrintedRanges.{is_printable_version}
+use Rattle.version_sets.specs.VersionSets.{SetValue, contains, IsIn, IsRelease, IsPreRelease, IsNormal}
 use Rattle.version_sets.specs.SetRanges.{next_release, next_pre_release, release_ranges, pre_release_ranges, is_whole}
 use Rattle.version_sets.specs.SetRanges.{ranges_text, ReadsBack}
 use Rattle.std.specs.Prelude.{slice_get}
-use Rattle.version_sets.proofs.FirstSwitches.{TellsPlain, first_release, first_pre_release}
+use Rattle.version_sets.proofs.FirstBoundaries.{TellsPlain, first_release, first_pre_release}
 use Rattle.version_sets.proofs.IntervalLaws.{intervals_meet}
 use Rattle.version_sets.proofs.KindLaws.{releases_are_kind, pre_releases_are_kind}
 use Rattle.version_sets.proofs.ReadBack.{PrintedReadBack, releases_print, reads, whole_reads}
-use Rattle.version_sets.proofs.SetLaws.{has-release, has-pre_release}
+use Rattle.version_sets.proofs.SetLaws.{contains-release, contains-pre_release}
 
 module _ (set : SetValue) (n : IsNormal set) where
-  pub releases_meet : (v : PlainVersion) → IsRelease v → meets_set v (release_ranges set) ≡ has set v
+  pub releases_meet : (v : PlainVersion) → IsRelease v → meets_set v (release_ranges set) ≡ contains set v
   releases_meet v p =
       intervals_meet IsRelease next_release releases_are_kind v p set.releases n.releases.increase n.releases.are_of_kind
-      ∙ sym (has-release set v p.1)
+      ∙ sym (contains-release set v p.1)
 
-  pub pre_releases_meet : (v : PlainVersion) → IsPreRelease v → meets_set v (pre_release_ranges set) ≡ has set v
+  pub pre_releases_meet : (v : PlainVersion) → IsPreRelease v → meets_set v (pre_release_ranges set) ≡ contains set v
   pre_releases_meet v p =
       intervals_meet IsPreRelease next_pre_release pre_releases_are_kind v p set.pre_releases n.pre_releases.increase
       n.pre_releases.are_of_kind
-      ∙ sym (has-pre_release set v p.1)
+      ∙ sym (contains-pre_release set v p.1)
 
   pub releases_read : PrintedReadBack → ReadsBack (ranges_text (release_ranges set)) IsRelease set
   releases_read law =
@@ -38,16 +38,16 @@ module _ (set : SetValue) (n : IsNormal set) where
   pre_releases_read law prints part =
       reads law IsPreRelease set next_pre_release set.pre_releases prints pre_releases_meet (λ whole. absurd (cc (part, whole)))
 
-  -- the first switch is in the set
-  pub has_release : {X : Type 0} (f : X → PlainVersion) (xs : List X) → set.releases ≡ map f xs → 0 < length xs
+  -- the first boundary is in the set
+  pub contains_release : {X : Type 0} (f : X → PlainVersion) (xs : List X) → set.releases ≡ map f xs → 0 < length xs
       → (v : PlainVersion) × IsRelease v × IsIn v set
-  has_release f [] e some = absurd (omega arith)
-  has_release f (x ∷ xs) e some =
-      let least = subst (λ l. TellsPlain IsRelease set (slice_get l 0)) e (first_release set n) in (f x, least.is_of_kind, least.is_in)
+  contains_release f [] e some = absurd (omega arith)
+  contains_release f (x ∷ xs) e some =
+      let lowest = subst (λ l. TellsPlain IsRelease set (slice_get l 0)) e (first_release set n) in (f x, lowest.is_of_kind, lowest.is_in)
 
   pub has_pre_release : {X : Type 0} (f : X → PlainVersion) (xs : List X) → set.pre_releases ≡ map f xs → 0 < length xs
       → (v : PlainVersion) × IsPreRelease v × IsIn v set
   has_pre_release f [] e some = absurd (omega arith)
   has_pre_release f (x ∷ xs) e some =
-      let least = subst (λ l. TellsPlain IsPreRelease set (slice_get l 0)) e (first_pre_release set n) in
-      (f x, least.is_of_kind, least.is_in)
+      let lowest = subst (λ l. TellsPlain IsPreRelease set (slice_get l 0)) e (first_pre_release set n) in
+      (f x, lowest.is_of_kind, lowest.is_in)

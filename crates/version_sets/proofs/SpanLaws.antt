@@ -1,5 +1,5 @@
 -- serves: version_sets::of_comparators::VersionSet::of_set_by
--- The switches of ascending spans increase, and switch what is in some span.
+-- The boundaries of ascending spans increase, and boundary what is in some span.
 use Rattle.std.proofs.Common.{arith, ◌≡◌, Bool, true, false, ◌&&◌, ◌||◌, cond, List, [], ◌∷◌, ◌++◌, refl, sym, ap, ◌∙◌, subst}
 use Rattle.std.proofs.Common.{map, add-one, get_or, suc, Bor}
 use Rattle.std.proofs.lemmas.Fn.{always_returns_same}
@@ -12,20 +12,20 @@ use Rattle.std.specs.Ordering.{is_ge, is_gt, is_lt}
 use Rattle.std.specs.Prelude.{Option, Some, None, option_to_list}
 use Rattle.std.specs.declared.cmp.Ordering.{Ordering}
 use Rattle.std.specs.declared.cmp.Ordering.TheVariants.{Less}
-use Rattle.semver_parser.specs.declared.Op.{Op}
-use Rattle.semver_parser.specs.declared.Op.TheVariants.{Lt, Lte, Gt, Gte, Eq}
-use Rattle.semver_parser.specs.Meeting.{op_holds}
-use Rattle.semver_parser.specs.Precedence.{precedence}
-use Rattle.semver_parser.specs.PrecedenceLaws.{precedence_total}
-use Rattle.semver_parser.specs.Versions.{PlainVersion}
-use Rattle.version_sets.specs.VersionSets.{AreSwitches}
-use Rattle.version_sets.specs.Steps.Spans.{SpanValue, reached, is_between, is_in, IsSpan, later, earlier, is_below, span_switches}
+use Rattle.semver_ranges.specs.declared.range.Op.{Op}
+use Rattle.semver_ranges.specs.declared.range.Op.TheVariants.{Lt, Lte, Gt, Gte, Eq}
+use Rattle.semver_ranges.specs.Meeting.{op_holds}
+use Rattle.semver_texts.specs.Precedence.{precedence}
+use Rattle.semver_texts.specs.Steps.PrecedenceLaws.{precedence_total}
+use Rattle.semver_texts.specs.Versions.{PlainVersion}
+use Rattle.version_sets.specs.VersionSets.{AreBoundaries}
+use Rattle.version_sets.specs.Steps.Spans.{SpanValue, reached, is_between, is_in, IsSpan, later, earlier, is_below, span_boundaries}
 use Rattle.version_sets.specs.Steps.Spans.{narrowed_from, narrowed_to}
 use Rattle.version_sets.specs.Steps.Spans.{met, joined, all_joined, all_ascend, some_empty, in_some, IsAscending}
 use Rattle.version_sets.specs.Steps.SpanViews.{span_value}
-use Rattle.version_sets.specs.Switches.{switched, IsBelowFirst, IsIncreasing}
+use Rattle.version_sets.specs.Boundaries.{is_inside, IsBelowFirst, IsIncreasing}
 use Rattle.version_sets.specs.declared.spans.Span.{Span}
-use Rattle.version_sets.proofs.SwitchLaws.{switched-below}
+use Rattle.version_sets.proofs.BoundaryLaws.{is_inside-below}
 
 module _ {T : Type 0} (cmp : T → T → Ordering) (o : IsTotalOrder cmp) where
   -- what isn't at or above a isn't at or above b, where this isn't below a
@@ -64,16 +64,16 @@ module _ {T : Type 0} (cmp : T → T → Ordering) (o : IsTotalOrder cmp) where
 
   -- whether there is a gap to the next span
   by_gap : (P : List T → Type 0) (s x : SpanValue T) (xs : List (SpanValue T))
-      → (is_below cmp s.to x.from ≡ true → P (span_switches cmp s ++ joined cmp x xs))
+      → (is_below cmp s.to x.from ≡ true → P (span_boundaries cmp s ++ joined cmp x xs))
       → (is_below cmp s.to x.from ≡ false → P (joined cmp (met cmp s x) xs)) → P (joined cmp s (x ∷ xs))
   by_gap P s x xs = at (is_below cmp s.to x.from)
     where
-      at : (b : Bool) → (b ≡ true → P (span_switches cmp s ++ joined cmp x xs)) → (b ≡ false → P (joined cmp (met cmp s x) xs))
-          → P (cond b (span_switches cmp s ++ joined cmp x xs) (joined cmp (met cmp s x) xs))
+      at : (b : Bool) → (b ≡ true → P (span_boundaries cmp s ++ joined cmp x xs)) → (b ≡ false → P (joined cmp (met cmp s x) xs))
+          → P (cond b (span_boundaries cmp s ++ joined cmp x xs) (joined cmp (met cmp s x) xs))
       at true f g = f refl
       at false f g = g refl
 
-  -- what is below a span is below its switches and those of the spans after it
+  -- what is below a span is below its boundaries and those of the spans after it
   first-joined : (s : SpanValue T) (xs : List (SpanValue T)) (v : T) → cmp v s.from ≡ Less → IsBelowFirst cmp v (joined cmp s xs)
   first-joined s [] v l = l
   first-joined s (x ∷ xs) v l = by_gap (IsBelowFirst cmp v) s x xs (λ e. l) (λ e. first-joined (met cmp s x) xs v l)
@@ -86,13 +86,13 @@ module _ {T : Type 0} (cmp : T → T → Ordering) (o : IsTotalOrder cmp) where
   ascend a b (x ∷ xs) n up = (grind (arith, o.antisymm, o.trans, o.congr), up.1)
 
   module _ (v : T) where
-    alone : (from : T) (to : Option T) → switched cmp (from ∷ option_to_list to) v ≡ is_between cmp (Some from) to v
+    alone : (from : T) (to : Option T) → is_inside cmp (from ∷ option_to_list to) v ≡ is_between cmp (Some from) to v
     alone from to = grind arith
 
-    -- a span, and switches that what is below b isn't in
+    -- a span, and boundaries that what is below b isn't in
     apart : (from b : T) (to : Option T) (ys : List T) → reached cmp to from ≡ false → is_below cmp to b ≡ true
-        → (cmp v b ≡ Less → switched cmp ys v ≡ false)
-        → switched cmp (from ∷ option_to_list to ++ ys) v ≡ (is_between cmp (Some from) to v || switched cmp ys v)
+        → (cmp v b ≡ Less → is_inside cmp ys v ≡ false)
+        → is_inside cmp (from ∷ option_to_list to ++ ys) v ≡ (is_between cmp (Some from) to v || is_inside cmp ys v)
     apart from b None ys is gap after = grind arith
     apart from b (Some t) ys is gap after = grind (arith, o.antisymm, o.trans, o.congr)
 
@@ -101,18 +101,18 @@ module _ {T : Type 0} (cmp : T → T → Ordering) (o : IsTotalOrder cmp) where
         → is_in cmp (met cmp s x) v ≡ (is_in cmp s v || is_in cmp x v)
     meet s x e up = grind (arith, reached-later, not_on)
 
-    -- the switches say what is in some of the spans
-    pub joined-has : (s : SpanValue T) (xs : List (SpanValue T)) → IsSpan cmp s → some_empty cmp xs ≡ false → IsAscending cmp s.from xs
-        → switched cmp (joined cmp s xs) v ≡ (is_in cmp s v || in_some cmp xs v)
-    joined-has s [] is all up = grind (arith, alone)
-    joined-has s (x ∷ xs) is all up =
+    -- the boundaries say what is in some of the spans
+    pub joined-contains : (s : SpanValue T) (xs : List (SpanValue T)) → IsSpan cmp s → some_empty cmp xs ≡ false → IsAscending cmp s.from xs
+        → is_inside cmp (joined cmp s xs) v ≡ (is_in cmp s v || in_some cmp xs v)
+    joined-contains s [] is all up = grind (arith, alone)
+    joined-contains s (x ∷ xs) is all up =
         let rest : some_empty cmp xs ≡ false = grind arith in
         let own : IsSpan cmp x = grind arith in
         let gap = apart s.from x.from s.to (joined cmp x xs) is in
-        let after = λ (l : cmp v x.from ≡ Less). switched-below cmp v (joined cmp x xs) (first-joined x xs v l) in
-        let one = joined-has x xs own rest up.1 in
-        let two = joined-has (met cmp s x) xs (met-is s x is) rest (ascend s.from x.from xs up.0 up.1) in
-        by_gap (λ ys. switched cmp ys v ≡ (is_in cmp s v || in_some cmp (x ∷ xs) v)) s x xs
+        let after = λ (l : cmp v x.from ≡ Less). is_inside-below cmp v (joined cmp x xs) (first-joined x xs v l) in
+        let one = joined-contains x xs own rest up.1 in
+        let two = joined-contains (met cmp s x) xs (met-is s x is) rest (ascend s.from x.from xs up.0 up.1) in
+        by_gap (λ ys. is_inside cmp ys v ≡ (is_in cmp s v || in_some cmp (x ∷ xs) v)) s x xs
         (λ e. gap e after ∙ ap (λ b. is_in cmp s v || b) one)
         (λ e. two ∙ grind (arith, meet s x e up.0))
 
@@ -135,31 +135,31 @@ module _ {T : Type 0} (cmp : T → T → Ordering) (o : IsTotalOrder cmp) where
       (λ e. apart-rise s.from x.from s.to (joined cmp x xs) is e (first-joined x xs) (joined-rise x xs (grind arith) rest up.1))
       (λ e. joined-rise (met cmp s x) xs (met-is s x is) rest (ascend s.from x.from xs up.0 up.1))
 
--- the switches of sorted spans, and what is in them
+-- the boundaries of sorted spans, and what is in them
 pub record AreOf (P : PlainVersion → Type 0) (xs : List (SpanValue PlainVersion)) (ys : List PlainVersion) : Type 0 where
-  pub are_switches : AreSwitches P ys
-  pub turn : (v : PlainVersion) → switched precedence ys v ≡ in_some precedence xs v
+  pub are_boundaries : AreBoundaries P ys
+  pub turn : (v : PlainVersion) → is_inside precedence ys v ≡ in_some precedence xs v
 
 are_of : (P : PlainVersion → Type 0) (xs : List (SpanValue PlainVersion)) (ys : List PlainVersion)
     → ys ≡ all_joined precedence xs → AllByRecursion P ys → some_empty precedence xs ≡ false → all_ascend precedence xs → AreOf P xs ys
 are_of P [] ys is kind all up = record {
-  are_switches = record { increase = subst (IsIncreasing precedence) (sym is) tt; are_of_kind = kind };
-  turn = λ v. ap (λ ys. switched precedence ys v) is;
+  are_boundaries = record { increase = subst (IsIncreasing precedence) (sym is) tt; are_of_kind = kind };
+  turn = λ v. ap (λ ys. is_inside precedence ys v) is;
 }
 are_of P (x ∷ xs) ys is kind all up =
     let own : IsSpan precedence x = grind arith in
     let rest : some_empty precedence xs ≡ false = grind arith in
     record {
-      are_switches = record {
+      are_boundaries = record {
         increase = subst (IsIncreasing precedence) (sym is) (joined-rise precedence precedence_total x xs own rest up);
         are_of_kind = kind;
       };
-      turn = λ v. ap (λ ys. switched precedence ys v) is ∙ joined-has precedence precedence_total v x xs own rest up;
+      turn = λ v. ap (λ ys. is_inside precedence ys v) is ∙ joined-contains precedence precedence_total v x xs own rest up;
     }
 
 -- one span
 pub are_of_one : (P : PlainVersion → Type 0) (x : SpanValue PlainVersion) (ys : List PlainVersion) → IsSpan precedence x
-    → ys ≡ span_switches precedence x → AllByRecursion P ys → AreOf P (x ∷ []) ys
+    → ys ≡ span_boundaries precedence x → AllByRecursion P ys → AreOf P (x ∷ []) ys
 are_of_one P x ys e is kind = are_of P (x ∷ []) ys is kind (grind arith) tt
 
 module _ {L : Type 0} (place : L → PlainVersion) where
@@ -193,4 +193,4 @@ module _ {L : Type 0} (place : L → PlainVersion) where
       let seen = span_value place in
       let moves = IsPermutation-map seen xs sorted moved in
       let of = are_of P (map seen sorted) ys is.1 is.0 (sym (list_any-IsPermutation _ _ _ moves) ∙ none) (ascending sorted up) in
-      record { are_switches = of.are_switches; turn = λ v. of.turn v ∙ sym (list_any-IsPermutation (λ x. is_in precedence x v) _ _ moves) }
+      record { are_boundaries = of.are_boundaries; turn = λ v. of.turn v ∙ sym (list_any-IsPermutation (λ x. is_in precedence x v) _ _ moves) }

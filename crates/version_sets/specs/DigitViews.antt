@@ -3,11 +3,11 @@
 use Rattle.std.specs.Prelude.{map}
 use Rattle.semver_texts.specs.Digits.{plain_by, plain_kept}
 use Rattle.semver_texts.specs.declared.grammar.Digits.{Digits}
-use Rattle.semver_parser.specs.RangeViews.{comparator_of}
-use Rattle.semver_parser.specs.RewritingTable.{PlainComparator, PlainRange, PlainSet}
-use Rattle.semver_parser.specs.declared.Comparator.{Comparator}
-use Rattle.semver_parser.specs.declared.Range.{Range}
-use Rattle.semver_parser.specs.declared.RangeSet.{RangeSet}
+use Rattle.semver_ranges.specs.RangeViews.{comparator_of}
+use Rattle.semver_ranges.specs.RewritingTable.{PlainComparator, PlainRange, PlainSet}
+use Rattle.semver_ranges.specs.declared.range.Comparator.{Comparator}
+use Rattle.semver_ranges.specs.declared.range.Range.{Range}
+use Rattle.semver_ranges.specs.declared.range_set.RangeSet.{RangeSet}
 
 -- a comparator, read so
 abbrev pub comparator_by : Digits → Comparator → PlainComparator

@@ -6,15 +6,15 @@ use Rattle.std.specs.Ordering.{flip_args}
 use Rattle.std.specs.declared.cmp.Ordering.{Ordering}
 use Rattle.std.specs.declared.cmp.Ordering.TheVariants.{Less, Greater}
 use Rattle.semver_texts.specs.declared.grammar.Grammar.{Grammar}
-use Rattle.semver_parser.specs.Precedence.{precedence}
-use Rattle.semver_parser.specs.Texts.{Text}
-use Rattle.semver_parser.specs.ToolVersions.{SpellsIn}
-use Rattle.semver_parser.specs.Versions.{PlainVersion, VersionValue}
-use Rattle.version_sets.specs.VersionSets.{SetValue, has}
+use Rattle.semver_texts.specs.Precedence.{precedence}
+use Rattle.semver_texts.specs.Texts.{Text}
+use Rattle.semver_texts.specs.ToolVersions.{SpellsIn}
+use Rattle.semver_texts.specs.Versions.{PlainVersion, VersionValue}
+use Rattle.version_sets.specs.VersionSets.{SetValue, contains}
 
 -- the text is a version that is in the set
 abbrev pub IsMemberText : Grammar → SetValue → Text → Type 0
-IsMemberText g set text = (v : VersionValue) × SpellsIn g v text × (has set v.plain ≡ true)
+IsMemberText g set text = (v : VersionValue) × SpellsIn g v text × (contains set v.plain ≡ true)
 
 -- the text at an index is a version that is in the set
 pub record IsMember (g : Grammar) (set : SetValue) (texts : List (Bor Text)) (k : ℕ)
@@ -24,7 +24,7 @@ pub record IsMember (g : Grammar) (set : SetValue) (texts : List (Bor Text)) (k 
   pub version : VersionValue
   pub spells : SpellsIn g version text.now
   pub plain : version.plain ≡ v
-  pub is_in : has set v ≡ true
+  pub is_in : contains set v ≡ true
 
 -- precedence, or the other way round for the lowest
 abbrev pub order_for : Bool → PlainVersion → PlainVersion → Ordering

@@ -1,4 +1,4 @@
-pub mod Switches
+pub mod Boundaries
 pub mod Releases
 pub mod VersionSets
 pub mod Comparisons

@@ -1,16 +1,16 @@
 -- The three rules for pre-releases: which versions a range text means by each, and which meet it or
 -- comparators by it.
 use Rattle.std.specs.Prelude.{Bool, ◌&&◌}
-use Rattle.semver_parser.specs.Texts.{is_empty}
+use Rattle.semver_texts.specs.Texts.{is_empty}
 use Rattle.std.specs.List.{list_all}
-use Rattle.semver_parser.specs.Versions.{PlainVersion, VersionValue, numbers}
-use Rattle.semver_parser.specs.Partials.{fits_u64}
-use Rattle.semver_parser.specs.declared.Compat.{Compat}
-use Rattle.semver_parser.specs.RangeTree.{SetTree}
-use Rattle.semver_parser.specs.RewritingTable.{PlainSet}
-use Rattle.semver_parser.specs.OwnMeaning.{meets_tree}
-use Rattle.semver_parser.specs.Meeting.{meets_set}
-use Rattle.semver_parser.specs.StatedPreReleases.{meets_set_as_stated, meets_tree_as_stated}
+use Rattle.semver_texts.specs.Versions.{PlainVersion, VersionValue, numbers}
+use Rattle.semver_ranges.specs.Partials.{fits_u64}
+use Rattle.semver_ranges.specs.declared.range.Compat.{Compat}
+use Rattle.semver_ranges.specs.RangeTree.{SetTree}
+use Rattle.semver_ranges.specs.RewritingTable.{PlainSet}
+use Rattle.semver_ranges.specs.OwnMeaning.{meets_tree}
+use Rattle.semver_ranges.specs.Meeting.{meets_set}
+use Rattle.semver_ranges.specs.StatedPreReleases.{meets_set_as_stated, meets_tree_as_stated}
 use Rattle.version_sets.specs.declared.rules.PreReleases.{PreReleases}
 use Rattle.version_sets.specs.declared.rules.PreReleases.TheVariants.{Excluded, Default, Included}
 

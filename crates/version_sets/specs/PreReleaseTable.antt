@@ -1,6 +1,6 @@
 -- The number and the name of each rule for pre-releases.
 use Rattle.std.specs.Prelude.{ℤ, pos, codes}
-use Rattle.semver_parser.specs.Texts.{Text}
+use Rattle.semver_texts.specs.Texts.{Text}
 use Rattle.version_sets.specs.declared.rules.PreReleases.{PreReleases}
 use Rattle.version_sets.specs.declared.rules.PreReleases.TheVariants.{Excluded, Default, Included}
 

@@ -4,11 +4,11 @@ use Rattle.std.specs.List.{list_all}
 use Rattle.semver_texts.specs.Texts.{is_large}
 use Rattle.semver_texts.specs.declared.grammar.Digits.{Digits}
 use Rattle.semver_texts.specs.declared.grammar.Digits.TheVariants.{Kept, AnySize}
-use Rattle.semver_parser.specs.Partials.{fits_u64}
-use Rattle.semver_parser.specs.PrintedRanges.{is_kept, is_printable_version}
-use Rattle.semver_parser.specs.RewritingTable.{PlainComparator, PlainSet}
-use Rattle.semver_parser.specs.Versions.{IdentifierValue, numeric, alphanumeric, PlainVersion}
-use Rattle.semver_parser.specs.Versions.{numbers}
+use Rattle.semver_ranges.specs.Partials.{fits_u64}
+use Rattle.semver_ranges.specs.PrintedRanges.{is_kept, is_printable_version}
+use Rattle.semver_ranges.specs.RewritingTable.{PlainComparator, PlainSet}
+use Rattle.semver_texts.specs.Versions.{IdentifierValue, numeric, alphanumeric, PlainVersion}
+use Rattle.semver_texts.specs.Versions.{numbers}
 use Rattle.version_sets.specs.VersionSets.{SetValue}
 
 -- an identifier that is read from some part whose digits are a number of any size
@@ -26,12 +26,12 @@ abbrev pub prints_by : Digits → PlainVersion → Bool
 prints_by digits v = list_all fits_u64 (numbers v) && list_all (is_kept_by digits) v.pre
 
 -- so in one way or the other
-abbrev pub is_printable_switch : PlainVersion → Bool
-is_printable_switch v = prints_by Kept v || prints_by AnySize v
+abbrev pub is_printable_boundary : PlainVersion → Bool
+is_printable_boundary v = prints_by Kept v || prints_by AnySize v
 
 -- each identifier can be read back from its text
 abbrev pub IsPrintable : SetValue → Type 0
-IsPrintable set = IsTrue (list_all is_printable_switch set.pre_releases)
+IsPrintable set = IsTrue (list_all is_printable_boundary set.pre_releases)
 
 -- whether the identifiers of each comparator can be
 abbrev pub are_printable : List PlainComparator → Bool

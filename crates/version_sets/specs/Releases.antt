@@ -1,6 +1,6 @@
 -- What contracts see of a release: a version without a pre-release.
 use Rattle.std.specs.Prelude.{[]}
-use Rattle.semver_parser.specs.Versions.{PlainVersion}
+use Rattle.semver_texts.specs.Versions.{PlainVersion}
 use Rattle.version_sets.specs.declared.release.Release.{Release}
 
 abbrev pub release_value : Release → PlainVersion

@@ -3,19 +3,19 @@
 use Rattle.std.specs.Prelude.{◌≡◌, ◌+◌, ◌==◌, Bool, true, false, ◌&&◌, if◌then◌else◌, IsTrue}
 use Rattle.std.specs.Prelude.{Option, Some, None, List, [], ◌∷◌, ◌++◌, codes}
 use Rattle.std.specs.Ordering.{is_eq}
-use Rattle.semver_parser.specs.declared.Op.{Op}
-use Rattle.semver_parser.specs.declared.Op.TheVariants.{Lt, Gte, Eq}
-use Rattle.semver_parser.specs.declared.Compat.TheVariants.{Npm}
-use Rattle.semver_parser.specs.Texts.{Text, is_empty}
-use Rattle.semver_parser.specs.Versions.{IdentifierValue, numeric, PlainVersion}
-use Rattle.semver_parser.specs.Precedence.{precedence}
-use Rattle.semver_parser.specs.Partials.{fits_u64}
-use Rattle.semver_parser.specs.RangeTree.{SetTree, Spells}
-use Rattle.semver_parser.specs.RewritingTable.{PlainComparator, PlainRange, PlainSet, comparator}
-use Rattle.semver_parser.specs.RewritingTable.{fits, rewritten}
-use Rattle.semver_parser.specs.Meeting.{meets_set}
-use Rattle.semver_parser.specs.PrintedRanges.{set_text}
-use Rattle.version_sets.specs.VersionSets.{SetValue, has}
+use Rattle.semver_ranges.specs.declared.range.Op.{Op}
+use Rattle.semver_ranges.specs.declared.range.Op.TheVariants.{Lt, Gte, Eq}
+use Rattle.semver_ranges.specs.declared.range.Compat.TheVariants.{Npm}
+use Rattle.semver_texts.specs.Texts.{Text, is_empty}
+use Rattle.semver_texts.specs.Versions.{IdentifierValue, numeric, PlainVersion}
+use Rattle.semver_texts.specs.Precedence.{precedence}
+use Rattle.semver_ranges.specs.Partials.{fits_u64}
+use Rattle.semver_ranges.specs.RangeTree.{SetTree, Spells}
+use Rattle.semver_ranges.specs.RewritingTable.{PlainComparator, PlainRange, PlainSet, comparator}
+use Rattle.semver_ranges.specs.RewritingTable.{fits, rewritten}
+use Rattle.semver_ranges.specs.Meeting.{meets_set}
+use Rattle.semver_ranges.specs.PrintedRanges.{set_text}
+use Rattle.version_sets.specs.VersionSets.{SetValue, contains}
 
 -- the release right above one, if there is one: 1.2.4 above 1.2.3, and none above the last
 abbrev pub next_release : PlainVersion → Option PlainVersion
@@ -63,12 +63,12 @@ interval next from to =
 abbrev pub npm_range : List PlainComparator → PlainRange
 npm_range comparators = record { comparators = comparators; compat = Npm }
 
--- a range for each interval: the first switch begins it, and the second, if there is one, ends it
+-- a range for each interval: the first boundary begins it, and the second, if there is one, ends it
 abbrev pub intervals : (PlainVersion → Option PlainVersion) → List PlainVersion → List PlainRange
 intervals next [] = []
 intervals next (from ∷ []) = npm_range (interval next from None) ∷ []
-intervals next (from ∷ to ∷ switches) =
-    npm_range (interval next from (Some to)) ∷ intervals next switches
+intervals next (from ∷ to ∷ boundaries) =
+    npm_range (interval next from (Some to)) ∷ intervals next boundaries
 
 -- the ranges of the releases in a set, and those of the pre-releases
 abbrev pub release_ranges : SetValue → PlainSet
@@ -100,4 +100,4 @@ ranges_text set =
 -- a version of a kind meets the comparators of a text in npm mode exactly if it is in a set
 abbrev pub ReadsBack : Text → (PlainVersion → Type 0) → SetValue → Type 0
 ReadsBack text IsOfKind set = (tree : SetTree) × Spells tree text × IsTrue (fits Npm tree)
-    × ((v : PlainVersion) → IsOfKind v → meets_set v (rewritten Npm tree) ≡ has set v)
+    × ((v : PlainVersion) → IsOfKind v → meets_set v (rewritten Npm tree) ≡ contains set v)

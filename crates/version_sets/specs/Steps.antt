@@ -4,8 +4,8 @@ pub mod Bounds
 pub mod Spans
 pub mod SpanViews
 pub mod RangeRules
-pub mod Walks
+pub mod Sweeps
 pub mod Between
-pub mod WalkViews
+pub mod SweepViews
 pub mod Combined
-pub mod SameSwitches
+pub mod SameBoundaries

@@ -1,39 +1,39 @@
--- Sets of versions by their switches, and which versions are in them.
+-- Sets of versions by their boundaries, and which versions are in them.
 use Rattle.std.specs.Prelude.{◌≡◌, ◌≢◌, ◌^◌, ◌<◌, ◌&&◌, Bool, true, false, IsTrue}
 use Rattle.std.specs.Prelude.{if◌then◌else◌, List}
 use Rattle.std.specs.List.{AllByRecursion}
 use Rattle.std.specs.Ordering.{eq_by_cmp}
 use Rattle.std.specs.Cmp.Lexicographic.{pointwise}
 use Rattle.std.specs.declared.cmp.Ordering.TheVariants.{Less}
-use Rattle.semver_parser.specs.Texts.{is_empty}
-use Rattle.semver_parser.specs.Versions.{PlainVersion}
-use Rattle.semver_parser.specs.Precedence.{precedence}
-use Rattle.version_sets.specs.Switches.{switched, IsIncreasing}
+use Rattle.semver_texts.specs.Texts.{is_empty}
+use Rattle.semver_texts.specs.Versions.{PlainVersion}
+use Rattle.semver_texts.specs.Precedence.{precedence}
+use Rattle.version_sets.specs.Boundaries.{is_inside, IsIncreasing}
 
--- the switches of the releases, and those of the pre-releases
+-- the boundaries of the releases, and those of the pre-releases
 pub record SetValue : Type 0 where
   pub releases : List PlainVersion
   pub pre_releases : List PlainVersion
 
--- whether a version is in a set: the switches of its kind say so
-abbrev pub has : SetValue → PlainVersion → Bool
-has set v =
+-- whether a version is in a set: the boundaries of its kind say so
+abbrev pub contains : SetValue → PlainVersion → Bool
+contains set v =
     if is_empty v.pre
-    then switched precedence set.releases v else switched precedence set.pre_releases v
+    then is_inside precedence set.releases v else is_inside precedence set.pre_releases v
 
 -- its numbers fit 64 bits
 abbrev pub Fits : PlainVersion → Type 0
 Fits v = (v.major < 2 ^ 64) × (v.minor < 2 ^ 64) × (v.patch < 2 ^ 64)
 
--- whether two sets have the same switches
-abbrev pub same_switches : SetValue → SetValue → Bool
-same_switches a b =
+-- whether two sets have the same boundaries
+abbrev pub same_boundaries : SetValue → SetValue → Bool
+same_boundaries a b =
     pointwise (eq_by_cmp precedence) a.releases b.releases
     && pointwise (eq_by_cmp precedence) a.pre_releases b.pre_releases
 
 -- a version whose numbers fit, as those of every `Version` do, is in the set
 abbrev pub IsIn : PlainVersion → SetValue → Type 0
-IsIn v set = Fits v × IsTrue (has set v)
+IsIn v set = Fits v × IsTrue (contains set v)
 
 abbrev pub IsRelease : PlainVersion → Type 0
 IsRelease v = Fits v × (is_empty v.pre ≡ true)
@@ -41,19 +41,19 @@ IsRelease v = Fits v × (is_empty v.pre ≡ true)
 abbrev pub IsPreRelease : PlainVersion → Type 0
 IsPreRelease v = Fits v × (is_empty v.pre ≡ false)
 
--- the switches of one kind: each is of the kind, and is below the next by precedence
-pub record AreSwitches (IsOfKind : PlainVersion → Type 0) (switches : List PlainVersion)
+-- the boundaries of one kind: each is of the kind, and is below the next by precedence
+pub record AreBoundaries (IsOfKind : PlainVersion → Type 0) (boundaries : List PlainVersion)
     : Type 0 where
-  pub increase : IsIncreasing precedence switches
-  pub are_of_kind : AllByRecursion IsOfKind switches
+  pub increase : IsIncreasing precedence boundaries
+  pub are_of_kind : AllByRecursion IsOfKind boundaries
 
 -- the normal form
 pub record IsNormal (set : SetValue) : Type 0 where
-  pub releases : AreSwitches IsRelease set.releases
-  pub pre_releases : AreSwitches IsPreRelease set.pre_releases
+  pub releases : AreBoundaries IsRelease set.releases
+  pub pre_releases : AreBoundaries IsPreRelease set.pre_releases
 
 -- it is of a kind and in the set, and none of the kind that is in the set is below, by precedence
-pub record IsLeast (IsOfKind : PlainVersion → Type 0) (set : SetValue) (v : PlainVersion)
+pub record IsLowest (IsOfKind : PlainVersion → Type 0) (set : SetValue) (v : PlainVersion)
     : Type 0 where
   pub is_of_kind : IsOfKind v
   pub is_in : IsIn v set
@@ -62,7 +62,3 @@ pub record IsLeast (IsOfKind : PlainVersion → Type 0) (set : SetValue) (v : Pl
 -- none of a kind is in the set
 abbrev pub HasNone : (PlainVersion → Type 0) → SetValue → Type 0
 HasNone IsOfKind set = (v : PlainVersion) → IsOfKind v → ¬ IsIn v set
-
--- some version is in the set
-abbrev pub HasSomeVersion : SetValue → Type 0
-HasSomeVersion set = (v : PlainVersion) × IsIn v set

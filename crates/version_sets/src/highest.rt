@@ -2,14 +2,14 @@
 
 ghost use Rattle.std.specs.Prelude.{◌≡◌, ◌↔◌, MatchOption, false, true};
 ghost use Rattle.std.specs.declared.cmp.Ordering.TheVariants.{Less};
-ghost use Rattle.semver_parser.specs.Outlines.{version_of};
-ghost use Rattle.semver_parser.specs.ToolVersions.{SpellsIn};
+ghost use Rattle.semver_versions.specs.Outlines.{version_of};
+ghost use Rattle.semver_texts.specs.ToolVersions.{SpellsIn};
 ghost use Rattle.version_sets.specs.Highest.{FindsHighest, IsMemberText, order_for};
-ghost use Rattle.version_sets.specs.VersionSets.{has};
+ghost use Rattle.version_sets.specs.VersionSets.{contains};
 
 use crate::version_set::VersionSet;
-use semver_parser::laws;
-use semver_parser::version::{Grammar, Outline, outline_in};
+use semver_versions::laws;
+use semver_versions::version::{Grammar, Outline, outline_in};
 
 impl VersionSet {
     // Answer: law version_sets::laws::one_highest_of.
@@ -21,7 +21,7 @@ impl VersionSet {
     /// use semver_parser::{sets, Dialect};
     ///
     /// let npm = Dialect::Npm;
-    /// let set = sets::read(npm, "^1.2")?;
+    /// let set = sets::read("^1.2", npm)?;
     /// let versions: [&[u8]; 4] = [b"1.2.0", b"latest", b"1.10.0", b"2.0.0"];
     /// assert_eq!(set.highest_of(&versions, npm.grammar()), Some(2));
     /// assert_eq!(set.highest_of(&[b"2.0.0"], npm.grammar()), None);
@@ -42,7 +42,7 @@ impl VersionSet {
     ///
     /// let npm = Dialect::Npm;
     /// let versions: [&[u8]; 3] = [b"1.1.0", b"1.10.0", b"v1.2.0"];
-    /// assert_eq!(sets::read(npm, "^1.2")?.lowest_of(&versions, npm.grammar()), Some(2));
+    /// assert_eq!(sets::read("^1.2", npm)?.lowest_of(&versions, npm.grammar()), Some(2));
     /// # Ok::<(), semver_parser::RangeError>(())
     /// ```
     pub fn lowest_of(&self, versions: &[&[u8]], grammar: Grammar) -> Option<usize>
@@ -79,11 +79,11 @@ fn highest(set: &VersionSet, versions: &[&[u8]], grammar: Grammar, lowest: bool)
 fn member<'t>(set: &VersionSet, version: &'t [u8], grammar: Grammar) -> Option<Outline<'t>>
     ensures { MatchOption result (¬ (IsMemberText grammar set.now version.now))
         (λ outline. SpellsIn grammar (version_of outline) version.now
-        × (has set.now (version_of outline).plain ≡ true)) }
+        × (contains set.now (version_of outline).plain ≡ true)) }
 {
     laws::one_version_in();
     let outline = outline_in(version, grammar)?;
-    if !set.has_outline(&outline) {
+    if !set.contains_outline(&outline) {
         return None;
     }
     Some(outline)

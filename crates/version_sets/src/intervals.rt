@@ -1,32 +1,33 @@
-//! The intervals of a set's switches as ranges of comparators.
+//! The intervals of a set's boundaries as ranges of comparators.
 
 ghost use Rattle.std.specs.Prelude.{◌≡◌, ◌<◌, ◌++◌, ◌∷◌, [], length, map, option_map, Option};
 ghost use Rattle.std.specs.Prelude.{IfOk, IfErr};
 ghost use Rattle.std.specs.Ordering.{is_eq};
-ghost use Rattle.semver_parser.specs.Precedence.{pre_cmp};
-ghost use Rattle.semver_parser.specs.RangeViews.{comparator_of, identifier_of, range_of};
-ghost use Rattle.semver_parser.specs.RewritingTable.{comparator as plain_comparator};
-ghost use Rattle.semver_parser.specs.Versions.{numeric, PlainVersion};
-ghost use Rattle.semver_parser.specs.VersionViews.{identifier_value};
+ghost use Rattle.semver_texts.specs.Precedence.{pre_cmp};
+ghost use Rattle.semver_ranges.specs.RangeViews.{comparator_of, identifier_of, range_of};
+ghost use Rattle.semver_ranges.specs.RewritingTable.{comparator as plain_comparator};
+ghost use Rattle.semver_texts.specs.Versions.{numeric, PlainVersion};
+ghost use Rattle.semver_texts.specs.VersionViews.{identifier_value};
 ghost use Rattle.semver_texts.specs.Digits.{as_kept, identifier_by, identifiers_by};
 ghost use Rattle.version_sets.specs.DigitViews.{comparator_kept, range_kept};
 ghost use Rattle.version_sets.specs.SetRanges.{interval, intervals, is_lowest, is_same_end};
 ghost use Rattle.version_sets.specs.SetRanges.{is_lowest_pre as lowest_pre};
-ghost use Rattle.version_sets.specs.Steps.Places.{pre_release_place};
+ghost use Rattle.semver_versions.specs.ReadVersions.{read_plain};
 ghost use Rattle.version_sets.specs.SetRanges.{npm_range, bounds as plain_bounds};
 
-use crate::pre_release::PreRelease;
+use crate::boundary::Boundary;
 use crate::release::{Release, next_numbers};
 use crate::set_ranges::is_lowest_pre;
-use crate::switch::Switch;
-use crate::with_zero::WithZero;
-use semver_parser::{Comparator, Compat, Identifier, Op, Range, version};
+use crate::successor::Successor;
+use semver_ranges::{Comparator, Compat, Identifier, Op, Range};
 use semver_texts::grammar::Digits;
 use semver_texts::precedence::compare_pre_releases;
+use semver_versions::read_version::ReadVersion;
+use semver_versions::version;
 use std::alloc::{AllocError, Global};
 
-/// A switch as a bound of an interval.
-pub(crate) trait Bound: Switch {
+/// A boundary as a bound of an interval.
+pub(crate) trait Bound: Boundary {
     ghost next_place: { PlainVersion → Option PlainVersion };
 
     /// Whether it is at the lowest version of its kind.
@@ -74,7 +75,7 @@ impl Bound for Release {
     }
 }
 
-impl Bound for PreRelease {
+impl Bound for ReadVersion {
     ghost use Rattle.version_sets.specs.SetRanges.{next_pre_release};
 
     ghost next_place = { next_pre_release };
@@ -87,7 +88,7 @@ impl Bound for PreRelease {
             && has_lowest_pre(&version.pre, self.digits)
     }
 
-    fn is_alone(&self, to: Option<&PreRelease>) -> bool {
+    fn is_alone(&self, to: Option<&ReadVersion>) -> bool {
         match to {
             Some(to) => {
                 Release::of(&to.version)
@@ -119,16 +120,16 @@ fn has_lowest_pre(identifiers: &[version::Identifier], digits: Digits) -> bool
     is_lowest_pre(identifiers)
 }
 
-/// Whether the identifiers of a switch are those of another with the number 0 after them.
-fn are_right_above(switch: &PreRelease, below: &PreRelease) -> bool
-    ensures { result ≡ is_eq (pre_cmp (pre_release_place switch.now).pre
-        ((pre_release_place below.now).pre ++ numeric 0 ∷ [])) }
+/// Whether the identifiers of a boundary are those of another with the number 0 after them.
+fn are_right_above(boundary: &ReadVersion, below: &ReadVersion) -> bool
+    ensures { result ≡ is_eq (pre_cmp (read_plain boundary.now).pre
+        ((read_plain below.now).pre ++ numeric 0 ∷ [])) }
 {
-    let above = WithZero {
+    let above = Successor {
         identifiers: below.pre(),
         zero: true,
     };
-    compare_pre_releases(switch.pre(), above).is_eq()
+    compare_pre_releases(boundary.pre(), above).is_eq()
 }
 
 /// Identifiers of a version that are read so, as those of a range.
@@ -160,16 +161,16 @@ fn copy_of(identifier: &version::Identifier, digits: Digits) -> Result<Identifie
     }
 }
 
-/// The ranges of increasing switches in npm mode, one for each interval. It allocates only if there
-/// is a switch. `Err` is out of memory.
-pub(crate) fn ranges_of<T: Bound>(alloc: Global, switches: &[T]) -> Result<Vec<Range>, AllocError>
+/// The ranges of increasing boundaries in npm mode, one for each interval. It allocates only if
+/// there is a boundary. `Err` is out of memory.
+pub(crate) fn ranges_of<T: Bound>(alloc: Global, boundaries: &[T]) -> Result<Vec<Range>, AllocError>
     ensures ranges { IfOk result (λ ranges.
         map range_of ranges.items
-        ≡ map range_kept (intervals T.next_place (map T.place switches.now))) }
-    ensures out_of_memory { IfErr result (λ _. 0 < length switches.now) }
+        ≡ map range_kept (intervals T.next_place (map T.place boundaries.now))) }
+    ensures out_of_memory { IfErr result (λ _. 0 < length boundaries.now) }
 {
     let mut ranges = Vec::new(alloc);
-    let mut left = switches;
+    let mut left = boundaries;
     while let [from, others @ ..] = left {
         let (to, others) = match others {
             [to, others @ ..] => (Some(to), others),

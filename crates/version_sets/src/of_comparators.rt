@@ -1,44 +1,45 @@
-//! Sets of the versions that meet comparators, by a rule for pre-releases.
+//! Sets of the versions that satisfy comparators, by a rule for pre-releases.
 
 ghost use Rattle.std.specs.Prelude.{◌≡◌, ◌<◌, ◌&&◌, ◌||◌, true, false, length, map, IfOk, IfErr};
 ghost use Rattle.std.specs.List.{list_all, list_any};
-ghost use Rattle.semver_parser.specs.Meeting.{meets_comparator, meets_range};
-ghost use Rattle.semver_parser.specs.Precedence.{precedence};
-ghost use Rattle.semver_parser.specs.PrintedRanges.{is_printable_version};
-ghost use Rattle.semver_parser.specs.RangeViews.{comparator_of, range_of, set_of};
-ghost use Rattle.semver_parser.specs.StatedPreReleases.{has_pre_release_at};
-ghost use Rattle.semver_parser.specs.Versions.{PlainVersion, VersionValue};
+ghost use Rattle.semver_ranges.specs.Meeting.{meets_comparator, meets_range};
+ghost use Rattle.semver_texts.specs.Precedence.{precedence};
+ghost use Rattle.semver_ranges.specs.PrintedRanges.{is_printable_version};
+ghost use Rattle.semver_ranges.specs.RangeViews.{comparator_of, range_of, set_of};
+ghost use Rattle.semver_ranges.specs.StatedPreReleases.{has_pre_release_at};
+ghost use Rattle.semver_texts.specs.Versions.{PlainVersion, VersionValue};
 ghost use Rattle.semver_texts.specs.declared.grammar.Digits.{Digits as SomeDigits};
 ghost use Rattle.version_sets.specs.DigitViews.{comparator_by, range_by, set_by};
 ghost use Rattle.version_sets.specs.Printable.{are_printable, HasPrintableRanges, IsPrintable};
 ghost use Rattle.version_sets.specs.Printable.{prints_by};
 ghost use Rattle.version_sets.specs.PreReleaseRules.{meets_with};
 ghost use Rattle.version_sets.specs.Releases.{release_value};
-ghost use Rattle.version_sets.specs.Switches.{switched};
-ghost use Rattle.version_sets.specs.VersionSets.{has, Fits, IsRelease, IsPreRelease, AreSwitches};
-ghost use Rattle.version_sets.specs.Steps.Places.{pre_release_place};
+ghost use Rattle.version_sets.specs.Boundaries.{is_inside};
+ghost use Rattle.version_sets.specs.VersionSets.{contains, Fits, IsRelease, IsPreRelease};
+ghost use Rattle.version_sets.specs.VersionSets.{AreBoundaries};
+ghost use Rattle.semver_versions.specs.ReadVersions.{read_plain};
 ghost use Rattle.version_sets.specs.Steps.RangeRules.{meets_range_with, states_pre_release};
 ghost use Rattle.version_sets.specs.Steps.Spans.{some_empty, in_some};
-ghost use Rattle.version_sets.specs.Steps.SpanViews.{limit_place, span_value, is_within};
+ghost use Rattle.version_sets.specs.Steps.SpanViews.{endpoint_place, span_value, is_within};
 ghost use Rattle.version_sets.specs.Steps.SpanViews.{bounds_print, spans_print};
 
-use crate::limits::{numbers_of, release_above};
-use crate::pre_release::PreRelease;
-use crate::pre_release_limits::PreReleaseLimit;
+use crate::endpoint::{numbers_of, release_above};
+use crate::pre_release_endpoint::PreReleaseEndpoint;
 use crate::release::{LOWEST, Release};
 use crate::rules::PreReleases;
 use crate::set_ranges::is_lowest_pre;
-use crate::spans::{Bounds, Span, switches_of};
+use crate::spans::{Bounds, Span, boundaries_of};
 use crate::version_set::VersionSet;
-use semver_parser::{Comparator, Op, Range, RangeSet};
+use semver_ranges::{Comparator, Op, Range, RangeSet};
 use semver_texts::grammar::Digits;
+use semver_versions::read_version::ReadVersion;
 use std::alloc::{AllocError, Global};
 
 impl VersionSet {
     // Answer: law answer_laws::sets::one_of_set.
-    /// The versions that meet comparators by a rule for pre-releases (docs/MEANING.md).
+    /// The versions that satisfy comparators by a rule for pre-releases (docs/MEANING.md).
     ///
-    /// It takes time in n log n for n comparators, and memory for their switches, at most four a
+    /// It takes time in n log n for n comparators, and memory for their boundaries, at most four a
     /// comparator, and none where there is no range. `Err` means that memory ran out.
     ///
     /// ```
@@ -47,10 +48,10 @@ impl VersionSet {
     ///
     /// let ranges = RangeSet::parse(">=1.2.0 <2.0.0 || =3.1.4", Compat::Npm)?;
     /// let set = VersionSet::of_set(&ranges, PreReleases::Default).unwrap();
-    /// assert!(set.has(&version::parse("1.9.0")?) && set.has(&version::parse("3.1.4")?));
-    /// assert!(!set.has(&version::parse("2.0.0-rc")?));
+    /// assert!(set.contains(&version::parse("1.9.0")?) && set.contains(&version::parse("3.1.4")?));
+    /// assert!(!set.contains(&version::parse("2.0.0-rc")?));
     /// let set = VersionSet::of_set(&ranges, PreReleases::Included).unwrap();
-    /// assert!(set.has(&version::parse("2.0.0-rc")?)); // below 2.0.0
+    /// assert!(set.contains(&version::parse("2.0.0-rc")?)); // below 2.0.0
     /// # Ok::<(), String>(())
     /// ```
     pub fn of_set(
@@ -59,7 +60,7 @@ impl VersionSet {
         pre_releases: PreReleases,
     ) -> Result<VersionSet, AllocError>
         ensures meaning { IfOk result (λ s. (v : VersionValue) → Fits v.plain
-            → has s v.plain ≡ meets_with pre_releases (set_of set.now) v) }
+            → contains s v.plain ≡ meets_with pre_releases (set_of set.now) v) }
         // Identifiers that can be read back from their texts are kept so.
         ensures printable { HasPrintableRanges (set_of set.now) → IfOk result IsPrintable }
         // Memory runs out only where there is a range.
@@ -79,7 +80,7 @@ impl VersionSet {
         digits: Digits,
     ) -> Result<VersionSet, AllocError>
         ensures meaning { IfOk result (λ s. (v : VersionValue) → Fits v.plain
-            → has s v.plain ≡ meets_with pre_releases (set_by digits set.now) v) }
+            → contains s v.plain ≡ meets_with pre_releases (set_by digits set.now) v) }
         // Identifiers that can be read back from their texts are kept so.
         ensures printable { HasPrintableRanges (set_of set.now) → IfOk result IsPrintable }
         // Memory runs out only where there is a range.
@@ -90,64 +91,64 @@ impl VersionSet {
         }
         let releases = releases_of(alloc, &set.ranges)?;
         let pre_releases = pre_releases_of(alloc, &set.ranges, pre_releases, digits)?;
-        Ok(VersionSet::of_switches(releases, pre_releases))
+        Ok(VersionSet::of_boundaries(releases, pre_releases))
     }
 }
 
-/// The switches of the releases that meet some of the ranges.
+/// The boundaries of the releases that satisfy some of the ranges.
 fn releases_of(alloc: Global, ranges: &[Range]) -> Result<Vec<Release>, AllocError>
-    ensures switches { IfOk result (λ switches.
-        AreSwitches IsRelease (map release_value switches.items)) }
-    ensures meaning { IfOk result (λ switches. (digits : SomeDigits) (v : PlainVersion)
-        → IsRelease v → switched precedence (map release_value switches.items) v
+    ensures boundaries { IfOk result (λ boundaries.
+        AreBoundaries IsRelease (map release_value boundaries.items)) }
+    ensures meaning { IfOk result (λ boundaries. (digits : SomeDigits) (v : PlainVersion)
+        → IsRelease v → is_inside precedence (map release_value boundaries.items) v
         ≡ list_any (λ range. meets_range v (range_by digits range)) ranges.now) }
 {
     // For speed: most texts are one range.
     if let [range] = ranges {
-        return met_releases(&range.comparator_set).switches(alloc);
+        return met_releases(&range.comparator_set).boundaries(alloc);
     }
     let mut spans = Vec::with_capacity(alloc, ranges.len())?;
     for range in ranges {
         met_releases(&range.comparator_set).push_to(&mut spans)?;
     }
-    switches_of(alloc, &mut spans)
+    boundaries_of(alloc, &mut spans)
 }
 
-/// The switches of the pre-releases that meet some of the ranges by a rule.
+/// The boundaries of the pre-releases that satisfy some of the ranges by a rule.
 fn pre_releases_of(
     alloc: Global,
     ranges: &[Range],
     rule: PreReleases,
     digits: Digits,
-) -> Result<Vec<PreRelease>, AllocError>
-    ensures switches { IfOk result (λ switches.
-        AreSwitches IsPreRelease (map pre_release_place switches.items)) }
-    ensures meaning { IfOk result (λ switches. (v : PlainVersion) → IsPreRelease v
-        → switched precedence (map pre_release_place switches.items) v
+) -> Result<Vec<ReadVersion>, AllocError>
+    ensures boundaries { IfOk result (λ boundaries.
+        AreBoundaries IsPreRelease (map read_plain boundaries.items)) }
+    ensures meaning { IfOk result (λ boundaries. (v : PlainVersion) → IsPreRelease v
+        → is_inside precedence (map read_plain boundaries.items) v
         ≡ list_any (λ range. meets_range_with rule v (range_by digits range)) ranges.now) }
-    ensures printable { IfOk result (λ switches.
+    ensures printable { IfOk result (λ boundaries.
         list_all (λ range. are_printable (range_of range).comparators) ranges.now ≡ true
-        → list_all (prints_by digits) (map pre_release_place switches.items) ≡ true) }
+        → list_all (prints_by digits) (map read_plain boundaries.items) ≡ true) }
 {
     let mut spans = Vec::new(alloc);
     for range in ranges {
         push_pre_releases(range, rule, digits, &mut spans)?;
     }
-    switches_of(alloc, &mut spans)
+    boundaries_of(alloc, &mut spans)
 }
 
-/// Adds the spans of the pre-releases that meet a range by a rule.
+/// Adds the spans of the pre-releases that satisfy a range by a rule.
 fn push_pre_releases<'a>(
     range: &'a Range,
     rule: PreReleases,
     digits: Digits,
-    spans: &mut Vec<Span<PreReleaseLimit<'a>>>,
+    spans: &mut Vec<Span<PreReleaseEndpoint<'a>>>,
 ) -> Result<(), AllocError>
-    ensures spans { some_empty precedence (map (span_value limit_place) spans.old.items) ≡ false
-        → some_empty precedence (map (span_value limit_place) spans.new.items) ≡ false }
+    ensures spans { some_empty precedence (map (span_value endpoint_place) spans.old.items) ≡ false
+        → some_empty precedence (map (span_value endpoint_place) spans.new.items) ≡ false }
     ensures meaning { IfOk result (λ _. (v : PlainVersion) → IsPreRelease v
-        → in_some precedence (map (span_value limit_place) spans.new.items) v
-        ≡ (in_some precedence (map (span_value limit_place) spans.old.items) v
+        → in_some precedence (map (span_value endpoint_place) spans.new.items) v
+        ≡ (in_some precedence (map (span_value endpoint_place) spans.old.items) v
         || meets_range_with rule v (range_by digits range.entry.now))) }
     ensures printable { are_printable (range_of range.entry.now).comparators ≡ true
         → spans_print digits spans.old.items ≡ true → spans_print digits spans.new.items ≡ true }
@@ -159,7 +160,7 @@ fn push_pre_releases<'a>(
     }
 }
 
-/// The releases that meet all comparators.
+/// The releases that satisfy all comparators.
 fn met_releases(comparators: &[Comparator]) -> Bounds<Release>
     ensures { (digits : SomeDigits) (v : PlainVersion) → IsRelease v
         → is_within release_value result v
@@ -176,43 +177,43 @@ fn met_releases(comparators: &[Comparator]) -> Bounds<Release>
     met
 }
 
-/// The pre-releases that meet all comparators.
+/// The pre-releases that satisfy all comparators.
 fn met_pre_releases<'a>(
     comparators: &'a [Comparator],
     digits: Digits,
-) -> Bounds<PreReleaseLimit<'a>>
-    ensures meaning { (v : PlainVersion) → IsPreRelease v → is_within limit_place result v
+) -> Bounds<PreReleaseEndpoint<'a>>
+    ensures meaning { (v : PlainVersion) → IsPreRelease v → is_within endpoint_place result v
         ≡ list_all (meets_comparator v) (map (comparator_by digits) comparators.entry.now) }
     ensures printable { are_printable (map comparator_of comparators.entry.now) ≡ true
         → bounds_print digits result ≡ true }
 {
     let mut met = Bounds {
-        from: Some(PreReleaseLimit::lowest(LOWEST)),
+        from: Some(PreReleaseEndpoint::lowest(LOWEST)),
         to: None,
     };
     for comparator in comparators {
-        let at = PreReleaseLimit::at(comparator, digits);
+        let at = PreReleaseEndpoint::at(comparator, digits);
         met = met.narrowed(
             &comparator.op,
             at,
-            PreReleaseLimit::above(comparator, digits),
+            PreReleaseEndpoint::above(comparator, digits),
         );
     }
     met
 }
 
-/// Adds the spans of the pre-releases that meet all comparators and are at numbers that one of them
-/// has with a pre-release.
+/// Adds the spans of the pre-releases that satisfy all comparators and are at numbers that one of
+/// them has with a pre-release.
 fn push_stated<'a>(
     comparators: &'a [Comparator],
     digits: Digits,
-    spans: &mut Vec<Span<PreReleaseLimit<'a>>>,
+    spans: &mut Vec<Span<PreReleaseEndpoint<'a>>>,
 ) -> Result<(), AllocError>
-    ensures spans { some_empty precedence (map (span_value limit_place) spans.old.items) ≡ false
-        → some_empty precedence (map (span_value limit_place) spans.new.items) ≡ false }
+    ensures spans { some_empty precedence (map (span_value endpoint_place) spans.old.items) ≡ false
+        → some_empty precedence (map (span_value endpoint_place) spans.new.items) ≡ false }
     ensures meaning { IfOk result (λ _. (v : PlainVersion) → IsPreRelease v
-        → in_some precedence (map (span_value limit_place) spans.new.items) v
-        ≡ (in_some precedence (map (span_value limit_place) spans.old.items) v
+        → in_some precedence (map (span_value endpoint_place) spans.new.items) v
+        ≡ (in_some precedence (map (span_value endpoint_place) spans.old.items) v
         || (list_all (meets_comparator v) (map (comparator_by digits) comparators.entry.now)
         && list_any (has_pre_release_at v) (map (comparator_by digits) comparators.entry.now)))) }
     ensures printable { are_printable (map comparator_of comparators.entry.now) ≡ true
@@ -250,17 +251,17 @@ fn states_pre_release(comparator: &Comparator) -> bool
 /// Adds the span of those of the pre-releases that are at the numbers of a comparator, if it has a
 /// pre-release.
 fn push_at<'a>(
-    met: Bounds<PreReleaseLimit<'a>>,
+    met: Bounds<PreReleaseEndpoint<'a>>,
     comparator: &Comparator,
     digits: Digits,
-    spans: &mut Vec<Span<PreReleaseLimit<'a>>>,
+    spans: &mut Vec<Span<PreReleaseEndpoint<'a>>>,
 ) -> Result<(), AllocError>
-    ensures spans { some_empty precedence (map (span_value limit_place) spans.old.items) ≡ false
-        → some_empty precedence (map (span_value limit_place) spans.new.items) ≡ false }
+    ensures spans { some_empty precedence (map (span_value endpoint_place) spans.old.items) ≡ false
+        → some_empty precedence (map (span_value endpoint_place) spans.new.items) ≡ false }
     ensures meaning { IfOk result (λ _. (v : PlainVersion) → IsPreRelease v
-        → in_some precedence (map (span_value limit_place) spans.new.items) v
-        ≡ (in_some precedence (map (span_value limit_place) spans.old.items) v
-        || (is_within limit_place met.entry v
+        → in_some precedence (map (span_value endpoint_place) spans.new.items) v
+        ≡ (in_some precedence (map (span_value endpoint_place) spans.old.items) v
+        || (is_within endpoint_place met.entry v
         && has_pre_release_at v (comparator_by digits comparator.now)))) }
     ensures printable { bounds_print digits met.entry ≡ true
         → spans_print digits spans.old.items ≡ true → spans_print digits spans.new.items ≡ true }
@@ -271,8 +272,8 @@ fn push_at<'a>(
     }
     let numbers = numbers_of(comparator);
     let stated = Bounds {
-        from: Some(PreReleaseLimit::lowest(numbers)),
-        to: PreReleaseLimit::above_numbers(numbers),
+        from: Some(PreReleaseEndpoint::lowest(numbers)),
+        to: PreReleaseEndpoint::above_numbers(numbers),
     };
     met.and(stated).push_to(spans)
 }

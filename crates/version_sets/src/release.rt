@@ -2,15 +2,15 @@
 
 ghost use Rattle.std.specs.Prelude.{◌≡◌, ◌+◌, ◌*◌, ◌<◌, [], option_map};
 ghost use Rattle.std.specs.Ordering.{is_lt, is_gt};
-ghost use Rattle.semver_parser.specs.Precedence.{precedence};
-ghost use Rattle.semver_parser.specs.VersionViews.{version_value};
-ghost use Rattle.semver_parser.specs.Versions.{PlainVersion};
+ghost use Rattle.semver_texts.specs.Precedence.{precedence};
+ghost use Rattle.semver_texts.specs.VersionViews.{version_value};
+ghost use Rattle.semver_texts.specs.Versions.{PlainVersion};
 ghost use Rattle.version_sets.specs.Releases.{release_value};
 ghost use Rattle.version_sets.specs.SetRanges.{next_release};
 ghost use Rattle.version_sets.specs.Steps.Bounds.{numbers_cmp, reaches};
 ghost use Rattle.version_sets.specs.VersionSets.{Fits};
 
-use semver_parser::version::Version;
+use semver_versions::version::Version;
 use std::alloc::Global;
 
 /// A release: the three numbers of a version. Its derived order is that of precedence.

@@ -2,21 +2,21 @@
 
 ghost use Rattle.std.specs.Prelude.{◌≡◌, not, map, Some, IfOk, IfErr, IsTrue};
 ghost use Rattle.std.specs.List.{list_all};
-ghost use Rattle.semver_parser.specs.declared.Compat.TheVariants.{Npm};
-ghost use Rattle.semver_parser.specs.Meeting.{meets_set};
-ghost use Rattle.semver_parser.specs.PrintedRanges.{is_printable_version};
-ghost use Rattle.semver_parser.specs.RangeViews.{comparator_of, range_of, set_of};
-ghost use Rattle.semver_parser.specs.Versions.{PlainVersion};
+ghost use Rattle.semver_ranges.specs.declared.range.Compat.TheVariants.{Npm};
+ghost use Rattle.semver_ranges.specs.Meeting.{meets_set};
+ghost use Rattle.semver_ranges.specs.PrintedRanges.{is_printable_version};
+ghost use Rattle.semver_ranges.specs.RangeViews.{comparator_of, range_of, set_of};
+ghost use Rattle.semver_texts.specs.Versions.{PlainVersion};
 ghost use Rattle.version_sets.specs.DigitViews.{set_kept};
 ghost use Rattle.version_sets.specs.SetRanges.{release_ranges, pre_release_ranges};
 ghost use Rattle.version_sets.specs.SetRanges.{is_whole, ranges_text, ReadsBack};
 ghost use Rattle.version_sets.specs.SetRanges.{is_lowest_pre as lowest_pre};
 ghost use Rattle.version_sets.specs.SetRanges.{is_from_lowest as from_lowest};
-ghost use Rattle.version_sets.specs.VersionSets.{has, IsIn, IsRelease, IsPreRelease};
+ghost use Rattle.version_sets.specs.VersionSets.{contains, IsIn, IsRelease, IsPreRelease};
 
 use crate::intervals::ranges_of;
 use crate::version_set::VersionSet;
-use semver_parser::{Comparator, Compat, Op, Range, RangeSet, laws};
+use semver_ranges::{Comparator, Compat, Op, Range, RangeSet, laws};
 use semver_texts::identifiers::AsIdentifier;
 use semver_texts::precedence::IdentifierRef;
 use std::alloc::{AllocError, Global};
@@ -26,15 +26,15 @@ use std::fmt;
 /// interval, in ascending order.
 ///
 /// `Display` writes a range text of npm mode: `*` if all are in the set, and `<0.0.0-0`, which no
-/// version meets, if none is.
+/// version satisfies, if none is.
 ///
 /// ```
 /// use semver_parser::sets::{self, VersionSet};
 /// use semver_parser::Dialect;
 ///
 /// let text = |set: VersionSet| set.release_ranges().unwrap().to_string();
-/// assert_eq!(text(sets::read(Dialect::Npm, "1.2.0 || ~1.9")?), "=1.2.0 || >=1.9.0 <1.10.0");
-/// assert_eq!(text(sets::read(Dialect::Npm, "x")?), "*");
+/// assert_eq!(text(sets::read("1.2.0 || ~1.9", Dialect::Npm)?), "=1.2.0 || >=1.9.0 <1.10.0");
+/// assert_eq!(text(sets::read("x", Dialect::Npm)?), "*");
 /// assert_eq!(text(VersionSet::empty()), "<0.0.0-0");
 /// # Ok::<(), semver_parser::RangeError>(())
 /// ```
@@ -55,24 +55,24 @@ impl VersionSet {
     /// - `>=0.0.0` if all releases are in the set, which `Display` writes as `*`;
     /// - no range if the set has no release.
     ///
-    /// It takes time in the number of switches, and allocates only if the set has a release. `Err`
-    /// is out of memory.
+    /// It takes time in the number of boundaries, and allocates only if the set has a release.
+    /// `Err` is out of memory.
     ///
     /// ```
     /// use semver_parser::{sets, Dialect};
     ///
-    /// let set = sets::read(Dialect::Npm, "^1.2.0")?;
-    /// let lost = set.difference(&sets::read(Dialect::Npm, ">=1.2.1 <1.9.0")?).unwrap();
+    /// let set = sets::read("^1.2.0", Dialect::Npm)?;
+    /// let lost = set.difference(&sets::read(">=1.2.1 <1.9.0", Dialect::Npm)?).unwrap();
     /// assert_eq!(lost.release_ranges().unwrap().to_string(), "=1.2.0 || >=1.9.0 <2.0.0");
     /// # Ok::<(), semver_parser::RangeError>(())
     /// ```
     pub fn release_ranges(&self, alloc: Global) -> Result<SetRanges, AllocError>
         ensures ranges { IfOk result (λ ranges.
             set_of ranges.range_set ≡ release_ranges self.now) }
-        // A release meets them exactly if it is in the set.
+        // A release satisfies them exactly if it is in the set.
         ensures meaning { IfOk result (λ ranges. (v : PlainVersion) → IsRelease v
-            → meets_set v (set_of ranges.range_set) ≡ has self.now v) }
-        // The text, read in npm mode, gives comparators that the same releases meet.
+            → meets_set v (set_of ranges.range_set) ≡ contains self.now v) }
+        // The text, read in npm mode, gives comparators that the same releases satisfy.
         ensures reads_back { IfOk result (λ ranges.
             ReadsBack (ranges_text (set_of ranges.range_set)) IsRelease self.now) }
         // It is out of memory only if the set has a release.
@@ -86,31 +86,32 @@ impl VersionSet {
 
     // Answer: equation.
     /// The pre-releases of the set as ranges of plain comparators, as
-    /// [`VersionSet::release_ranges`] returns the releases. A pre-release meets them by precedence.
+    /// [`VersionSet::release_ranges`] returns the releases. A pre-release satisfies them by
+    /// precedence.
     ///
     /// Each bound has a pre-release. The version right above 1.2.3-a is 1.2.3-a.0, so 1.2.3-a alone
     /// is `=1.2.3-a`. The lowest is 0.0.0-0, and all pre-releases are `>=0.0.0-0`.
     ///
-    /// It takes time in the number of switches, and allocates only if the set has a pre-release.
+    /// It takes time in the number of boundaries, and allocates only if the set has a pre-release.
     /// `Err` is out of memory.
     ///
     /// ```
     /// use semver_parser::{sets, Dialect, Meaning, PreReleases};
     ///
     /// let npm = Meaning { dialect: Dialect::Npm, pre_releases: PreReleases::Included };
-    /// let ranges = sets::read(npm, ">1.2.3 <2.0.0-0")?.pre_release_ranges().unwrap();
+    /// let ranges = sets::read(">1.2.3 <2.0.0-0", npm)?.pre_release_ranges().unwrap();
     /// assert_eq!(ranges.to_string(), ">=1.2.4-0 <2.0.0-0");
     /// # Ok::<(), semver_parser::RangeError>(())
     /// ```
     pub fn pre_release_ranges(&self, alloc: Global) -> Result<SetRanges, AllocError>
         ensures ranges { IfOk result (λ ranges.
             set_of ranges.range_set ≡ set_kept (pre_release_ranges self.now)) }
-        // A pre-release meets them exactly if it is in the set. They are as they are kept: a number
-        // of 2^64 or more as its text.
+        // A pre-release satisfies them exactly if it is in the set. They are as they are kept: a
+        // number of 2^64 or more as its text.
         ensures meaning { IfOk result (λ ranges. (v : PlainVersion) → IsPreRelease v
-            → meets_set v (pre_release_ranges self.now) ≡ has self.now v) }
+            → meets_set v (pre_release_ranges self.now) ≡ contains self.now v) }
         // If the identifiers are printable, the text, read in npm mode, gives comparators that the
-        // same pre-releases meet. The exception is `*`, which npm mode reads as `>=0.0.0`.
+        // same pre-releases satisfy. The exception is `*`, which npm mode reads as `>=0.0.0`.
         ensures reads_back { IsTrue (list_all is_printable_version self.now.pre_releases)
             → IfOk result (λ ranges. IsTrue (not (is_whole (set_of ranges.range_set).ranges))
             → ReadsBack (ranges_text (set_of ranges.range_set)) IsPreRelease self.now) }

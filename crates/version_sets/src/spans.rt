@@ -1,24 +1,24 @@
-//! Spans of one kind of versions, and the switches of what is in some of them.
+//! Spans of one kind of versions, and the boundaries of what is in some of them.
 
 ghost use Rattle.std.specs.Prelude.{◌≡◌, ◌&&◌, ◌||◌, ◌++◌, Bool, true, false, Some, map};
 ghost use Rattle.std.specs.Prelude.{option_map, MatchOption, IfOk, IfSome};
 ghost use Rattle.std.specs.List.{AllByRecursion, list_all};
-ghost use Rattle.semver_parser.specs.Versions.{PlainVersion};
-ghost use Rattle.semver_parser.specs.Precedence.{precedence};
-ghost use Rattle.version_sets.specs.Switches.{switched};
-ghost use Rattle.version_sets.specs.VersionSets.{AreSwitches};
+ghost use Rattle.semver_texts.specs.Versions.{PlainVersion};
+ghost use Rattle.semver_texts.specs.Precedence.{precedence};
+ghost use Rattle.version_sets.specs.Boundaries.{is_inside};
+ghost use Rattle.version_sets.specs.VersionSets.{AreBoundaries};
 ghost use Rattle.version_sets.specs.Steps.Spans.{is_in, IsSpan, later, earlier};
-ghost use Rattle.version_sets.specs.Steps.Spans.{is_below, span_switches, all_joined, some_empty};
+ghost use Rattle.version_sets.specs.Steps.Spans.{is_below, span_boundaries, all_joined, some_empty};
 ghost use Rattle.version_sets.specs.Steps.Spans.{in_some};
 ghost use Rattle.version_sets.specs.Steps.Spans.{narrowed_from, narrowed_to};
 ghost use Rattle.version_sets.specs.Steps.SpanViews.{span_value, is_within};
 ghost use Rattle.version_sets.specs.Steps.SpanViews.{bounds_hold, spans_hold};
 
-use crate::limits::Limit;
-use semver_parser::Op;
+use crate::endpoint::Endpoint;
+use semver_ranges::Op;
 use std::alloc::{AllocError, Global};
 
-/// The versions at or above one limit and below another. `None` is above all versions.
+/// The versions at or above one endpoint and below another. `None` is above all versions.
 #[derive(Clone, Copy)]
 pub(crate) struct Bounds<L> {
     /// Where they begin.
@@ -27,7 +27,7 @@ pub(crate) struct Bounds<L> {
     pub to: Option<L>,
 }
 
-/// The versions from a limit on and below another, if there is one, which is above the first.
+/// The versions from a endpoint on and below another, if there is one, which is above the first.
 #[derive(Clone, Copy)]
 pub(crate) struct Span<L> {
     /// Where they begin.
@@ -36,8 +36,8 @@ pub(crate) struct Span<L> {
     pub to: Option<L>,
 }
 
-/// The limit that fewer versions reach.
-fn later<L: Limit>(first: Option<L>, second: Option<L>) -> Option<L>
+/// The endpoint that fewer versions reach.
+fn later<L: Endpoint>(first: Option<L>, second: Option<L>) -> Option<L>
     ensures { option_map L.place result
         ≡ later precedence (option_map L.place first) (option_map L.place second) }
 {
@@ -49,8 +49,8 @@ fn later<L: Limit>(first: Option<L>, second: Option<L>) -> Option<L>
     })
 }
 
-/// The limit that more versions reach.
-fn earlier<L: Limit>(first: Option<L>, second: Option<L>) -> Option<L>
+/// The endpoint that more versions reach.
+fn earlier<L: Endpoint>(first: Option<L>, second: Option<L>) -> Option<L>
     ensures { option_map L.place result
         ≡ earlier precedence (option_map L.place first) (option_map L.place second) }
 {
@@ -67,9 +67,9 @@ fn earlier<L: Limit>(first: Option<L>, second: Option<L>) -> Option<L>
     }
 }
 
-impl<L: Limit> Bounds<L> {
-    /// Those of the versions that meet a comparator: `at` is where what is at or above its version
-    /// begins, and `above` where what is above it does.
+impl<L: Endpoint> Bounds<L> {
+    /// Those of the versions that satisfy a comparator: `at` is where what is at or above its
+    /// version begins, and `above` where what is above it does.
     pub(crate) fn narrowed(self, op: &Op, at: Option<L>, above: Option<L>) -> Bounds<L>
         ensures from { option_map L.place result.from ≡ narrowed_from precedence op.now
             (option_map L.place self.from) (option_map L.place at) (option_map L.place above) }
@@ -114,12 +114,12 @@ impl<L: Limit> Bounds<L> {
         }
     }
 
-    /// The span of the versions, if there is any between the limits.
+    /// The span of the versions, if there is any between the endpoints.
     fn span(self) -> Option<Span<L>>
         ensures meaning { MatchOption result ((v : PlainVersion) → is_within L.place self v ≡ false)
             (λ span. IsSpan precedence (span_value L.place span) × ((v : PlainVersion)
             → is_in precedence (span_value L.place span) v ≡ is_within L.place self v)) }
-        ensures limits { IfSome result (λ span. (self.from ≡ Some span.from)
+        ensures endpoints { IfSome result (λ span. (self.from ≡ Some span.from)
             × (self.to ≡ span.to)) }
     {
         let from = self.from?;
@@ -148,92 +148,92 @@ impl<L: Limit> Bounds<L> {
         Ok(())
     }
 
-    /// The switches of the versions. `Err` is out of memory.
-    pub(crate) fn switches(self, alloc: Global) -> Result<Vec<L::Switch>, AllocError>
-        ensures switches { IfOk result (λ switches.
-            AreSwitches L.IsOfKind (map L.Switch.place switches.items)) }
-        ensures meaning { IfOk result (λ switches. (v : PlainVersion)
-            → switched precedence (map L.Switch.place switches.items) v
+    /// The boundaries of the versions. `Err` is out of memory.
+    pub(crate) fn boundaries(self, alloc: Global) -> Result<Vec<L::Boundary>, AllocError>
+        ensures boundaries { IfOk result (λ boundaries.
+            AreBoundaries L.IsOfKind (map L.Boundary.place boundaries.items)) }
+        ensures meaning { IfOk result (λ boundaries. (v : PlainVersion)
+            → is_inside precedence (map L.Boundary.place boundaries.items) v
             ≡ is_within L.place self v) }
     {
         let Some(span) = self.span() else {
             return Ok(Vec::new(alloc));
         };
-        let mut switches = Vec::with_capacity(alloc, 2)?;
-        push_switches(alloc, &span, &mut switches)?;
-        Ok(switches)
+        let mut boundaries = Vec::with_capacity(alloc, 2)?;
+        push_boundaries(alloc, &span, &mut boundaries)?;
+        Ok(boundaries)
     }
 }
 
-/// The switches of what is in some of the spans. `Err` is out of memory.
-pub(crate) fn switches_of<L: Limit>(
+/// The boundaries of what is in some of the spans. `Err` is out of memory.
+pub(crate) fn boundaries_of<L: Endpoint>(
     alloc: Global,
     spans: &mut [Span<L>],
-) -> Result<Vec<L::Switch>, AllocError>
+) -> Result<Vec<L::Boundary>, AllocError>
     requires { some_empty precedence (map (span_value L.place) spans.old) ≡ false }
-    ensures switches { IfOk result (λ switches.
-        AreSwitches L.IsOfKind (map L.Switch.place switches.items)) }
-    ensures meaning { IfOk result (λ switches. (v : PlainVersion)
-        → switched precedence (map L.Switch.place switches.items) v
+    ensures boundaries { IfOk result (λ boundaries.
+        AreBoundaries L.IsOfKind (map L.Boundary.place boundaries.items)) }
+    ensures meaning { IfOk result (λ boundaries. (v : PlainVersion)
+        → is_inside precedence (map L.Boundary.place boundaries.items) v
         ≡ in_some precedence (map (span_value L.place) spans.old) v) }
-    ensures holds { IfOk result (λ switches. (p : PlainVersion → Bool)
+    ensures holds { IfOk result (λ boundaries. (p : PlainVersion → Bool)
         → spans_hold L.place p spans.old ≡ true
-        → list_all p (map L.Switch.place switches.items) ≡ true) }
+        → list_all p (map L.Boundary.place boundaries.items) ≡ true) }
 {
     spans.sort_unstable_by(|span, other| span.from.compare(&other.from));
     joined(alloc, spans)
 }
 
-/// The switches of ascending spans. `Err` is out of memory.
-fn joined<L: Limit>(alloc: Global, spans: &[Span<L>]) -> Result<Vec<L::Switch>, AllocError>
-    ensures { IfOk result (λ switches.
-        AllByRecursion L.IsOfKind (map L.Switch.place switches.items)
-        × (map L.Switch.place switches.items
+/// The boundaries of ascending spans. `Err` is out of memory.
+fn joined<L: Endpoint>(alloc: Global, spans: &[Span<L>]) -> Result<Vec<L::Boundary>, AllocError>
+    ensures { IfOk result (λ boundaries.
+        AllByRecursion L.IsOfKind (map L.Boundary.place boundaries.items)
+        × (map L.Boundary.place boundaries.items
         ≡ all_joined precedence (map (span_value L.place) spans.now))) }
 {
     let [first, others @ ..] = spans else {
         return Ok(Vec::new(alloc));
     };
-    let mut switches = Vec::with_capacity(alloc, spans.len().saturating_mul(2))?;
+    let mut boundaries = Vec::with_capacity(alloc, spans.len().saturating_mul(2))?;
     let mut span = *first;
     for next in others {
         if is_apart(span.to, &next.from) {
-            push_switches(alloc, &span, &mut switches)?;
+            push_boundaries(alloc, &span, &mut boundaries)?;
             span = *next;
         } else {
             span.to = later(span.to, next.to);
         }
     }
-    push_switches(alloc, &span, &mut switches)?;
-    Ok(switches)
+    push_boundaries(alloc, &span, &mut boundaries)?;
+    Ok(boundaries)
 }
 
-/// Whether there is an end below a limit.
-fn is_apart<L: Limit>(end: Option<L>, limit: &L) -> bool
-    ensures { result ≡ is_below precedence (option_map L.place end) (L.place limit.now) }
+/// Whether there is an end below a endpoint.
+fn is_apart<L: Endpoint>(end: Option<L>, endpoint: &L) -> bool
+    ensures { result ≡ is_below precedence (option_map L.place end) (L.place endpoint.now) }
 {
     match end {
-        Some(end) => end.compare(limit).is_lt(),
+        Some(end) => end.compare(endpoint).is_lt(),
         None => false,
     }
 }
 
-/// Adds the switches of a span. `Err` is out of memory.
-fn push_switches<L: Limit>(
+/// Adds the boundaries of a span. `Err` is out of memory.
+fn push_boundaries<L: Endpoint>(
     alloc: Global,
     span: &Span<L>,
-    switches: &mut Vec<L::Switch>,
+    boundaries: &mut Vec<L::Boundary>,
 ) -> Result<(), AllocError>
     ensures kind { IfOk result (λ _.
-        AllByRecursion L.IsOfKind (map L.Switch.place switches.old.items)
-        → AllByRecursion L.IsOfKind (map L.Switch.place switches.new.items)) }
-    ensures switches { IfOk result (λ _. map L.Switch.place switches.new.items
-        ≡ map L.Switch.place switches.old.items
-        ++ span_switches precedence (span_value L.place span.now)) }
+        AllByRecursion L.IsOfKind (map L.Boundary.place boundaries.old.items)
+        → AllByRecursion L.IsOfKind (map L.Boundary.place boundaries.new.items)) }
+    ensures boundaries { IfOk result (λ _. map L.Boundary.place boundaries.new.items
+        ≡ map L.Boundary.place boundaries.old.items
+        ++ span_boundaries precedence (span_value L.place span.now)) }
 {
-    switches.push(span.from.switch(alloc)?)?;
+    boundaries.push(span.from.boundary(alloc)?)?;
     if let Some(to) = span.to {
-        switches.push(to.switch(alloc)?)?;
+        boundaries.push(to.boundary(alloc)?)?;
     }
     Ok(())
 }

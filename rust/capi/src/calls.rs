@@ -7,10 +7,9 @@ use crate::types::{dialect, Comparator, Options, StringView, Version};
 use alloc::{string::String, vec::Vec};
 use core::{ffi::c_char, ptr, str};
 use proved::rattle_std::{FalliblePush, FallibleToString};
-use proved::sets::{self, VersionSet};
-use proved::version::{outline_in, Grammar, Outline};
-use proved::{satisfies_bytes, SatisfiesError};
-use proved::{AllocError, Compat, Dialect, Meaning, Op, RangeError, RangeSet};
+use proved::version::{outline_in, Outline};
+use proved::{satisfies_bytes, OperationError, SatisfiesError, VersionRange};
+use proved::{Compat, Dialect, Op, RangeError, RangeSet};
 
 type Answer<'a, T> = Result<T, Problem<'a>>;
 
@@ -53,7 +52,7 @@ pub fn satisfies<'a>(bytes: &'a [u8], range: &'a [u8], options: Options) -> Answ
 pub fn check_range(range: &[u8], number: i32) -> Answer<'_, ()> {
     let dialect = dialect(number)?;
     let range = text(range, 0)?;
-    sets::check(dialect, range).map_err(refused(range, dialect, 0))
+    proved::check_range(range, dialect).map_err(refused(range, dialect, 0))
 }
 
 pub fn parse_version(bytes: &[u8], number: i32) -> Answer<'_, Version> {
@@ -69,33 +68,26 @@ pub fn compare_versions<'a>(bytes: &'a [u8], other: &'a [u8], number: i32) -> An
     Ok(outline.compare(&version(other, dialect, 1)?) as i32)
 }
 
-/// semver_parser_range: what a range means, and by which options.
-pub struct Range {
-    pub set: VersionSet,
-    pub meaning: Meaning,
-}
-
-pub fn parse_range(range: &[u8], options: Options) -> Answer<'_, *mut Range> {
+pub fn parse_range(range: &[u8], options: Options) -> Answer<'_, *mut VersionRange> {
     let meaning = options.meaning()?;
     let range = text(range, 0)?;
-    let set = sets::read(meaning, range).map_err(refused(range, meaning.dialect, 0))?;
-    Ok(moved(Range { set, meaning })?)
+    let read = VersionRange::read(range, meaning).map_err(refused(range, meaning.dialect, 0))?;
+    Ok(moved(read)?)
 }
 
-impl Range {
-    #[inline(always)]
-    pub fn contains<'a>(&self, bytes: &'a [u8], index: usize) -> Answer<'a, bool> {
-        Ok(self.set.has_outline(&version(bytes, self.meaning.dialect, index)?))
-    }
+#[inline(always)]
+pub fn contains<'a>(range: &VersionRange, bytes: &'a [u8], index: usize) -> Answer<'a, bool> {
+    let dialect = range.meaning().dialect;
+    range.contains_bytes(bytes).map_err(|_| Problem::Version { bytes, dialect, index })
+}
 
-    pub fn lowest_version(&self) -> Answer<'_, *mut c_char> {
-        self.set.least()?.map_or(Ok(ptr::null_mut()), printed)
-    }
+pub fn lowest_version(range: &VersionRange) -> Answer<'_, *mut c_char> {
+    range.versions().lowest()?.map_or(Ok(ptr::null_mut()), printed)
+}
 
-    pub fn to_string(&self, pre_releases: bool) -> Answer<'_, *mut c_char> {
-        let set = &self.set;
-        printed(if pre_releases { set.pre_release_ranges()? } else { set.release_ranges()? })
-    }
+pub fn range_to_string(range: &VersionRange, pre_releases: bool) -> Answer<'_, *mut c_char> {
+    let set = range.versions();
+    printed(if pre_releases { set.pre_release_ranges()? } else { set.release_ranges()? })
 }
 
 /// How many versions are compared at once, beside the one that was found before.
@@ -104,21 +96,20 @@ const AT_ONCE: usize = 32;
 /// The index of the highest or lowest version that is in a range. It does not allocate: the one
 /// that was found comes first among the next ones, and what isn't filled is an invalid version.
 pub fn outermost<'a>(
-    range: &Range,
+    range: &VersionRange,
     strings: &'a [StringView],
     skip_invalid: bool,
-    which: impl Fn(&VersionSet, &[&[u8]], Grammar) -> Option<usize>,
+    which: impl Fn(&VersionRange, &[&[u8]]) -> Option<usize>,
 ) -> Answer<'a, usize> {
-    let (set, dialect) = (&range.set, range.meaning.dialect);
     for (at, string) in strings.iter().enumerate().filter(|_| !skip_invalid) {
-        version(string.bytes(), dialect, at)?;
+        version(string.bytes(), range.meaning().dialect, at)?;
     }
     let (mut found, mut index): (&[u8], usize) = (b"", strings.len());
     for (chunk, next) in strings.chunks(AT_ONCE).enumerate() {
         let mut compared: [&[u8]; AT_ONCE + 1] = [b""; AT_ONCE + 1];
         compared[0] = found;
         compared[1..].iter_mut().zip(next).for_each(|(to, version)| *to = version.bytes());
-        if let Some(at @ 1..) = which(set, &compared, dialect.grammar()) {
+        if let Some(at @ 1..) = which(range, &compared) {
             (found, index) = (compared[at], chunk * AT_ONCE + at - 1);
         }
     }
@@ -126,22 +117,25 @@ pub fn outermost<'a>(
 }
 
 /// What is asked of two ranges of the same options.
-pub fn compare<'a, T>(
-    range: &'a Range,
-    other: &'a Range,
-    ask: impl Fn(&VersionSet, &VersionSet) -> T,
-) -> Answer<'a, T> {
-    let is_same = range.meaning == other.meaning;
-    is_same.then(|| ask(&range.set, &other.set)).ok_or(Problem::Argument)
+pub fn compare<'a>(
+    range: &'a VersionRange,
+    other: &'a VersionRange,
+    ask: impl Fn(&VersionRange, &VersionRange) -> bool,
+) -> Answer<'a, bool> {
+    let is_same = range.meaning() == other.meaning();
+    is_same.then(|| ask(range, other)).ok_or(Problem::Argument)
 }
 
 pub fn combine<'a>(
-    range: &'a Range,
-    other: &'a Range,
-    combined: impl Fn(&VersionSet, &VersionSet) -> Result<VersionSet, AllocError>,
-) -> Answer<'a, *mut Range> {
-    let set = compare(range, other, combined)??;
-    Ok(moved(Range { set, meaning: range.meaning })?)
+    range: &'a VersionRange,
+    other: &'a VersionRange,
+    combined: impl Fn(&VersionRange, &VersionRange) -> Result<VersionRange, OperationError>,
+) -> Answer<'a, *mut VersionRange> {
+    match combined(range, other) {
+        Ok(made) => Ok(moved(made)?),
+        Err(OperationError::DifferentMeanings) => Err(Problem::Argument),
+        Err(OperationError::OutOfMemory) => Err(Problem::Memory),
+    }
 }
 
 /// semver_parser_comparators: ranges, their comparators, and each as it is printed.
@@ -157,7 +151,7 @@ pub fn comparators(bytes: &[u8], number: i32, exact: bool) -> Answer<'_, *mut Co
     let read = match dialect {
         Dialect::CrateCargo if !exact => RangeSet::try_parse(range, Compat::Cargo),
         Dialect::CrateNpm if !exact => RangeSet::try_parse(range, Compat::Npm),
-        _ => sets::comparators(dialect, range),
+        _ => proved::comparators(range, dialect),
     };
     let set = read.map_err(refused(range, dialect, 0))?;
     let (mut listed, mut printed) = (Vec::new(), Vec::new());

@@ -75,12 +75,12 @@ impl Problem<'_> {
 pub unsafe fn finish<T>(made: Result<T, Problem<'_>>, out: *mut T, error: *mut Error) -> Status {
     match made {
         Ok(made) => {
-            // SAFETY: as the caller owes.
+            // SAFETY: as the caller must see to.
             unsafe { out.write(made) };
             OK
         }
         Err(problem) if error.is_null() => problem.status(),
-        // SAFETY: as the caller owes.
+        // SAFETY: as the caller must see to.
         Err(problem) => unsafe { report(problem, error) },
     }
 }
@@ -91,7 +91,7 @@ unsafe fn report(problem: Problem<'_>, error: *mut Error) -> Status {
     let memory = Error { status: OUT_OF_MEMORY, ..Error::default() };
     let found = problem.error().unwrap_or(memory);
     let status = found.status;
-    // SAFETY: as the caller owes.
+    // SAFETY: as the caller must see to.
     unsafe { error.write(found) };
     status
 }

@@ -59,13 +59,13 @@ pub fn moved<T>(value: T) -> Result<*mut T, AllocError> {
 /// Drops a value of `moved`, and its block. SAFETY: it is one, or null, and isn't used later.
 pub unsafe fn free_value<T>(block: *mut T) {
     if !block.is_null() {
-        // SAFETY: it was made so, as the caller owes.
+        // SAFETY: it was made so, as the caller must see to.
         drop(unsafe { Vec::from_raw_parts(block, 1, 1) });
     }
 }
 
 /// Frees a string of `message::printed`. SAFETY: it is one, or null, and isn't used later.
 pub unsafe fn free_string(string: *mut c_char) {
-    // SAFETY: as the caller owes; it is a block of malloc.
+    // SAFETY: as the caller must see to; it is a block of malloc.
     unsafe { free(string.cast()) }
 }

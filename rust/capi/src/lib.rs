@@ -1,5 +1,5 @@
 //! The C API: the functions of include/semver_parser.h, which says what each does and what its
-//! caller must do. They decide nothing: each asks the proved crate.
+//! caller must do. They decide nothing: each calls the proved crate.
 #![no_std]
 #![deny(unsafe_op_in_unsafe_fn)]
 #![allow(clippy::missing_safety_doc)]
@@ -12,11 +12,11 @@ mod heap;
 mod message;
 mod types;
 
-use calls::{Comparators, Range};
+use calls::Comparators;
 use core::ffi::c_char;
 use errors::{finish, Error, Problem, Status, OK};
 use message::c_text;
-use proved::sets::VersionSet;
+use proved::VersionRange as Range;
 use types::{items, Comparator, Options, StringView, Version};
 
 /// Defines functions of the header: `name(arguments) -> output = call`, with `error` if it has one;
@@ -31,7 +31,7 @@ macro_rules! functions {
             $out: *mut $made, $($error: *mut Error)?
         ) -> Status {
             let (call, error) = ($call, [$($error,)? core::ptr::null_mut()][0]);
-            // SAFETY: the header asks for valid arguments, and for outputs that may be written.
+            // SAFETY: the header requires valid arguments, and for outputs that may be written.
             unsafe { finish(call($(given!($it $(&$of)? $($type)? $($count)?)),*), $out, error) }
         }
         functions! { $($rest)* }
@@ -42,7 +42,7 @@ macro_rules! functions {
         pub unsafe extern "C" fn $name($($it: $(*const $of)? $($type)?),*) -> $made {
             let call = $call;
             #[allow(unused_unsafe)]
-            // SAFETY: the header asks for valid arguments.
+            // SAFETY: the header requires valid arguments.
             unsafe { call($(given!($it $(&$of)? $($type)?)),*) }
         }
         functions! { $($rest)* }
@@ -50,7 +50,7 @@ macro_rules! functions {
     ($name:ident($it:ident: *mut $type:ident) = $call:expr; $($rest:tt)*) => {
         #[no_mangle]
         pub unsafe extern "C" fn $name($it: *mut $type) {
-            // SAFETY: the header asks for what was made, or null, that isn't used any more.
+            // SAFETY: the header requires what was made, or null, that isn't used any more.
             unsafe { $call($it) }
         }
         functions! { $($rest)* }
@@ -96,35 +96,34 @@ functions! {
         -> range: *mut Range, error = calls::parse_range;
     semver_parser_range_free(range: *mut Range) = heap::free_value;
     semver_parser_range_options(range: &Range) => Options
-        = |range: &Range| Options::of(range.meaning);
+        = |range: &Range| Options::of(range.meaning());
     semver_parser_range_contains(range: &Range, version: StringView)
-        -> contains: bool, error = |range: &Range, version| range.contains(version, 0);
+        -> contains: bool, error = |range, version| calls::contains(range, version, 0);
     semver_parser_range_highest_of(
         range: &Range, versions: &StringView[count], skip_invalid: bool)
         -> index: usize, error
-        = |range, versions, skip| calls::outermost(range, versions, skip, VersionSet::highest_of);
+        = |range, versions, skip| calls::outermost(range, versions, skip, Range::highest_of);
     semver_parser_range_lowest_of(
         range: &Range, versions: &StringView[count], skip_invalid: bool)
         -> index: usize, error
-        = |range, versions, skip| calls::outermost(range, versions, skip, VersionSet::lowest_of);
+        = |range, versions, skip| calls::outermost(range, versions, skip, Range::lowest_of);
     semver_parser_range_union(range: &Range, other: &Range)
-        -> made: *mut Range = |range, other| calls::combine(range, other, VersionSet::union);
+        -> made: *mut Range = |range, other| calls::combine(range, other, Range::union);
     semver_parser_range_intersection(range: &Range, other: &Range)
-        -> made: *mut Range = |range, other| calls::combine(range, other, VersionSet::intersection);
+        -> made: *mut Range = |range, other| calls::combine(range, other, Range::intersection);
     semver_parser_range_difference(range: &Range, other: &Range)
-        -> made: *mut Range = |range, other| calls::combine(range, other, VersionSet::difference);
+        -> made: *mut Range = |range, other| calls::combine(range, other, Range::difference);
     semver_parser_range_equal(range: &Range, other: &Range)
-        -> equal: bool = |range, other| calls::compare(range, other, VersionSet::eq);
+        -> equal: bool = |range, other| calls::compare(range, other, Range::eq);
     semver_parser_range_is_subset(range: &Range, other: &Range)
-        -> is_subset: bool = |range, other| calls::compare(range, other, VersionSet::is_within);
+        -> is_subset: bool = |range, other| calls::compare(range, other, Range::is_subset);
     semver_parser_range_is_disjoint(range: &Range, other: &Range)
-        -> is_disjoint: bool
-        = |range, other| calls::compare(range, other, |set, other| !set.overlaps(other));
-    semver_parser_range_is_empty(range: &Range) => bool = |range: &Range| range.set.is_empty();
+        -> is_disjoint: bool = |range, other| calls::compare(range, other, Range::is_disjoint);
+    semver_parser_range_is_empty(range: &Range) => bool = Range::is_empty;
     semver_parser_range_lowest_version(range: &Range)
-        -> version: *mut c_char = Range::lowest_version;
+        -> version: *mut c_char = calls::lowest_version;
     semver_parser_range_to_string(range: &Range, pre_releases: bool)
-        -> string: *mut c_char = Range::to_string;
+        -> string: *mut c_char = calls::range_to_string;
 
     semver_parser_comparators_of_range(range: StringView, dialect: i32, exact: bool)
         -> comparators: *mut Comparators, error = calls::comparators;
@@ -158,7 +157,7 @@ pub unsafe extern "C" fn semver_parser_range_contains_each(
     // SAFETY: as in `functions`; the outputs have `count` items, and `statuses` may be null.
     unsafe {
         for (at, version) in items(versions, count).iter().enumerate() {
-            let answer = (*range).contains(version.bytes(), at);
+            let answer = calls::contains(&*range, version.bytes(), at);
             let status = answer.as_ref().map_or_else(Problem::status, |_| OK);
             contains.add(at).write(answer.unwrap_or(false));
             if !statuses.is_null() {

@@ -83,6 +83,6 @@ pub struct Comparator {
 /// has, is another address where nothing is: reading items in spite of null ends the program.
 pub unsafe fn items<'a, T>(pointer: *const T, count: usize) -> &'a [T] {
     let pointer = NonNull::new(pointer.cast_mut()).unwrap_or(NonNull::dangling());
-    // SAFETY: as the caller owes.
+    // SAFETY: as the caller must see to.
     unsafe { slice::from_raw_parts(pointer.as_ptr(), count) }
 }

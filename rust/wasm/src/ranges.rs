@@ -1,6 +1,6 @@
 //! Ranges: read once, asked of versions, and what two have in common or alone.
 
-use crate::versions::{outline, refused};
+use crate::versions::refused;
 use crate::{bytes, state, status};
 use alloc::alloc::{alloc, Layout};
 use alloc::boxed::Box;
@@ -9,14 +9,8 @@ use alloc::vec::Vec;
 use core::fmt::{self, Write};
 use core::ptr::null_mut;
 use semver_parser::refusals::{self, Reason};
-use semver_parser::sets::{self, VersionSet};
+use semver_parser::VersionRange as Range;
 use semver_parser::{satisfies_bytes, Dialect, Meaning, PreReleases, RangeError, SatisfiesError};
-
-/// A range that was read.
-pub struct Range {
-    set: VersionSet,
-    dialect: Dialect,
-}
 
 fn meaning(dialect: i32, rule: i32) -> Option<Meaning> {
     let (dialect, pre_releases) = (Dialect::of_number(dialect)?, PreReleases::of_number(rule)?);
@@ -112,7 +106,7 @@ pub unsafe extern "C" fn range_comparators(
     let (Some(meaning), Some(range)) = (meaning(dialect, rule), unsafe { string(at, len) }) else {
         return status::INVALID_RANGE;
     };
-    match sets::comparators(meaning.dialect, range) {
+    match semver_parser::comparators(range, meaning.dialect) {
         Ok(set) => show(set),
         Err(RangeError::OutOfMemory) => status::OUT_OF_MEMORY,
         Err(_) => status::INVALID_RANGE,
@@ -120,11 +114,11 @@ pub unsafe extern "C" fn range_comparators(
 }
 
 /// A range on the heap, or null if memory ran out.
-fn kept(set: VersionSet, dialect: Dialect) -> *mut Range {
+fn kept(range: Range) -> *mut Range {
     // SAFETY: the block has the layout that `Box` gives back.
     let place = unsafe { alloc(Layout::new::<Range>()) }.cast::<Range>();
     if !place.is_null() {
-        unsafe { place.write(Range { set, dialect }) };
+        unsafe { place.write(range) };
     }
     place
 }
@@ -143,10 +137,7 @@ pub unsafe extern "C" fn range_read(
     let (Some(meaning), Some(range)) = (meaning(dialect, rule), unsafe { string(at, len) }) else {
         return null_mut();
     };
-    match sets::read(meaning, range) {
-        Ok(set) => kept(set, meaning.dialect),
-        Err(_) => null_mut(),
-    }
+    Range::read(range, meaning).map_or(null_mut(), kept)
 }
 
 /// Frees a range.
@@ -164,10 +155,7 @@ pub unsafe extern "C" fn range_free(range: *mut Range) {
 /// There are so many bytes at the address.
 #[no_mangle]
 pub unsafe extern "C" fn range_has(range: &Range, at: *const u8, len: usize) -> i32 {
-    match outline(unsafe { bytes(at, len) }, range.dialect.number()) {
-        Some(version) => range.set.has_outline(&version).into(),
-        None => status::INVALID_VERSION,
-    }
+    range.contains_bytes(unsafe { bytes(at, len) }).map_or(status::INVALID_VERSION, i32::from)
 }
 
 /// Returns the index of the highest of versions, or of the lowest, that is in a range, the first of
@@ -193,46 +181,39 @@ pub unsafe extern "C" fn range_best(
         versions.push(unsafe { bytes(at, *len as usize) });
         at = at.wrapping_add(*len as usize);
     }
-    let (set, grammar) = (&range.set, range.dialect.grammar());
-    let found = if lowest != 0 {
-        set.lowest_of(&versions, grammar)
-    } else {
-        set.highest_of(&versions, grammar)
-    };
+    let found =
+        if lowest != 0 { range.lowest_of(&versions) } else { range.highest_of(&versions) };
     found.unwrap_or(count)
 }
 
 /// Returns 1 if no version is in a range.
 #[no_mangle]
 pub extern "C" fn range_is_empty(range: &Range) -> i32 {
-    range.set.is_empty().into()
+    range.is_empty().into()
 }
 
 /// Returns 1 if each version of a range is in the other.
 #[no_mangle]
 pub extern "C" fn range_is_within(range: &Range, other: &Range) -> i32 {
-    range.set.is_within(&other.set).into()
+    range.is_subset(other).into()
 }
 
 /// Returns 1 if a version is in both ranges.
 #[no_mangle]
 pub extern "C" fn range_overlaps(range: &Range, other: &Range) -> i32 {
-    range.set.overlaps(&other.set).into()
+    (!range.is_disjoint(other)).into()
 }
 
-/// Returns what is in a range and not in the other; null if memory ran out.
+/// Returns what is in a range and not in the other; null if memory ran out, or their meanings differ.
 #[no_mangle]
 pub extern "C" fn range_difference(range: &Range, other: &Range) -> *mut Range {
-    match range.set.difference(&other.set) {
-        Ok(set) => kept(set, range.dialect),
-        Err(_) => null_mut(),
-    }
+    range.difference(other).map_or(null_mut(), kept)
 }
 
 /// Returns the lowest version in a range as a string, empty if there is none.
 #[no_mangle]
 pub extern "C" fn range_lowest(range: &Range) -> i32 {
-    match range.set.least() {
+    match range.versions().lowest() {
         Ok(Some(version)) => show(version),
         Ok(None) => show(""),
         Err(_) => status::OUT_OF_MEMORY,
@@ -242,11 +223,11 @@ pub extern "C" fn range_lowest(range: &Range) -> i32 {
 /// Returns the releases of a range as comparators.
 #[no_mangle]
 pub extern "C" fn range_releases(range: &Range) -> i32 {
-    range.set.release_ranges().map_or(status::OUT_OF_MEMORY, show)
+    range.versions().release_ranges().map_or(status::OUT_OF_MEMORY, show)
 }
 
 /// Returns the pre-releases of a range as comparators.
 #[no_mangle]
 pub extern "C" fn range_pre_releases(range: &Range) -> i32 {
-    range.set.pre_release_ranges().map_or(status::OUT_OF_MEMORY, show)
+    range.versions().pre_release_ranges().map_or(status::OUT_OF_MEMORY, show)
 }

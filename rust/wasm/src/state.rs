@@ -28,7 +28,7 @@ pub fn with<T>(call: impl FnOnce(&mut State) -> T) -> T {
 }
 
 impl State {
-    /// Has room for so many bytes of strings. Returns their address, or null if out of memory. What
+    /// Reserves so many bytes for strings. Returns their address, or null if out of memory. What
     /// was written before stays.
     pub fn reserve(&mut self, len: usize) -> *mut u8 {
         let now = self.strings.len();

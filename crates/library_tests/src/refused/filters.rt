@@ -1,10 +1,14 @@
-//! The filter.
+//! What is kept of versions and lines.
 
 use super::Ending;
-use release_filter::{Filter, Lines, PreReleases, Wanted, filter_text};
+use release_filter::{LineOptions, Lines, Selection, filter_text};
 use semver_parser::version::Version;
 use semver_parser::{Compat, RangeError, parser, version};
 use std::alloc::Global;
+use tool_ranges::dialect::Dialect;
+use tool_ranges::meaning::Meaning;
+use tool_ranges::version_range::VersionRange;
+use version_sets::PreReleases;
 
 /// `^0.2 || 2.x` on five versions, one of them a pre-release, keeps three. Making the list is part
 /// of the call.
@@ -34,99 +38,33 @@ fn is_wanted(version: &Version) -> bool {
     (version.major == 0 && version.minor == 2) || (version.major == 2 && version.minor == 5)
 }
 
-/// The filter of the calls below: `>=1.2.0-rc <1.10.0`, as stated.
-pub fn as_stated(alloc: Global) -> Result<Filter, Ending> {
-    match Filter::new(
-        alloc,
-        ">=1.2.0-rc <1.10.0",
-        Compat::Cargo,
-        PreReleases::Default,
-    ) {
-        Ok(filter) => Ok(filter),
-        Err(RangeError::OutOfMemory) => Err(Ending::Refused),
-        Err(_) => Err(Ending::Wrong),
-    }
-}
-
-/// It keeps one of two versions, and that is the greatest. Making the list is part of the call.
-pub fn kept_versions(alloc: Global, filter: &Filter) -> Ending {
-    let mut versions = Vec::new(alloc);
-    for text in ["1.5.0-1", "1.2.0-rc.b"] {
-        match version::parse(alloc, text) {
-            Ok(version) => {
-                if versions.push(version).is_err() {
-                    return Ending::Refused;
-                }
-            }
-            Err(parser::Error::OutOfMemory) => return Ending::Refused,
-            Err(_) => return Ending::Wrong,
-        }
-    }
-    let is_greatest = filter
-        .greatest(&versions)
-        .is_some_and(|version| version.minor == 2);
-    match filter.kept(alloc, &versions) {
-        Ok(kept) => Ending::full_if(kept.len() == 1 && is_greatest),
-        Err(_) => Ending::Refused,
-    }
-}
-
-/// It reads a text with a pre-release and a build.
-pub fn read_version(alloc: Global, filter: &Filter) -> Ending {
-    match filter.read(alloc, "1.2.0-rc.b+5.c") {
-        Ok(Some(version)) => Ending::full_if(version.pre.len() == 2 && version.build.len() == 2),
-        Ok(None) => Ending::Wrong,
-        Err(_) => Ending::Refused,
-    }
-}
-
-/// Texts that a filter of only releases doesn't read, and one that it does: without a request but
-/// for the filter's own.
-pub fn read_without_requests(alloc: Global) -> Ending {
-    let made = Filter::new(alloc, "^1.2", Compat::Cargo, PreReleases::Excluded);
-    let filter = match made {
-        Ok(filter) => filter,
-        Err(RangeError::OutOfMemory) => return Ending::Refused,
-        Err(_) => return Ending::Wrong,
-    };
-    for text in ["1.3.0-rc.a+b", "2.0.0", "1.2", "v1.2.3"] {
-        if !matches!(filter.read(alloc, text), Ok(None)) {
-            return Ending::Wrong;
-        }
-    }
-    match filter.read(alloc, "1.9.0") {
-        Ok(Some(version)) => Ending::full_if(version.minor == 9),
-        _ => Ending::Wrong,
-    }
-}
-
 /// Two of the lines are kept, and appended as they are.
 pub fn copied_lines(alloc: Global) -> Ending {
     let wanted = "1.2.0-rc.b\n1.9.0+build\n";
-    ends(alloc, Wanted::Each, LINES, wanted)
+    ends(alloc, Selection::Each, LINES, wanted)
 }
 
-/// The last of the lines is the greatest.
+/// The last of the lines is the highest.
 pub fn greatest_line(alloc: Global) -> Ending {
-    ends(alloc, Wanted::Greatest, LINES, "1.9.0+build\n")
+    ends(alloc, Selection::Highest, LINES, "1.9.0+build\n")
 }
 
-/// The first of the lines is the least.
+/// The first of the lines is the lowest.
 pub fn least_line(alloc: Global) -> Ending {
-    ends(alloc, Wanted::Least, LINES, "1.2.0-rc.b\n")
+    ends(alloc, Selection::Lowest, LINES, "1.2.0-rc.b\n")
 }
 
 /// The lines are sorted: the last has no end, and comes first.
 pub fn sorted_lines(alloc: Global) -> Ending {
     let sorted = "1.2.0-rc.b\n1.9.0+build\n";
-    ends(alloc, Wanted::Sorted, "1.9.0+build\n1.2.0-rc.b", sorted)
+    ends(alloc, Selection::Sorted, "1.9.0+build\n1.2.0-rc.b", sorted)
 }
 
-/// More than 20 lines, which are sorted without a buffer too. The least of them is the last.
+/// More than 20 lines, which are sorted without a buffer too. The lowest of them is the last.
 pub fn many_sorted_lines(alloc: Global) -> Ending {
     ends(
         alloc,
-        Wanted::Sorted,
+        Selection::Sorted,
         "1.3.0\n1.3.1\n1.3.2\n1.3.3\n1.3.4\n1.3.5\n1.3.6\n1.3.7\n1.3.8\n1.3.9\n1.4.0\n1.4.1\n\
         1.4.2\n1.4.3\n1.4.4\n1.4.5\n1.4.6\n1.4.7\n1.4.8\n1.4.9\n1.2.0\n",
         "1.2.0\n1.3.0\n1.3.1\n1.3.2\n1.3.3\n1.3.4\n1.3.5\n1.3.6\n1.3.7\n1.3.8\n1.3.9\n1.4.0\n\
@@ -136,27 +74,70 @@ pub fn many_sorted_lines(alloc: Global) -> Ending {
 
 /// A line without an end is held, and appended at the end of the text.
 pub fn line_without_an_end(alloc: Global) -> Ending {
-    ends(alloc, Wanted::Each, "1.2.0-rc.b", "1.2.0-rc.b")
+    ends(alloc, Selection::Each, "1.2.0-rc.b", "1.2.0-rc.b")
 }
 
-/// Lines that aren't kept are judged where they are, and take nothing; of lines without a version
-/// the front of the first is held.
+/// The last line of a file is held, and appended with an end when the file ends. After a refusal
+/// nothing was, and the call is repeated.
+pub fn line_of_a_file(alloc: Global) -> Ending {
+    let range = match below_two(alloc) {
+        Ok(range) => range,
+        Err(ending) => return ending,
+    };
+    let mut lines = Lines::new(alloc, range, Vec::new(alloc), LineOptions::new());
+    let mut kept = Vec::new(alloc);
+    if lines.push(alloc, b"1.2.0-rc.b", &mut kept).is_err() {
+        return Ending::refused_if(kept.is_empty());
+    }
+    let mut is_refused = false;
+    if lines.end_file(alloc, &mut kept).is_err() {
+        is_refused = true;
+        if !kept.is_empty() || lines.end_file(alloc, &mut kept).is_err() {
+            return Ending::Wrong;
+        }
+    }
+    if kept.as_slice() != "1.2.0-rc.b\n".as_bytes() {
+        return Ending::Wrong;
+    }
+    if is_refused {
+        Ending::Refused
+    } else {
+        Ending::Full
+    }
+}
+
+/// Lines that aren't kept don't allocate; of lines without a version the prefix of the first is
+/// held.
 pub fn lines_passed_over(alloc: Global) -> Ending {
-    ends(alloc, Wanted::Each, "2.1.0-a\n\nx\n1.2\n2.1.0\n", "")
+    ends(alloc, Selection::Each, "2.1.0-a\n\nx\n1.2\n2.1.0\n", "")
 }
 
 /// The lines that are filtered. Those of 2.0.0 and above are not kept.
 const LINES: &str = "1.2.0-rc.b\n2.1.0-rc.a\n2.0.0\n1.9.0+build\n";
 
+/// The range `<2` of the crate in Cargo mode, with its pre-releases.
+fn below_two(alloc: Global) -> Result<VersionRange, Ending> {
+    let meaning = Meaning {
+        dialect: Dialect::CrateCargo,
+        pre_releases: PreReleases::Included,
+    };
+    match VersionRange::parse(alloc, "<2", meaning) {
+        Ok(range) => Ok(range),
+        Err(RangeError::OutOfMemory) => Err(Ending::Refused),
+        Err(_) => Err(Ending::Wrong),
+    }
+}
+
 /// How the lines of a text end that `<2` filters, with its pre-releases, if this is what they
 /// append. After a refusal the call is repeated, with the bytes that are left: nothing is lost.
-fn ends(alloc: Global, wanted: Wanted, text: &str, appended: &str) -> Ending {
-    let filter = match Filter::new(alloc, "<2", Compat::Cargo, PreReleases::Included) {
-        Ok(filter) => filter,
-        Err(RangeError::OutOfMemory) => return Ending::Refused,
-        Err(_) => return Ending::Wrong,
+fn ends(alloc: Global, wanted: Selection, text: &str, appended: &str) -> Ending {
+    let range = match below_two(alloc) {
+        Ok(range) => range,
+        Err(ending) => return ending,
     };
-    let mut lines = Lines::new(alloc, filter, Vec::new(alloc), wanted, false);
+    let mut options = LineOptions::new();
+    options.selection = wanted;
+    let mut lines = Lines::new(alloc, range, Vec::new(alloc), options);
     let mut kept = Vec::new(alloc);
     let piece = text.as_bytes();
     let mut is_refused = false;
@@ -183,17 +164,6 @@ fn ends(alloc: Global, wanted: Wanted, text: &str, appended: &str) -> Ending {
         Ending::Refused
     } else {
         Ending::Full
-    }
-}
-
-/// No version passes, so none is put on a list: without a request.
-pub fn no_version_kept(alloc: Global, filter: &Filter) -> Ending {
-    let Ok(Some(version)) = version::read(alloc, "2.0.0") else {
-        return Ending::Wrong;
-    };
-    match filter.kept(alloc, &[version]) {
-        Ok(kept) => Ending::full_if(kept.is_empty()),
-        Err(_) => Ending::Wrong,
     }
 }
 

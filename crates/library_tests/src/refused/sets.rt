@@ -53,8 +53,8 @@ pub fn of_refused_texts(alloc: Global) -> Ending {
     )
 }
 
-/// The releases that meet the comparator `>=2.0.0`. Dialect it is part of the call. The least of
-/// them is told without a request.
+/// The releases that the comparator `>=2.0.0` contains. Reading it is part of the call. The lowest
+/// of them is found without a request.
 pub fn of_set(alloc: Global) -> Ending {
     let set = match RangeSet::parse(alloc, ">=2.0.0", Compat::Npm) {
         Ok(set) => set,
@@ -62,7 +62,7 @@ pub fn of_set(alloc: Global) -> Ending {
         Err(_) => return Ending::Wrong,
     };
     match VersionSet::of_set(alloc, &set, PreReleases::Excluded) {
-        Ok(set) => Ending::full_if(begins_at(&set, 2) && matches!(set.least(alloc), Ok(Some(_)))),
+        Ok(set) => Ending::full_if(begins_at(&set, 2) && matches!(set.lowest(alloc), Ok(Some(_)))),
         Err(_) => Ending::Refused,
     }
 }
@@ -88,8 +88,8 @@ pub fn of_refused_requirements(alloc: Global) -> Ending {
     )
 }
 
-/// The versions that two range texts mean to npm. To the first 1.2.0-c is stated, and 1.3.0-c
-/// isn't. By the second npm asks nothing, and it means every release.
+/// The versions that two range texts mean to npm. The first contains 1.2.0-c, and not 1.3.0-c. The
+/// second contains every release.
 pub fn of_npm_ranges(alloc: Global) -> Ending {
     let asked = match npm::read(alloc, ">=0 >=1.2.0-b <1.5 || 3.x") {
         Ok(set) => set,
@@ -148,21 +148,21 @@ pub fn of_refused_bounds(alloc: Global) -> Ending {
     )
 }
 
-/// The union has both sets, and 0.0.0 of the second is its least release.
+/// The union has both sets, and 0.0.0 of the second is its lowest release.
 pub fn union(alloc: Global, first: &VersionSet, second: &VersionSet) -> Ending {
     match first.union(alloc, second) {
         Ok(set) => Ending::full_if(
-            first.is_within(&set) && second.is_within(&set) && begins_at(&set, 0),
+            first.is_subset(&set) && second.is_subset(&set) && begins_at(&set, 0),
         ),
         Err(_) => Ending::Refused,
     }
 }
 
-/// The intersection is within both sets, and 1.2.0 is its least release.
+/// The intersection is within both sets, and 1.2.0 is its lowest release.
 pub fn intersection(alloc: Global, first: &VersionSet, second: &VersionSet) -> Ending {
     match first.intersection(alloc, second) {
         Ok(set) => Ending::full_if(
-            set.is_within(first) && set.is_within(second) && begins_at(&set, 1),
+            set.is_subset(first) && set.is_subset(second) && begins_at(&set, 1),
         ),
         Err(_) => Ending::Refused,
     }
@@ -172,16 +172,16 @@ pub fn intersection(alloc: Global, first: &VersionSet, second: &VersionSet) -> E
 pub fn difference(alloc: Global, first: &VersionSet, second: &VersionSet) -> Ending {
     match second.difference(alloc, first) {
         Ok(set) => Ending::full_if(
-            set.is_within(second) && !set.overlaps(first) && begins_at(&set, 0),
+            set.is_subset(second) && set.is_disjoint(first) && begins_at(&set, 0),
         ),
         Err(_) => Ending::Refused,
     }
 }
 
-/// The least version of the first set is 1.2.0-b.c.
-pub fn least(alloc: Global, first: &VersionSet) -> Ending {
-    match first.least(alloc) {
-        Ok(Some(least)) => Ending::full_if(least.minor == 2 && least.pre.len() == 2),
+/// The lowest version of the first set is 1.2.0-b.c.
+pub fn lowest(alloc: Global, first: &VersionSet) -> Ending {
+    match first.lowest(alloc) {
+        Ok(Some(lowest)) => Ending::full_if(lowest.minor == 2 && lowest.pre.len() == 2),
         Ok(None) => Ending::Wrong,
         Err(_) => Ending::Refused,
     }
@@ -218,19 +218,19 @@ pub fn pre_release_ranges(alloc: Global, first: &VersionSet) -> Ending {
     }
 }
 
-/// What is asked of sets without a request: also the least version where there is none, a
+/// What is asked of sets without a request: also the lowest version where there is none, a
 /// combination that has no version, a comparison of sets that have none, and their ranges.
 pub fn without_requests(alloc: Global, first: &VersionSet, second: &VersionSet) -> Ending {
     let empty = VersionSet::empty(alloc);
     let is_told = empty.is_empty()
         && !first.is_empty()
-        && !first.is_within(second)
-        && first.overlaps(second)
+        && !first.is_subset(second)
+        && !first.is_disjoint(second)
         && first != second
         && begins_at(first, 1);
-    let has_both = has(alloc, first, "1.9.0") && has(alloc, second, "1.9.0");
-    let has_one = has(alloc, first, "2.0.0") && !has(alloc, second, "2.0.0");
-    let is_least = matches!(empty.least(alloc), Ok(None));
+    let has_both = contains(alloc, first, "1.9.0") && contains(alloc, second, "1.9.0");
+    let has_one = contains(alloc, first, "2.0.0") && !contains(alloc, second, "2.0.0");
+    let is_lowest = matches!(empty.lowest(alloc), Ok(None));
     let nothing = match first.difference(alloc, first) {
         Ok(nothing) => nothing == empty,
         Err(_) => false,
@@ -242,7 +242,7 @@ pub fn without_requests(alloc: Global, first: &VersionSet, second: &VersionSet) 
     let is_shown = has_no_range(empty.release_ranges(alloc))
         && has_no_range(empty.pre_release_ranges(alloc));
     Ending::full_if(
-        is_told && has_both && has_one && is_least && nothing && is_compared && is_shown,
+        is_told && has_both && has_one && is_lowest && nothing && is_compared && is_shown,
     )
 }
 
@@ -263,20 +263,20 @@ fn has_no_range(ranges: Result<SetRanges, AllocError>) -> bool {
 }
 
 /// Whether a version without identifiers, which is read without a request, is in a set.
-fn has(alloc: Global, set: &VersionSet, text: &str) -> bool {
+fn contains(alloc: Global, set: &VersionSet, text: &str) -> bool {
     match version::read(alloc, text) {
-        Ok(Some(version)) => set.has(&version),
+        Ok(Some(version)) => set.contains(&version),
         _ => false,
     }
 }
 
 /// Whether a version, which is looked at without a request, is in a set.
 fn has_stated(set: &VersionSet, text: &str) -> bool {
-    version::outline(text).is_some_and(|outline| set.has_outline(&outline))
+    version::outline(text).is_some_and(|outline| set.contains_outline(&outline))
 }
 
-/// Whether the least release of a set has this major number.
+/// Whether the lowest release of a set has this major number.
 fn begins_at(set: &VersionSet, major: u64) -> bool {
-    set.least_release()
+    set.lowest_release()
         .is_some_and(|release| release.major == major)
 }

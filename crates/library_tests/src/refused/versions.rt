@@ -101,7 +101,7 @@ pub fn clone(alloc: Global) -> Ending {
     }
 }
 
-/// Where and why a text is not a version. What is one is explained without a request.
+/// Where and why a text is an invalid version. A valid one is explained without a request.
 pub fn version_error(alloc: Global) -> Ending {
     if !matches!(explain(alloc, b"1.2.3", Grammar::Cargo), Ok(None)) {
         return Ending::Wrong;

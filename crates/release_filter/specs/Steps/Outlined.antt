@@ -1,13 +1,15 @@
 -- What the outline of a text says, and what a filter says of it: a means of proof.
-use Rattle.std.specs.Prelude.{◌≡◌, false, IsTrue, Option, Some, None}
-use Rattle.semver_parser.specs.Outlines.{OutlineValue, IsOutlineIn, version_of}
-use Rattle.semver_parser.specs.Texts.{Text}
-use Rattle.semver_parser.specs.ToolVersions.{IsVersionTextIn}
-use Rattle.semver_parser.specs.Versions.{VersionValue}
-use Rattle.semver_parser.specs.declared.version.Grammar.{Grammar}
-use Rattle.release_filter.specs.Filters.{FilterValue, passes}
-use Rattle.release_filter.specs.declared.judging.Judged.{Judged}
-use Rattle.release_filter.specs.declared.judging.Judged.TheVariants.{NoVersion, DoesNotPass, Passes}
+use Rattle.std.specs.Prelude.{◌≡◌, ℕ, false, IsTrue, Option, Some, None, length}
+use Rattle.tool_ranges.specs.VersionRanges.{RangeValue}
+use Rattle.semver_versions.specs.Outlines.{OutlineValue, IsOutlineIn, version_of}
+use Rattle.semver_texts.specs.Texts.{Text}
+use Rattle.semver_texts.specs.ToolVersions.{IsVersionTextIn}
+use Rattle.semver_texts.specs.Versions.{VersionValue}
+use Rattle.semver_texts.specs.declared.grammar.Grammar.{Grammar}
+use Rattle.release_filter.specs.Matching.{matches}
+use Rattle.release_filter.specs.declared.verdict.Judged.{Judged}
+use Rattle.release_filter.specs.declared.verdict.Judged.TheVariants.{NoVersion, DoesNotMatch}
+use Rattle.release_filter.specs.declared.verdict.Judged.TheVariants.{Matches}
 
 -- this is the outline of a version that the text spells in a dialect; or there is none, as it
 -- spells none
@@ -15,9 +17,18 @@ abbrev pub IsOutlined : Grammar → Text → Option OutlineValue → Type 0
 IsOutlined grammar text None = ¬ (IsVersionTextIn grammar text)
 IsOutlined grammar text (Some outline) = IsOutlineIn grammar text outline
 
--- what a filter says of a line that has such versions
-abbrev pub JudgesBy : (VersionValue → Type 0) → FilterValue → Judged → Type 0
+-- what a filter says of a text that has such versions
+abbrev pub JudgesBy : (VersionValue → Type 0) → RangeValue → Judged → Type 0
 JudgesBy Has filter NoVersion = (w : VersionValue) → ¬ (Has w)
-JudgesBy Has filter DoesNotPass = (v : VersionValue) × Has v × (passes filter v ≡ false)
-JudgesBy Has filter (Passes outline) =
-    (v : VersionValue) × Has v × IsTrue (passes filter v) × (v ≡ version_of outline)
+JudgesBy Has filter DoesNotMatch = (v : VersionValue) × Has v × (matches filter v ≡ false)
+JudgesBy Has filter (Matches outline) =
+    (v : VersionValue) × Has v × IsTrue (matches filter v) × (v ≡ version_of outline)
+
+-- what a filter says of a text that has such versions after prefixes, and the length of the prefix
+abbrev pub JudgesAfter : (Text → VersionValue → Type 0) → RangeValue → ℕ → Judged → Type 0
+JudgesAfter Has filter count NoVersion =
+    ((prefix : Text) (w : VersionValue) → ¬ (Has prefix w)) × (count ≡ 0)
+JudgesAfter Has filter count DoesNotMatch = (prefix : Text) × (v : VersionValue) × Has prefix v
+    × (matches filter v ≡ false)
+JudgesAfter Has filter count (Matches outline) = (prefix : Text) × (v : VersionValue) × Has prefix v
+    × IsTrue (matches filter v) × (v ≡ version_of outline) × (count ≡ length prefix)

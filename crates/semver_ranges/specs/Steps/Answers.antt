@@ -14,7 +14,7 @@ use Rattle.semver_texts.specs.Texts.{Text}
 use Rattle.semver_texts.specs.Versions.{IdentifierValue}
 use Rattle.semver_ranges.specs.RewritingTable.{PlainComparator, PlainSet, fits_by, simple_fits}
 use Rattle.semver_ranges.specs.RewritingTable.{written_set}
-use Rattle.semver_ranges.specs.Steps.BoundsViews.{ranges_by}
+use Rattle.semver_ranges.specs.Steps.DesugaredViews.{ranges_by}
 use Rattle.semver_ranges.specs.Steps.RangeEvents.{Event, event_fits}
 use Rattle.semver_ranges.specs.Steps.Reading.{read}
 use Rattle.semver_ranges.specs.RangeViews.{set_of}

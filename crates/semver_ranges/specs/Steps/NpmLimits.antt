@@ -1,10 +1,10 @@
 -- A means of proof, which no public clause cites: what private contracts see of a long word.
-use Rattle.std.specs.Prelude.{◌≡◌, ℕ, ◌+◌, ◌++◌, Bool, ◌&&◌, if◌then◌else◌, length}
+use Rattle.std.specs.Prelude.{◌≡◌, ◌++◌, Bool, ◌&&◌}
 use Rattle.std.specs.List.{list_all}
-use Rattle.semver_ranges.specs.declared.limits.Kind.{Kind}
-use Rattle.semver_ranges.specs.declared.limits.Kind.TheVariants.{Number, PreRelease, Build}
+use Rattle.semver_ranges.specs.declared.npm_lengths.Kind.{Kind}
+use Rattle.semver_ranges.specs.declared.npm_lengths.Kind.TheVariants.{Number, PreRelease, Build}
 use Rattle.semver_texts.specs.declared.grammar.Grammar.{Grammar}
-use Rattle.semver_texts.specs.Texts.{Text, cut_at_dots, is_empty}
+use Rattle.semver_texts.specs.Texts.{Text, cut_at_dots}
 use Rattle.semver_ranges.specs.RangeTree.{PartialTree, SpellsPartial}
 use Rattle.semver_ranges.specs.Steps.Reading.{after_v}
 use Rattle.semver_ranges.specs.NpmLengths.{is_short_number, is_short_pre, is_short_build}
@@ -20,10 +20,6 @@ abbrev pub are_short_parts : Text → Text → Text → Bool
 are_short_parts numbers pre build = list_all (is_short_as Number) (cut_at_dots numbers)
     && (list_all (is_short_as PreRelease) (cut_at_dots pre)
     && list_all (is_short_as Build) (cut_at_dots build))
-
--- how many bytes parts take with their mark
-abbrev pub marked_length : Text → ℕ
-marked_length t = if is_empty t then 0 else length t + 1
 
 -- a word that ends before a rest, by its partial
 pub record IsBefore (d : Grammar) (p : PartialTree) (text rest : Text) : Type 0 where

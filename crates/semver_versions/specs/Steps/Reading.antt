@@ -3,14 +3,15 @@
 -- that.
 use Prim.Native.Char.{code}
 use Rattle.std.specs.Prelude.{◌≡◌, ◌≢◌, ◌⊎◌, ◌≤◌, ◌<◌, ◌+◌, ◌^◌, ℕ, Bool, false, List, [], ◌∷◌}
-use Rattle.std.specs.Prelude.{◌++◌, length, map, take, slice_index, if◌then◌else◌, IsTrue, codes}
+use Rattle.std.specs.Prelude.{◌++◌, length, map, slice_index, IsTrue, codes}
 use Rattle.std.specs.Prelude.{decimal, Option, Some, None}
 use Rattle.std.specs.List.{AllByRecursion, AllZip, concat, join_with_byte, list_all}
 use Rattle.semver_texts.specs.Texts.{Text, cut_at_dots, has_no_leading_zero, is_part, is_space}
 use Rattle.semver_texts.specs.Texts.{marked}
 use Rattle.semver_texts.specs.Digits.{digits_in, identifier_by}
 use Rattle.semver_texts.specs.ToolVersions.{IsVersionTextIn, before_numbers}
-use Rattle.semver_texts.specs.ToolVersions.{is_white_space}
+use Rattle.semver_texts.specs.NpmLimits.{max_length}
+use Rattle.semver_texts.specs.WhiteSpace.{is_white_space, size_at_front}
 use Rattle.semver_texts.specs.VersionGrammar.{IsIdentifierText}
 use Rattle.semver_texts.specs.Versions.{IdentifierValue, VersionValue, numbers}
 use Rattle.semver_texts.specs.declared.grammar.Grammar.{Grammar}
@@ -47,7 +48,7 @@ NumbersFit Npm major minor patch = (major < 2 ^ 53) × (minor < 2 ^ 53) × (patc
 abbrev pub IsShort : Grammar → ℕ → Type 0
 IsShort Crate count = Unit {0}
 IsShort Cargo count = Unit {0}
-IsShort Npm count = count ≤ 256
+IsShort Npm count = count ≤ max_length
 
 -- which hyphens an identifier may have
 abbrev pub hyphens_of : Grammar → Hyphens
@@ -71,9 +72,7 @@ pub record AreAround (grammar : Grammar) (text : Text) : Type 0 where
 
 -- how many bytes the character at the front has, if it may be there; else 0
 abbrev pub around_size : Grammar → Text → ℕ
-around_size grammar text = if is_around grammar (take 1 text) then 1
-    else (if is_around grammar (take 2 text) then 2
-    else if is_around grammar (take 3 text) then 3 else 0)
+around_size grammar text = size_at_front (is_around grammar) text
 
 -- the rest follows all that is taken before the numbers
 abbrev pub IsBefore : Grammar → Text → Text → Type 0

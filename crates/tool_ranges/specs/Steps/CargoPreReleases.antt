@@ -14,9 +14,10 @@ use Rattle.semver_ranges.specs.Partials.{leading_place}
 use Rattle.semver_ranges.specs.RewritingTable.{PlainComparator, PlainRange, PlainSet, comparator}
 use Rattle.semver_ranges.specs.RewritingTable.{cell, up_with, with_pre_release, written_cell}
 use Rattle.semver_ranges.specs.ExactBounds.{exact_bound, lowest_pre_release}
-use Rattle.tool_ranges.specs.declared.cargo.judging.JudgedVersions.{JudgedVersions}
-use Rattle.tool_ranges.specs.declared.cargo.judging.JudgedVersions.TheVariants.{Releases}
-use Rattle.tool_ranges.specs.declared.cargo.judging.JudgedVersions.TheVariants.{PreReleases, All}
+use Rattle.tool_ranges.specs.declared.cargo.checking.JudgedVersions.{JudgedVersions}
+use Rattle.tool_ranges.specs.declared.cargo.checking.JudgedVersions.TheVariants.{Releases}
+use Rattle.tool_ranges.specs.declared.cargo.checking.JudgedVersions.TheVariants.{PreReleases}
+use Rattle.tool_ranges.specs.declared.cargo.checking.JudgedVersions.TheVariants.{All}
 use Rattle.tool_ranges.specs.CargoMeaning.{as_read}
 use Rattle.tool_ranges.specs.ToolTable.{written_in}
 use Rattle.tool_ranges.specs.Steps.LowerBounds.{written_for}

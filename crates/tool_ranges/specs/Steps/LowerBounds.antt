@@ -13,7 +13,7 @@ use Rattle.semver_ranges.specs.RangeTree.{Form, tilde, caret, Simple, RangeTree,
 use Rattle.semver_ranges.specs.Partials.{stated, zero_filled}
 use Rattle.semver_ranges.specs.ExactBounds.{exact_bound}
 use Rattle.semver_ranges.specs.RewritingTable.{PlainComparator, PlainRange, PlainSet, comparator}
-use Rattle.semver_ranges.specs.Steps.BoundsViews.{range_of_simples}
+use Rattle.semver_ranges.specs.Steps.DesugaredViews.{range_of_simples}
 use Rattle.semver_ranges.specs.Steps.RangeEvents.{yielded}
 use Rattle.tool_ranges.specs.ToolTable.{written_in}
 use Rattle.version_sets.specs.SetRanges.{is_at_least}

@@ -9,7 +9,7 @@ use Rattle.semver_ranges.specs.StatedPreReleases.{meets_set_as_stated}
 use Rattle.version_sets.specs.SetRanges.{is_at_least}
 use Rattle.tool_ranges.specs.NpmMeaning.{is_zero}
 
--- whether a comparator is `>=0.0.0`, by which npm asks nothing
+-- whether a comparator is `>=0.0.0`, by which npm matches everything
 abbrev pub is_from_zero : PlainComparator → Bool
 is_from_zero c = is_at_least c.op && is_zero c.version
 

@@ -9,7 +9,7 @@ ghost use Rattle.tool_ranges.specs.declared.dialect.Dialect.TheVariants as diale
 
 use super::MOST_COMPARATORS;
 use super::grammar::read_comparator;
-use crate::rows;
+use crate::desugaring;
 use semver_ranges::Compat;
 
 /// How many comparators of a requirement that state a number, from the left, fit.
@@ -24,7 +24,7 @@ pub(crate) fn fitting(text: &[u8]) -> u128
             return fitting;
         };
         if !simple.partial.states_nothing() {
-            if !rows::cell_of(&simple, Compat::Cargo).fits(&simple.partial) {
+            if !desugaring::desugared_by_tool(&simple, Compat::Cargo).fits(&simple.partial) {
                 return fitting;
             }
             fitting += 1;

@@ -1,4 +1,4 @@
-//! The comparators that judge pre-releases as a requirement does, and the ranges of those that
+//! The comparators that check pre-releases as a requirement does, and the ranges of those that
 //! count.
 
 ghost use Rattle.std.specs.Prelude.{◌≡◌, ◌++◌, ◌∷◌, [], true, map, Some, IfOk};
@@ -10,19 +10,19 @@ ghost use Rattle.semver_ranges.specs.RangeViews.{comparator_of, range_of};
 ghost use Rattle.semver_ranges.specs.Steps.PartialViews.{stated_of, version_of};
 ghost use Rattle.semver_ranges.specs.Steps.PartialViews.{IsPartialOf, PartsPass};
 ghost use Rattle.semver_ranges.specs.Steps.CursorViews.{form_of, IsSimpleOf};
-ghost use Rattle.tool_ranges.specs.declared.cargo.judging.JudgedVersions.TheVariants.{PreReleases};
+ghost use Rattle.tool_ranges.specs.declared.cargo.checking.JudgedVersions.TheVariants.{PreReleases};
 ghost use Rattle.tool_ranges.specs.ToolTable.{fits_in, states_some};
 ghost use Rattle.tool_ranges.specs.Steps.CargoPreReleases.{below_all, counting_beside};
 ghost use Rattle.tool_ranges.specs.Steps.CargoPreReleases.{judging_read, last};
 ghost use Rattle.tool_ranges.specs.Steps.CargoPreReleases.{pre_releases_of, some_judged};
 
-use crate::rows;
+use crate::desugaring;
 use semver_ranges::grammar::{Form, Simple};
 use semver_ranges::partial::{LowerBounds, Partial, PartialKind, RaisedBounds};
 use semver_ranges::{Comparator, Compat, Identifier, Op, Range};
 use std::alloc::{AllocError, Global};
 
-/// Adds the comparators that judge pre-releases.
+/// Adds the comparators that check pre-releases.
 pub(crate) fn push(
     alloc: Global,
     simple: &Simple<'_>,
@@ -40,7 +40,7 @@ pub(crate) fn push(
         }
         PartialKind::MajorOnly | PartialKind::MajorMinor => push_some(alloc, simple, comparators),
         PartialKind::MajorMinorPatch => {
-            rows::push(
+            desugaring::push(
                 alloc,
                 simple,
                 Compat::Cargo,
@@ -87,7 +87,7 @@ fn push_some(
     Ok(())
 }
 
-/// The comparator that no version meets: `<0.0.0-0`.
+/// The comparator that no version satisfies: `<0.0.0-0`.
 fn below_all(alloc: Global) -> Result<Comparator, AllocError>
     ensures { IfOk result (λ c. comparator_of c ∷ [] ≡ below_all) }
 {
@@ -120,7 +120,7 @@ fn above_last(alloc: Global, partial: &Partial<'_>) -> Comparator
 }
 
 /// Adds the range of the pre-releases that count beside a partial, if it has a pre-release, and if
-/// such ranges are asked for.
+/// such ranges are wanted.
 #[inline(always)]
 pub(crate) fn push_counting(
     alloc: Global,

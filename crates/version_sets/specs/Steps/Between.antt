@@ -1,9 +1,9 @@
--- A means of proof, which no public clause cites: which releases two switches, or one, leave in.
+-- A means of proof, which no public clause cites: which releases two boundaries, or one, leave in.
 use Rattle.std.specs.Prelude.{Bool, true, ◌&&◌, not, Option, Some, None, []}
 use Rattle.std.specs.Ordering.{is_lt}
-use Rattle.semver_parser.specs.Texts.{is_empty}
-use Rattle.semver_parser.specs.Versions.{PlainVersion}
-use Rattle.semver_parser.specs.Precedence.{precedence}
+use Rattle.semver_texts.specs.Texts.{is_empty}
+use Rattle.semver_texts.specs.Versions.{PlainVersion}
+use Rattle.semver_texts.specs.Precedence.{precedence}
 use Rattle.version_sets.specs.declared.release.Release.{Release}
 use Rattle.version_sets.specs.Releases.{release_value}
 

@@ -2,7 +2,7 @@
 use Rattle.std.specs.Prelude.{Bool, false, ◌∷◌, [], Option, Some, None}
 use Rattle.std.specs.Ordering.{is_ge, nat_cmp, on, then_cmp}
 use Rattle.std.specs.declared.cmp.Ordering.{Ordering}
-use Rattle.semver_parser.specs.Versions.{PlainVersion, numeric}
+use Rattle.semver_texts.specs.Versions.{PlainVersion, numeric}
 use Rattle.version_sets.specs.declared.release.Release.{Release}
 use Rattle.version_sets.specs.Releases.{release_value}
 

@@ -1,14 +1,14 @@
--- What combining two lists of switches gives: a means of proof.
+-- What combining two lists of boundaries gives: a means of proof.
 use Rattle.std.specs.Prelude.{◌≡◌, Bool, true, false, not, ◌&&◌, ◌||◌, List}
 use Rattle.std.specs.List.{list_any}
-use Rattle.semver_parser.specs.Versions.{PlainVersion}
-use Rattle.semver_parser.specs.Precedence.{precedence}
-use Rattle.version_sets.specs.declared.combination.Combination.{Combination}
-use Rattle.version_sets.specs.declared.combination.Combination.TheVariants.{Union}
-use Rattle.version_sets.specs.declared.combination.Combination.TheVariants.{Intersection}
-use Rattle.version_sets.specs.declared.combination.Combination.TheVariants.{Difference}
-use Rattle.version_sets.specs.VersionSets.{SetValue, has, Fits}
-use Rattle.version_sets.specs.Steps.Walks.{PieceValue, walk, changes}
+use Rattle.semver_texts.specs.Versions.{PlainVersion}
+use Rattle.semver_texts.specs.Precedence.{precedence}
+use Rattle.version_sets.specs.declared.set_operations.Combination.{Combination}
+use Rattle.version_sets.specs.declared.set_operations.Combination.TheVariants.{Union}
+use Rattle.version_sets.specs.declared.set_operations.Combination.TheVariants.{Intersection}
+use Rattle.version_sets.specs.declared.set_operations.Combination.TheVariants.{Difference}
+use Rattle.version_sets.specs.VersionSets.{SetValue, contains, Fits}
+use Rattle.version_sets.specs.Steps.Sweeps.{PieceValue, sweep, changes}
 
 -- whether what is in the first or in the second is in the combination
 abbrev pub keeps : Combination → Bool → Bool → Bool
@@ -17,7 +17,7 @@ keeps Intersection x y = x && y
 keeps Difference x y = x && not y
 
 abbrev pub pieces : List PlainVersion → List PlainVersion → List (PieceValue PlainVersion)
-pieces xs ys = walk precedence xs false false ys
+pieces xs ys = sweep precedence xs false false ys
 
 abbrev pub keeps_some : Combination → List (PieceValue PlainVersion) → Bool
 keeps_some how ps = list_any (λ p. keeps how p.in_first p.in_second) ps
@@ -34,7 +34,7 @@ combined_sets how a b = record {
 
 -- a version is in the combination of two sets
 abbrev pub IsKept : Combination → SetValue → SetValue → PlainVersion → Type 0
-IsKept how a b v = Fits v × (keeps how (has a v) (has b v) ≡ true)
+IsKept how a b v = Fits v × (keeps how (contains a v) (contains b v) ≡ true)
 
 -- some version is in the combination of two sets
 abbrev pub KeepsSome : Combination → SetValue → SetValue → Type 0

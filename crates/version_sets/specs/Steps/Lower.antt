@@ -1,8 +1,8 @@
 -- The lower one of two versions by precedence, where there are both: a means of proof.
 use Rattle.std.specs.Prelude.{Bool, false, if◌then◌else◌, Option, Some, None}
 use Rattle.std.specs.Ordering.{is_lt}
-use Rattle.semver_parser.specs.Versions.{PlainVersion}
-use Rattle.semver_parser.specs.Precedence.{precedence}
+use Rattle.semver_texts.specs.Versions.{PlainVersion}
+use Rattle.semver_texts.specs.Precedence.{precedence}
 
 abbrev pub is_below : Option PlainVersion → PlainVersion → Bool
 is_below None w = false

@@ -1,13 +1,13 @@
 -- Whether a version meets one range of comparators, by a rule for pre-releases, and whether a
 -- comparator lets one count: a means of proof.
 use Rattle.std.specs.Prelude.{Bool, true, false, not, ◌&&◌}
-use Rattle.semver_parser.specs.declared.Op.{Op}
-use Rattle.semver_parser.specs.declared.Op.TheVariants.{Lt}
-use Rattle.semver_parser.specs.Texts.{is_empty}
-use Rattle.semver_parser.specs.Versions.{PlainVersion}
-use Rattle.semver_parser.specs.RewritingTable.{PlainComparator, PlainRange}
-use Rattle.semver_parser.specs.Meeting.{has_pre_release, meets_range}
-use Rattle.semver_parser.specs.StatedPreReleases.{meets_range_as_stated}
+use Rattle.semver_ranges.specs.declared.range.Op.{Op}
+use Rattle.semver_ranges.specs.declared.range.Op.TheVariants.{Lt}
+use Rattle.semver_texts.specs.Texts.{is_empty}
+use Rattle.semver_texts.specs.Versions.{PlainVersion}
+use Rattle.semver_ranges.specs.RewritingTable.{PlainComparator, PlainRange}
+use Rattle.semver_ranges.specs.Meeting.{has_pre_release, meets_range}
+use Rattle.semver_ranges.specs.StatedPreReleases.{meets_range_as_stated}
 use Rattle.version_sets.specs.SetRanges.{is_lowest_pre}
 use Rattle.version_sets.specs.declared.rules.PreReleases.{PreReleases}
 use Rattle.version_sets.specs.declared.rules.PreReleases.TheVariants.{Excluded, Default, Included}

@@ -1,12 +1,12 @@
 -- Spans of one kind of versions, each from a bound on and below another, if there is one, and the
--- switches of what is in some of them: a means of proof.
+-- boundaries of what is in some of them: a means of proof.
 use Rattle.std.specs.Prelude.{◌≡◌, Bool, false, ◌&&◌, not, if◌then◌else◌, ⊤}
 use Rattle.std.specs.Prelude.{Option, Some, None, option_to_list, List, [], ◌∷◌, ◌++◌}
 use Rattle.std.specs.List.{list_any}
 use Rattle.std.specs.Ordering.{is_ge, is_lt}
 use Rattle.std.specs.declared.cmp.Ordering.{Ordering}
-use Rattle.semver_parser.specs.declared.Op.{Op}
-use Rattle.semver_parser.specs.declared.Op.TheVariants.{Lt, Lte, Gt, Gte, Eq}
+use Rattle.semver_ranges.specs.declared.range.Op.{Op}
+use Rattle.semver_ranges.specs.declared.range.Op.TheVariants.{Lt, Lte, Gt, Gte, Eq}
 
 pub record SpanValue (T : Type 0) : Type 0 where
   pub from : T
@@ -61,18 +61,18 @@ module _ {T : Type 0} (cmp : T → T → Ordering) where
   is_below None v = false
   is_below (Some b) v = is_lt (cmp b v)
 
-  abbrev pub span_switches : SpanValue T → List T
-  span_switches s = s.from ∷ option_to_list s.to
+  abbrev pub span_boundaries : SpanValue T → List T
+  span_boundaries s = s.from ∷ option_to_list s.to
 
   -- two that meet as one
   abbrev pub met : SpanValue T → SpanValue T → SpanValue T
   met s x = record { from = s.from; to = later s.to x.to }
 
-  -- the switches of a span and of ascending ones after it
+  -- the boundaries of a span and of ascending ones after it
   abbrev pub joined : SpanValue T → List (SpanValue T) → List T
-  joined s [] = span_switches s
+  joined s [] = span_boundaries s
   joined s (x ∷ xs) =
-      if is_below s.to x.from then span_switches s ++ joined x xs else joined (met s x) xs
+      if is_below s.to x.from then span_boundaries s ++ joined x xs else joined (met s x) xs
 
   abbrev pub all_joined : List (SpanValue T) → List T
   all_joined [] = []

@@ -21,6 +21,8 @@ pub enum ArgumentError {
     GivenTwice(&'static str),
     /// The first option says otherwise than the second, which was given before.
     Contradiction(&'static str, &'static str),
+    /// Nothing, or something unknown, follows `--only`.
+    NoKind,
     /// Nothing, or something unknown, follows `--fail-on`.
     NoChange,
     /// `--fail-on` is given with one range.
@@ -43,6 +45,7 @@ impl crate::rattle_std::fmt::Display for ArgumentError {
             ArgumentError::NoPrefix => write!(f, "--prefix needs a text"),
             ArgumentError::GivenTwice(_0) => write!(f, "{_0} is given twice"),
             ArgumentError::Contradiction(_0, _1) => write!(f, "{_0} contradicts {_1}"),
+            ArgumentError::NoKind => write!(f, "--only needs releases or pre-releases"),
             ArgumentError::NoChange => write!(f, "--fail-on needs lost, gained or any"),
             ArgumentError::NoComparison => write!(f, "--fail-on needs two ranges"),
             ArgumentError::NoOrder => write!(f, "--reverse needs --sort"),

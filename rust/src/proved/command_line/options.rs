@@ -34,8 +34,9 @@ impl MeaningOptions {
     /// # Errors
     ///
     /// `UnknownDialect` of a name that no dialect has, and `Unreadable` in its place only.
-    /// `GivenTwice` and `Contradiction` if an earlier option says the same or otherwise; they name
-    /// the long forms. After an error the options are those before it, and no name is wanted.
+    /// `Contradiction` if an earlier option says otherwise, and `GivenTwice` if it says the same of
+    /// pre-releases; they name the long forms. After an error the options are those before it, and
+    /// no name is wanted.
     pub fn take(&mut self, argument: &str) -> Result<bool, ArgumentError> {
         if self.wants_name {
             self.wants_name = false;
@@ -93,11 +94,11 @@ impl MeaningOptions {
         }
     }
 
-    /// Takes the dialect that an option asks for.
+    /// Takes the dialect that an option names; an earlier one may have asked for it, too.
     fn ask(&mut self, dialect: Dialect, option: &'static str) -> Result<(), ArgumentError> {
         let earlier = self.dialect;
         match earlier {
-            Some((earlier, _)) if earlier == dialect => Err(ArgumentError::GivenTwice(option)),
+            Some((earlier, _)) if earlier == dialect => Ok(()),
             Some((_, earlier)) => Err(ArgumentError::Contradiction(option, earlier)),
             None => {
                 self.dialect = Some((dialect, option));
@@ -106,7 +107,7 @@ impl MeaningOptions {
         }
     }
 
-    /// Takes the rule for pre-releases that an option asks for.
+    /// Takes the rule for pre-releases that an option names.
     fn count(&mut self, rule: PreReleases) -> Result<(), ArgumentError> {
         let option = option_of(rule);
         let earlier = self.rule;
@@ -121,7 +122,7 @@ impl MeaningOptions {
     }
 }
 
-/// The option that asks for a rule for pre-releases.
+/// The option that names a rule for pre-releases.
 fn option_of(rule: PreReleases) -> &'static str {
     match rule {
         PreReleases::Excluded => "--releases-only",

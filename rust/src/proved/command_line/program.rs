@@ -62,4 +62,21 @@ impl Program {
         };
         ExitCode::from(2)
     }
+
+    /// Writes the errors of a range text that several tools refuse, and returns status 2: for each
+    /// its name, its dialect and its error.
+    pub fn refuse_range_of_each(
+        self,
+        rt: &HostRuntime,
+        tools: &[(&str, Dialect, &RangeError)],
+        range: &str,
+    ) -> ExitCode {
+        for (tool, dialect, error) in tools {
+            let _ = match refused_text(*dialect, error, range) {
+                Ok(text) => crate::rattle_std::fallible_eprintln!(rt; "{}: {tool}: {text}", self.name),
+                Err(_) => crate::rattle_std::fallible_eprintln!(rt; "{}: {tool}: {error}: {range:?}", self.name),
+            };
+        }
+        ExitCode::from(2)
+    }
 }

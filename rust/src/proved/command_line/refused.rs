@@ -3,7 +3,7 @@
 //! caret under it, and the reason.
 
 use crate::rattle_std::prelude::*;
-use crate::proved::command_line::shown::Shown;
+use crate::proved::command_line::excerpt::Excerpt;
 use crate::proved::semver_parser::RangeError;
 use crate::rattle_std::AllocError;
 use crate::proved::tool_ranges::dialect::Dialect;
@@ -19,7 +19,7 @@ use crate::proved::tool_ranges::refusals::{Refusal, refused};
 ///     1.2 || 3
 ///         ^ at byte 4: Cargo takes no ||; npm does
 /// ```
-pub fn refused_text(
+pub(crate) fn refused_text(
     dialect: Dialect,
     error: &RangeError,
     text: &str,
@@ -27,7 +27,7 @@ pub fn refused_text(
     let mut written = String::new();
     match refused(dialect, text)? {
         Some(refusal) => write_refusal(&mut written, &refusal, text)?,
-        None => write!(written, "{error}: {}", Shown::round(text, 0))?,
+        None => write!(written, "{}: {}", words_of(error), Excerpt::round(text, 0))?,
     }
     Ok(written)
 }
@@ -39,33 +39,56 @@ pub fn refused_line(
     error: &RangeError,
     text: &str,
 ) -> Result<String, AllocError> {
-    let mut written = String::new();
-    match refused(dialect, text)? {
+    let found = refused(dialect, text)?;
+    line_of(error, &found, text.len())
+}
+
+/// The line of what is refused of a text of so many bytes.
+fn line_of(
+    error: &RangeError,
+    found: &Option<Refusal>,
+    len: usize,
+) -> Result<String, AllocError> {
+    match found {
         Some(refusal) => {
-            write!(written, "{} (", refusal.error)?;
-            write_why(&mut written, &refusal, text)?;
-            written.fallible_push(')')?;
+            let mut line = words_of(&refusal.error).fallible_to_string()?;
+            line.fallible_push_str(" (")?;
+            write_why(&mut line, refusal, len)?;
+            line.fallible_push_str(")")?;
+            Ok(line)
         }
-        None => write!(written, "{error}")?,
+        None => words_of(error).fallible_to_string(),
     }
-    Ok(written)
+}
+
+/// What is wrong, in words.
+fn words_of(error: &RangeError) -> &'static str {
+    match error {
+        RangeError::NotARange => "not a range",
+        RangeError::NumberTooLarge => "number too large",
+        RangeError::OutOfMemory => "out of memory",
+    }
 }
 
 /// Writes the lines of an error with its offset.
 fn write_refusal(out: &mut String, refusal: &Refusal, text: &str) -> Result<(), AllocError> {
-    let shown = Shown::round(text, refusal.offset);
-    write!(out, "{}: {shown}", refusal.error)?;
-    shown.write_pointed(out)?;
-    write_why(out, refusal, text)
+    let excerpt = Excerpt::round(text, refusal.offset);
+    write!(out, "{}: {excerpt}", words_of(&refusal.error))?;
+    excerpt.write_pointed(out)?;
+    write_why(out, refusal, text.len())
 }
 
-/// Writes the offset of an error, and the reason.
-fn write_why(out: &mut String, refusal: &Refusal, text: &str) -> Result<(), AllocError> {
-    let offset = refusal.offset;
-    if offset < text.len() {
-        write!(out, "at byte {offset}")?;
-    } else {
-        write!(out, "at the end")?;
-    }
+/// Writes where a text of so many bytes is wrong, and why.
+fn write_why(out: &mut String, refusal: &Refusal, len: usize) -> Result<(), AllocError> {
+    write_place(out, refusal.offset, len)?;
     write!(out, ": {}", refusal.reason)
+}
+
+/// Writes an offset in a text of so many bytes.
+fn write_place(out: &mut String, offset: usize, len: usize) -> Result<(), AllocError> {
+    if offset < len {
+        write!(out, "at byte {offset}")
+    } else {
+        out.fallible_push_str("at the end")
+    }
 }

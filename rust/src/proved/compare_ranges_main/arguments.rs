@@ -1,5 +1,5 @@
 // Made by tools/erase from crates/compare_ranges_main/src/arguments.rt; not edited by hand.
-//! What the arguments ask for.
+//! What the arguments request.
 #![cfg(feature = "std")]
 
 use crate::rattle_std::prelude::*;
@@ -8,10 +8,10 @@ use crate::rattle_std::env;
 use crate::rattle_std::rt::Env;
 use crate::proved::tool_ranges::meaning::Meaning;
 
-/// What the arguments ask for.
+/// What the arguments request.
 pub enum Request {
     /// To say what a range means, or to compare two.
-    Read(Wanted),
+    Read(Question),
     /// To tell the usage.
     Help,
     /// To tell the version of the program.
@@ -19,7 +19,7 @@ pub enum Request {
 }
 
 /// The ranges that the arguments name, and what is to be written of them.
-pub struct Wanted {
+pub struct Question {
     /// The range text; of two the old one.
     pub range: String,
     /// The new range text, if there are two.
@@ -59,7 +59,7 @@ pub struct Options {
     pub extent: Extent,
     /// Whether it is written as JSON.
     pub is_json: bool,
-    /// The change that `--fail-on` asks for.
+    /// The change that `--fail-on` names.
     pub fails_on: Option<Change>,
     /// Whether the next argument names that change.
     wants_change: bool,
@@ -123,7 +123,7 @@ impl Options {
     }
 }
 
-/// What the arguments ask for. What begins with a hyphen is an option, up to the first `--`, but
+/// What the arguments request. What begins with a hyphen is an option, up to the first `--`, but
 /// for what follows `--dialect`, `--as` and `--fail-on`.
 pub fn requested(rt: &(impl Env + AllocGlobal)) -> Result<Request, ArgumentError> {
     let Ok(mut arguments) = env::args(rt) else {
@@ -158,7 +158,7 @@ pub fn requested(rt: &(impl Env + AllocGlobal)) -> Result<Request, ArgumentError
     request_of(range, new, meaning, options)
 }
 
-/// What arguments ask for that are taken one by one.
+/// What arguments request that are taken one by one.
 fn request_of(
     range: Option<String>,
     new: Option<String>,
@@ -176,7 +176,7 @@ fn request_of(
     if options.fails_on.is_some() && new.is_none() {
         return Err(ArgumentError::NoComparison);
     }
-    Ok(Request::Read(Wanted {
+    Ok(Request::Read(Question {
         range,
         new,
         meaning,

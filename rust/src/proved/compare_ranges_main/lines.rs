@@ -62,20 +62,23 @@ impl Output {
         Ok(())
     }
 
-    /// Appends the versions of one range under a word.
-    pub fn push_one(
+    /// Appends the versions of one range under a word, or that there is none.
+    pub fn push_range(
         &mut self,
         word: &str,
         range: &VersionSet,
     ) -> Result<(), AllocError> {
+        if range.is_empty() && !self.options.is_json {
+            return self.push_text(word, "no version");
+        }
         match self.options.extent {
             Extent::Whole => self.push_whole(word, range),
-            Extent::Lowest => self.push_lowest(word, &range.least()?),
+            Extent::Lowest => self.push_lowest(word, &range.lowest()?),
         }
     }
 
     /// Appends a text of its own under a word.
-    pub fn push_text(&mut self, word: &str, text: &str) -> Result<(), AllocError> {
+    fn push_text(&mut self, word: &str, text: &str) -> Result<(), AllocError> {
         write!(self.text, "{word}: {text}\n")
     }
 

@@ -1,23 +1,22 @@
 // Made by tools/erase from crates/compare_ranges_main/src/main.rt; not edited by hand.
 //! The program `compare-ranges`: arguments, standard output, and exit status, nothing else. What it
-//! says of ranges are the calls of `VersionSet`, on the sets that `meaning::read` returns.
+//! says of ranges are the calls of `VersionRange`.
 #![cfg(feature = "std")]
 
 use crate::rattle_std::prelude::*;
 mod arguments;
 mod lines;
 
-use arguments::{Change, Request, Wanted};
-use crate::proved::command_line::{Program, refused_line};
+use arguments::{Change, Question, Request};
+use crate::proved::command_line::{Program, refused_line, write_whole};
 use lines::Output;
 use crate::proved::semver_parser::RangeError;
-use crate::proved::semver_parser::writing::write_whole;
 use crate::rattle_std::AllocError;
 use crate::rattle_std::io::{self, ErrorKind};
 use crate::rattle_std::process::ExitCode;
 use crate::proved::tool_ranges::dialect::Dialect;
-use crate::proved::tool_ranges::meaning::{self, Meaning};
-use crate::proved::version_sets::VersionSet;
+use crate::proved::tool_ranges::meaning::Meaning;
+use crate::proved::tool_ranges::version_range::VersionRange;
 
 /// The program.
 const PROGRAM: Program = Program {
@@ -74,30 +73,30 @@ const VERSION: &str = "compare-ranges 1.0.0";
 enum Error<'a> {
     /// This range text was refused.
     Range(RangeError, &'a str),
-    /// Neither Cargo nor npm reads the range, for these reasons.
-    Neither(String, String),
+    /// Neither Cargo nor npm reads the range: the error of each.
+    Neither(RangeError, RangeError),
     /// An allocation failed after the ranges were read.
     OutOfMemory,
 }
 
-/// What there is to write, and whether that is a change that is asked for.
+/// What there is to write, and whether that is a change that the exit status reports.
 type Answer = (String, bool);
 
 pub fn main(rt: HostRuntime) -> ExitCode {
     match arguments::requested(&rt) {
-        Ok(Request::Read(wanted)) => run(&rt, &wanted),
+        Ok(Request::Read(question)) => run(&rt, &question),
         Ok(Request::Help) => PROGRAM.write_texts(&rt, &[USAGE, HELP]),
         Ok(Request::Version) => PROGRAM.write_texts(&rt, &[VERSION]),
         Err(error) => PROGRAM.misused(&rt, &error),
     }
 }
 
-/// Writes what is wanted, or an error. All is known before anything is written. It is no error if
-/// the reader closed the pipe.
-fn run(rt: &HostRuntime, wanted: &Wanted) -> ExitCode {
-    match answered(rt, wanted) {
+/// Writes what there is to write, or an error. All is known before anything is written. That the
+/// reader closed the pipe is no error.
+fn run(rt: &HostRuntime, question: &Question) -> ExitCode {
+    match answered(rt, question) {
         Ok((text, is_changed)) => written(rt, text.as_str(), is_changed),
-        Err(error) => failed(rt, wanted, &error),
+        Err(error) => failed(rt, question, &error),
     }
 }
 
@@ -111,75 +110,78 @@ fn written(rt: &HostRuntime, text: &str, is_changed: bool) -> ExitCode {
 }
 
 /// Reports on standard error what the error is, and returns status 2.
-fn failed(rt: &HostRuntime, wanted: &Wanted, error: &Error<'_>) -> ExitCode {
-    let name = PROGRAM.name;
+fn failed(rt: &HostRuntime, question: &Question, error: &Error<'_>) -> ExitCode {
     match error {
         Error::Range(error, range) => {
-            return PROGRAM.refuse_range(rt, wanted.meaning.dialect, error, range);
+            PROGRAM.refuse_range(rt, question.meaning.dialect, error, range)
         }
         Error::Neither(cargo, npm) => {
-            let _ = crate::rattle_std::fallible_eprintln!(rt; "{name}: cargo: {cargo}");
-            let _ = crate::rattle_std::fallible_eprintln!(rt; "{name}: npm: {npm}");
+            let tools = [("cargo", Dialect::Cargo, cargo), ("npm", Dialect::Npm, npm)];
+            PROGRAM.refuse_range_of_each(rt, &tools, question.range.as_str())
         }
         Error::OutOfMemory => {
-            let _ = crate::rattle_std::fallible_eprintln!(rt; "{name}: out of memory");
+            let _ = crate::rattle_std::fallible_eprintln!(rt; "{}: out of memory", PROGRAM.name);
+            ExitCode::from(2)
         }
     }
-    ExitCode::from(2)
 }
 
 /// What there is to write of the ranges.
-fn answered<'a>(rt: &HostRuntime, wanted: &'a Wanted) -> Result<Answer, Error<'a>> {
-    if wanted.new.is_none() && !wanted.has_dialect {
-        return of_both_tools(rt, wanted);
+fn answered<'a>(rt: &HostRuntime, question: &'a Question) -> Result<Answer, Error<'a>> {
+    if question.new.is_none() && !question.has_dialect {
+        return of_both_tools(rt, question);
     }
-    let range = read(rt, wanted, wanted.range.as_str())?;
-    let Some(new) = &wanted.new else {
-        return match of_one(rt, wanted, &range) {
+    let range = read(rt, question, question.range.as_str())?;
+    let Some(new) = &question.new else {
+        return match of_one(rt, question, &range) {
             Ok(text) => Ok((text, false)),
             Err(_) => Err(Error::OutOfMemory),
         };
     };
-    let new = read(rt, wanted, new.as_str())?;
-    match of_two(rt, wanted, &range, &new) {
-        Ok(text) => Ok((text, is_changed(wanted, &range, &new))),
+    let new = read(rt, question, new.as_str())?;
+    match of_two(rt, question, &range, &new) {
+        Ok(text) => Ok((text, is_changed(question, &range, &new))),
         Err(_) => Err(Error::OutOfMemory),
     }
 }
 
 /// What one range means to the dialect that is named.
-fn of_one(rt: &HostRuntime, wanted: &Wanted, range: &VersionSet) -> Result<String, AllocError> {
-    let mut output = Output::new(wanted.options);
-    output.push_one("means", range)?;
+fn of_one(
+    rt: &HostRuntime,
+    question: &Question,
+    range: &VersionRange,
+) -> Result<String, AllocError> {
+    let mut output = Output::new(question.options);
+    output.push_range("means", range.versions())?;
     output.finish()
 }
 
 /// What two ranges lose, gain and share.
 fn of_two(
     rt: &HostRuntime,
-    wanted: &Wanted,
-    range: &VersionSet,
-    new: &VersionSet,
+    question: &Question,
+    range: &VersionRange,
+    new: &VersionRange,
 ) -> Result<String, AllocError> {
-    let mut output = Output::new(wanted.options);
-    output.push_two(range, new)?;
+    let mut output = Output::new(question.options);
+    output.push_two(range.versions(), new.versions())?;
     output.finish()
 }
 
-/// Whether the change is there that is asked for.
-fn is_changed(wanted: &Wanted, range: &VersionSet, new: &VersionSet) -> bool {
-    match wanted.options.fails_on {
-        Some(Change::Lost) => !range.is_within(new),
-        Some(Change::Gained) => !new.is_within(range),
-        Some(Change::Any) | None => range != new,
+/// Whether the change is there that the exit status reports.
+fn is_changed(question: &Question, range: &VersionRange, new: &VersionRange) -> bool {
+    match question.options.fails_on {
+        Some(Change::Lost) => !range.is_subset(new),
+        Some(Change::Gained) => !new.is_subset(range),
+        Some(Change::Any) | None => range.versions() != new.versions(),
     }
 }
 
 /// What one range means to Cargo, and to npm, or why it is no range.
-fn of_both_tools<'a>(rt: &HostRuntime, wanted: &'a Wanted) -> Result<Answer, Error<'a>> {
-    let mut output = Output::new(wanted.options);
-    let cargo = push_tool(rt, wanted, &mut output, "cargo", Dialect::Cargo);
-    let npm = push_tool(rt, wanted, &mut output, "npm", Dialect::Npm);
+fn of_both_tools<'a>(rt: &HostRuntime, question: &'a Question) -> Result<Answer, Error<'a>> {
+    let mut output = Output::new(question.options);
+    let cargo = push_tool(rt, question, &mut output, "cargo", Dialect::Cargo);
+    let npm = push_tool(rt, question, &mut output, "npm", Dialect::Npm);
     match (cargo, npm) {
         (Ok(Some(cargo)), Ok(Some(npm))) => Err(Error::Neither(cargo, npm)),
         (Ok(_), Ok(_)) => match output.finish() {
@@ -190,39 +192,39 @@ fn of_both_tools<'a>(rt: &HostRuntime, wanted: &'a Wanted) -> Result<Answer, Err
     }
 }
 
-/// Appends what the range means to a tool, or why it is no range, and returns why.
+/// Appends what the range means to a tool, or why it is no range, and returns the error.
 fn push_tool(
     rt: &HostRuntime,
-    wanted: &Wanted,
+    question: &Question,
     output: &mut Output,
     name: &str,
     dialect: Dialect,
-) -> Result<Option<String>, AllocError> {
-    let range = wanted.range.as_str();
+) -> Result<Option<RangeError>, AllocError> {
+    let range = question.range.as_str();
     let meaning = Meaning {
         dialect,
-        pre_releases: wanted.meaning.pre_releases,
+        pre_releases: question.meaning.pre_releases,
     };
-    match meaning::read(meaning, range) {
-        Ok(set) if set.is_empty() && !wanted.options.is_json => {
-            output.push_text(name, "no version")?;
-            Ok(None)
-        }
-        Ok(set) => {
-            output.push_one(name, &set)?;
+    match VersionRange::read(range, meaning) {
+        Ok(read) => {
+            output.push_range(name, read.versions())?;
             Ok(None)
         }
         Err(RangeError::OutOfMemory) => Err(AllocError),
         Err(error) => {
             let why = refused_line(dialect, &error, range)?;
             output.push_error(name, why.as_str())?;
-            Ok(Some(why))
+            Ok(Some(error))
         }
     }
 }
 
-/// The versions that a range means.
-fn read<'a>(rt: &HostRuntime, wanted: &Wanted, range: &'a str) -> Result<VersionSet, Error<'a>> {
-    let versions = meaning::read(wanted.meaning, range);
-    versions.map_err(|error| Error::Range(error, range))
+/// Reads a range.
+fn read<'a>(
+    rt: &HostRuntime,
+    question: &Question,
+    range: &'a str,
+) -> Result<VersionRange, Error<'a>> {
+    let read = VersionRange::read(range, question.meaning);
+    read.map_err(|error| Error::Range(error, range))
 }

@@ -3,21 +3,24 @@
 #![cfg(feature = "std")]
 
 use crate::rattle_std::prelude::*;
-use crate::proved::release_filter::{Filter, Lines, LinesError, PreReleases, Wanted};
-use crate::proved::semver_parser::Compat;
+use crate::proved::release_filter::{LineEnd, LineOptions, Lines, LinesError, Selection};
 use crate::rattle_std::AllocError;
 use crate::rattle_std::io;
+use crate::proved::tool_ranges::dialect::Dialect;
+use crate::proved::tool_ranges::meaning::Meaning;
+use crate::proved::tool_ranges::version_range::VersionRange;
+use crate::proved::version_sets::PreReleases;
 
 /// The text: a byte order mark, six versions of which `^1.2` means four, an empty line, and the
 /// second line, which is no version.
 const TEXT: &[u8] = b"\xEF\xBB\xBF1.2.0\r\nx\n1.3.0-rc\n\r\n1.9.0+b\n2.0.0\n1.9.0+a\n1.4.0";
 
 /// What is appended of it, by what is wanted.
-const APPENDED: [(Wanted, &str); 4] = [
-    (Wanted::Each, "1.2.0\r\n1.9.0+b\n1.9.0+a\n1.4.0"),
-    (Wanted::Greatest, "1.9.0+b\n"),
-    (Wanted::Least, "1.2.0\r\n"),
-    (Wanted::Sorted, "1.2.0\r\n1.4.0\n1.9.0+b\n1.9.0+a\n"),
+const APPENDED: [(Selection, &str); 4] = [
+    (Selection::Each, "1.2.0\r\n1.9.0+b\n1.9.0+a\n1.4.0"),
+    (Selection::Highest, "1.9.0+b\n"),
+    (Selection::Lowest, "1.2.0\r\n"),
+    (Selection::Sorted, "1.2.0\r\n1.4.0\n1.9.0+b\n1.9.0+a\n"),
 ];
 
 /// Lines that are no version: bytes that are no UTF-8, a bad character, more than a version, less,
@@ -46,6 +49,93 @@ const PREFIXES: [(&str, &str, &str, &str); 6] = [
     ("", "1", "11.2.0\n111.2.0\n", "11.2.0\n"),
     ("v", "vv", "vv11.2.0\nv11.2.0", "vv11.2.0\nv11.2.0"),
     ("v", "w", "é11.2.0\nv\n11.2.0\n", ""),
+];
+
+/// Lines that end with a zero byte or are given without their prefix: what ends them, whether the
+/// prefix is stripped, which are wanted, the prefix, a text, and what `^1.2` appends of it.
+const FORMS: [(LineEnd, bool, Selection, &str, &str, &str); 9] = [
+    (
+        LineEnd::ZeroByte,
+        false,
+        Selection::Each,
+        "v",
+        "v1.4.0\0v1.2.0\n\0v1.9.0",
+        "v1.4.0\0v1.2.0\n\0v1.9.0",
+    ),
+    (
+        LineEnd::ZeroByte,
+        true,
+        Selection::Each,
+        "a\nb",
+        "a\nb1.4.0\0a\n1.4.0\0",
+        "1.4.0\0",
+    ),
+    (
+        LineEnd::ZeroByte,
+        false,
+        Selection::Sorted,
+        "v",
+        "v1.4.0\0v1.2.0",
+        "v1.2.0\0v1.4.0\0",
+    ),
+    (
+        LineEnd::ZeroByte,
+        false,
+        Selection::Lowest,
+        "",
+        "1.4.0\0\01.2.0\0",
+        "1.2.0\0",
+    ),
+    (
+        LineEnd::LineFeed,
+        false,
+        Selection::Each,
+        "",
+        "1.4.0\0\n1.2.0\r\n",
+        "1.2.0\r\n",
+    ),
+    (
+        LineEnd::LineFeed,
+        true,
+        Selection::Each,
+        "v",
+        "v1.4.0\r\n1.4.0\nv1.2.0",
+        "1.4.0\r\n1.2.0",
+    ),
+    (
+        LineEnd::LineFeed,
+        true,
+        Selection::Each,
+        "\u{FEFF}",
+        "\u{FEFF}\u{FEFF}1.4.0\n",
+        "1.4.0\n",
+    ),
+    (
+        LineEnd::LineFeed,
+        true,
+        Selection::Sorted,
+        "v",
+        "v1.4.0\nv1.2.0",
+        "1.2.0\n1.4.0\n",
+    ),
+    (
+        LineEnd::LineFeed,
+        true,
+        Selection::Highest,
+        "v",
+        "v1.4.0\nv1.9.0+b\nv1.2.0",
+        "1.9.0+b\n",
+    ),
+];
+
+/// Two files, and what `^1.2` appends of them.
+const FILES: [(&str, &str, &str); 6] = [
+    ("1.4.0", "1.9.0", "1.4.0\n1.9.0"),
+    ("1.4.0\n", "\u{FEFF}1.9.0\n", "1.4.0\n1.9.0\n"),
+    ("\u{FEFF}1.4.0", "\u{FEFF}1.9.0", "1.4.0\n1.9.0"),
+    ("\u{FEFF}", "\u{FEFF}1.9.0", "1.9.0"),
+    ("", "1.9.0", "1.9.0"),
+    ("1.4.0", "", "1.4.0\n"),
 ];
 
 /// How long lines begin, the byte that follows again and again, and whether `^1.2` keeps them.
@@ -156,8 +246,8 @@ pub fn write_prefixes(rt: &impl Print) -> io::Result<()> {
         let mut prefixes = Vec::new();
         prefixes.fallible_push(first.fallible_to_string()?)?;
         prefixes.fallible_push(second.fallible_to_string()?)?;
-        let filter = filter("^11")?;
-        let mut lines = Lines::new(filter, prefixes, Wanted::Each, false);
+        let range = releases("^11")?;
+        let mut lines = Lines::new(range, prefixes, LineOptions::new());
         let mut kept = Vec::new();
         let is_taken = lines.push(text.as_bytes(), &mut kept).is_ok()
             && lines.finish(&mut kept).is_ok();
@@ -169,9 +259,78 @@ pub fn write_prefixes(rt: &impl Print) -> io::Result<()> {
     crate::rattle_std::fallible_println!(rt; "lines: {count} pairs of prefixes")
 }
 
+/// Writes at which cuts of lines in other forms something else is appended, and how many cuts there
+/// were.
+pub fn write_forms(rt: &impl Print) -> io::Result<()> {
+    let mut cuts = 0u32;
+    for (ending, strips_prefix, wanted, prefix, text, appended) in &FORMS {
+        let options = LineOptions {
+            selection: *wanted,
+            ending: *ending,
+            strips_prefix: *strips_prefix,
+            is_strict: false,
+        };
+        for place in 0..=text.len() {
+            let (front, back) = text.as_bytes().split_at(place);
+            let mut prefixes = Vec::new();
+            prefixes.fallible_push(prefix.fallible_to_string()?)?;
+            let range = releases("^1.2")?;
+            let mut lines = Lines::new(range, prefixes, options);
+            let mut kept = Vec::new();
+            let is_taken = lines.push(front, &mut kept).is_ok()
+                && lines.push(back, &mut kept).is_ok()
+                && lines.finish(&mut kept).is_ok();
+            if !is_taken || kept.as_slice() != appended.as_bytes() {
+                crate::rattle_std::fallible_println!(rt; "lines: wrong where {text:?} is cut after {place} bytes")?;
+            }
+            cuts = cuts.saturating_add(1);
+        }
+    }
+    crate::rattle_std::fallible_println!(rt; "lines: {cuts} cuts in other forms")
+}
+
+/// Writes of which two files something else is appended, and how many pairs of them there were.
+pub fn write_files(rt: &impl Print) -> io::Result<()> {
+    for (first, second, appended) in &FILES {
+        let mut lines = lines_of("^1.2", Selection::Each, true)?;
+        let mut kept = Vec::new();
+        let is_taken = lines.push(first.as_bytes(), &mut kept).is_ok()
+            && lines.end_file(&mut kept).is_ok()
+            && lines.push(second.as_bytes(), &mut kept).is_ok()
+            && lines.finish(&mut kept).is_ok();
+        let is_counted = lines.counts().invalid == 0 && lines.counts().empty == 0;
+        if !is_taken || !is_counted || kept.as_slice() != appended.as_bytes() {
+            crate::rattle_std::fallible_println!(rt; "lines: wrong with the files {first:?} and {second:?}")?;
+        }
+    }
+    if !stops_at_the_end_of_a_file()? {
+        crate::rattle_std::fallible_println!(rt; "lines: wrong at an invalid last line of a file")?;
+    }
+    let count = FILES.len();
+    crate::rattle_std::fallible_println!(rt; "lines: {count} pairs of files")
+}
+
+/// Whether strict lines stop at a last line of a file that is no version, once: then another file
+/// is taken.
+fn stops_at_the_end_of_a_file() -> Result<bool, AllocError> {
+    let mut lines = lines_of("^1.2", Selection::Each, true)?;
+    let mut kept = Vec::new();
+    let has_stopped = lines.push(b"1.4.0\nx", &mut kept).is_ok()
+        && matches!(
+            lines.end_file(&mut kept),
+            Err(LinesError::NoVersion(2))
+        );
+    let goes_on = lines.push(b"\xEF\xBB\xBF1.9.0\n", &mut kept).is_ok();
+    let first = &lines.counts().first_invalid;
+    let is_shown = first
+        .as_ref()
+        .is_some_and(|line| line.front.as_slice() == "x".as_bytes());
+    Ok(has_stopped && goes_on && is_shown && kept.as_slice() == "1.4.0\n1.9.0\n".as_bytes())
+}
+
 /// Whether pieces append this, the kept lines that they end as soon as these end.
 fn appends(
-    wanted: Wanted,
+    wanted: Selection,
     pieces: &[&[u8]],
     appended: &str,
 ) -> Result<bool, AllocError> {
@@ -187,7 +346,7 @@ fn appends(
         return Ok(false);
     }
     let has_last = match wanted {
-        Wanted::Each => so_far + "1.4.0".len() == kept.len(),
+        Selection::Each => so_far + "1.4.0".len() == kept.len(),
         _ => so_far == 0,
     };
     Ok(has_last && kept.as_slice() == appended.as_bytes() && are_counted(&lines))
@@ -197,6 +356,7 @@ fn appends(
 fn are_counted(lines: &Lines) -> bool {
     let counts = lines.counts();
     counts.lines == 8
+        && counts.kept == 4
         && counts.empty == 1
         && counts.invalid == 1
         && counts.first_invalid.as_ref().is_some_and(|line| line.number == 2
@@ -205,7 +365,7 @@ fn are_counted(lines: &Lines) -> bool {
 
 /// Whether pieces of this length append this.
 fn appends_in_pieces(
-    wanted: Wanted,
+    wanted: Selection,
     length: usize,
     appended: &str,
 ) -> Result<bool, AllocError> {
@@ -225,7 +385,7 @@ fn appends_in_pieces(
 /// Whether strict lines stop once, after the second line, and append all else if the rest is
 /// pushed.
 fn stops_and_goes_on(
-    wanted: Wanted,
+    wanted: Selection,
     length: usize,
     appended: &str,
 ) -> Result<bool, AllocError> {
@@ -252,7 +412,7 @@ fn stops_and_goes_on(
 }
 
 /// Whether strict lines stop at a last line that is no version, each time, and append nothing.
-fn stops_at_the_end(wanted: Wanted) -> Result<bool, AllocError> {
+fn stops_at_the_end(wanted: Selection) -> Result<bool, AllocError> {
     let mut lines = lines_of("^1.2", wanted, true)?;
     let mut kept = Vec::new();
     let mut is_right = lines.push(b"2.0.0\n\nx", &mut kept).is_ok();
@@ -267,7 +427,7 @@ fn stops_at_the_end(wanted: Wanted) -> Result<bool, AllocError> {
 
 /// Whether a line is skipped and counted, and the lines before and after it are appended.
 fn skips(before: &str, line: &[u8], after: &str) -> Result<bool, AllocError> {
-    let mut lines = lines_of("^1.2", Wanted::Each, false)?;
+    let mut lines = lines_of("^1.2", Selection::Each, false)?;
     let mut kept = Vec::new();
     let mut wanted = Vec::new();
     wanted.fallible_extend_from_slice(before.trim_start().as_bytes())?;
@@ -303,7 +463,7 @@ fn late_line(letters: usize) -> Result<Vec<u8>, AllocError> {
 /// Whether a long line that is cut after so many bytes is kept or else counted, and the line after
 /// it is kept.
 fn takes_long(line: &[u8], place: usize, is_kept: bool) -> Result<bool, AllocError> {
-    let mut lines = lines_of("^1.2", Wanted::Each, false)?;
+    let mut lines = lines_of("^1.2", Selection::Each, false)?;
     let mut kept = Vec::new();
     let mut wanted = Vec::new();
     if is_kept {
@@ -332,17 +492,24 @@ fn takes_long(line: &[u8], place: usize, is_kept: bool) -> Result<bool, AllocErr
 /// The lines of a text that a filter of a range keeps, releases only, without a prefix.
 fn lines_of(
     range: &str,
-    wanted: Wanted,
+    wanted: Selection,
     is_strict: bool,
 ) -> Result<Lines, AllocError> {
-    let filter = filter(range)?;
-    Ok(Lines::new(filter, Vec::new(), wanted, is_strict))
+    let range = releases(range)?;
+    let mut options = LineOptions::new();
+    options.selection = wanted;
+    options.is_strict = is_strict;
+    Ok(Lines::new(range, Vec::new(), options))
 }
 
-/// The filter of a range in Cargo mode, releases only.
-fn filter(range: &str) -> Result<Filter, AllocError> {
-    match Filter::new(range, Compat::Cargo, PreReleases::Excluded) {
-        Ok(filter) => Ok(filter),
+/// The releases that a range of the crate in Cargo mode contains.
+fn releases(range: &str) -> Result<VersionRange, AllocError> {
+    let meaning = Meaning {
+        dialect: Dialect::CrateCargo,
+        pre_releases: PreReleases::Excluded,
+    };
+    match VersionRange::read(range, meaning) {
+        Ok(range) => Ok(range),
         Err(_) => Err(AllocError),
     }
 }

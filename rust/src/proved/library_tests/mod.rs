@@ -76,5 +76,7 @@ fn write_writes(rt: &HostRuntime) -> io::Result<()> {
     lines::write_strict_lines(rt)?;
     lines::write_invalid_lines(rt)?;
     lines::write_long_lines(rt)?;
-    lines::write_prefixes(rt)
+    lines::write_prefixes(rt)?;
+    lines::write_forms(rt)?;
+    lines::write_files(rt)
 }

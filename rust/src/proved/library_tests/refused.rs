@@ -1,7 +1,7 @@
 // Made by tools/erase from crates/library_tests/src/refused.rt; not edited by hand.
 //! Calls what allocates, and checks that each call returns in full or out of memory, and leaves
 //! what it promises. With ample memory every call has to return in full; else the one request that
-//! is refused has to be met by exactly one call, which is named.
+//! is refused has to be made by exactly one call, which is named.
 #![cfg(feature = "std")]
 
 use crate::rattle_std::prelude::*;
@@ -12,9 +12,9 @@ mod parsers;
 mod ranges;
 mod reports;
 mod sets;
+mod version_ranges;
 mod versions;
 
-use crate::proved::release_filter::Filter;
 use crate::proved::semver_parser::Compat;
 use crate::rattle_std::io;
 use crate::proved::version_sets::VersionSet;
@@ -65,10 +65,6 @@ pub fn write_calls(rt: &HostRuntime, requests: u32) -> io::Result<()> {
     tell(rt, &of_range_sets())?;
     tell(rt, &of_tool_ranges())?;
     tell(rt, &of_filters_and_reports())?;
-    match filters::as_stated() {
-        Ok(filter) => tell(rt, &of_filter(&filter))?,
-        Err(ending) => tell(rt, &[("filter_as_stated", ending)])?,
-    }
     tell(rt, &of_lines())?;
     match sets::of_texts() {
         Ok((first, second)) => tell(rt, &of_sets(&first, &second))?,
@@ -197,31 +193,20 @@ fn of_tool_ranges() -> [(&'static str, Ending); 13] {
     ]
 }
 
-/// How each call that makes a filter or a report ends.
-fn of_filters_and_reports() -> [(&'static str, Ending); 5] {
+/// How each call that filters versions, reads or combines ranges, or makes a report ends.
+fn of_filters_and_reports() -> [(&'static str, Ending); 6] {
     [
         ("filter", filters::filter()),
-        (
-            "read_without_requests",
-            filters::read_without_requests(),
-        ),
+        ("version_range", version_ranges::parse()),
+        ("combined_ranges", version_ranges::combined()),
         ("refused_filter_texts", filters::refused_texts()),
         ("report", reports::report()),
         ("report_of_errors", reports::report_of_errors()),
     ]
 }
 
-/// How each call on versions ends of a filter.
-fn of_filter(filter: &Filter) -> [(&'static str, Ending); 3] {
-    [
-        ("kept_versions", filters::kept_versions(filter)),
-        ("read_version", filters::read_version(filter)),
-        ("no_version_kept", filters::no_version_kept(filter)),
-    ]
-}
-
 /// How each filter of lines ends.
-fn of_lines() -> [(&'static str, Ending); 7] {
+fn of_lines() -> [(&'static str, Ending); 8] {
     [
         ("copied_lines", filters::copied_lines()),
         ("greatest_line", filters::greatest_line()),
@@ -229,6 +214,7 @@ fn of_lines() -> [(&'static str, Ending); 7] {
         ("sorted_lines", filters::sorted_lines()),
         ("many_sorted_lines", filters::many_sorted_lines()),
         ("line_without_an_end", filters::line_without_an_end()),
+        ("line_of_a_file", filters::line_of_a_file()),
         ("lines_passed_over", filters::lines_passed_over()),
     ]
 }
@@ -241,7 +227,7 @@ fn of_sets(first: &VersionSet, second: &VersionSet) -> [(&'static str, Ending); 
         ("union", sets::union(first, second)),
         ("intersection", sets::intersection(first, second)),
         ("difference", sets::difference(first, second)),
-        ("least", sets::least(first)),
+        ("least", sets::lowest(first)),
         ("compared", sets::compared(first, second)),
         ("release_ranges", sets::release_ranges(first)),
         ("pre_release_ranges", sets::pre_release_ranges(first)),

@@ -94,7 +94,7 @@ const SAME: [(&str, &str); 3] = [
     ),
 ];
 
-/// Two ranges in Cargo mode, a rule, and the least versions that are lost, gained and shared where
+/// Two ranges in Cargo mode, a rule, and the lowest versions that are lost, gained and shared where
 /// the second takes the place of the first. A text without bytes says that there is none.
 const COMPARED: [(&str, &str, PreReleases, [&str; 3]); 6] = [
     (
@@ -157,7 +157,7 @@ pub fn write_sets(rt: &impl Print) -> io::Result<()> {
     crate::rattle_std::fallible_println!(rt; "compared sets: {} pairs", COMPARED.len())
 }
 
-/// Whether the comparison of the sets of two ranges tells these versions.
+/// Whether the comparison of the sets of two ranges gives these versions.
 fn is_compared(
     old: &str,
     new: &str,
@@ -191,7 +191,7 @@ fn is_in(range: &str, rule: PreReleases, text: &str) -> io::Result<bool> {
     let Ok(version) = version::parse(text) else {
         return Err(io::Error::from(ErrorKind::InvalidInput));
     };
-    Ok(set_of(range, rule)?.has(&version))
+    Ok(set_of(range, rule)?.contains(&version))
 }
 
 /// The set of a range.

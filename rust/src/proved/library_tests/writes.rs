@@ -4,7 +4,7 @@
 
 use crate::rattle_std::prelude::*;
 use super::writers::{Limited, Refusal};
-use crate::proved::semver_parser::writing::write_whole;
+use crate::proved::semver_texts::writing::write_whole;
 use crate::rattle_std::io;
 use crate::rattle_std::io::ErrorKind;
 
@@ -27,7 +27,7 @@ pub fn write_writes(rt: &impl Print) -> io::Result<()> {
     crate::rattle_std::fallible_println!(rt; "writes: {writes} writers")
 }
 
-/// How many beginnings of the bytes were written to writers with each room, and how many of these
+/// How many beginnings of the bytes were written to writers with each capacity, and how many of these
 /// writes didn't end as they have to.
 fn count_writes(most: usize, refusal: Refusal) -> (u32, u32) {
     let mut count = 0u32;
@@ -45,7 +45,7 @@ fn count_writes(most: usize, refusal: Refusal) -> (u32, u32) {
 }
 
 /// Whether all is written, or what is taken before a refusal, and then the error of the
-/// documentation is told.
+/// documentation is returned.
 fn ends_as_documented(
     bytes: &[u8],
     left: usize,
@@ -60,7 +60,7 @@ fn ends_as_documented(
     is_told && out.late_calls == 0 && Some(out.taken.as_slice()) == bytes.get(..left)
 }
 
-/// The error that a refusal has to be told by.
+/// The error that a refusal has to give.
 fn kind_of(refusal: Refusal) -> ErrorKind {
     match refusal {
         Refusal::Fail => ErrorKind::BrokenPipe,

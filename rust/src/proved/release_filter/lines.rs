@@ -2,26 +2,26 @@
 //! The lines of a text that comes in pieces, and which of them a filter keeps.
 
 use crate::rattle_std::prelude::*;
-use crate::proved::release_filter::counts::{Counts, Noted, is_invalid};
-use crate::proved::release_filter::filter::Filter;
-use crate::proved::release_filter::judging::Judged;
 use crate::proved::release_filter::line_filter::LineFilter;
-use crate::proved::release_filter::line_texts::{after_mark, whole_line};
-use crate::proved::release_filter::wanted::{Held, Wanted, without_build};
+use crate::proved::release_filter::line_options::LineOptions;
+use crate::proved::release_filter::line_statistics::{Counts, Noted, is_invalid};
+use crate::proved::release_filter::line_texts::{LineEnd, after_mark, whole_line};
+use crate::proved::release_filter::selection::{Held, Selection};
+use crate::proved::release_filter::verdict::Judged;
+use crate::proved::semver_versions::read_version::ReadVersion;
 use crate::rattle_std::AllocError;
 use crate::rattle_std::mem;
-
-/// What ends a line.
-const LINE_FEED: &[u8] = b"\n";
+use crate::proved::tool_ranges::version_range::VersionRange;
 
 /// Why lines were not taken to the end.
 ///
 /// ```
-/// use semver_parser::filters::{Filter, Lines, LinesError, Wanted};
-/// use semver_parser::{Compat, PreReleases};
+/// use semver_parser::filters::{LineOptions, Lines, LinesError};
+/// use semver_parser::{Dialect, VersionRange};
 ///
-/// let filter = Filter::new("^1", Compat::Npm, PreReleases::Excluded)?;
-/// let mut lines = Lines::new(filter, vec![], Wanted::Each, true);
+/// let range = VersionRange::parse("^1", Dialect::Npm)?;
+/// let options = LineOptions { is_strict: true, ..LineOptions::new() };
+/// let mut lines = Lines::new(range, vec![], options);
 /// lines.push(b"1.4.0\n1.2", &mut Vec::new()).unwrap();
 /// let error = lines.finish(&mut Vec::new()).unwrap_err();
 /// assert!(matches!(error, LinesError::NoVersion(2)));
@@ -51,11 +51,12 @@ impl crate::rattle_std::Error for LinesError {}
 /// A piece was not taken to its end.
 ///
 /// ```
-/// use semver_parser::filters::{Filter, Lines, LinesError, Wanted};
-/// use semver_parser::{Compat, PreReleases};
+/// use semver_parser::filters::{LineOptions, Lines, LinesError};
+/// use semver_parser::{Dialect, VersionRange};
 ///
-/// let filter = Filter::new("^1", Compat::Npm, PreReleases::Excluded)?;
-/// let mut lines = Lines::new(filter, vec![], Wanted::Each, true);
+/// let range = VersionRange::parse("^1", Dialect::Npm)?;
+/// let options = LineOptions { is_strict: true, ..LineOptions::new() };
+/// let mut lines = Lines::new(range, vec![], options);
 /// let stopped = lines.push(b"1.4.0\n1.2\n1.5.0\n", &mut Vec::new()).unwrap_err();
 /// assert_eq!(stopped.taken, 10);
 /// assert!(matches!(stopped.error, LinesError::NoVersion(2)));
@@ -82,12 +83,12 @@ impl crate::rattle_std::Error for Stopped {}
 
 /// The lines of a text that comes in pieces of any length, and which of them a filter keeps.
 ///
-/// A line ends with a line feed, and the last one may have none. Its text is the line without that
-/// line feed, and then without one carriage return at its end. A line is kept if its text is one
-/// of the prefixes and then spells a version that passes, by the dialect of the filter
-/// (docs/GRAMMAR.md): by the crate's, spaces, tabs and carriage returns may be around the version.
-/// The first prefix after which it spells a version decides. Without a prefix it is as with the
-/// empty one.
+/// A line ends with a line feed, or with a zero byte ([`LineEnd`](crate::proved::release_filter::line_texts::LineEnd)), and
+/// the last one may have none. Its text is the line without that, and without one carriage return
+/// before a line feed. A line is kept if its text is one of the prefixes and then spells a version
+/// that matches, by the dialect of the filter (docs/GRAMMAR.md): by the crate's and npm's, white
+/// space may be around the version. The first prefix after which it spells a version decides.
+/// Without a prefix it is as with the empty one.
 ///
 /// A byte order mark at the front of the text is dropped, also one that is cut between pieces.
 ///
@@ -96,11 +97,11 @@ impl crate::rattle_std::Error for Stopped {}
 /// these are held, and the rest of the line is skipped.
 ///
 /// ```
-/// use semver_parser::filters::{Filter, Lines, Wanted};
-/// use semver_parser::{Compat, PreReleases};
+/// use semver_parser::filters::{LineOptions, Lines};
+/// use semver_parser::{Dialect, VersionRange};
 ///
-/// let filter = Filter::new("^1", Compat::Npm, PreReleases::Excluded)?;
-/// let mut lines = Lines::new(filter, vec![], Wanted::Each, false);
+/// let range = VersionRange::parse("^1", Dialect::Npm)?;
+/// let mut lines = Lines::new(range, vec![], LineOptions::new());
 /// let mut kept = Vec::new();
 /// lines.push(b"2.0.0\n1.4.0", &mut kept).unwrap();
 /// lines.finish(&mut kept).unwrap();
@@ -120,32 +121,34 @@ pub struct Lines {
 impl Lines {
     /// Returns the lines of a text of which no byte was taken yet.
     ///
-    /// Where `is_strict` is true, a line that isn't empty and has no version is an error.
-    ///
     /// ```
-    /// use semver_parser::filters::{Filter, Lines, Wanted};
-    /// use semver_parser::{Compat, PreReleases};
+    /// use semver_parser::filters::{LineOptions, Lines};
+    /// use semver_parser::{Dialect, VersionRange};
     ///
-    /// let filter = Filter::new("^1", Compat::Npm, PreReleases::Excluded)?;
-    /// let mut lines = Lines::new(filter, vec!["v".to_string()], Wanted::Each, false);
+    /// let range = VersionRange::parse("^1", Dialect::Npm)?;
+    /// let mut lines = Lines::new(range, vec!["v".to_string()], LineOptions::new());
     /// let mut kept = Vec::new();
     /// lines.push(b"v1.4.0\nv2.0.0\n1.4.0\nv1.9.2\n", &mut kept).unwrap();
     /// assert_eq!(kept, b"v1.4.0\nv1.9.2\n");
     /// # Ok::<(), semver_parser::RangeError>(())
     /// ```
     pub fn new(
-        filter: Filter,
+        filter: VersionRange,
         prefixes: Vec<String>,
-        wanted: Wanted,
-        is_strict: bool,
+        options: LineOptions,
     ) -> Lines {
         Lines {
-            chosen: LineFilter { filter, prefixes },
-            is_strict,
+            chosen: LineFilter {
+                filter,
+                prefixes,
+                ending: options.ending,
+                strips_prefix: options.strips_prefix,
+            },
+            is_strict: options.is_strict,
             at_front: true,
             unended: Vec::new(),
             is_skipped: false,
-            held: Held::new(wanted),
+            held: Held::new(options.selection),
             counts: Counts::new(),
         }
     }
@@ -163,15 +166,16 @@ impl Lines {
     ///
     /// # Details
     ///
-    /// A kept line is appended as it is, with the line feed that ends it, but for a byte order mark
-    /// at the front of the text. What a text appends doesn't depend on how it is cut into pieces.
+    /// A kept line is appended as it is, with the byte that ends it, but for a byte order mark at
+    /// the front of the text, and for its prefix where prefixes are stripped. What a text appends
+    /// doesn't depend on how it is cut into pieces.
     ///
     /// ```
-    /// use semver_parser::filters::{Filter, Lines, Wanted};
-    /// use semver_parser::{Compat, PreReleases};
+    /// use semver_parser::filters::{LineOptions, Lines};
+    /// use semver_parser::{Dialect, VersionRange};
     ///
-    /// let filter = Filter::new("^1", Compat::Npm, PreReleases::Excluded)?;
-    /// let mut lines = Lines::new(filter, vec![], Wanted::Each, false);
+    /// let range = VersionRange::parse("^1", Dialect::Npm)?;
+    /// let mut lines = Lines::new(range, vec![], LineOptions::new());
     /// let mut kept = Vec::new();
     /// lines.push(b"1.4.0\n2.0.0\n1.", &mut kept).unwrap();
     /// assert_eq!(kept, b"1.4.0\n");
@@ -201,8 +205,8 @@ impl Lines {
         }
     }
 
-    /// Takes the end of the text, with the last line if no line feed ends it, and appends the rest
-    /// of the answer.
+    /// Takes the end of the text, with the last line if it has no end of its own, and appends the
+    /// rest of the answer.
     ///
     /// # Errors
     ///
@@ -213,16 +217,17 @@ impl Lines {
     ///
     /// # Details
     ///
-    /// But for `Wanted::Sorted` a line is appended as it is, with no line feed added. Then no byte
+    /// But for `Selection::Sorted` a line is appended as it is, with no byte added. Then no byte
     /// of a text was taken, as after [`Lines::new`], so that another text can be pushed; the lines
     /// of both are counted.
     ///
     /// ```
-    /// use semver_parser::filters::{Filter, Lines, Wanted};
-    /// use semver_parser::{Compat, PreReleases};
+    /// use semver_parser::filters::{LineOptions, Lines, Selection};
+    /// use semver_parser::{Dialect, VersionRange};
     ///
-    /// let filter = Filter::new("^1", Compat::Npm, PreReleases::Excluded)?;
-    /// let mut lines = Lines::new(filter, vec![], Wanted::Sorted, false);
+    /// let range = VersionRange::parse("^1", Dialect::Npm)?;
+    /// let options = LineOptions { selection: Selection::Sorted, ..LineOptions::new() };
+    /// let mut lines = Lines::new(range, vec![], options);
     /// let mut kept = Vec::new();
     /// lines.push(b"1.9.0\n1.4.0", &mut kept).unwrap();
     /// lines.finish(&mut kept).unwrap();
@@ -230,23 +235,27 @@ impl Lines {
     /// # Ok::<(), semver_parser::RangeError>(())
     /// ```
     pub fn finish(&mut self, kept: &mut Vec<u8>) -> Result<(), LinesError> {
+        let ending = self.chosen.ending;
         let line = after_mark(self.at_front, self.unended.as_slice());
         if line.is_empty() {
-            let Ok(_) = self.held.finish(line, &Judged::NoVersion, kept) else {
+            let none = Judged::NoVersion;
+            let Ok(_) = self.held.finish(ending, line, &none, kept) else {
                 return Err(LinesError::OutOfMemory);
             };
             self.begin();
             return Ok(());
         }
-        let judged = self.chosen.judge_line(line);
-        let is_bad = is_invalid(line, &judged);
+        let mut count = 0;
+        let judged = self.chosen.judge_line(line, &mut count);
+        let given = self.chosen.given(line, count);
+        let is_bad = is_invalid(ending, given, &judged);
         if self.is_strict && is_bad {
             return Err(LinesError::NoVersion(self.counts.lines.saturating_add(1)));
         }
-        let Ok(noted) = self.counts.noted(line, &judged) else {
+        let Ok(noted) = self.counts.noted(ending, given, &judged) else {
             return Err(LinesError::OutOfMemory);
         };
-        let Ok(_) = self.held.finish(line, &judged, kept) else {
+        let Ok(_) = self.held.finish(ending, given, &judged, kept) else {
             return Err(LinesError::OutOfMemory);
         };
         self.counts.add(noted);
@@ -254,14 +263,53 @@ impl Lines {
         Ok(())
     }
 
+    /// Takes the end of a file that another one follows in the same text: its last line gets an end
+    /// if it has none of its own, and a byte order mark at the front of the next file is dropped.
+    ///
+    /// # Errors
+    ///
+    /// `OutOfMemory` if an allocation fails: then nothing was appended, the lines are as they were,
+    /// and the call can be repeated. `NoVersion`, exactly where the lines are strict and the last
+    /// line isn't empty and has no version: the end of the file was taken, too.
+    ///
+    /// ```
+    /// use semver_parser::filters::{LineOptions, Lines};
+    /// use semver_parser::{Dialect, VersionRange};
+    ///
+    /// let range = VersionRange::parse("^1", Dialect::Npm)?;
+    /// let mut lines = Lines::new(range, vec![], LineOptions::new());
+    /// let mut kept = Vec::new();
+    /// lines.push(b"1.4.0", &mut kept).unwrap();
+    /// lines.end_file(&mut kept).unwrap();
+    /// lines.push(b"\xEF\xBB\xBF1.9.0", &mut kept).unwrap();
+    /// lines.finish(&mut kept).unwrap();
+    /// assert_eq!(kept, b"1.4.0\n1.9.0");
+    /// # Ok::<(), semver_parser::RangeError>(())
+    /// ```
+    pub fn end_file(&mut self, kept: &mut Vec<u8>) -> Result<(), LinesError> {
+        let mut is_valid = true;
+        if !after_mark(self.at_front, self.unended.as_slice()).is_empty() {
+            let end = [self.chosen.ending.byte()];
+            let Ok(valid) = self.take_line(&end, kept) else {
+                return Err(LinesError::OutOfMemory);
+            };
+            is_valid = valid;
+        }
+        self.begin_file();
+        if self.is_strict && !is_valid {
+            return Err(LinesError::NoVersion(self.counts.lines));
+        }
+        Ok(())
+    }
+
     /// Returns the counts of the lines so far. It does not allocate.
     ///
     /// ```
-    /// use semver_parser::filters::{Filter, Lines, Wanted};
-    /// use semver_parser::{Compat, PreReleases};
+    /// use semver_parser::filters::{LineOptions, Lines};
+    /// use semver_parser::{Dialect, VersionRange};
     ///
-    /// let filter = Filter::new("^1", Compat::Npm, PreReleases::Excluded)?;
-    /// let mut lines = Lines::new(filter, vec![], Wanted::Each, false);
+    /// let range = VersionRange::parse("^1", Dialect::Cargo)?;
+    /// let mut lines = Lines::new(range, vec![], LineOptions::new());
     /// lines.push(b"v1.2.0\n\n1.4.0\n", &mut Vec::new()).unwrap();
     /// assert_eq!((lines.counts().lines, lines.counts().empty), (3, 1));
     /// assert_eq!(lines.counts().first_invalid.as_ref().unwrap().front, b"v1.2.0");
@@ -274,13 +322,18 @@ impl Lines {
     /// Makes this the state before the first byte of a text.
     fn begin(&mut self) {
         self.held.clear();
+        self.begin_file();
+    }
+
+    /// Makes this the state before the first byte of a file.
+    fn begin_file(&mut self) {
         self.at_front = true;
         self.unended.clear();
         self.is_skipped = false;
     }
 
     /// Takes the bytes up to the first end of a line, if there is one: these bytes, and whether the
-    /// line is no invalid one. For speed, a line of which no byte was taken before is judged where
+    /// line is no invalid one. For speed, a line of which no byte was taken before is checked where
     /// it is.
     #[inline(always)]
     fn take_first<'p>(
@@ -289,16 +342,25 @@ impl Lines {
         kept: &mut Vec<u8>,
     ) -> Result<Option<(&'p [u8], bool)>, AllocError> {
         if self.at_front || !self.unended.is_empty() {
-            let Some(end) = whole_line(bytes) else {
+            let Some(end) = whole_line(bytes, self.chosen.ending) else {
                 return Ok(None);
             };
             let is_valid = self.take_line(end, kept)?;
             return Ok(Some((end, is_valid)));
         }
-        let Some((line, judged)) = self.chosen.first_judged(bytes) else {
+        let mut count = 0;
+        let Some((line, judged)) = self.chosen.first_judged(bytes, &mut count) else {
             return Ok(None);
         };
-        let is_valid = take(line, &judged, &mut self.held, &mut self.counts, kept)?;
+        let given = self.chosen.given(line, count);
+        let is_valid = take(
+            self.chosen.ending,
+            given,
+            &judged,
+            &mut self.held,
+            &mut self.counts,
+            kept,
+        )?;
         Ok(Some((line, is_valid)))
     }
 
@@ -319,14 +381,15 @@ impl Lines {
     }
 
     /// Ends the line that has not ended, and returns whether it isn't an invalid one. Of a skipped
-    /// line nothing more is held but a line feed.
+    /// line nothing more is held but the byte that ends it.
     fn take_line(
         &mut self,
         end: &[u8],
         kept: &mut Vec<u8>,
     ) -> Result<bool, AllocError> {
         let begun = self.unended.len();
-        let end = if self.is_skipped { LINE_FEED } else { end };
+        let last = [self.chosen.ending.byte()];
+        let end = if self.is_skipped { &last } else { end };
         self.unended.fallible_extend_from_slice(end)?;
         match take_ended(
             &self.chosen,
@@ -362,58 +425,62 @@ fn take_ended(
 ) -> Result<bool, AllocError> {
     let marked = bytes.as_slice();
     let line = after_mark(at_front, marked);
-    let may_hand_over = may_hand_over(held.wanted, line, marked, kept.as_slice());
-    let may_hold = may_hold(held.wanted, line, marked);
-    let judged = chosen.judge_line(line);
-    if let Judged::Passes(outline) = &judged {
+    let mut count = 0;
+    let judged = chosen.judge_line(line, &mut count);
+    let given = chosen.given(line, count);
+    let may_hand_over = may_hand_over(held.selection, given, marked, kept.as_slice());
+    let may_hold = may_hold(held.selection, given, marked);
+    if let Judged::Matches(outline) = &judged {
         if may_hand_over {
-            counts.add(Noted::Version);
+            counts.add(Noted::Kept);
             mem::swap(kept, bytes);
             return Ok(true);
         }
         if may_hold {
-            let version = without_build(outline)?;
+            let version = ReadVersion::of(outline)?;
             held.hold_whole(version, bytes);
-            counts.add(Noted::Version);
+            counts.add(Noted::Kept);
             return Ok(true);
         }
     }
-    take(line, &judged, held, counts, kept)
+    take(chosen.ending, given, &judged, held, counts, kept)
 }
 
-/// Whether a kept line may take the place of what was appended, since it is all that is: it has no
-/// byte order mark before it, and nothing was appended.
-fn may_hand_over(wanted: Wanted, line: &[u8], marked: &[u8], kept: &[u8]) -> bool {
-    match wanted {
-        Wanted::Each => line.len() == marked.len() && kept.is_empty(),
-        Wanted::Greatest | Wanted::Least | Wanted::Sorted => false,
+/// Whether a kept line may take the place of what was appended, since it is all that is: all of it
+/// is given, it has no byte order mark before it, and nothing was appended.
+fn may_hand_over(selection: Selection, given: &[u8], marked: &[u8], kept: &[u8]) -> bool {
+    match selection {
+        Selection::Each => given.len() == marked.len() && kept.is_empty(),
+        Selection::Highest | Selection::Lowest | Selection::Sorted => false,
     }
 }
 
-/// Whether a kept line may be held as it is: it has no byte order mark before it, and the best
-/// line is wanted.
-fn may_hold(wanted: Wanted, line: &[u8], marked: &[u8]) -> bool {
-    match wanted {
-        Wanted::Greatest | Wanted::Least => line.len() == marked.len(),
-        Wanted::Each | Wanted::Sorted => false,
+/// Whether a kept line may be held as it is: all of it is given, it has no byte order mark before
+/// it, and the best line is wanted.
+fn may_hold(selection: Selection, given: &[u8], marked: &[u8]) -> bool {
+    match selection {
+        Selection::Highest | Selection::Lowest => given.len() == marked.len(),
+        Selection::Each | Selection::Sorted => false,
     }
 }
 
-/// Takes a line of which a filter says this, and returns whether it is no invalid one.
+/// Takes a line of which a filter says this and this is given, and returns whether it is no invalid
+/// one. All is given of a line that has no version.
 #[inline(always)]
 fn take(
-    line: &[u8],
+    ending: LineEnd,
+    given: &[u8],
     judged: &Judged<'_>,
     held: &mut Held,
     counts: &mut Counts,
     kept: &mut Vec<u8>,
 ) -> Result<bool, AllocError> {
-    let noted = counts.noted(line, judged)?;
-    if let Judged::Passes(outline) = judged {
-        held.keep(outline, line, kept)?;
+    let noted = counts.noted(ending, given, judged)?;
+    if let Judged::Matches(outline) = judged {
+        held.keep(outline, given, kept)?;
     }
     counts.add(noted);
-    Ok(!is_invalid(line, judged))
+    Ok(!is_invalid(ending, given, judged))
 }
 
 /// The memory ran out after so many bytes of a piece.

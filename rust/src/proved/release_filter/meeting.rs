@@ -1,16 +1,16 @@
 // Made by tools/erase from crates/release_filter/src/meeting.rt; not edited by hand.
-//! Whether a version meets a range set, by each rule for pre-releases.
+//! Whether a version satisfies a range set, by each rule for pre-releases.
 
 use crate::rattle_std::prelude::*;
 use crate::proved::release_filter::precedence;
-use crate::proved::semver_parser::version::Version;
-use crate::proved::semver_parser::{Comparator, Op, Range, RangeSet};
+use crate::proved::semver_ranges::{Comparator, Op, Range, RangeSet};
+use crate::proved::semver_versions::version::Version;
 
-/// Whether a version is a release that meets a range set: it has no pre-release, and some range of
-/// the set has all its comparators met, by precedence (SemVer 2.0.0, section 11).
+/// Whether a version is a release that satisfies a range set: it has no pre-release, and some range
+/// of the set has all its comparators satisfied, by precedence (SemVer 2.0.0, section 11).
 ///
-/// No version meets a set without ranges, and each release meets a range without comparators. It
-/// takes no memory.
+/// No version satisfies a set without ranges, and each release satisfies a range without
+/// comparators. It does not allocate.
 ///
 /// ```
 /// use semver_parser::filters::release_meets;
@@ -26,13 +26,13 @@ pub fn release_meets(set: &RangeSet, version: &Version) -> bool {
     version.pre.is_empty() && version_meets(set, version)
 }
 
-/// Whether a version, a pre-release too, meets a range set: some range of the set has all its
-/// comparators met, by precedence (SemVer 2.0.0, section 11). The build of the version doesn't
-/// count.
+/// Whether a version, a pre-release too, satisfies a range set: some range of the set has all its
+/// comparators satisfied, by precedence (SemVer 2.0.0, section 11). The build of the version
+/// doesn't count.
 ///
-/// A pre-release needs no comparator with its own numbers: `2.0.0-alpha` meets `>=1.0.0`, and
-/// `<2.0.0` too. No version meets a set without ranges, and each meets a range without comparators.
-/// It does not allocate.
+/// A pre-release needs no comparator with its own numbers: `2.0.0-alpha` satisfies `>=1.0.0`, and
+/// `<2.0.0` too. No version satisfies a set without ranges, and each satisfies a range without
+/// comparators. It does not allocate.
 ///
 /// ```
 /// use semver_parser::filters::version_meets;
@@ -48,51 +48,24 @@ pub fn version_meets(set: &RangeSet, version: &Version) -> bool {
     some_range_is_met(&set.ranges, version)
 }
 
-/// Whether a version meets a range set by the rule that npm and Cargo's `semver` have for
-/// pre-releases: some range of the set has all its comparators met, by precedence (SemVer 2.0.0,
-/// section 11), and where the version has a pre-release, a comparator of that range has the same
-/// three numbers and a pre-release, too.
-///
-/// With the sets that `RangeSet::parse_exact` answers this is what the text means as stated
-/// (docs/MEANING.md). It does not allocate.
-///
-/// ```
-/// use semver_parser::filters::version_meets_as_stated;
-/// use semver_parser::{version, Compat, RangeSet};
-///
-/// let version = version::parse("1.0.0-beta.11")?;
-/// let stated = RangeSet::parse(">=1.0.0-beta.2 <1.0.0", Compat::Npm)?;
-/// assert!(version_meets_as_stated(&stated, &version));
-/// assert!(!version_meets_as_stated(&RangeSet::parse("<1.0.0", Compat::Npm)?, &version));
-/// # Ok::<(), String>(())
-/// ```
-pub fn version_meets_as_stated(set: &RangeSet, version: &Version) -> bool {
-    some_range_is_met_as_stated(&set.ranges, version)
-}
-
-/// Whether a version meets some range.
+/// Whether a version satisfies some range.
 fn some_range_is_met(ranges: &[Range], version: &Version) -> bool {
     ranges.iter().any(|range| range_is_met(range, version))
 }
 
-/// Whether a version meets some range in which it counts.
-fn some_range_is_met_as_stated(ranges: &[Range], version: &Version) -> bool {
-    ranges.iter().any(|range| range_is_met(range, version) && counts_beside(range, version))
-}
-
-/// Whether a version meets all comparators of a range.
+/// Whether a version satisfies all comparators of a range.
 fn range_is_met(range: &Range, version: &Version) -> bool {
     each_comparator_is_met(&range.comparator_set, version)
 }
 
-/// Whether a version meets all comparators.
+/// Whether a version satisfies all comparators.
 fn each_comparator_is_met(comparators: &[Comparator], version: &Version) -> bool {
     comparators
         .iter()
         .all(|comparator| comparator_is_met(comparator, version))
 }
 
-/// Whether a version meets a comparator.
+/// Whether a version satisfies a comparator.
 #[inline(always)]
 fn comparator_is_met(comparator: &Comparator, version: &Version) -> bool {
     let ordering = precedence::compare(version, comparator);
@@ -103,25 +76,4 @@ fn comparator_is_met(comparator: &Comparator, version: &Version) -> bool {
         Op::Gte => ordering.is_ge(),
         Op::Eq => ordering.is_eq(),
     }
-}
-
-/// Whether a version counts in a range: a release does, and a pre-release where a comparator has
-/// its three numbers and a pre-release.
-fn counts_beside(range: &Range, version: &Version) -> bool {
-    version.pre.is_empty() || some_has_pre_release_at(&range.comparator_set, version)
-}
-
-/// Whether some comparator has the three numbers of a version, and a pre-release.
-fn some_has_pre_release_at(comparators: &[Comparator], version: &Version) -> bool {
-    comparators
-        .iter()
-        .any(|comparator| has_pre_release_at(comparator, version))
-}
-
-/// Whether a comparator has the three numbers of a version, and a pre-release.
-fn has_pre_release_at(comparator: &Comparator, version: &Version) -> bool {
-    !comparator.pre.is_empty()
-        && version.major == comparator.major
-        && version.minor == comparator.minor
-        && version.patch == comparator.patch
 }

@@ -1,25 +1,26 @@
 // Made by tools/erase from crates/release_filter/src/lib.rt; not edited by hand.
-//! Which versions a range text means, by one of three rules for pre-releases: a filter of versions
-//! and of the lines of a text that comes in pieces, the greatest version, the line of the greatest
-//! or the least, and the lines sorted; and which versions meet a range set.
+//! Which versions and lines match a range: the releases among many versions, the lines of a text
+//! that comes in pieces, the line of the highest or the lowest version, and the lines sorted; and
+//! which versions satisfy a range set.
 
 use crate::rattle_std::prelude::*;
-mod counts;
 mod filter;
-mod judging;
 mod kept;
 mod line_filter;
+mod line_options;
+mod line_statistics;
 mod line_texts;
 mod lines;
+mod long_lines;
 mod meeting;
 mod precedence;
-mod skipping;
-mod wanted;
+mod selection;
+mod verdict;
 
-pub use counts::{Counts, InvalidLine};
-pub use filter::{Filter, filter_text};
-pub use judging::Judged;
+pub use filter::filter_text;
+pub use line_options::LineOptions;
+pub use line_statistics::{Counts, InvalidLine};
+pub use line_texts::LineEnd;
 pub use lines::{Lines, LinesError, Stopped};
-pub use meeting::{release_meets, version_meets, version_meets_as_stated};
-pub use crate::proved::version_sets::PreReleases;
-pub use wanted::Wanted;
+pub use meeting::{release_meets, version_meets};
+pub use selection::Selection;

@@ -1,16 +1,16 @@
 // Made by tools/erase from crates/release_filter_main/src/arguments.rt; not edited by hand.
-//! What the arguments ask for.
+//! What the arguments request.
 #![cfg(feature = "std")]
 
 use crate::rattle_std::prelude::*;
 use crate::proved::command_line::{ArgumentError, MeaningOptions};
-use crate::proved::release_filter::{Filter, Lines, Wanted};
-use crate::rattle_std::AllocError;
+use crate::proved::release_filter::{LineEnd, LineOptions, Selection};
 use crate::rattle_std::env;
 use crate::rattle_std::rt::Env;
 use crate::proved::tool_ranges::meaning::Meaning;
+use crate::proved::version_sets::PreReleases;
 
-/// What the arguments ask for.
+/// What the arguments request.
 pub enum Request {
     /// To filter.
     Filter(Filtering),
@@ -20,7 +20,7 @@ pub enum Request {
     Version,
 }
 
-/// The filter that the arguments ask for, and what it is to do.
+/// The filter that the arguments request, and what it is to do.
 pub struct Filtering {
     /// The range text.
     pub range: String,
@@ -28,41 +28,48 @@ pub struct Filtering {
     pub meaning: Meaning,
     /// The files that are read; without one it is standard input.
     pub files: Vec<String>,
-    /// What is done with the lines.
+    /// What else is to be done.
     pub options: Options,
 }
 
-/// What the options ask to be done with the lines.
+/// The options of this program alone.
 pub struct Options {
     /// The texts that may be before a version: the first after which there is one decides.
     pub prefixes: Vec<String>,
-    /// How what is kept is written.
-    pub form: Form,
-    /// Which of the kept lines are wanted.
-    wanted: Wanted,
-    /// The option that asked for them, if one did.
-    asked: Option<&'static str>,
-    /// Whether a line without a version is an error.
-    is_strict: bool,
+    /// What is done with the lines.
+    pub lines: LineOptions,
+    /// Whether the order of the lines is reversed.
+    pub is_reversed: bool,
+    /// Whether only the number of lines is written.
+    pub is_counted: bool,
+    /// Whether input and output are arrays of strings in JSON.
+    pub is_json: bool,
+    /// Whether the versions are wanted that the range doesn't contain.
+    pub is_inverted: bool,
+    /// The kind of versions that are wanted, if only one is.
+    pub only: Option<Kind>,
+    /// The option that chose the wanted lines, if one did.
+    selecting: Option<&'static str>,
     /// Whether `--line-buffered` was given, which changes nothing.
     is_line_buffered: bool,
-    /// Whether the next argument is the prefix.
-    wants_prefix: bool,
+    /// What the next argument is, if it is the value of an option.
+    awaited: Option<Value>,
     /// Whether options may follow.
     has_more: bool,
 }
 
-/// How what is kept is written.
+/// A kind of versions.
+#[derive(Clone, Copy, PartialEq, Eq)]
+pub enum Kind {
+    Releases,
+    PreReleases,
+}
+
+/// An option's value that is an argument of its own.
 #[derive(Clone, Copy)]
-pub struct Form {
-    /// Records end with a zero byte in place of a line feed, in the input and in the output.
-    pub is_null: bool,
-    /// The order of the lines is reversed.
-    pub is_reversed: bool,
-    /// Lines are written without their prefix.
-    pub is_stripped: bool,
-    /// Only the number of lines is written.
-    pub is_counted: bool,
+enum Value {
+    Prefix,
+    Kind,
 }
 
 impl Options {
@@ -70,84 +77,117 @@ impl Options {
     fn new() -> Options {
         Options {
             prefixes: Vec::new(),
-            form: Form {
-                is_null: false,
-                is_reversed: false,
-                is_stripped: false,
-                is_counted: false,
-            },
-            wanted: Wanted::Each,
-            asked: None,
-            is_strict: false,
+            lines: LineOptions::new(),
+            is_reversed: false,
+            is_counted: false,
+            is_json: false,
+            is_inverted: false,
+            only: None,
+            selecting: None,
             is_line_buffered: false,
-            wants_prefix: false,
+            awaited: None,
             has_more: true,
         }
     }
 
-    /// The lines that these options ask for, of which no byte was taken yet.
-    pub fn lines(&self, filter: Filter) -> Result<Lines, AllocError> {
-        let mut prefixes = Vec::new();
-        for prefix in self.prefixes.iter() {
-            prefixes.fallible_push(prefix.as_str().fallible_to_string()?)?;
-        }
-        let lines = Lines::new(filter, prefixes, self.wanted, self.is_strict);
-        Ok(lines)
-    }
-
-    /// Takes an option, and returns whether it is known. It is refused where an earlier one has
+    /// Takes an option, and returns whether it is known. It is refused if an earlier one has
     /// settled the same.
     fn take(&mut self, rt: &impl AllocGlobal, option: &str) -> Result<bool, ArgumentError> {
         if let Some(prefix) = option.strip_prefix("--prefix=") {
-            let Ok(prefix) = prefix.fallible_to_string() else {
-                return Err(ArgumentError::Unreadable);
-            };
-            self.take_prefix(prefix)?;
+            push(&mut self.prefixes, prefix.fallible_to_string()?)?;
+            return Ok(true);
+        }
+        if let Some(kind) = option.strip_prefix("--only=") {
+            self.take_kind(kind)?;
             return Ok(true);
         }
         match option {
             "--" => self.has_more = false,
-            "--highest" | "--greatest" => self.select("--highest", Wanted::Greatest)?,
-            "--lowest" | "--least" => self.select("--lowest", Wanted::Least)?,
-            "--sort" => self.select("--sort", Wanted::Sorted)?,
-            "--strict" => given_once("--strict", &mut self.is_strict)?,
-            "--line-buffered" => given_once("--line-buffered", &mut self.is_line_buffered)?,
-            "--prefix" => self.wants_prefix = true,
-            _ => return self.take_form(option),
+            "--prefix" => self.awaited = Some(Value::Prefix),
+            "--only" => self.awaited = Some(Value::Kind),
+            "--highest" | "--greatest" => self.select("--highest", Selection::Highest)?,
+            "--lowest" | "--least" => self.select("--lowest", Selection::Lowest)?,
+            "--sort" => self.select("--sort", Selection::Sorted)?,
+            "--null" if self.lines.ending == LineEnd::ZeroByte => {
+                return Err(ArgumentError::GivenTwice("--null"));
+            }
+            "--null" => self.lines.ending = LineEnd::ZeroByte,
+            _ => return self.take_switch(option),
         }
         Ok(true)
     }
 
-    /// Takes an option of how what is kept is written, and returns whether it is known.
-    fn take_form(&mut self, option: &str) -> Result<bool, ArgumentError> {
+    /// Takes an option without a value, and returns whether it is known.
+    fn take_switch(&mut self, option: &str) -> Result<bool, ArgumentError> {
         match option {
-            "--null" => given_once("--null", &mut self.form.is_null)?,
-            "--reverse" => given_once("--reverse", &mut self.form.is_reversed)?,
-            "--strip-prefix" => given_once("--strip-prefix", &mut self.form.is_stripped)?,
-            "--count" => given_once("--count", &mut self.form.is_counted)?,
+            "--invert" => given_once("--invert", &mut self.is_inverted)?,
+            "--reverse" => given_once("--reverse", &mut self.is_reversed)?,
+            "--strip-prefix" => given_once("--strip-prefix", &mut self.lines.strips_prefix)?,
+            "--json" => given_once("--json", &mut self.is_json)?,
+            "--count" => given_once("--count", &mut self.is_counted)?,
+            "--strict" => given_once("--strict", &mut self.lines.is_strict)?,
+            "--line-buffered" => given_once("--line-buffered", &mut self.is_line_buffered)?,
             _ => return Ok(false),
         }
         Ok(true)
     }
 
-    /// Takes which lines are wanted, and the option that asks for them.
-    fn select(&mut self, option: &'static str, wanted: Wanted) -> Result<(), ArgumentError> {
-        let earlier = self.asked;
+    /// Takes which lines are wanted, and the option that names them.
+    fn select(&mut self, option: &'static str, selection: Selection) -> Result<(), ArgumentError> {
+        let earlier = self.selecting;
         match earlier {
-            Some(_) if self.wanted == wanted => Err(ArgumentError::GivenTwice(option)),
+            Some(_) if self.lines.selection == selection => Err(ArgumentError::GivenTwice(option)),
             Some(earlier) => Err(ArgumentError::Contradiction(option, earlier)),
             None => {
-                self.wanted = wanted;
-                self.asked = Some(option);
+                self.lines.selection = selection;
+                self.selecting = Some(option);
                 Ok(())
             }
         }
     }
 
-    /// Takes a prefix.
-    fn take_prefix(&mut self, prefix: String) -> Result<(), ArgumentError> {
-        self.wants_prefix = false;
-        push(&mut self.prefixes, prefix)
+    /// Takes an argument that is the value of an option.
+    fn take_value(&mut self, value: Value, argument: String) -> Result<(), ArgumentError> {
+        self.awaited = None;
+        match value {
+            Value::Prefix => push(&mut self.prefixes, argument),
+            Value::Kind => self.take_kind(argument.as_str()),
+        }
+    }
+
+    /// Takes the kind of versions that are wanted.
+    fn take_kind(&mut self, kind: &str) -> Result<(), ArgumentError> {
+        if self.only.is_some() {
+            return Err(ArgumentError::GivenTwice("--only"));
+        }
+        self.only = match kind {
+            "releases" => Some(Kind::Releases),
+            "pre-releases" => Some(Kind::PreReleases),
+            _ => return Err(ArgumentError::NoKind),
+        };
+        Ok(())
+    }
+
+    /// Takes that releases alone are wanted, as `--releases-only` says.
+    fn require_releases(&mut self) -> Result<(), ArgumentError> {
+        if self.only == Some(Kind::PreReleases) {
+            let only = "--only pre-releases";
+            return Err(ArgumentError::Contradiction(only, "--releases-only"));
+        }
+        self.only = Some(Kind::Releases);
+        Ok(())
+    }
+
+    /// Has each string of JSON end in a zero byte, which none has.
+    fn end_strings(&mut self) -> Result<(), ArgumentError> {
+        if !self.is_json {
+            return Ok(());
+        }
+        if self.lines.ending == LineEnd::ZeroByte {
+            return Err(ArgumentError::Contradiction("--json", "--null"));
+        }
+        self.lines.ending = LineEnd::ZeroByte;
+        Ok(())
     }
 }
 
@@ -168,8 +208,8 @@ fn given_once(option: &'static str, is_given: &mut bool) -> Result<(), ArgumentE
     Ok(())
 }
 
-/// What the arguments ask for. What begins with a hyphen is an option, up to the first `--`, but
-/// for `-` alone and for what follows `--prefix`, `--dialect` and `--as`.
+/// What the arguments request. What begins with a hyphen is an option, up to the first `--`, except
+/// `-` alone and what follows `--prefix`, `--only`, `--dialect` and `--as`.
 pub fn requested(rt: &(impl Env + AllocGlobal)) -> Result<Request, ArgumentError> {
     let Ok(mut arguments) = env::args(rt) else {
         return Err(ArgumentError::Unreadable);
@@ -180,8 +220,8 @@ pub fn requested(rt: &(impl Env + AllocGlobal)) -> Result<Request, ArgumentError
     let mut meaning = MeaningOptions::new();
     let mut options = Options::new();
     for argument in arguments {
-        if options.wants_prefix {
-            options.take_prefix(argument)?;
+        if let Some(value) = options.awaited {
+            options.take_value(value, argument)?;
             continue;
         }
         if options.has_more && meaning.take(argument.as_str())? {
@@ -202,20 +242,26 @@ pub fn requested(rt: &(impl Env + AllocGlobal)) -> Result<Request, ArgumentError
     request_of(range, files, meaning, options)
 }
 
-/// What arguments ask for that are taken one by one.
+/// What arguments request that are taken one by one.
 fn request_of(
     range: Option<String>,
     files: Vec<String>,
     meaning: MeaningOptions,
-    options: Options,
+    mut options: Options,
 ) -> Result<Request, ArgumentError> {
-    if options.wants_prefix {
-        return Err(ArgumentError::NoPrefix);
+    match options.awaited {
+        Some(Value::Prefix) => return Err(ArgumentError::NoPrefix),
+        Some(Value::Kind) => return Err(ArgumentError::NoKind),
+        None => {}
     }
-    if options.form.is_reversed && options.wanted != Wanted::Sorted {
+    if options.is_reversed && options.lines.selection != Selection::Sorted {
         return Err(ArgumentError::NoOrder);
     }
+    options.end_strings()?;
     let meaning = meaning.finish()?;
+    if meaning.pre_releases == PreReleases::Excluded {
+        options.require_releases()?;
+    }
     match range {
         Some(range) => Ok(Request::Filter(Filtering {
             range,

@@ -1,14 +1,18 @@
 // Made by tools/erase from crates/replayed_cases/src/filtering.rt; not edited by hand.
-//! What the filter keeps, and which versions meet a set.
+//! What the filter keeps, and which versions a set contains.
 #![cfg(feature = "std")]
 
 use crate::rattle_std::prelude::*;
-use crate::proved::release_filter::{Filter, Lines, PreReleases, Wanted, filter_text, version_meets};
+use crate::proved::release_filter::{LineOptions, Lines, Selection, filter_text, version_meets};
 use crate::proved::semver_parser::version::Version;
 use crate::proved::semver_parser::{Compat, RangeError, RangeSet, version};
 use crate::rattle_std::AllocError;
 use crate::rattle_std::io;
 use crate::rattle_std::io::Write;
+use crate::proved::tool_ranges::dialect::Dialect;
+use crate::proved::tool_ranges::meaning::Meaning;
+use crate::proved::tool_ranges::version_range::VersionRange;
+use crate::proved::version_sets::PreReleases;
 
 /// Writes the versions of a list, separated by blanks, that are kept of it, or the error of the
 /// text.
@@ -24,8 +28,8 @@ pub fn write_kept<W: Write>(
     }
 }
 
-/// Writes the versions of a list, separated by blanks, that pass a filter, or the error of the
-/// text. Where the filter reads other ones of the texts itself, that is told after them.
+/// Writes the versions of a list, separated by blanks, that a range contains, or the error of the
+/// text. If it contains other ones by their texts, they follow.
 pub fn write_passed<W: Write>(
     text: &str,
     compat: Compat,
@@ -36,36 +40,72 @@ pub fn write_passed<W: Write>(
     let Some(versions) = versions_of(list)? else {
         return write!(out, "not all are versions");
     };
-    match Filter::new(text, compat, pre_releases) {
-        Ok(filter) => {
-            let kept = filter.kept(&versions)?;
-            let are_read = are_read(&filter, list, &kept)?;
+    match VersionRange::read(text, meaning_of(compat, pre_releases)) {
+        Ok(range) => {
+            let kept = contained(&range, &versions)?;
+            let are_same = are_contained(&range, list, &kept, &versions);
             write_answer(&Ok(kept), out)?;
-            if are_read {
+            if are_same {
                 Ok(())
             } else {
-                write!(out, ", and others are read")
+                write!(out, ", and others by their texts")
             }
         }
         Err(error) => write_answer(&Err(error), out),
     }
 }
 
-/// Whether a filter reads these versions of a list, and no other ones.
-fn are_read(filter: &Filter, list: &str, kept: &[&Version]) -> io::Result<bool> {
+/// A mode and a rule as a meaning.
+fn meaning_of(compat: Compat, pre_releases: PreReleases) -> Meaning {
+    let dialect = match compat {
+        Compat::Cargo => Dialect::CrateCargo,
+        Compat::Npm => Dialect::CrateNpm,
+    };
+    Meaning {
+        dialect,
+        pre_releases,
+    }
+}
+
+/// Those of the versions that a range contains.
+fn contained<'v>(
+    range: &VersionRange,
+    versions: &'v [Version],
+) -> Result<Vec<&'v Version>, AllocError> {
+    let mut kept = Vec::new();
+    for version in versions {
+        if range.contains_version(version) {
+            kept.fallible_push(version)?;
+        }
+    }
+    Ok(kept)
+}
+
+/// Whether a range contains by their texts just those versions of a list that were kept.
+fn are_contained(
+    range: &VersionRange,
+    list: &str,
+    kept: &[&Version],
+    versions: &[Version],
+) -> bool {
+    let mut all = versions.iter();
     let mut left = kept.iter();
     for item in list.split(' ') {
-        if let Some(version) = filter.read(item)? {
-            match left.next() {
-                Some(next) if **next == version => {}
-                _ => return Ok(false),
+        if item.is_empty() {
+            continue;
+        }
+        let version = all.next();
+        if range.contains_bytes(item.as_bytes()) == Ok(true) {
+            match (version, left.next()) {
+                (Some(version), Some(next)) if *version == **next => {}
+                _ => return false,
             }
         }
     }
-    Ok(left.next().is_none())
+    left.next().is_none()
 }
 
-/// Writes the greatest of those, if there is one.
+/// Writes the highest of those, if there is one.
 pub fn write_greatest<W: Write>(
     text: &str,
     pre_releases: PreReleases,
@@ -75,24 +115,33 @@ pub fn write_greatest<W: Write>(
     let Some(versions) = versions_of(list)? else {
         return write!(out, "not all are versions");
     };
-    let filter = match Filter::new(text, Compat::Npm, pre_releases) {
-        Ok(filter) => filter,
+    let meaning = meaning_of(Compat::Npm, pre_releases);
+    let range = match VersionRange::read(text, meaning) {
+        Ok(range) => range,
         Err(error) => return write!(out, "{error}"),
     };
-    match filter.greatest(&versions) {
+    let mut texts = Vec::new();
+    for item in list.split(' ') {
+        if !item.is_empty() {
+            texts.fallible_push(item.as_bytes())?;
+        }
+    }
+    match range
+        .highest_of(&texts)
+        .and_then(|index| versions.get(index)) {
         Some(version) => write!(out, "{version}"),
         None => write!(out, "none"),
     }
 }
 
-/// Writes the line of the greatest version after a prefix, and how many bytes are left.
+/// Writes the line of the highest version after a prefix, and how many bytes are left.
 pub fn write_greatest_line<W: Write>(
     text: &str,
     prefix: &str,
     lines: &str,
     out: &mut W,
 ) -> io::Result<()> {
-    let mut chosen = match lines_of(text, prefix, Wanted::Greatest)? {
+    let mut chosen = match lines_of(text, prefix, Selection::Highest)? {
         Ok(chosen) => chosen,
         Err(error) => return write!(out, "{error}"),
     };
@@ -113,7 +162,7 @@ pub fn write_copied<W: Write>(
     lines: &str,
     out: &mut W,
 ) -> io::Result<()> {
-    let mut chosen = match lines_of(text, prefix, Wanted::Each)? {
+    let mut chosen = match lines_of(text, prefix, Selection::Each)? {
         Ok(chosen) => chosen,
         Err(error) => return write!(out, "{error}"),
     };
@@ -127,17 +176,20 @@ pub fn write_copied<W: Write>(
 fn lines_of(
     text: &str,
     prefix: &str,
-    wanted: Wanted,
+    wanted: Selection,
 ) -> io::Result<Result<Lines, RangeError>> {
-    let filter = match Filter::new(text, Compat::Npm, PreReleases::Default) {
-        Ok(filter) => filter,
+    let meaning = meaning_of(Compat::Npm, PreReleases::Default);
+    let range = match VersionRange::read(text, meaning) {
+        Ok(range) => range,
         Err(error) => return Ok(Err(error)),
     };
     let mut prefixes = Vec::new();
     if !prefix.is_empty() {
         prefixes.fallible_push(prefix.fallible_to_string()?)?;
     }
-    Ok(Ok(Lines::new(filter, prefixes, wanted, false)))
+    let mut options = LineOptions::new();
+    options.selection = wanted;
+    Ok(Ok(Lines::new(range, prefixes, options)))
 }
 
 /// What a text appends in pieces of so many bytes, and how many of its bytes are not taken.
@@ -203,8 +255,8 @@ fn write_answer<W: Write>(kept: &Result<Vec<&Version>, RangeError>, out: &mut W)
     }
 }
 
-/// Writes the versions of a list, separated by blanks, that meet the set of a text, pre-releases
-/// too, or the error of the text.
+/// Writes the versions of a list, separated by blanks, that the set of a text contains, with
+/// pre-releases, or the error of the text.
 pub fn write_met<W: Write>(
     text: &str,
     compat: Compat,

@@ -24,14 +24,14 @@ mod tools;
 mod versions;
 
 use checksum::Checksum;
-use filtering::write_greatest as greatest;
-use crate::proved::release_filter::PreReleases;
+use filtering::write_greatest as highest;
 use crate::proved::semver_parser::version::Grammar;
 use crate::proved::semver_parser::{Compat, version};
 use crate::rattle_std::io;
 use crate::rattle_std::io::{BufRead, BufReader, BufWriter, Write};
 use crate::proved::tool_ranges::dialect::Dialect;
 use crate::proved::tool_ranges::meaning::Meaning;
+use crate::proved::version_sets::PreReleases;
 
 /// A dialect with the default rule for pre-releases, and with each pre-release within the bounds.
 const CARGO: Meaning = Meaning {
@@ -114,9 +114,9 @@ fn answer<W: Write>(
         "copy-tags" => filtering::write_copied(text, "v", steps, out),
         "greatest-line" => filtering::write_greatest_line(text, "", steps, out),
         "greatest-tag" => filtering::write_greatest_line(text, "v", steps, out),
-        "greatest-release" => greatest(text, PreReleases::Excluded, steps, out),
-        "greatest-stated" => greatest(text, PreReleases::Default, steps, out),
-        "greatest-of-all" => greatest(text, PreReleases::Included, steps, out),
+        "greatest-release" => highest(text, PreReleases::Excluded, steps, out),
+        "greatest-stated" => highest(text, PreReleases::Default, steps, out),
+        "greatest-of-all" => highest(text, PreReleases::Included, steps, out),
         "refused-range-as-cargo" => places::write_refused(text, Dialect::Cargo, out),
         "refused-range-as-npm" => places::write_refused(text, Dialect::Npm, out),
         "refused-range-as-crate-cargo" => {

@@ -1,5 +1,5 @@
 // Made by tools/erase from crates/replayed_cases/src/sets.rt; not edited by hand.
-//! Sets of the versions that range texts mean, and how two of them stand to each other.
+//! Sets of the versions that range texts mean, and how two of them compare.
 #![cfg(feature = "std")]
 
 use crate::rattle_std::prelude::*;
@@ -15,7 +15,7 @@ use crate::proved::version_sets::{PreReleases, VersionSet};
 pub type Dialect = (PreReleases, Compat);
 
 /// Writes the versions of a list, separated by blanks, that are in the set of a text, then its
-/// least version and its least release, or the error of the text.
+/// lowest version and its lowest release, or the error of the text.
 pub fn write_set<W: Write>(
     dialect: Dialect,
     text: &str,
@@ -30,21 +30,21 @@ pub fn write_set<W: Write>(
         Err(error) => return write!(out, "{error}"),
     };
     for version in versions.iter() {
-        if set.has(version) {
+        if set.contains(version) {
             write!(out, "{version} ")?;
         }
     }
     write!(out, "end, least ")?;
-    write_least(&set, out)?;
+    write_lowest(&set, out)?;
     write!(out, ", least release ")?;
-    match set.least_release() {
+    match set.lowest_release() {
         Some(release) => write!(out, "{}", release.version())?,
         None => write!(out, "none")?,
     }
     write!(out, ", empty {}", set.is_empty())
 }
 
-/// Writes how the sets of two texts stand to each other, or the error of a text. The second text
+/// Writes how the sets of two texts compare, or the error of a text. The second text
 /// may have a semicolon after it and then versions, separated by blanks: of each is written what
 /// it is in.
 pub fn write_pair<W: Write>(
@@ -137,8 +137,8 @@ impl Parts {
     }
 }
 
-/// Writes the least versions that the first set has alone, the second has alone, and both have, and
-/// whether the first is within the second, both overlap, and are the same.
+/// Writes the lowest versions that the first set has alone, the second has alone, and both have,
+/// and whether the first is within the second, both overlap, and are the same.
 fn write_compared<W: Write>(
     first: &VersionSet,
     second: &VersionSet,
@@ -146,12 +146,12 @@ fn write_compared<W: Write>(
     out: &mut W,
 ) -> io::Result<()> {
     write!(out, "lost ")?;
-    write_least(&parts.lost, out)?;
+    write_lowest(&parts.lost, out)?;
     write!(out, ", gained ")?;
-    write_least(&parts.gained, out)?;
+    write_lowest(&parts.gained, out)?;
     write!(out, ", shared ")?;
-    write_least(&parts.shared, out)?;
-    let (within, overlaps) = (first.is_within(second), first.overlaps(second));
+    write_lowest(&parts.shared, out)?;
+    let (within, overlaps) = (first.is_subset(second), !first.is_disjoint(second));
     let same = first == second;
     write!(out, ", within {within}, overlaps {overlaps}, same {same}")
 }
@@ -173,16 +173,16 @@ fn write_places<W: Write>(
         (" union", &parts.union),
     ];
     for (place, set) in places {
-        if set.has(version) {
+        if set.contains(version) {
             write!(out, "{place}")?;
         }
     }
     Ok(())
 }
 
-/// Writes the least version of a set, if there is one.
-fn write_least<W: Write>(set: &VersionSet, out: &mut W) -> io::Result<()> {
-    match set.least()? {
+/// Writes the lowest version of a set, if there is one.
+fn write_lowest<W: Write>(set: &VersionSet, out: &mut W) -> io::Result<()> {
+    match set.lowest()? {
         Some(version) => write!(out, "{version}"),
         None => write!(out, "none"),
     }

@@ -1,6 +1,6 @@
 // Made by tools/erase from crates/replayed_cases/src/text.rt; not edited by hand.
-//! Texts of the table, where `\n`, `\r`, `\t` and `\\` stand for characters, and `\(3,a,-)` for
-//! `a-a-a`. In a unit that is so repeated `\#` stands for its place: `\(3,a\#,.)` is `a0.a1.a2`.
+//! Texts of the table, where `\n`, `\r`, `\t` and `\\` are characters, and `\(3,a,-)` for
+//! `a-a-a`. In a unit that is so repeated `\#` is its index: `\(3,a\#,.)` is `a0.a1.a2`.
 
 use crate::rattle_std::prelude::*;
 use crate::rattle_std::AllocError;
@@ -27,7 +27,7 @@ pub fn expanded(escaped: &str) -> Result<Option<String>, AllocError> {
     Ok(Some(text))
 }
 
-/// Appends what `count,unit,joiner` stands for: so many units, joined. False where it isn't well
+/// Appends what `count,unit,joiner` means: so many units, joined. False where it isn't well
 /// written.
 fn push_repeated(text: &mut String, repeated: &str) -> Result<bool, AllocError> {
     let Some((count, rest)) = repeated.split_once(',') else {
@@ -76,7 +76,7 @@ fn push_unescaped(
     Ok(!is_escape)
 }
 
-/// The character that an escape stands for.
+/// The character that an escape means.
 fn escape(character: char) -> Option<char> {
     match character {
         'n' => Some('\n'),

@@ -39,7 +39,7 @@ pub fn write_meant<W: Write>(
     };
     write!(out, "means")?;
     for (version, item) in versions.iter().zip(list.split(' ')) {
-        let is_meant = set.has_by(version, tool.dialect.grammar().digits());
+        let is_meant = set.contains_by(version, tool.dialect.grammar().digits());
         if is_meant {
             write!(out, " {version}")?;
         }
@@ -53,7 +53,8 @@ pub fn write_meant<W: Write>(
 /// Whether a text that is asked of one version says this of it.
 fn is_asked_so(tool: Meaning, text: &str, item: &str, is_meant: bool) -> bool {
     match version::outline_in(item.as_bytes(), tool.dialect.grammar()) {
-        Some(outline) => matches!(meaning::meets(tool, text, &outline), Ok(met) if met == is_meant),
+        Some(outline) =>
+            matches!(meaning::satisfies(&outline, text, tool), Ok(met) if met == is_meant),
         None => false,
     }
 }

@@ -1,19 +1,26 @@
 // Made by tools/erase from crates/semver_parser/src/lib.rt; not edited by hand.
-//! Version texts and range texts as plain data: tokens, a `Version` that prints again, and a
-//! `RangeSet` of plain comparators.
+//! The port of the Rust crate `semver-parser`: version texts and range texts as plain data, under
+//! its names and in its modules. [`version::parse`] reads a version, and [`RangeSet::parse`] a
+//! range set.
 //!
-//! Its parts are in crates below it: tokens and the steps of a parser, versions, and ranges. Here
-//! is the whole surface of the Rust crate, under its paths, and the report of the program.
+//! | module | what it has |
+//! |---|---|
+//! | `lexer`, `parser` | the tokens of a version text, and a parser over them |
+//! | `version` | versions, read and printed |
+//! | `range`, `range_set` | ranges of comparators, read and printed |
+//! | `laws` | what the definitions say of each other |
+//! | `report` | what the program writes |
+//!
+//! Most pass on what a crate below has. Those crates use none of each other, so they are proved
+//! side by side; what needs two of them is here.
 
 use crate::rattle_std::prelude::*;
+pub mod lexer;
+pub mod parser;
+mod range;
+mod range_set;
 pub mod report;
 pub mod version;
-pub mod writing;
 
-pub use crate::proved::semver_ranges::{Comparator, Compat, Identifier, Op, Range, RangeError, RangeSet};
-pub use crate::proved::semver_tokens::parser;
-
-/// The tokens of a text: its signs, its white space, and its runs of ASCII letters and digits.
-pub mod lexer {
-    pub use crate::proved::semver_tokens::lexer::{Error, Lexer, Token};
-}
+pub use range::{Comparator, Compat, Identifier, Op, Range};
+pub use range_set::{RangeError, RangeSet};

@@ -1,12 +1,13 @@
 // Made by tools/erase from crates/semver_parser/src/report.rt; not edited by hand.
-//! The lines of the program, and its status.
+//! What the program `semver-parser` writes of a text, as a version and as a range in each mode, and
+//! its exit status.
 #![cfg(feature = "std")]
 
 use crate::rattle_std::prelude::*;
 use crate::proved::semver_parser::parser;
 use crate::proved::semver_parser::version::{self, Version};
-use crate::proved::semver_parser::writing::write_whole;
 use crate::proved::semver_ranges::{Compat, RangeError, RangeSet};
+use crate::proved::semver_texts::writing::write_whole;
 use crate::rattle_std::io::{self, Write};
 
 /// What a line shows after its label.

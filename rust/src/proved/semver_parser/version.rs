@@ -1,12 +1,12 @@
 // Made by tools/erase from crates/semver_parser/src/version.rt; not edited by hand.
-//! Version texts as plain data, and back: read from bytes, and by [`parse`], which also says what is
-//! wrong with an invalid version.
+//! Version texts as plain data, and back: read from bytes, and by [`parse`], which also says what
+//! is wrong with an invalid version.
 
 use crate::rattle_std::prelude::*;
 use crate::proved::semver_parser::parser::{self, Parser};
 pub use crate::proved::semver_versions::version::{
-    Grammar, Identifier, Outline, Version, cmp_precedence, outline, outline_bytes, outline_in,
-    read, read_bytes,
+    Digits, Grammar, Identifier, Outline, Version, cmp_precedence, outline, outline_bytes,
+    outline_in, read, read_bytes,
 };
 
 /// The version that the text spells. It prints as the text without the white space round it, and a

@@ -52,7 +52,7 @@ fn refused(rt: &impl Eprint, why: &str) -> ExitCode {
     ExitCode::from(2)
 }
 
-/// Says why on standard error. Where that can't be written, nobody is told, and the status stays.
+/// Writes why to standard error. If that fails, the exit status stays as it is.
 fn say(rt: &impl Eprint, why: &str) {
     let _ = crate::rattle_std::fallible_eprintln!(rt; "{why}");
 }

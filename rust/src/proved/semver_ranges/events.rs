@@ -1,7 +1,7 @@
 // Made by tools/erase from crates/semver_ranges/src/events.rt; not edited by hand.
 //! The events of a range text, from the left to the right.
 //!
-//! Nothing here takes memory, and a call looks at each byte a fixed number of times.
+//! Nothing here allocates, and a call looks at each byte a fixed number of times.
 
 use crate::rattle_std::prelude::*;
 use crate::proved::semver_ranges::grammar::{

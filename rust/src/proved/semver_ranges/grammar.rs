@@ -1,18 +1,17 @@
 // Made by tools/erase from crates/semver_ranges/src/grammar.rt; not edited by hand.
 //! What is at the front of a range text: a simple, or the right side of a hyphen range.
 //!
-//! Nothing here takes memory, and a call looks at each byte a fixed number of times. What can't be
+//! Nothing here allocates, and a call looks at each byte a fixed number of times. What can't be
 //! read is `None`.
 
 use crate::rattle_std::prelude::*;
-use crate::proved::semver_ranges::limits::is_short_word;
+use crate::proved::semver_ranges::npm_lengths::is_short_word;
 use crate::proved::semver_ranges::partial::{Component, Components, Partial};
 use crate::proved::semver_texts::decimals;
 use crate::proved::semver_texts::dotted::{Hyphens, have_no_leading_zeros, marked_part, strip_mark};
 use crate::proved::semver_texts::grammar::Grammar;
-
-/// A word of so many bytes is never too long to npm.
-const SHORT: usize = 250;
+use crate::proved::semver_texts::npm_limits::MAX_SAFE_BUILD_LENGTH;
+use crate::proved::semver_texts::white_space::is_ascii_white_space;
 
 /// What is before a partial: nothing, or an operator.
 #[derive(Clone, Copy, PartialEq, Eq)]
@@ -144,11 +143,12 @@ fn has_no_leading_zeros(written: &Components<'_>) -> bool {
     written.count < 3 || have_no_leading_zeros(written.pre)
 }
 
-/// Whether the word isn't too long to npm that is before a rest.
+/// Whether the word isn't too long to npm that is before a rest. For speed, its length is compared
+/// with the smallest limit first.
 #[inline(always)]
 fn is_short(text: &[u8], rest: &[u8], role: Role) -> bool {
     let len = text.len() - rest.len();
-    if len <= SHORT {
+    if len <= MAX_SAFE_BUILD_LENGTH {
         return true;
     }
     is_short_word(&text[..len], role)
@@ -312,5 +312,5 @@ fn is_blank(byte: u8, grammar: Grammar) -> bool {
 /// the crate's dialect stay small.
 #[inline(never)]
 fn is_white_space(byte: u8) -> bool {
-    matches!(byte, b'\t'..=b'\r' | b' ' | 128..=255)
+    is_ascii_white_space(byte) || byte >= 128
 }

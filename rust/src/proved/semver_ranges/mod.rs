@@ -9,14 +9,14 @@
 
 use crate::rattle_std::prelude::*;
 pub mod comparing;
+pub mod desugared_texts;
+pub mod desugaring;
 pub mod events;
 pub mod grammar;
-mod limits;
+mod npm_lengths;
 pub mod partial;
 mod range;
 mod range_set;
-pub mod rewriting;
-pub mod table;
 
 pub use range::{Comparator, Compat, Identifier, Op, Range};
 pub use range_set::{RangeError, RangeSet};

@@ -5,7 +5,7 @@ use crate::rattle_std::prelude::*;
 use crate::proved::semver_texts::printing::{write_joined, write_part};
 use crate::rattle_std::fmt;
 
-/// A range: comparators that a version meets all together.
+/// A range: comparators that a version satisfies all together.
 ///
 /// ```
 /// use semver_parser::{Compat, RangeSet};
@@ -44,7 +44,7 @@ impl crate::rattle_std::FallibleClone for Range {
 /// ```
 #[derive(Clone, PartialEq, Eq, PartialOrd, Ord, Hash, Debug)]
 pub struct Comparator {
-    /// How a version compares that meets it.
+    /// How a version compares that satisfies it.
     pub op: Op,
     /// The first number.
     pub major: u64,

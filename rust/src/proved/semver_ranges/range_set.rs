@@ -2,17 +2,17 @@
 //! Range sets: the ranges of a text in one of two modes, and their printed text.
 
 use crate::rattle_std::prelude::*;
+use crate::proved::semver_ranges::desugared_texts::{Desugaring, read_by};
+use crate::proved::semver_ranges::desugaring::{Desugared, rewritten};
 use crate::proved::semver_ranges::grammar::{Simple, read_simple};
 use crate::proved::semver_ranges::partial::{LowerBounds, Partial, RaisedBounds};
 use crate::proved::semver_ranges::range::{Comparator, Compat, Range};
-use crate::proved::semver_ranges::rewriting::{Bounds, rewritten};
-use crate::proved::semver_ranges::table::{Table, read_by};
 use crate::proved::semver_texts::grammar::Grammar;
 use crate::proved::semver_texts::printing::write_joined;
 use crate::rattle_std::AllocError;
 use crate::rattle_std::fmt;
 
-/// A range set: ranges of which a version meets at least one.
+/// A range set: ranges of which a version satisfies at least one.
 ///
 /// ```
 /// use semver_parser::{Compat, RangeSet};
@@ -77,16 +77,16 @@ impl RangeSet {
     /// The text is one or more ranges separated by `||`. A range is nothing, one or more simples
     /// separated by blanks, or two partials round a hyphen between blanks; a simple is a partial
     /// after `=`, `<`, `<=`, `>`, `>=`, `~`, `~>`, `^` or no operator. A blank is a space or a
-    /// tab. `docs/GRAMMAR.md` states the whole grammar, and `docs/MEANING.md` which comparators
-    /// stand for which simple, and what they mean.
+    /// tab. `docs/GRAMMAR.md` states the whole grammar, and `docs/CRATE.md` the comparators of
+    /// each simple, and what they mean.
     ///
     /// The answer has the ranges in the order of the text, each with its comparators in order, and
     /// `compat` in the set and in each range. It has at least one range, and each range at least
     /// one comparator. The mode decides how a bare version of three numbers is read, and nothing
     /// else. Builds are dropped.
     ///
-    /// A version meets the comparators where the text means it, or where it is a pre-release of a
-    /// raised bound: `2.0.0-alpha` is below the `<2.0.0` of `^1.2.3`. `RangeSet::parse_exact` has
+    /// A version satisfies the comparators where the text means it, or where it is a pre-release of
+    /// a raised bound: `2.0.0-alpha` is below the `<2.0.0` of `^1.2.3`. `RangeSet::parse_exact` has
     /// no such exception.
     ///
     /// # Errors
@@ -119,8 +119,8 @@ impl RangeSet {
     ///
     /// A bound that the text states stays as it is.
     ///
-    /// Nothing of 2.0.0 is below `2.0.0-0`. So a version, a pre-release too, meets the answer
-    /// exactly if it meets what the text means by itself, without the exception of
+    /// Nothing of 2.0.0 is below `2.0.0-0`. So a version, a pre-release too, satisfies the answer
+    /// exactly if it satisfies the text, without the exception of
     /// `RangeSet::parse` for the pre-releases of raised bounds.
     ///
     /// # Errors
@@ -180,7 +180,7 @@ const LONGEST_ONLY_SIMPLE: usize = 14;
 
 /// The comparators of a text that is one simple from its first byte on, and that fits. What it
 /// doesn't find, the two runs decide.
-fn read_only_simple(text: &[u8], compat: Compat) -> Option<(Partial<'_>, Bounds)> {
+fn read_only_simple(text: &[u8], compat: Compat) -> Option<(Partial<'_>, Desugared)> {
     if text.len() > LONGEST_ONLY_SIMPLE {
         return None;
     }
@@ -199,7 +199,7 @@ fn read_only_simple(text: &[u8], compat: Compat) -> Option<(Partial<'_>, Bounds)
 /// The set of one range that has these comparators.
 fn build_only_simple(
     partial: &Partial<'_>,
-    bounds: Bounds,
+    bounds: Desugared,
     compat: Compat,
     raised: RaisedBounds,
 ) -> Result<RangeSet, AllocError> {
@@ -219,7 +219,7 @@ struct Rows {
     raised: RaisedBounds,
 }
 
-impl Table for Rows {
+impl Desugaring for Rows {
     const DIALECT: Grammar = Grammar::Crate;
 
     #[inline(always)]

@@ -73,6 +73,12 @@ pub fn marked_part(bytes: &[u8], mark: u8, hyphens: Hyphens) -> Option<(&[u8], &
     Some(after.split_at(len))
 }
 
+/// How many bytes parts have with their mark: 5 of `rc.1`, and 0 if there are none.
+#[inline(always)]
+pub fn marked_len(parts: &[u8]) -> usize {
+    if parts.is_empty() { 0 } else { parts.len() + 1 }
+}
+
 /// The text of parts. Their bytes and the dots between them are ASCII, so they always are a text.
 pub(crate) fn text_of_parts(bytes: &[u8]) -> &str {
     match crate::rattle_std::str::from_utf8(bytes) {
@@ -182,7 +188,7 @@ fn cut_parts<T, F: Fn(&str) -> Result<T, AllocError>>(
     Ok(made)
 }
 
-/// What is made of each part between the dots; nothing of an empty text, which takes no memory.
+/// What is made of each part between the dots; nothing of an empty text, which does not allocate.
 #[inline(always)]
 pub(crate) fn of_parts<T, F: Fn(&str) -> Result<T, AllocError>>(
     text: &str,

@@ -2,7 +2,7 @@
 //! The tokens of a text: its signs, its white space, and its runs of ASCII letters and digits.
 //!
 //! The text is read by bytes, from the left; a character past ASCII is decoded only to be named in
-//! an error. Nothing here takes memory: each token that has a text borrows it from the input.
+//! an error. Nothing here allocates: each token that has a text borrows it from the input.
 
 use crate::rattle_std::prelude::*;
 use crate::proved::semver_texts::bytes::{is_space, run_len, space_len};

@@ -308,7 +308,7 @@ impl<'input> Parser<'input> {
     ///   hyphen. It is taken too.
     /// - `UnexpectedEnd`: no token remains there. What came before stays taken.
     /// - `Lexer`: a bad character is pending and at most one token remains. That token stays, since
-    ///   it can't be told whether the identifier ends with it.
+    ///   it isn't known whether the identifier ends with it.
     /// - `OutOfMemory`: there is no memory for the text, which is taken at once. Its tokens stay
     ///   taken, and no more. A number does not allocate.
     ///
@@ -419,7 +419,7 @@ impl<'input> Parser<'input> {
     ///
     /// With a character pending it answers `Lexer` of it: no token remains then, and the character
     /// stays pending. `OutOfMemory` if its one allocation failed: nothing is changed then. It
-    /// asks for memory only where tokens remain and no character is pending, once, for exactly
+    /// allocates only if tokens remain and no character is pending, once, for exactly
     /// their number.
     ///
     /// ```
@@ -463,7 +463,7 @@ fn identifier_front(text: &str) -> &str {
     &text[..len]
 }
 
-/// Appends where there is room.
+/// Appends where there is capacity.
 fn push_within<'input>(tokens: &mut Vec<Token<'input>>, token: Token<'input>) {
     let Ok(()) = tokens.fallible_push(token) else {
         unreachable!()

@@ -4,7 +4,7 @@
 use crate::rattle_std::prelude::*;
 use crate::proved::semver_versions::comparing::InVersions;
 use crate::proved::semver_versions::identifiers::{identifiers, identifiers_of_text};
-use crate::proved::semver_texts::dotted::text_of_parts;
+use crate::proved::semver_texts::dotted::{marked_len, text_of_parts};
 use crate::proved::semver_texts::grammar::Digits;
 use crate::proved::semver_texts::identifiers::{ByDigits, Joined};
 use crate::proved::semver_texts::precedence::{Identifiers, compare};
@@ -35,6 +35,27 @@ pub struct Outline<'t> {
 }
 
 impl<'t> Outline<'t> {
+    /// The outline of 0.0.0.
+    ///
+    /// ```
+    /// use semver_parser::version::{self, Outline};
+    ///
+    /// let zero = version::outline("0.0.0").unwrap();
+    /// assert!(Outline::zero().compare(&zero).is_eq());
+    /// ```
+    pub fn zero() -> Outline<'t> {
+        Outline {
+            major: 0,
+            minor: 0,
+            patch: 0,
+            pre: &[],
+            build: &[],
+            before_pre: 0,
+            before_build: 0,
+            digits: Digits::Kept,
+        }
+    }
+
     /// The first number.
     ///
     /// ```
@@ -167,7 +188,7 @@ impl<'t> Outline<'t> {
 
     /// The identifiers of the pre-release. Digits from 2^64 on are kept as a text.
     ///
-    /// Memory is asked for where there are some: for their list, and for each that isn't a number.
+    /// It allocates if there are some: for their list, and for each that isn't a number.
     /// `Err` is out of memory.
     ///
     /// ```
@@ -183,7 +204,7 @@ impl<'t> Outline<'t> {
         identifiers(self.pre)
     }
 
-    /// The identifiers of the build. Memory is asked for as by [`Outline::pre_identifiers`].
+    /// The identifiers of the build. It allocates as [`Outline::pre_identifiers`].
     ///
     /// ```
     /// use semver_parser::version::{self, Identifier};
@@ -199,7 +220,7 @@ impl<'t> Outline<'t> {
 
     /// The version that the outline is of.
     ///
-    /// Memory is asked for where there is a pre-release or a build: for the lists of identifiers,
+    /// It allocates if there is a pre-release or a build: for the lists of identifiers,
     /// and for each identifier that isn't a number. `Err` is out of memory.
     ///
     /// ```
@@ -288,12 +309,6 @@ fn identifiers_at(
         return Ok(Vec::new());
     }
     identifiers_of_text(&text[offset..offset + parts.len()])
-}
-
-/// How many bytes a part has with its mark.
-#[inline(always)]
-fn marked_len(part: &[u8]) -> usize {
-    if part.is_empty() { 0 } else { part.len() + 1 }
 }
 
 /// Where a part begins whose mark is at the place; 0 where there is no part.

@@ -42,7 +42,7 @@ pub(crate) enum Length {
     Any,
 }
 
-/// Returns whether some version begins with these bytes but for the last 8, which are room for
+/// Returns whether some version begins with these bytes but for the last 8, which are free for
 /// completions. The prefix may end within a character: `1.2.` and byte 0xC2 alone begin versions of
 /// npm, and `1.x` begins none.
 ///

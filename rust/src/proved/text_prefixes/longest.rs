@@ -3,32 +3,85 @@
 //! asking the language itself what a prefix could be completed with.
 
 use crate::rattle_std::prelude::*;
-use crate::proved::text_prefixes::buffers::write;
+use crate::proved::text_prefixes::buffers::{complete, join};
+use crate::rattle_std::AllocError;
+
+/// How often a prefix is looked for by the likely completions alone.
+const ROUNDS: usize = 4;
 
 /// A language: which texts are of it, and what completes each prefix of them.
 pub trait Language {
     /// Whether a text is of the language.
-    fn has(&self, text: &str) -> bool;
+    fn contains(&self, text: &str) -> bool;
 
     /// What its prefixes are completed with.
     fn all_completions(&self) -> &[&str];
+
+    /// The index of the completion by which a prefix most likely goes on. Another index changes how
+    /// long a search takes, and never what it finds.
+    fn likely(&self, prefix: &str) -> usize;
 }
 
 /// Returns the end of the longest prefix of a text that some text of a language begins with: the
-/// length of the text if it is of the language itself. With the versions of npm, `1.2.x` gives 4:
-/// `1.2.0` begins as far.
+/// length of the text if it is of the language itself. With the versions of npm, `1.2.x` gives 4,
+/// since `1.2.0` begins with its first 4 bytes.
 ///
-/// The buffer must have at least 8 bytes more than the text; what it holds then is not specified.
-/// For a text of n bytes that is not of the language, it asks the language of each completion of
-/// log n prefixes. It does not allocate.
-pub(crate) fn longest_prefix<L: Language>(language: &L, text: &str, buffer: &mut [u8]) -> usize {
-    if language.has(text) {
-        return text.len();
+/// For a text of n bytes it tries the likely completion of log n prefixes, and each completion of
+/// the next one; seldom each completion of log n prefixes.
+///
+/// # Errors
+///
+/// `AllocError` if the allocation of a buffer of n + 8 bytes fails.
+pub(crate) fn longest_prefix<L: Language>(
+    language: &L,
+    text: &str,
+) -> Result<usize, AllocError> {
+    let mut buffer = String::fallible_with_capacity(text.len().saturating_add(8))?;
+    Ok(longest_prefix_in(language, text, &mut buffer))
+}
+
+/// Returns what [`longest_prefix`] does, found in a buffer with a capacity of the text and 8 bytes
+/// more.
+pub(crate) fn longest_prefix_in<L: Language>(language: &L, text: &str, buffer: &mut String) -> usize {
+    let mut good = 0;
+    'rounds: for _ in 0..ROUNDS {
+        good = likely_prefix(language, text, good, buffer);
+        if good == text.len() {
+            return good;
+        }
+        let next = after(text, good);
+        if !is_prefix(language, &text[..next], buffer) {
+            return good;
+        }
+        good = next;
     }
+    longest_from(language, text, good, buffer)
+}
+
+/// The end of a prefix that some text of the language begins with, from one such end on: mostly of
+/// the longest one.
+fn likely_prefix<L: Language>(language: &L, text: &str, prefix: usize, buffer: &mut String) -> usize {
+    let mut good = prefix;
+    let mut end = text.len();
+    loop {
+        let middle = between(text, good, end);
+        if middle == good {
+            return good;
+        }
+        if is_likely(language, &text[..middle], buffer) {
+            good = middle;
+        } else {
+            end = middle;
+        }
+    }
+}
+
+/// The end of the longest prefix, after one that some text of the language begins with.
+fn longest_from<L: Language>(language: &L, text: &str, prefix: usize, buffer: &mut String) -> usize {
     if is_prefix(language, text, buffer) {
         return text.len();
     }
-    let mut good = 0;
+    let mut good = prefix;
     let mut bad = text.len();
     loop {
         let middle = between(text, good, bad);
@@ -43,18 +96,8 @@ pub(crate) fn longest_prefix<L: Language>(language: &L, text: &str, buffer: &mut
     }
 }
 
-/// Returns what [`longest_prefix`] does, of bytes that need not be UTF-8, if all texts of the
-/// language are.
-pub(crate) fn longest_prefix_of_bytes<L: Language>(
-    language: &L,
-    bytes: &[u8],
-    buffer: &mut [u8],
-) -> usize {
-    longest_prefix(language, text_prefix(bytes), buffer)
-}
-
 /// The longest prefix of the bytes that is UTF-8.
-fn text_prefix(bytes: &[u8]) -> &str {
+pub(crate) fn text_prefix(bytes: &[u8]) -> &str {
     match crate::rattle_std::str::from_utf8(bytes) {
         Ok(text) => text,
         Err(error) => match crate::rattle_std::str::from_utf8(&bytes[..error.valid_up_to()]) {
@@ -62,6 +105,16 @@ fn text_prefix(bytes: &[u8]) -> &str {
             Err(_) => "",
         },
     }
+}
+
+/// The next offset between two characters.
+fn after(text: &str, offset: usize) -> usize {
+    for at in offset + 1..text.len() {
+        if text.is_char_boundary(at) {
+            return at;
+        }
+    }
+    text.len()
 }
 
 /// An offset between two characters, after one offset and before another, near to halfway between
@@ -81,23 +134,22 @@ fn between(text: &str, good: usize, bad: usize) -> usize {
     good
 }
 
+/// Whether a prefix with its likely completion is of the language.
+fn is_likely<L: Language>(language: &L, prefix: &str, buffer: &mut String) -> bool {
+    let completions = language.all_completions();
+    let completion = completions[language.likely(prefix)];
+    join(buffer, prefix, completion);
+    language.contains(buffer.as_str())
+}
+
 /// Whether a prefix with one of the completions is of the language.
-fn is_prefix<L: Language>(language: &L, prefix: &str, buffer: &mut [u8]) -> bool {
-    let end = prefix.len();
-    write(buffer, 0, prefix.as_bytes());
+fn is_prefix<L: Language>(language: &L, prefix: &str, buffer: &mut String) -> bool {
+    join(buffer, prefix, "");
     for completion in language.all_completions() {
-        write(buffer, end, completion.as_bytes());
-        if is_text(language, &buffer[..end + completion.len()]) {
+        complete(buffer, prefix, completion);
+        if language.contains(buffer.as_str()) {
             return true;
         }
     }
     false
-}
-
-/// Whether the bytes, which are UTF-8, are a text of the language.
-fn is_text<L: Language>(language: &L, bytes: &[u8]) -> bool {
-    match crate::rattle_std::str::from_utf8(bytes) {
-        Ok(text) => language.has(text),
-        Err(_) => false,
-    }
 }

@@ -2,12 +2,13 @@
 //! Prefixes of the texts of a language: what some text of it begins with, and the end of the
 //! longest one that a text begins with. The language says which texts are its own, and which few
 //! texts complete a prefix; there is no second grammar. Versions of each dialect are such a
-//! language. Only `refusals::explain` allocates.
+//! language. Only `refusals::explain` and `longest::longest_prefix` allocate.
 
 use crate::rattle_std::prelude::*;
-mod buffers;
+pub mod buffers;
 pub mod bytes;
 pub mod longest;
+pub mod prefix_bytes;
 pub mod reasons;
 pub mod refusals;
 mod versions;

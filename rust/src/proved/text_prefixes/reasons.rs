@@ -5,7 +5,7 @@ use crate::rattle_std::prelude::*;
 use crate::proved::semver_texts::grammar::Grammar;
 use crate::rattle_std::fmt;
 
-/// Why a text is not a version, or not a range. It prints as its sentence.
+/// Why a text is no valid version, or not a range. It prints as its sentence.
 ///
 /// ```
 /// use semver_parser::refusals::{self, Reason};

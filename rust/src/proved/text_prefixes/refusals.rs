@@ -1,19 +1,20 @@
 // Made by tools/erase from crates/text_prefixes/src/refusals.rt; not edited by hand.
-//! Where and why a text is not a version.
+//! Where and why a text is no valid version.
 
 use crate::rattle_std::prelude::*;
-use crate::proved::text_prefixes::buffers::write;
+use crate::proved::text_prefixes::buffers::join;
 use crate::proved::text_prefixes::bytes::{Length, begins, is_version};
+use crate::proved::text_prefixes::longest::{longest_prefix_in, text_prefix};
+use crate::proved::text_prefixes::prefix_bytes::{byte_at, ends_in_zero, from_end, has_no_digit, is_separator};
 use crate::proved::text_prefixes::reasons::Reason;
-use crate::proved::text_prefixes::versions::offset;
+use crate::proved::text_prefixes::versions::Versions;
 use crate::proved::semver_texts::bytes::is_part_byte;
 use crate::proved::semver_texts::grammar::Grammar;
+use crate::proved::semver_texts::npm_limits::MAX_LENGTH;
+use crate::proved::semver_texts::white_space::is_ascii_white_space;
 use crate::rattle_std::AllocError;
 
-/// A version of npm has at most so many characters; the other dialects have no limit.
-const CHARACTERS: usize = 256;
-
-/// Where and why a text is not a version.
+/// Where and why a text is no valid version.
 ///
 /// ```
 /// use semver_parser::refusals::{self, Reason, VersionRefusal};
@@ -29,30 +30,6 @@ pub struct Refusal {
     pub offset: usize,
     /// Why.
     pub reason: Reason,
-}
-
-/// Whether the byte is white space of ASCII.
-fn is_ascii_white(byte: u8) -> bool {
-    matches!(byte, 9..=13 | 32)
-}
-
-/// Whether the byte follows a number or an identifier in some versions.
-fn is_separator(byte: u8) -> bool {
-    matches!(byte, b'.' | b'-' | b'+') || is_ascii_white(byte)
-}
-
-/// A byte by its offset from the end; 0 before the first.
-fn from_end(prefix: &[u8], offset: usize) -> u8 {
-    if offset < prefix.len() {
-        prefix[prefix.len() - 1 - offset]
-    } else {
-        0
-    }
-}
-
-/// Whether it has no digit.
-fn has_no_digit(prefix: &[u8]) -> bool {
-    prefix.iter().all(|byte| !byte.is_ascii_digit())
 }
 
 /// Whether neither a number nor a `v` has begun.
@@ -106,13 +83,13 @@ fn reason_by(
     if too_long {
         Reason::TooLong
     } else if byte.is_ascii_digit() && (last.is_ascii_digit() && !letter) {
-        if last == b'0' && !from_end(prefix, 1).is_ascii_digit() {
+        if ends_in_zero(prefix) {
             Reason::LeadingZero
         } else {
             Reason::too_large_in(grammar)
         }
     } else if version {
-        if is_ascii_white(byte) || !is_part_byte(last) {
+        if is_ascii_white_space(byte) || !is_part_byte(last) {
             Reason::TextAfter
         } else {
             Reason::UnexpectedCharacter
@@ -132,12 +109,10 @@ fn reason_by(
     }
 }
 
-/// Whether the prefix and one more byte are a version of any length.
-fn takes(prefix: &[u8], byte: u8, grammar: Grammar, buffer: &mut [u8]) -> bool {
-    let end = prefix.len();
-    write(buffer, 0, prefix);
-    write(buffer, end, &[byte]);
-    is_version(&buffer[..end + 1], Length::Any, grammar)
+/// Whether the prefix and a letter or digit are a version of any length.
+fn takes(prefix: &str, part: &str, grammar: Grammar, buffer: &mut String) -> bool {
+    join(buffer, prefix, part);
+    is_version(buffer.as_bytes(), Length::Any, grammar)
 }
 
 /// Whether the dialect limits the length of a version.
@@ -151,23 +126,20 @@ fn has_limit(grammar: Grammar) -> bool {
 
 /// Whether some version begins with the bytes, but each is longer than the dialect allows. For
 /// speed, of a short text the answer is known.
-fn is_too_long(text: &[u8], grammar: Grammar, buffer: &mut [u8]) -> bool {
+fn is_too_long(text: &[u8], grammar: Grammar) -> Result<bool, AllocError> {
     if !has_limit(grammar) {
-        return false;
+        return Ok(false);
     }
-    if text.len() + 8 <= CHARACTERS {
-        return false;
+    if text.len() + 8 <= MAX_LENGTH {
+        return Ok(false);
     }
-    begins(text, Length::Any, grammar, buffer) && !begins(text, Length::Allowed, grammar, buffer)
+    let mut buffer = Vec::fallible_from_elem(0, text.len().saturating_add(8))?;
+    Ok(is_too_long_in(text, grammar, buffer.as_mut_slice()))
 }
 
-/// The byte at an offset, if there is one.
-fn byte_at(input: &[u8], offset: usize) -> Option<u8> {
-    if offset < input.len() {
-        Some(input[offset])
-    } else {
-        None
-    }
+/// The same, found in a buffer that has 8 bytes more than the text.
+fn is_too_long_in(text: &[u8], grammar: Grammar, buffer: &mut [u8]) -> bool {
+    begins(text, Length::Any, grammar, buffer) && !begins(text, Length::Allowed, grammar, buffer)
 }
 
 /// The bytes up to an offset, and the one at it, if there is one.
@@ -179,7 +151,7 @@ fn with_next(input: &[u8], offset: usize) -> &[u8] {
     }
 }
 
-/// Returns where and why a text is not a version, or `None` if it is one.
+/// Returns where and why a text is no valid version, or `None` if it is one.
 ///
 /// ```text
 /// explain(alloc, b"1.2.03", Grammar::Cargo)?    // at 5: LeadingZero
@@ -190,40 +162,37 @@ fn with_next(input: &[u8], offset: usize) -> &[u8] {
 ///
 /// # Errors
 ///
-/// `AllocError` if an allocation fails. It allocates only if the text is not a version, and then
-/// one buffer of about its length.
+/// `AllocError` if an allocation fails. It allocates only if the text is no valid version, and then
+/// one buffer of about its length, or two if it is npm's and longer than 248 bytes.
 pub fn explain(text: &[u8], grammar: Grammar) -> Result<Option<Refusal>, AllocError> {
     if is_version(text, Length::Allowed, grammar) {
         return Ok(None);
     }
-    let mut buffer = Vec::fallible_from_elem(0, text.len().saturating_add(8))?;
-    Ok(refused(text, grammar, buffer.as_mut_slice()))
+    Ok(Some(refused(text, grammar)?))
 }
 
-/// What [`explain`] returns, found in a buffer that has 8 bytes more than the text.
-fn refused(input: &[u8], grammar: Grammar, buffer: &mut [u8]) -> Option<Refusal> {
-    if is_version(input, Length::Allowed, grammar) {
-        return None;
-    }
-    let offset = offset(input, grammar, buffer);
-    let reason = reason_at(input, offset, grammar, buffer);
-    Some(Refusal { offset, reason })
+/// Where and why a text is an invalid version, if it is one.
+fn refused(input: &[u8], grammar: Grammar) -> Result<Refusal, AllocError> {
+    let text = text_prefix(input);
+    let mut buffer = String::fallible_with_capacity(text.len().saturating_add(8))?;
+    let offset = longest_prefix_in(&Versions { grammar }, text, &mut buffer);
+    let too_long = is_too_long(with_next(input, offset), grammar)?;
+    let next = byte_at(input, offset);
+    let reason = reason_at(&text[..offset], next, too_long, grammar, &mut buffer);
+    Ok(Refusal { offset, reason })
 }
 
-/// The reason at an offset, up to which some version begins with the text.
-fn reason_at(input: &[u8], offset: usize, grammar: Grammar, buffer: &mut [u8]) -> Reason {
-    let prefix = &input[..offset];
-    let version = is_version(prefix, Length::Any, grammar);
-    let letter = takes(prefix, b'a', grammar, buffer);
-    let zero = takes(prefix, b'0', grammar, buffer);
-    let too_long = is_too_long(with_next(input, offset), grammar, buffer);
-    reason_by(
-        grammar,
-        version,
-        letter,
-        zero,
-        too_long,
-        prefix,
-        byte_at(input, offset),
-    )
+/// The reason at the end of a prefix, by the byte after it, and whether both are too long.
+fn reason_at(
+    prefix: &str,
+    next: Option<u8>,
+    too_long: bool,
+    grammar: Grammar,
+    buffer: &mut String,
+) -> Reason {
+    let bytes = prefix.as_bytes();
+    let version = is_version(bytes, Length::Any, grammar);
+    let letter = takes(prefix, "a", grammar, buffer);
+    let zero = takes(prefix, "0", grammar, buffer);
+    reason_by(grammar, version, letter, zero, too_long, bytes, next)
 }

@@ -8,7 +8,7 @@ use crate::proved::semver_texts::grammar::Digits;
 use crate::rattle_std::AllocError;
 use crate::proved::version_sets::{PreReleases, VersionSet};
 
-/// The versions that meet comparators by a rule for pre-releases.
+/// The versions that satisfy comparators by a rule for pre-releases.
 pub(crate) fn set_of(
     set: &RangeSet,
     pre_releases: PreReleases,

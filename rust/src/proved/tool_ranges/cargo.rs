@@ -2,20 +2,20 @@
 //! Requirements as Cargo reads them: `1.2` is `>=1.2.0 <2.0.0`, and commas separate comparators.
 
 use crate::rattle_std::prelude::*;
-mod asking;
+mod checking;
 mod fitting;
 mod grammar;
-mod judging;
+mod matching;
 mod pre_releases;
-mod reading;
+mod requirement_sets;
 
-use crate::proved::tool_ranges::rows::{self, Cell};
-pub(crate) use asking::{ask, ask_with_all};
+use crate::proved::tool_ranges::desugaring::{self, ToolDesugared};
+use checking::{JudgedVersions, push_judging};
 pub(crate) use fitting::fitting;
 use grammar::read_comparator;
-use judging::{JudgedVersions, push_judging};
-pub use reading::read;
-pub(crate) use reading::read_with_all;
+pub(crate) use matching::{matches, matches_with_all};
+pub use requirement_sets::read;
+pub(crate) use requirement_sets::read_with_all;
 use crate::proved::semver_ranges::grammar::Simple;
 use crate::proved::semver_ranges::partial::{LowerBounds, Partial, RaisedBounds};
 use crate::proved::semver_ranges::{Comparator, Compat, Range, RangeError, RangeSet};
@@ -33,8 +33,8 @@ const MOST_COMPARATORS: usize = 32;
 /// `1.2` gives `>=1.2.0 <2.0.0-0`, `>=1.2.3, <2` gives `>=1.2.3 <2.0.0`, `>1.2` gives `>=1.3.0`,
 /// and `*` gives `>=0.0.0`.
 ///
-/// A release meets the answer exactly if the requirement means it. Which pre-releases Cargo takes
-/// comparators can't say.
+/// A release satisfies the answer exactly if the requirement means it. Which pre-releases Cargo
+/// takes comparators can't say.
 ///
 /// # Errors
 ///
@@ -74,7 +74,7 @@ fn rewritten_all(requirement: &str) -> Result<Vec<Range>, RangeError> {
 
 /// The set of one comparator, as it is read.
 fn rewritten_one(simple: &Simple<'_>) -> Result<RangeSet, RangeError> {
-    let cell = rows::cell_of(simple, Compat::Cargo);
+    let cell = desugaring::desugared_by_tool(simple, Compat::Cargo);
     if !cell.fits(&simple.partial) {
         return Err(RangeError::NumberTooLarge);
     }
@@ -88,8 +88,11 @@ fn rewritten_one(simple: &Simple<'_>) -> Result<RangeSet, RangeError> {
 }
 
 /// The range of one cell that fits. For speed the most frequent comparators aren't pushed.
-fn build_one(partial: &Partial<'_>, cell: Cell) -> Result<Vec<Range>, AllocError> {
-    if let Cell::Shared(bounds) = cell {
+fn build_one(
+    partial: &Partial<'_>,
+    cell: ToolDesugared,
+) -> Result<Vec<Range>, AllocError> {
+    if let ToolDesugared::Shared(bounds) = cell {
         return in_one_range(bounds.to_vec(partial, RaisedBounds::Exact)?);
     }
     let mut comparators = Vec::fallible_with_capacity(1)?;
@@ -109,7 +112,7 @@ fn in_one_range(comparator_set: Vec<Comparator>) -> Result<Vec<Range>, AllocErro
 }
 
 /// A requirement that was surveyed: its first comparator, what follows the comma after it, and how
-/// many comparators stand for all. For speed the first is kept: so one alone is read once.
+/// many comparators there are in all. For speed the first is kept: so one alone is read once.
 #[derive(Clone, Copy)]
 struct Surveyed<'t> {
     first: Simple<'t>,
@@ -129,7 +132,7 @@ fn survey(requirement: &str) -> Result<Surveyed<'_>, RangeError> {
     let mut fit = true;
     for at in 0..MOST_COMPARATORS {
         states_all &= !simple.partial.states_nothing();
-        let cell = rows::cell_of(&simple, Compat::Cargo);
+        let cell = desugaring::desugared_by_tool(&simple, Compat::Cargo);
         fit &= cell.fits(&simple.partial);
         count = count.saturating_add(cell.count());
         let Some(rest) = after else {
@@ -161,8 +164,8 @@ fn ended<T: Copy>(stands_alone: bool, fit: bool, answer: T) -> Result<T, RangeEr
     Ok(answer)
 }
 
-/// The range of a requirement, by which some versions are judged, and the ranges of the
-/// pre-releases that count, if these are asked for.
+/// The range of a requirement, by which some versions are checked, and the ranges of the
+/// pre-releases that count, if these are wanted.
 fn build(
     surveyed: &Surveyed<'_>,
     judged: JudgedVersions,

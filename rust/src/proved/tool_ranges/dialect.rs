@@ -102,8 +102,8 @@ impl Dialect {
 ///
 /// It is [`cargo::rewrite`](crate::proved::tool_ranges::cargo::rewrite), [`npm::rewrite`](crate::proved::tool_ranges::npm::rewrite) or
 /// `RangeSet::parse_exact`: `1.2` gives `>=1.2.0 <2.0.0-0` as Cargo reads it, and
-/// `>=1.2.0 <1.3.0-0` by the others. A release meets the answer exactly if the text means it, and
-/// the printed answer is a range text that `RangeSet::parse` rewrites to it again.
+/// `>=1.2.0 <1.3.0-0` by the others. A release satisfies the answer exactly if the text means it,
+/// and the printed answer is a range text that `RangeSet::parse` rewrites to it again.
 ///
 /// # Errors
 ///

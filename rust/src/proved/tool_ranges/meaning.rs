@@ -2,11 +2,11 @@
 //! What a range text means: in which dialect, and with which pre-releases.
 
 use crate::rattle_std::prelude::*;
-use crate::proved::tool_ranges::asked::Asked;
 use crate::proved::tool_ranges::dialect::Dialect;
-use crate::proved::tool_ranges::{cargo, npm, tally};
-use crate::proved::semver_parser::version::Outline;
+use crate::proved::tool_ranges::stated_numbers::is_release;
+use crate::proved::tool_ranges::{cargo, npm, range_matching};
 use crate::proved::semver_ranges::{Compat, RangeError};
+use crate::proved::semver_versions::version::Outline;
 use crate::proved::version_sets::{PreReleases, VersionSet};
 
 /// The dialect of a range text, and which pre-releases it means (`docs/MEANING.md`). Each dialect
@@ -16,7 +16,7 @@ use crate::proved::version_sets::{PreReleases, VersionSet};
 /// use semver_parser::{sets, Dialect, Meaning, PreReleases};
 ///
 /// let npm = Meaning { dialect: Dialect::Npm, pre_releases: PreReleases::Included };
-/// let lowest = sets::read(npm, "^1.2")?.least().unwrap();
+/// let lowest = sets::read("^1.2", npm)?.lowest().unwrap();
 /// assert_eq!(lowest.unwrap().to_string(), "1.2.0-0");
 /// # Ok::<(), semver_parser::RangeError>(())
 /// ```
@@ -79,12 +79,12 @@ fn releases_of(
     }
 }
 
-/// Returns whether a range text means a version: `^1.2` means 1.9.0 and not 2.0.0 in each dialect,
-/// and `>=1.2.3, <2` is a range in Cargo's alone.
+/// Returns whether a version satisfies a range: 1.9.0 satisfies `^1.2` in each dialect, 2.0.0 in
+/// none, and `>=1.2.3, <2` is a range in Cargo's alone.
 ///
-/// It is for a range that is asked once: the text is read once, from the left to the right, and
-/// nothing is allocated. For many versions, [`read`] the set of the range first. `docs/MEANING.md`
-/// states what each range means.
+/// The range is read once, from the left to the right, and nothing is allocated. For many versions
+/// and one range, read a [`VersionRange`](crate::proved::tool_ranges::version_range::VersionRange). `docs/MEANING.md`
+/// says what each range means.
 ///
 /// # Errors
 ///
@@ -92,15 +92,15 @@ fn releases_of(
 /// text, and `NumberTooLarge` exactly if it has, and a number that it states or a bound that
 /// is raised by one is above the dialect's limit.
 #[inline(always)]
-pub fn meets(meaning: Meaning, range: &str, version: &Outline<'_>) -> Result<bool, RangeError> {
-    ask(meaning, range, &Asked::of(version))
+pub fn satisfies(version: &Outline<'_>, range: &str, meaning: Meaning) -> Result<bool, RangeError> {
+    matches(meaning, range, version)
 }
 
-/// Returns whether a range text is read at all, with the errors of [`meets`]: `^1.2` is, and `1 ||`
-/// isn't in Cargo's dialect. It does not allocate.
+/// Returns whether a range text is read at all, with the errors of [`satisfies`]: `^1.2` is, and `1
+/// ||` isn't in Cargo's dialect. It does not allocate.
 #[inline(never)]
 pub fn check(meaning: Meaning, range: &str) -> Result<(), RangeError> {
-    match ask(meaning, range, &Asked::zero()) {
+    match satisfies(&Outline::zero(), range, meaning) {
         Ok(_) => Ok(()),
         Err(refusal) => Err(refusal),
     }
@@ -108,58 +108,66 @@ pub fn check(meaning: Meaning, range: &str) -> Result<(), RangeError> {
 
 /// What a range text says of a version.
 #[inline(always)]
-fn ask(meaning: Meaning, range: &str, version: &Asked<'_>) -> Result<bool, RangeError> {
+fn matches(meaning: Meaning, range: &str, version: &Outline<'_>) -> Result<bool, RangeError> {
     let rule = meaning.pre_releases;
     match meaning.dialect {
-        Dialect::Cargo => ask_cargo(range, rule, version),
-        Dialect::Npm => ask_npm(range, rule, version),
-        Dialect::CrateCargo => ask_crate(range, Compat::Cargo, rule, version),
-        Dialect::CrateNpm => ask_crate(range, Compat::Npm, rule, version),
+        Dialect::Cargo => matches_cargo(range, rule, version),
+        Dialect::Npm => matches_npm(range, rule, version),
+        Dialect::CrateCargo => matches_crate(range, Compat::Cargo, rule, version),
+        Dialect::CrateNpm => matches_crate(range, Compat::Npm, rule, version),
     }
 }
 
 /// What a requirement of Cargo says of a version by a rule for pre-releases.
 #[inline(always)]
-fn ask_cargo(range: &str, rule: PreReleases, version: &Asked<'_>) -> Result<bool, RangeError> {
+fn matches_cargo(range: &str, rule: PreReleases, version: &Outline<'_>) -> Result<bool, RangeError> {
     match rule {
-        PreReleases::Default => cargo::ask(range, version),
-        PreReleases::Included => cargo::ask_with_all(range, version),
-        PreReleases::Excluded => of_releases(version, cargo::ask(range, version)),
+        PreReleases::Default => cargo::matches(range, version),
+        PreReleases::Included => cargo::matches_with_all(range, version),
+        PreReleases::Excluded => of_releases(version, cargo::matches(range, version)),
     }
 }
 
 /// What a range text of npm says of a version by a rule for pre-releases.
 #[inline(always)]
-fn ask_npm(range: &str, rule: PreReleases, version: &Asked<'_>) -> Result<bool, RangeError> {
+fn matches_npm(range: &str, rule: PreReleases, version: &Outline<'_>) -> Result<bool, RangeError> {
     match rule {
-        PreReleases::Default => npm::ask(range, version),
-        PreReleases::Included => npm::ask_with_all(range, version),
-        PreReleases::Excluded => of_releases(version, npm::ask(range, version)),
+        PreReleases::Default => npm::matches(range, version),
+        PreReleases::Included => npm::matches_with_all(range, version),
+        PreReleases::Excluded => of_releases(version, npm::matches(range, version)),
     }
 }
 
 /// What a range text of the crate in one of its modes says of a version by a rule for pre-releases.
 #[inline(always)]
-fn ask_crate(
+fn matches_crate(
     range: &str,
     compat: Compat,
     rule: PreReleases,
-    version: &Asked<'_>,
+    version: &Outline<'_>,
 ) -> Result<bool, RangeError> {
     match rule {
         PreReleases::Excluded => {
-            of_releases(version, tally::ask_crate(range, compat, version, true))
+            of_releases(
+                version,
+                range_matching::matches_crate(range, compat, version, true),
+            )
         }
-        PreReleases::Default => tally::ask_crate(range, compat, version, version.is_release()),
-        PreReleases::Included => tally::ask_crate(range, compat, version, true),
+        PreReleases::Default => range_matching::matches_crate(
+            range,
+            compat,
+            version,
+            is_release(version),
+        ),
+        PreReleases::Included => range_matching::matches_crate(range, compat, version, true),
     }
 }
 
 /// What was answered, of a release.
 #[inline(always)]
-fn of_releases(version: &Asked<'_>, answer: Result<bool, RangeError>) -> Result<bool, RangeError> {
+fn of_releases(version: &Outline<'_>, answer: Result<bool, RangeError>) -> Result<bool, RangeError> {
     match answer {
-        Ok(met) => Ok(version.is_release() && met),
+        Ok(met) => Ok(is_release(version) && met),
         Err(refusal) => Err(refusal),
     }
 }

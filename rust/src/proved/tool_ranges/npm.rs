@@ -2,30 +2,31 @@
 //! Range texts as npm reads them: `>1.2` is `>=1.3.0`, and `v1` is a range.
 
 use crate::rattle_std::prelude::*;
-mod asking;
-mod reading;
+mod matching;
+mod range_sets;
 
-use crate::proved::tool_ranges::rows;
-pub(crate) use asking::{ask, ask_with_all};
-pub use reading::read;
-pub(crate) use reading::read_with_all;
+use crate::proved::tool_ranges::desugaring;
+pub(crate) use matching::{matches, matches_with_all};
+pub use range_sets::read;
+pub(crate) use range_sets::read_with_all;
+use crate::proved::semver_ranges::desugared_texts::{Desugaring, read_by};
 use crate::proved::semver_ranges::grammar::Simple;
 use crate::proved::semver_ranges::partial::LowerBounds;
-use crate::proved::semver_ranges::table::{Table, read_by};
 use crate::proved::semver_ranges::{Comparator, Compat, RangeError, RangeSet};
 use crate::proved::semver_texts::grammar::Grammar;
+use crate::proved::semver_texts::white_space::is_white_space_beyond_ascii;
 use crate::rattle_std::AllocError;
 
 /// Rewrites a range text, as npm reads it, into plain comparators with exact bounds.
 ///
 /// The text is one or more ranges separated by `||`. `docs/GRAMMAR.md` states the grammar, and
 /// `docs/MEANING.md` what each range means to npm. The answer has the ranges in the order of the
-/// text, in Npm mode. A range by which npm asks nothing, as `*`, is `>=0.0.0`.
+/// text, in Npm mode. A range by which npm matches everything, as `*`, is `>=0.0.0`.
 ///
 /// `>1.2` gives `>=1.3.0`, `<2` gives `<2.0.0-0`, `v1.2.3` gives `=1.2.3`, and `^1.2 || 3.x` gives
 /// `>=1.2.0 <2.0.0-0 || >=3.0.0 <4.0.0-0`.
 ///
-/// A release meets the answer exactly if the text means it. Which pre-releases npm takes
+/// A release satisfies the answer exactly if the text means it. Which pre-releases npm takes
 /// comparators can't say: [`read`] answers them as a set.
 ///
 /// # Errors
@@ -40,12 +41,17 @@ pub fn rewrite(range: &str) -> Result<RangeSet, RangeError> {
     rewritten(range, LowerBounds::Stated)
 }
 
-/// The set of a text, with lower bounds as they are asked for.
+/// The set of a text, with lower bounds as they are wanted.
 fn rewritten(range: &str, lower: LowerBounds) -> Result<RangeSet, RangeError> {
     if !may_stand(range) {
         return Err(RangeError::NotARange);
     }
-    read_by(range.as_bytes(), Compat::Npm, lower, &Rows { lower })
+    read_by(
+        range.as_bytes(),
+        Compat::Npm,
+        lower,
+        &NpmRows { lower },
+    )
 }
 
 /// Whether each character beyond ASCII is white space to JavaScript. For speed it is asked first
@@ -56,33 +62,18 @@ fn may_stand(range: &str) -> bool {
             || is_white_space_beyond_ascii(character))
 }
 
-/// Whether a character beyond ASCII is white space to JavaScript.
-#[inline(always)]
-fn is_white_space_beyond_ascii(character: char) -> bool {
-    matches!(
-        character,
-        '\u{a0}' | '\u{1680}' | '\u{2000}'..='\u{200a}'
-            | '\u{2028}'
-            | '\u{2029}'
-            | '\u{202f}'
-            | '\u{205f}'
-            | '\u{3000}'
-            | '\u{feff}'
-    )
-}
-
-/// npm's table, with lower bounds as they are asked for.
+/// npm's table, with lower bounds as they are wanted.
 #[derive(Clone, Copy)]
-struct Rows {
+struct NpmRows {
     lower: LowerBounds,
 }
 
-impl Table for Rows {
+impl Desugaring for NpmRows {
     const DIALECT: Grammar = Grammar::Npm;
 
     #[inline(always)]
     fn size(&self, simple: &Simple<'_>) -> (bool, usize) {
-        let cell = rows::cell_of(simple, Compat::Npm);
+        let cell = desugaring::desugared_by_tool(simple, Compat::Npm);
         (cell.is_safe(&simple.partial), cell.count())
     }
 
@@ -92,6 +83,6 @@ impl Table for Rows {
         simple: &Simple<'_>,
         comparators: &mut Vec<Comparator>,
     ) -> Result<(), AllocError> {
-        rows::push(simple, Compat::Npm, self.lower, comparators)
+        desugaring::push(simple, Compat::Npm, self.lower, comparators)
     }
 }

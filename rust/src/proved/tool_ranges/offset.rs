@@ -24,13 +24,29 @@ struct RangeTexts {
 }
 
 impl Language for RangeTexts {
-    fn has(&self, text: &str) -> bool {
+    fn contains(&self, text: &str) -> bool {
         is_range(self.dialect, text)
     }
 
     fn all_completions(&self) -> &[&str] {
         &COMPLETIONS
     }
+
+    /// Nothing is missing after a number, an identifier or two bars, nor after a space more; the
+    /// second bar is after one, and else a number is.
+    fn likely(&self, prefix: &str) -> usize {
+        match prefix.as_bytes() {
+            [.., b'|', b'|'] => 0,
+            [.., b'|'] => 3,
+            [.., last] | [.., last, b' '] if may_end(*last) => 0,
+            _ => 5,
+        }
+    }
+}
+
+/// Whether a range text may end in a byte.
+fn may_end(byte: u8) -> bool {
+    byte.is_ascii_alphanumeric() || matches!(byte, b'*' | b'|')
 }
 
 /// Returns the offset of the first error of a refused range text, in bytes: no range text of the
@@ -48,13 +64,12 @@ pub fn error_offset(dialect: Dialect, text: &str) -> Result<usize, AllocError> {
     if is_range(dialect, text) {
         return Ok(text.len());
     }
-    let mut buffer = Vec::fallible_from_elem(0, text.len().saturating_add(8))?;
-    Ok(error_offset_in(dialect, text, buffer.as_mut_slice()))
+    prefix_end(dialect, text)
 }
 
-/// The offset, found in a buffer that has 8 bytes more than the text.
-pub(crate) fn error_offset_in(dialect: Dialect, text: &str, buffer: &mut [u8]) -> usize {
-    longest_prefix(&RangeTexts { dialect }, text, buffer)
+/// The end of the longest prefix of a text that some range text begins with.
+pub(crate) fn prefix_end(dialect: Dialect, text: &str) -> Result<usize, AllocError> {
+    longest_prefix(&RangeTexts { dialect }, text)
 }
 
 /// Returns whether a text is a range text of a dialect: also one with a number that is too large.

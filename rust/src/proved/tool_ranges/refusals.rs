@@ -3,8 +3,8 @@
 
 use crate::rattle_std::prelude::*;
 use crate::proved::tool_ranges::dialect::Dialect;
-use crate::proved::tool_ranges::limit::limit_offset;
-use crate::proved::tool_ranges::offset::{check, error_offset_in, is_range};
+use crate::proved::tool_ranges::offset::{check, prefix_end};
+use crate::proved::tool_ranges::overflow_offset::limit_offset;
 use crate::proved::tool_ranges::reasons::reason_at;
 use crate::proved::semver_ranges::RangeError;
 use crate::rattle_std::AllocError;
@@ -40,39 +40,34 @@ pub struct Refusal {
 /// # Errors
 ///
 /// `AllocError` if an allocation fails. It allocates only if the text is no range text, and then
-/// one buffer of about its length.
+/// two buffers of about its length, one after the other.
 pub fn refused(dialect: Dialect, text: &str) -> Result<Option<Refusal>, AllocError> {
-    if is_range(dialect, text) {
-        return Ok(refused_in(dialect, text, &mut []));
-    }
-    let mut buffer = Vec::fallible_from_elem(0, text.len().saturating_add(8))?;
-    Ok(refused_in(dialect, text, buffer.as_mut_slice()))
-}
-
-/// What [`refused`] returns, found in a buffer that has 8 bytes more than a text that is no range
-/// text.
-fn refused_in(dialect: Dialect, text: &str, buffer: &mut [u8]) -> Option<Refusal> {
     let Err(error) = check(dialect, text) else {
-        return None;
+        return Ok(None);
     };
-    let (offset, reason) = explained(dialect, text, &error, buffer);
-    Some(Refusal {
+    let (offset, reason) = explained(dialect, text, &error)?;
+    Ok(Some(Refusal {
         error,
         offset,
         reason,
-    })
+    }))
 }
 
 /// The offset of an error of a text, and the reason.
-fn explained(dialect: Dialect, text: &str, error: &RangeError, buffer: &mut [u8]) -> (usize, Reason) {
+fn explained(
+    dialect: Dialect,
+    text: &str,
+    error: &RangeError,
+) -> Result<(usize, Reason), AllocError> {
     match error {
         RangeError::NumberTooLarge => {
             let offset = limit_offset(dialect, text);
-            (offset, Reason::too_large_in(dialect.grammar()))
+            Ok((offset, Reason::too_large_in(dialect.grammar())))
         }
         _ => {
-            let offset = error_offset_in(dialect, text, buffer);
-            (offset, reason_at(dialect, text, offset))
+            let offset = prefix_end(dialect, text)?;
+            let reason = reason_at(dialect, text, offset)?;
+            Ok((offset, reason))
         }
     }
 }

@@ -3,8 +3,8 @@
 
 use crate::rattle_std::prelude::*;
 use crate::proved::tool_ranges::meaning::{self, Meaning};
-use crate::proved::semver_parser::version::outline_in;
 use crate::proved::semver_ranges::RangeError;
+use crate::proved::semver_versions::version::outline_in;
 
 /// Why `satisfies` returns no answer. `refusals` says where and why.
 ///
@@ -46,7 +46,7 @@ pub fn satisfies(version: &[u8], range: &str, meaning: Meaning) -> Result<bool, 
     let Some(outline) = outline_in(version, meaning.dialect.grammar()) else {
         return Err(SatisfiesError::InvalidVersion);
     };
-    match meaning::meets(meaning, range, &outline) {
+    match meaning::satisfies(&outline, range, meaning) {
         Ok(met) => Ok(met),
         Err(error) => Err(SatisfiesError::InvalidRange(error)),
     }

@@ -3,7 +3,7 @@
 
 use crate::rattle_std::prelude::*;
 use crate::proved::version_sets::version_set::VersionSet;
-use crate::proved::semver_parser::version::{Grammar, Outline, outline_in};
+use crate::proved::semver_versions::version::{Grammar, Outline, outline_in};
 
 impl VersionSet {
     /// Returns the index of the highest of many versions that are in the set, by precedence (SemVer
@@ -14,7 +14,7 @@ impl VersionSet {
     /// use semver_parser::{sets, Dialect};
     ///
     /// let npm = Dialect::Npm;
-    /// let set = sets::read(npm, "^1.2")?;
+    /// let set = sets::read("^1.2", npm)?;
     /// let versions: [&[u8]; 4] = [b"1.2.0", b"latest", b"1.10.0", b"2.0.0"];
     /// assert_eq!(set.highest_of(&versions, npm.grammar()), Some(2));
     /// assert_eq!(set.highest_of(&[b"2.0.0"], npm.grammar()), None);
@@ -32,7 +32,7 @@ impl VersionSet {
     ///
     /// let npm = Dialect::Npm;
     /// let versions: [&[u8]; 3] = [b"1.1.0", b"1.10.0", b"v1.2.0"];
-    /// assert_eq!(sets::read(npm, "^1.2")?.lowest_of(&versions, npm.grammar()), Some(2));
+    /// assert_eq!(sets::read("^1.2", npm)?.lowest_of(&versions, npm.grammar()), Some(2));
     /// # Ok::<(), semver_parser::RangeError>(())
     /// ```
     pub fn lowest_of(&self, versions: &[&[u8]], grammar: Grammar) -> Option<usize> {
@@ -63,7 +63,7 @@ fn highest(set: &VersionSet, versions: &[&[u8]], grammar: Grammar, lowest: bool)
 #[inline(always)]
 fn member<'t>(set: &VersionSet, version: &'t [u8], grammar: Grammar) -> Option<Outline<'t>> {
     let outline = outline_in(version, grammar)?;
-    if !set.has_outline(&outline) {
+    if !set.contains_outline(&outline) {
         return None;
     }
     Some(outline)

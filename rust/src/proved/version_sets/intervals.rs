@@ -1,19 +1,20 @@
 // Made by tools/erase from crates/version_sets/src/intervals.rt; not edited by hand.
-//! The intervals of a set's switches as ranges of comparators.
+//! The intervals of a set's boundaries as ranges of comparators.
 
 use crate::rattle_std::prelude::*;
-use crate::proved::version_sets::pre_release::PreRelease;
+use crate::proved::version_sets::boundary::Boundary;
 use crate::proved::version_sets::release::{Release, next_numbers};
 use crate::proved::version_sets::set_ranges::is_lowest_pre;
-use crate::proved::version_sets::switch::Switch;
-use crate::proved::version_sets::with_zero::WithZero;
-use crate::proved::semver_parser::{Comparator, Compat, Identifier, Op, Range, version};
+use crate::proved::version_sets::successor::Successor;
+use crate::proved::semver_ranges::{Comparator, Compat, Identifier, Op, Range};
 use crate::proved::semver_texts::grammar::Digits;
 use crate::proved::semver_texts::precedence::compare_pre_releases;
+use crate::proved::semver_versions::read_version::ReadVersion;
+use crate::proved::semver_versions::version;
 use crate::rattle_std::AllocError;
 
-/// A switch as a bound of an interval.
-pub(crate) trait Bound: Switch {
+/// A boundary as a bound of an interval.
+pub(crate) trait Bound: Boundary {
     /// Whether it is at the lowest version of its kind.
     fn is_lowest(&self) -> bool;
 
@@ -50,7 +51,7 @@ impl Bound for Release {
     }
 }
 
-impl Bound for PreRelease {
+impl Bound for ReadVersion {
     fn is_lowest(&self) -> bool {
         let version = &self.version;
         version.major == 0
@@ -59,7 +60,7 @@ impl Bound for PreRelease {
             && has_lowest_pre(&version.pre, self.digits)
     }
 
-    fn is_alone(&self, to: Option<&PreRelease>) -> bool {
+    fn is_alone(&self, to: Option<&ReadVersion>) -> bool {
         match to {
             Some(to) => {
                 Release::of(&to.version)
@@ -88,13 +89,13 @@ fn has_lowest_pre(identifiers: &[version::Identifier], digits: Digits) -> bool {
     is_lowest_pre(identifiers)
 }
 
-/// Whether the identifiers of a switch are those of another with the number 0 after them.
-fn are_right_above(switch: &PreRelease, below: &PreRelease) -> bool {
-    let above = WithZero {
+/// Whether the identifiers of a boundary are those of another with the number 0 after them.
+fn are_right_above(boundary: &ReadVersion, below: &ReadVersion) -> bool {
+    let above = Successor {
         identifiers: below.pre(),
         zero: true,
     };
-    compare_pre_releases(switch.pre(), above).is_eq()
+    compare_pre_releases(boundary.pre(), above).is_eq()
 }
 
 /// Identifiers of a version that are read so, as those of a range.
@@ -118,11 +119,11 @@ fn copy_of(identifier: &version::Identifier, digits: Digits) -> Result<Identifie
     }
 }
 
-/// The ranges of increasing switches in npm mode, one for each interval. It allocates only if there
-/// is a switch. `Err` is out of memory.
-pub(crate) fn ranges_of<T: Bound>(switches: &[T]) -> Result<Vec<Range>, AllocError> {
+/// The ranges of increasing boundaries in npm mode, one for each interval. It allocates only if
+/// there is a boundary. `Err` is out of memory.
+pub(crate) fn ranges_of<T: Bound>(boundaries: &[T]) -> Result<Vec<Range>, AllocError> {
     let mut ranges = Vec::new();
-    let mut left = switches;
+    let mut left = boundaries;
     while let [from, others @ ..] = left {
         let (to, others) = match others {
             [to, others @ ..] => (Some(to), others),

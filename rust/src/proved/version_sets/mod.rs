@@ -1,33 +1,31 @@
 // Made by tools/erase from crates/version_sets/src/lib.rt; not edited by hand.
 //! Sets of versions, in one normal form: which versions are in one, those that a range text means,
-//! what two have in common or one alone, the least version, and whether two sets are the same.
+//! what two have in common or one alone, the lowest version, and whether two sets are the same.
 
 use crate::rattle_std::prelude::*;
-mod combination;
-mod combining;
-mod comparing;
-mod comparison;
-mod each;
+mod batch;
+mod boundaries;
+mod boundary;
+mod endpoint;
 mod highest;
 mod intervals;
-mod least;
-mod limits;
+mod lowest;
 mod of_comparators;
 mod pre_release;
-mod pre_release_limits;
-mod reading;
+mod pre_release_endpoint;
+mod range_texts;
 mod release;
 mod rules;
+mod set_difference;
+mod set_operations;
 mod set_ranges;
 mod spans;
-mod switch;
-mod switches;
+mod successor;
+mod sweep;
 mod version_set;
-mod walk;
-mod with_zero;
 
-pub use comparison::Comparison;
 pub use release::Release;
 pub use rules::PreReleases;
+pub use set_difference::Comparison;
 pub use set_ranges::SetRanges;
 pub use version_set::VersionSet;

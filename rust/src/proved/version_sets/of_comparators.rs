@@ -1,23 +1,23 @@
 // Made by tools/erase from crates/version_sets/src/of_comparators.rt; not edited by hand.
-//! Sets of the versions that meet comparators, by a rule for pre-releases.
+//! Sets of the versions that satisfy comparators, by a rule for pre-releases.
 
 use crate::rattle_std::prelude::*;
-use crate::proved::version_sets::limits::{numbers_of, release_above};
-use crate::proved::version_sets::pre_release::PreRelease;
-use crate::proved::version_sets::pre_release_limits::PreReleaseLimit;
+use crate::proved::version_sets::endpoint::{numbers_of, release_above};
+use crate::proved::version_sets::pre_release_endpoint::PreReleaseEndpoint;
 use crate::proved::version_sets::release::{LOWEST, Release};
 use crate::proved::version_sets::rules::PreReleases;
 use crate::proved::version_sets::set_ranges::is_lowest_pre;
-use crate::proved::version_sets::spans::{Bounds, Span, switches_of};
+use crate::proved::version_sets::spans::{Bounds, Span, boundaries_of};
 use crate::proved::version_sets::version_set::VersionSet;
-use crate::proved::semver_parser::{Comparator, Op, Range, RangeSet};
+use crate::proved::semver_ranges::{Comparator, Op, Range, RangeSet};
 use crate::proved::semver_texts::grammar::Digits;
+use crate::proved::semver_versions::read_version::ReadVersion;
 use crate::rattle_std::AllocError;
 
 impl VersionSet {
-    /// The versions that meet comparators by a rule for pre-releases (docs/MEANING.md).
+    /// The versions that satisfy comparators by a rule for pre-releases (docs/MEANING.md).
     ///
-    /// It takes time in n log n for n comparators, and memory for their switches, at most four a
+    /// It takes time in n log n for n comparators, and memory for their boundaries, at most four a
     /// comparator, and none where there is no range. `Err` means that memory ran out.
     ///
     /// ```
@@ -26,10 +26,10 @@ impl VersionSet {
     ///
     /// let ranges = RangeSet::parse(">=1.2.0 <2.0.0 || =3.1.4", Compat::Npm)?;
     /// let set = VersionSet::of_set(&ranges, PreReleases::Default).unwrap();
-    /// assert!(set.has(&version::parse("1.9.0")?) && set.has(&version::parse("3.1.4")?));
-    /// assert!(!set.has(&version::parse("2.0.0-rc")?));
+    /// assert!(set.contains(&version::parse("1.9.0")?) && set.contains(&version::parse("3.1.4")?));
+    /// assert!(!set.contains(&version::parse("2.0.0-rc")?));
     /// let set = VersionSet::of_set(&ranges, PreReleases::Included).unwrap();
-    /// assert!(set.has(&version::parse("2.0.0-rc")?)); // below 2.0.0
+    /// assert!(set.contains(&version::parse("2.0.0-rc")?)); // below 2.0.0
     /// # Ok::<(), String>(())
     /// ```
     pub fn of_set(
@@ -52,42 +52,42 @@ impl VersionSet {
         }
         let releases = releases_of(&set.ranges)?;
         let pre_releases = pre_releases_of(&set.ranges, pre_releases, digits)?;
-        Ok(VersionSet::of_switches(releases, pre_releases))
+        Ok(VersionSet::of_boundaries(releases, pre_releases))
     }
 }
 
-/// The switches of the releases that meet some of the ranges.
+/// The boundaries of the releases that satisfy some of the ranges.
 fn releases_of(ranges: &[Range]) -> Result<Vec<Release>, AllocError> {
     // For speed: most texts are one range.
     if let [range] = ranges {
-        return met_releases(&range.comparator_set).switches();
+        return met_releases(&range.comparator_set).boundaries();
     }
     let mut spans = Vec::fallible_with_capacity(ranges.len())?;
     for range in ranges {
         met_releases(&range.comparator_set).push_to(&mut spans)?;
     }
-    switches_of(&mut spans)
+    boundaries_of(&mut spans)
 }
 
-/// The switches of the pre-releases that meet some of the ranges by a rule.
+/// The boundaries of the pre-releases that satisfy some of the ranges by a rule.
 fn pre_releases_of(
     ranges: &[Range],
     rule: PreReleases,
     digits: Digits,
-) -> Result<Vec<PreRelease>, AllocError> {
+) -> Result<Vec<ReadVersion>, AllocError> {
     let mut spans = Vec::new();
     for range in ranges {
         push_pre_releases(range, rule, digits, &mut spans)?;
     }
-    switches_of(&mut spans)
+    boundaries_of(&mut spans)
 }
 
-/// Adds the spans of the pre-releases that meet a range by a rule.
+/// Adds the spans of the pre-releases that satisfy a range by a rule.
 fn push_pre_releases<'a>(
     range: &'a Range,
     rule: PreReleases,
     digits: Digits,
-    spans: &mut Vec<Span<PreReleaseLimit<'a>>>,
+    spans: &mut Vec<Span<PreReleaseEndpoint<'a>>>,
 ) -> Result<(), AllocError> {
     match rule {
         PreReleases::Excluded => Ok(()),
@@ -96,7 +96,7 @@ fn push_pre_releases<'a>(
     }
 }
 
-/// The releases that meet all comparators.
+/// The releases that satisfy all comparators.
 fn met_releases(comparators: &[Comparator]) -> Bounds<Release> {
     let mut met = Bounds {
         from: Some(LOWEST),
@@ -109,32 +109,32 @@ fn met_releases(comparators: &[Comparator]) -> Bounds<Release> {
     met
 }
 
-/// The pre-releases that meet all comparators.
+/// The pre-releases that satisfy all comparators.
 fn met_pre_releases<'a>(
     comparators: &'a [Comparator],
     digits: Digits,
-) -> Bounds<PreReleaseLimit<'a>> {
+) -> Bounds<PreReleaseEndpoint<'a>> {
     let mut met = Bounds {
-        from: Some(PreReleaseLimit::lowest(LOWEST)),
+        from: Some(PreReleaseEndpoint::lowest(LOWEST)),
         to: None,
     };
     for comparator in comparators {
-        let at = PreReleaseLimit::at(comparator, digits);
+        let at = PreReleaseEndpoint::at(comparator, digits);
         met = met.narrowed(
             &comparator.op,
             at,
-            PreReleaseLimit::above(comparator, digits),
+            PreReleaseEndpoint::above(comparator, digits),
         );
     }
     met
 }
 
-/// Adds the spans of the pre-releases that meet all comparators and are at numbers that one of them
-/// has with a pre-release.
+/// Adds the spans of the pre-releases that satisfy all comparators and are at numbers that one of
+/// them has with a pre-release.
 fn push_stated<'a>(
     comparators: &'a [Comparator],
     digits: Digits,
-    spans: &mut Vec<Span<PreReleaseLimit<'a>>>,
+    spans: &mut Vec<Span<PreReleaseEndpoint<'a>>>,
 ) -> Result<(), AllocError> {
     // For speed: that of most texts is none.
     if !some_states_pre_release(comparators) {
@@ -163,10 +163,10 @@ fn states_pre_release(comparator: &Comparator) -> bool {
 /// Adds the span of those of the pre-releases that are at the numbers of a comparator, if it has a
 /// pre-release.
 fn push_at<'a>(
-    met: Bounds<PreReleaseLimit<'a>>,
+    met: Bounds<PreReleaseEndpoint<'a>>,
     comparator: &Comparator,
     digits: Digits,
-    spans: &mut Vec<Span<PreReleaseLimit<'a>>>,
+    spans: &mut Vec<Span<PreReleaseEndpoint<'a>>>,
 ) -> Result<(), AllocError> {
     let _digits = digits;
     if comparator.pre.is_empty() {
@@ -174,8 +174,8 @@ fn push_at<'a>(
     }
     let numbers = numbers_of(comparator);
     let stated = Bounds {
-        from: Some(PreReleaseLimit::lowest(numbers)),
-        to: PreReleaseLimit::above_numbers(numbers),
+        from: Some(PreReleaseEndpoint::lowest(numbers)),
+        to: PreReleaseEndpoint::above_numbers(numbers),
     };
     met.and(stated).push_to(spans)
 }

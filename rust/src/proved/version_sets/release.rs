@@ -2,7 +2,7 @@
 //! Releases: versions without a pre-release and without a build.
 
 use crate::rattle_std::prelude::*;
-use crate::proved::semver_parser::version::Version;
+use crate::proved::semver_versions::version::Version;
 
 /// A release: the three numbers of a version. Its derived order is that of precedence.
 ///

@@ -19,12 +19,12 @@ use crate::rattle_std::prelude::*;
 pub enum PreReleases {
     /// None.
     Excluded,
-    /// The rule that npm and Cargo's `semver` have for pre-releases: one that meets a range by
+    /// The rule that npm and Cargo's `semver` have for pre-releases: one that satisfies a range by
     /// precedence, and of which a term of that range states the three numbers and a pre-release.
     /// 1.2.3-rc is meant by `^1.2.3-beta`, and neither by `>=1.2.0` nor by
     /// `^1.2.0 || =1.2.3-beta`.
     Default,
-    /// Each that meets a range by precedence: 1.3.0-rc is meant by `^1.2.0`.
+    /// Each that satisfies a range by precedence: 1.3.0-rc is meant by `^1.2.0`.
     Included,
 }
 

@@ -4,7 +4,7 @@
 use crate::rattle_std::prelude::*;
 use crate::proved::version_sets::intervals::ranges_of;
 use crate::proved::version_sets::version_set::VersionSet;
-use crate::proved::semver_parser::{Comparator, Compat, Op, Range, RangeSet};
+use crate::proved::semver_ranges::{Comparator, Compat, Op, Range, RangeSet};
 use crate::proved::semver_texts::identifiers::AsIdentifier;
 use crate::proved::semver_texts::precedence::IdentifierRef;
 use crate::rattle_std::AllocError;
@@ -14,15 +14,15 @@ use crate::rattle_std::fmt;
 /// interval, in ascending order.
 ///
 /// `Display` writes a range text of npm mode: `*` if all are in the set, and `<0.0.0-0`, which no
-/// version meets, if none is.
+/// version satisfies, if none is.
 ///
 /// ```
 /// use semver_parser::sets::{self, VersionSet};
 /// use semver_parser::Dialect;
 ///
 /// let text = |set: VersionSet| set.release_ranges().unwrap().to_string();
-/// assert_eq!(text(sets::read(Dialect::Npm, "1.2.0 || ~1.9")?), "=1.2.0 || >=1.9.0 <1.10.0");
-/// assert_eq!(text(sets::read(Dialect::Npm, "x")?), "*");
+/// assert_eq!(text(sets::read("1.2.0 || ~1.9", Dialect::Npm)?), "=1.2.0 || >=1.9.0 <1.10.0");
+/// assert_eq!(text(sets::read("x", Dialect::Npm)?), "*");
 /// assert_eq!(text(VersionSet::empty()), "<0.0.0-0");
 /// # Ok::<(), semver_parser::RangeError>(())
 /// ```
@@ -42,14 +42,14 @@ impl VersionSet {
     /// - `>=0.0.0` if all releases are in the set, which `Display` writes as `*`;
     /// - no range if the set has no release.
     ///
-    /// It takes time in the number of switches, and allocates only if the set has a release. `Err`
-    /// is out of memory.
+    /// It takes time in the number of boundaries, and allocates only if the set has a release.
+    /// `Err` is out of memory.
     ///
     /// ```
     /// use semver_parser::{sets, Dialect};
     ///
-    /// let set = sets::read(Dialect::Npm, "^1.2.0")?;
-    /// let lost = set.difference(&sets::read(Dialect::Npm, ">=1.2.1 <1.9.0")?).unwrap();
+    /// let set = sets::read("^1.2.0", Dialect::Npm)?;
+    /// let lost = set.difference(&sets::read(">=1.2.1 <1.9.0", Dialect::Npm)?).unwrap();
     /// assert_eq!(lost.release_ranges().unwrap().to_string(), "=1.2.0 || >=1.9.0 <2.0.0");
     /// # Ok::<(), semver_parser::RangeError>(())
     /// ```
@@ -59,19 +59,20 @@ impl VersionSet {
     }
 
     /// The pre-releases of the set as ranges of plain comparators, as
-    /// [`VersionSet::release_ranges`] returns the releases. A pre-release meets them by precedence.
+    /// [`VersionSet::release_ranges`] returns the releases. A pre-release satisfies them by
+    /// precedence.
     ///
     /// Each bound has a pre-release. The version right above 1.2.3-a is 1.2.3-a.0, so 1.2.3-a alone
     /// is `=1.2.3-a`. The lowest is 0.0.0-0, and all pre-releases are `>=0.0.0-0`.
     ///
-    /// It takes time in the number of switches, and allocates only if the set has a pre-release.
+    /// It takes time in the number of boundaries, and allocates only if the set has a pre-release.
     /// `Err` is out of memory.
     ///
     /// ```
     /// use semver_parser::{sets, Dialect, Meaning, PreReleases};
     ///
     /// let npm = Meaning { dialect: Dialect::Npm, pre_releases: PreReleases::Included };
-    /// let ranges = sets::read(npm, ">1.2.3 <2.0.0-0")?.pre_release_ranges().unwrap();
+    /// let ranges = sets::read(">1.2.3 <2.0.0-0", npm)?.pre_release_ranges().unwrap();
     /// assert_eq!(ranges.to_string(), ">=1.2.4-0 <2.0.0-0");
     /// # Ok::<(), semver_parser::RangeError>(())
     /// ```

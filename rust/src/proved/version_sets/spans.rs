@@ -1,12 +1,12 @@
 // Made by tools/erase from crates/version_sets/src/spans.rt; not edited by hand.
-//! Spans of one kind of versions, and the switches of what is in some of them.
+//! Spans of one kind of versions, and the boundaries of what is in some of them.
 
 use crate::rattle_std::prelude::*;
-use crate::proved::version_sets::limits::Limit;
-use crate::proved::semver_parser::Op;
+use crate::proved::version_sets::endpoint::Endpoint;
+use crate::proved::semver_ranges::Op;
 use crate::rattle_std::AllocError;
 
-/// The versions at or above one limit and below another. `None` is above all versions.
+/// The versions at or above one endpoint and below another. `None` is above all versions.
 #[derive(Clone, Copy)]
 pub(crate) struct Bounds<L> {
     /// Where they begin.
@@ -15,7 +15,7 @@ pub(crate) struct Bounds<L> {
     pub to: Option<L>,
 }
 
-/// The versions from a limit on and below another, if there is one, which is above the first.
+/// The versions from a endpoint on and below another, if there is one, which is above the first.
 #[derive(Clone, Copy)]
 pub(crate) struct Span<L> {
     /// Where they begin.
@@ -24,8 +24,8 @@ pub(crate) struct Span<L> {
     pub to: Option<L>,
 }
 
-/// The limit that fewer versions reach.
-fn later<L: Limit>(first: Option<L>, second: Option<L>) -> Option<L> {
+/// The endpoint that fewer versions reach.
+fn later<L: Endpoint>(first: Option<L>, second: Option<L>) -> Option<L> {
     let (first, second) = (first?, second?);
     Some(if first.compare(&second).is_ge() {
         first
@@ -34,8 +34,8 @@ fn later<L: Limit>(first: Option<L>, second: Option<L>) -> Option<L> {
     })
 }
 
-/// The limit that more versions reach.
-fn earlier<L: Limit>(first: Option<L>, second: Option<L>) -> Option<L> {
+/// The endpoint that more versions reach.
+fn earlier<L: Endpoint>(first: Option<L>, second: Option<L>) -> Option<L> {
     let Some(first) = first else {
         return second;
     };
@@ -49,9 +49,9 @@ fn earlier<L: Limit>(first: Option<L>, second: Option<L>) -> Option<L> {
     }
 }
 
-impl<L: Limit> Bounds<L> {
-    /// Those of the versions that meet a comparator: `at` is where what is at or above its version
-    /// begins, and `above` where what is above it does.
+impl<L: Endpoint> Bounds<L> {
+    /// Those of the versions that satisfy a comparator: `at` is where what is at or above its
+    /// version begins, and `above` where what is above it does.
     pub(crate) fn narrowed(self, op: &Op, at: Option<L>, above: Option<L>) -> Bounds<L> {
         let (from, to) = (self.from, self.to);
         match op {
@@ -86,7 +86,7 @@ impl<L: Limit> Bounds<L> {
         }
     }
 
-    /// The span of the versions, if there is any between the limits.
+    /// The span of the versions, if there is any between the endpoints.
     fn span(self) -> Option<Span<L>> {
         let from = self.from?;
         if let Some(to) = self.to {
@@ -105,60 +105,60 @@ impl<L: Limit> Bounds<L> {
         Ok(())
     }
 
-    /// The switches of the versions. `Err` is out of memory.
-    pub(crate) fn switches(self) -> Result<Vec<L::Switch>, AllocError> {
+    /// The boundaries of the versions. `Err` is out of memory.
+    pub(crate) fn boundaries(self) -> Result<Vec<L::Boundary>, AllocError> {
         let Some(span) = self.span() else {
             return Ok(Vec::new());
         };
-        let mut switches = Vec::fallible_with_capacity(2)?;
-        push_switches(&span, &mut switches)?;
-        Ok(switches)
+        let mut boundaries = Vec::fallible_with_capacity(2)?;
+        push_boundaries(&span, &mut boundaries)?;
+        Ok(boundaries)
     }
 }
 
-/// The switches of what is in some of the spans. `Err` is out of memory.
-pub(crate) fn switches_of<L: Limit>(
+/// The boundaries of what is in some of the spans. `Err` is out of memory.
+pub(crate) fn boundaries_of<L: Endpoint>(
     spans: &mut [Span<L>],
-) -> Result<Vec<L::Switch>, AllocError> {
+) -> Result<Vec<L::Boundary>, AllocError> {
     spans.sort_unstable_by(|span, other| span.from.compare(&other.from));
     joined(spans)
 }
 
-/// The switches of ascending spans. `Err` is out of memory.
-fn joined<L: Limit>(spans: &[Span<L>]) -> Result<Vec<L::Switch>, AllocError> {
+/// The boundaries of ascending spans. `Err` is out of memory.
+fn joined<L: Endpoint>(spans: &[Span<L>]) -> Result<Vec<L::Boundary>, AllocError> {
     let [first, others @ ..] = spans else {
         return Ok(Vec::new());
     };
-    let mut switches = Vec::fallible_with_capacity(spans.len().saturating_mul(2))?;
+    let mut boundaries = Vec::fallible_with_capacity(spans.len().saturating_mul(2))?;
     let mut span = *first;
     for next in others {
         if is_apart(span.to, &next.from) {
-            push_switches(&span, &mut switches)?;
+            push_boundaries(&span, &mut boundaries)?;
             span = *next;
         } else {
             span.to = later(span.to, next.to);
         }
     }
-    push_switches(&span, &mut switches)?;
-    Ok(switches)
+    push_boundaries(&span, &mut boundaries)?;
+    Ok(boundaries)
 }
 
-/// Whether there is an end below a limit.
-fn is_apart<L: Limit>(end: Option<L>, limit: &L) -> bool {
+/// Whether there is an end below a endpoint.
+fn is_apart<L: Endpoint>(end: Option<L>, endpoint: &L) -> bool {
     match end {
-        Some(end) => end.compare(limit).is_lt(),
+        Some(end) => end.compare(endpoint).is_lt(),
         None => false,
     }
 }
 
-/// Adds the switches of a span. `Err` is out of memory.
-fn push_switches<L: Limit>(
+/// Adds the boundaries of a span. `Err` is out of memory.
+fn push_boundaries<L: Endpoint>(
     span: &Span<L>,
-    switches: &mut Vec<L::Switch>,
+    boundaries: &mut Vec<L::Boundary>,
 ) -> Result<(), AllocError> {
-    switches.fallible_push(span.from.switch()?)?;
+    boundaries.fallible_push(span.from.boundary()?)?;
     if let Some(to) = span.to {
-        switches.fallible_push(to.switch()?)?;
+        boundaries.fallible_push(to.boundary()?)?;
     }
     Ok(())
 }

@@ -1,13 +1,18 @@
+use Rattle.std.proofs.Common.{take}
+use Rattle.text_prefixes.specs.Reasons.{byte_at}
+use Rattle.answer_laws.specs.OneAnswer.{itself}
 use Rattle.answer_laws.proofs.OneAnswer.{one_made, said}
 use Rattle.answer_laws.proofs.OneRefusal.{one_refused}
-use Rattle.std.proofs.Common.{option_map}
-use Rattle.answer_laws.specs.SeenTexts.{seen_refusal}
 use Rattle.answer_laws.proofs.ranges.one_refusal.Goals as goal
 
 pub returns : goal.returns
-returns c = record {
-  one = one_made (option_map seen_refusal) _ _ (λ a b is is'.
-      one_refused c.args.dialect c.args.text.now (c.one_offset.ensures.same_offset c.args.dialect c.args.text.now)
-      (c.one_limit_offset.ensures.same_offset c.args.dialect c.args.text.now) a b (said _ is c.refused.ensures.refused)
-      (said _ is' c.refused-2.ensures.refused));
-}
+returns c =
+    let dialect = c.args.dialect in
+    let text = c.args.text.now in
+    record {
+      one = one_made itself _ _ (λ a b is is'.
+          one_refused dialect text (c.one_offset.ensures.same_offset dialect text)
+          (c.one_limit_offset.ensures.same_offset dialect text)
+          (λ n. c.one_reason.ensures.same_reason dialect (take n text) (byte_at text n)) a b (said _ is c.refused.ensures.refused)
+          (said _ is' c.refused-2.ensures.refused));
+    }

@@ -1,5 +1,5 @@
 use Rattle.answer_laws.specs.SameSets.{comparison_value}
-use Rattle.answer_laws.proofs.LeastVersions.{one_least}
+use Rattle.answer_laws.proofs.LowestVersions.{one_lowest}
 use Rattle.answer_laws.proofs.OneAnswer.{one_made, said}
 use Rattle.answer_laws.proofs.sets.one_compare.Goals as goal
 
@@ -10,8 +10,8 @@ returns c =
     let s = c.compare-2.ensures in
     record {
       one = one_made comparison_value _ _ (λ a b is is'.
-          let lost = one_least law.total law.same _ a.lost b.lost (said _ is r.lost) (said _ is' s.lost) in
-          let gained = one_least law.total law.same _ a.gained b.gained (said _ is r.gained) (said _ is' s.gained) in
-          let shared = one_least law.total law.same _ a.shared b.shared (said _ is r.shared) (said _ is' s.shared) in
+          let lost = one_lowest law.total law.same _ a.lost b.lost (said _ is r.lost) (said _ is' s.lost) in
+          let gained = one_lowest law.total law.same _ a.gained b.gained (said _ is r.gained) (said _ is' s.gained) in
+          let shared = one_lowest law.total law.same _ a.shared b.shared (said _ is r.shared) (said _ is' s.shared) in
           λ i. record { lost = lost i; gained = gained i; shared = shared i });
     }

@@ -1,12 +1,12 @@
 use Rattle.std.proofs.Common.{◌&&◌, sym, ap, ◌∙◌}
 use Rattle.semver_parser.specs.Texts.{is_empty}
-use Rattle.version_sets.specs.VersionSets.{has}
+use Rattle.version_sets.specs.VersionSets.{contains}
 use Rattle.answer_laws.proofs.sets.one_only_releases.Goals as goal
 
 pub returns : goal.returns
 returns c =
     record {
       one = c.are_alike.ensures.alike (λ v fits.
-          c.only_releases-first.ensures.releases v ∙ ap (λ s. is_empty v.pre && has s v) c.requires
+          c.only_releases-first.ensures.releases v ∙ ap (λ s. is_empty v.pre && contains s v) c.requires
           ∙ sym (c.only_releases-second.ensures.releases v));
     }

@@ -5,4 +5,4 @@ pub returns : goal.returns
 returns c =
     let r = c.union-first.ensures in
     let s = c.union-second.ensures in
-    record { one = one_set_made _ _ c.answers_are_alike.ensures.alike r.has s.has (by_test _) }
+    record { one = one_set_made _ _ c.answers_are_alike.ensures.alike r.contains s.contains (by_test _) }

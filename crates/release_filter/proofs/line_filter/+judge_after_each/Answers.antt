@@ -6,4 +6,4 @@ returns-in-NoVersion t c =
     let none =
     rw c.as_str.ensures.value at c.in-NoVersion.ensures in
     rw (first_and_rest c.args.prefixes.now c.prefix-item.result c.in-len1-up.len_at_least c.prefix-item.is) (next c.args.filter.now _ _
-    c.args.line.now c.judge_after_each.result none c.judge_after_each.ensures)
+    c.args.text.now _ c.judge_after_each.result none c.judge_after_each.ensures)

@@ -3,5 +3,5 @@ use Rattle.release_filter.proofs.line_filter.judge_after.Goals as goal
 
 pub returns-in-Some : goal.returns-in-Some
 returns-in-Some c =
-    judged_after c.one_outlined_version.ensures.same_version c.args.filter.now c.args.prefix.now c.args.line.now
-    c.in-Some.text.now c.judge.result c.in-Some.ensures c.judge.ensures.judged
+    judged_after c.one_outlined_version.ensures.same_version c.args.filter.now c.args.prefix.now c.args.text.now
+    c.in-Some.rest.now c.judge.result c.in-Some.ensures c.judge.ensures

@@ -1,9 +1,9 @@
 use Rattle.std.proofs.Common.{List, ap, sym, ◌∙◌, map}
 use Rattle.std.specs.List.{list_any}
-use Rattle.semver_parser.specs.declared.Range.{Range}
-use Rattle.semver_parser.specs.Meeting.{meets_range}
-use Rattle.semver_parser.specs.RangeViews.{range_of}
-use Rattle.semver_parser.specs.VersionViews.{version_value}
+use Rattle.semver_ranges.specs.declared.range.Range.{Range}
+use Rattle.semver_ranges.specs.Meeting.{meets_range}
+use Rattle.semver_ranges.specs.RangeViews.{range_of}
+use Rattle.semver_texts.specs.VersionViews.{version_value}
 use Rattle.release_filter.proofs.Tests.{list_any-map}
 use Rattle.release_filter.proofs.meeting.version_meets.Goals as goal
 

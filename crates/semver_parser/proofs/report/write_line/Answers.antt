@@ -1,4 +1,4 @@
-use Rattle.semver_parser.proofs.Writes.{begins_with, begins_then, stops, writes_then}
+use Rattle.semver_texts.proofs.Writes.{begins_with, begins_then, stops, writes_then}
 use Rattle.std.proofs.KnownBytes.{Appends-trans}
 use Rattle.semver_parser.proofs.report.write_line.Goals as goal
 

@@ -2,7 +2,7 @@ use Rattle.std.proofs.Common.{codes, ◌++◌}
 use Rattle.std.proofs.KnownBytes.{Appends-trans}
 use Rattle.semver_parser.specs.ReportLines.{line}
 use Rattle.semver_parser.specs.Steps.Shown.{shown_text}
-use Rattle.semver_parser.proofs.Writes.{begins_with, begins_then, stops}
+use Rattle.semver_texts.proofs.Writes.{begins_with, begins_then, stops}
 use Rattle.semver_parser.proofs.report.write_lines.Goals as goal
 
 pub returns-in_err-write_line-clause-writes : goal.returns-in_err-write_line-clause-writes

@@ -1,18 +1,14 @@
-use Rattle.std.proofs.Common.{◌≡◌, ℕ, refl, sym, ap, ◌∙◌, Result, List, []}
+use Rattle.std.proofs.Common.{◌≡◌, ℕ, refl, sym, ap, ◌∙◌, List, []}
 use Rattle.std.proofs.lemmas.Result.{err_from_is_err_and}
 use Rattle.semver_tokens.specs.ParserState.{ParserState}
 use Rattle.semver_tokens.specs.ParserSteps.{tail}
 use Rattle.semver_tokens.specs.ParserViews.{error_value, UnlessOutOfMemory}
 use Rattle.semver_texts.specs.VersionViews.{version_value}
-use Rattle.semver_texts.specs.declared.version.Version.{Version}
 use Rattle.semver_tokens.specs.declared.parser.Error.{Error}
 use Rattle.semver_tokens.proofs.IdentifierTexts.{unless_out_of_memory, unless_err, if_err}
 use Rattle.semver_parser.proofs.ParseFacts.{at_bad_start, lexer_has_memory, at_error, at_refusal, at_end, tail_given, at_tail_refusal}
 use Rattle.semver_parser.proofs.version.parse_by_tokens.Goals as goal
 use Rattle.semver_parser.proofs.version.parse_by_tokens.Goals.{Else-is_eof}
-
-abbrev Answer : Type 0
-Answer = Result Version Error
 
 pub returns-in_err-parser : goal.returns-in_err-parser
 returns-in_err-parser c =

@@ -5,8 +5,8 @@ use Rattle.semver_ranges.specs.Steps.CursorViews.{role_of}
 use Rattle.semver_ranges.proofs.LongWords.{back_within, front_spells, short_word}
 use Rattle.semver_ranges.proofs.grammar.is_short.Goals as goal
 
-pub returns-then-len-le-SHORT : goal.returns-then-len-le-SHORT
-returns-then-len-le-SHORT c = λ p w. sym (short_word (role_of c.args.role) p w.back _ w.spelled
+pub returns-then-len-le-MAX_SAFE_BUILD_LENGTH : goal.returns-then-len-le-MAX_SAFE_BUILD_LENGTH
+returns-then-len-le-MAX_SAFE_BUILD_LENGTH c = λ p w. sym (short_word (role_of c.args.role) p w.back _ w.spelled
     (back_within p c.args.text.now c.args.rest.now w) (omega arith))
 
 pub is_short_word-requires : goal.is_short_word-requires

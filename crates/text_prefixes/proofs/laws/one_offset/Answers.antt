@@ -1,9 +1,10 @@
 use Rattle.text_prefixes.specs.Prefixes.{Begins}
-use Rattle.text_prefixes.proofs.LongestPrefixes.{one_longest}
+use Rattle.text_prefixes.proofs.LongestPrefixes.{one_of_each}
 use Rattle.text_prefixes.proofs.laws.one_offset.Goals as goal
 
 pub returns : goal.returns
-returns g c = record {
-  one = one_longest (Begins (g.L.Language.is_text c.args.language.now)) c.args.text.now c.longest_prefix-first.result
-      c.longest_prefix-second.result c.longest_prefix-first.ensures c.longest_prefix-second.ensures;
-}
+returns g c =
+    let is = Begins (g.L.Language.is_text c.args.language.now) in
+    record {
+      one = one_of_each is c.args.text.now c.longest_prefix.result c.longest_prefix-2.result c.longest_prefix.ensures c.longest_prefix-2.ensures;
+    }

@@ -22,7 +22,7 @@ loop-at-init c =
     )
 
 pub fits-fit-requires : goal.fits-fit-requires
-fits-fit-requires c = let seen = c.loop-at.invariant in (c.cell_of-cell.ensures (as_read seen.2) seen.5).0
+fits-fit-requires c = let seen = c.loop-at.invariant in (c.desugared_by_tool-cell.ensures (as_read seen.2) seen.5).0
 
 pub returns-in_default-after : goal.returns-in_default-after
 returns-in_default-after c =
@@ -31,7 +31,7 @@ returns-in_default-after c =
     surveyed_as c.args.requirement.now seen.0 seen.1 c.loop-at.at c.loop-at.states_all c.loop-at.fit (not c.states_nothing.result)
     c.fits-fit.result s seen.3 (seen.4 ∙ ap (λ b. Some (s, after_comma b)) c.in_default-after.is) c.loop-at-test.true
     (ap not (c.states_nothing.ensures ∙ sym (states_kind s.partial c.loop-at.simple.partial seen.5.1)))
-    (c.fits-fit.ensures ∙ (c.cell_of-cell.ensures (as_read s) seen.5).1) _
+    (c.fits-fit.ensures ∙ (c.desugared_by_tool-cell.ensures (as_read s) seen.5).1) _
     (let found = c.in-Some.ensures in (found.0, ap comparator_at (sym c.as_bytes.ensures.value) ∙ found.1, found.2))
     c.ended.result c.ended.ensures
 
@@ -54,7 +54,7 @@ loop-at-preserved c =
       surveyed_next c.args.requirement.now seen.0 seen.1 c.loop-at.at c.loop-at.states_all c.loop-at.fit (not c.states_nothing.result)
           c.fits-fit.result s c.in-Some-after.rest.now seen.3 (seen.4 ∙ ap (λ b. Some (s, after_comma b)) c.in-Some-after.is)
           (ap not (c.states_nothing.ensures ∙ sym (states_kind s.partial c.loop-at.simple.partial seen.5.1)))
-          (c.fits-fit.ensures ∙ (c.cell_of-cell.ensures (as_read s) seen.5).1),
+          (c.fits-fit.ensures ∙ (c.desugared_by_tool-cell.ensures (as_read s) seen.5).1),
       found.1,
       found.2,
     )

@@ -47,13 +47,13 @@ module _ (t : Text) where
       → IfOk r (λ set. IsPrintableSet (set_of set))
   printable (Ok set) (tree, h, fit) is =
       subst IsPrintableSet (sym (spelled set is tree h)) (npm_printable t tree (npm_read t tree h) fit)
-  printable (Err e) has is = tt
+  printable (Err e) contains is = tt
 
   reads_it_back : (r : Result RangeSet RangeError) → IfOk r (λ _. HasSetAs dialect.Npm t) → IfOk r IsBegun → IfOk r (λ set. (tree : SetTree)
       × Spells tree (set_text (set_of set)) × IsTrue (fits Npm tree) × (rewritten Npm tree ≡ set_of set))
   reads_it_back (Ok set) (tree, h, fit) is =
       reads_back Npm (set_of set) (printable (Ok set) (tree, h, fit) is) (ap (λ s. s.compat) (spelled set is tree h))
-  reads_it_back (Err e) has is = tt
+  reads_it_back (Err e) contains is = tt
 
 pub returns-clause-as_rewritten : goal.returns-clause-as_rewritten
 returns-clause-as_rewritten c = as_rewritten c.args.range.now c.rewritten.result c.rewritten.ensures.begun

@@ -1,5 +1,5 @@
 use Rattle.std.proofs.Common.{Err, ap, inl, inr, refl}
-use Rattle.semver_parser.specs.Outlines.{version_of}
+use Rattle.semver_versions.specs.Outlines.{version_of}
 use Rattle.tool_ranges.proofs.SatisfiesErrors.{refused_range}
 use Rattle.tool_ranges.proofs.satisfying.satisfies.Goals as goal
 

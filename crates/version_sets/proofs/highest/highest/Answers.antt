@@ -1,7 +1,7 @@
 use Rattle.std.proofs.Common.{◌≡◌, arith, get_or, length, option_map, refl, subst, true, Less, ◌↔◌}
 use Rattle.std.proofs.lemmas.Option.{slice_get-get_or}
-use Rattle.semver_parser.specs.Outlines.{OutlineValue, version_of}
-use Rattle.semver_parser.specs.Versions.{PlainVersion}
+use Rattle.semver_versions.specs.Outlines.{OutlineValue, version_of}
+use Rattle.semver_texts.specs.Versions.{PlainVersion}
 use Rattle.version_sets.specs.Highest.{IsMember, order_for}
 use Rattle.version_sets.proofs.HighestMembers.{IsBest, inside, mapped, member_text, only_one, skipped, stepped, whole}
 use Rattle.version_sets.proofs.highest.highest.Goals.{then-is_above, else-is_above}

@@ -1,5 +1,5 @@
 use Rattle.std.specs.Prelude.{option_map}
-use Rattle.semver_parser.specs.Outlines.{version_of}
+use Rattle.semver_versions.specs.Outlines.{version_of}
 use Rattle.version_sets.proofs.HighestMembers.{IsBest}
 use Rattle.version_sets.proofs.highest.highest.Given as goal
 

@@ -1,17 +1,17 @@
--- The ranges so far, and those of the switches that are left, are those of all switches.
+-- The ranges so far, and those of the boundaries that are left, are those of all boundaries.
 use Rattle.std.proofs.Common.{◌≡◌, ◌≤◌, map, ◌++◌, length}
-use Rattle.semver_parser.specs.RangeViews.{range_of}
+use Rattle.semver_ranges.specs.RangeViews.{range_of}
 use Rattle.version_sets.specs.DigitViews.{range_kept}
 use Rattle.version_sets.specs.SetRanges.{intervals}
 use Rattle.version_sets.proofs.intervals.ranges_of.Given as goal
 
 abbrev pub invariant-loop-left : goal.invariant-loop-left
 invariant-loop-left g l =
-    let place = g.T.Switch.place in
+    let place = g.T.Boundary.place in
     let next = g.T.Bound.next_place in record {
       told : map range_of l.ranges.items ++ map range_kept (intervals next (map place l.left))
-          ≡ map range_kept (intervals next (map place l.switches));
-      within : length l.left ≤ length l.switches;
+          ≡ map range_kept (intervals next (map place l.boundaries));
+      within : length l.left ≤ length l.boundaries;
     }
 
 abbrev pub decreases-loop-left : goal.decreases-loop-left

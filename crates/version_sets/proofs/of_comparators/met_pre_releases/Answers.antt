@@ -1,7 +1,7 @@
 use Rattle.std.proofs.Common.{◌∙◌, ◌&&◌, ap, ap₂, is_ge, sym, refl}
-use Rattle.semver_parser.specs.Meeting.{op_holds}
-use Rattle.semver_parser.specs.Precedence.{precedence}
-use Rattle.semver_parser.specs.RangeViews.{comparator_of}
+use Rattle.semver_ranges.specs.Meeting.{op_holds}
+use Rattle.semver_texts.specs.Precedence.{precedence}
+use Rattle.semver_ranges.specs.RangeViews.{comparator_of}
 use Rattle.version_sets.specs.DigitViews.{comparator_by}
 use Rattle.version_sets.specs.Printable.{prints_by}
 use Rattle.version_sets.specs.Steps.Spans.{is_between}
@@ -9,8 +9,8 @@ use Rattle.version_sets.proofs.BoundLaws.{and_true}
 use Rattle.version_sets.proofs.KindLaws.{pre_release_lowest}
 use Rattle.version_sets.proofs.MetLaws.{met_more}
 use Rattle.version_sets.proofs.SpanLaws.{narrowed_met}
-use Rattle.semver_parser.specs.PrecedenceLaws.{precedence_total}
-use Rattle.version_sets.proofs.PrintedLimits.{item_prints, narrowed_print}
+use Rattle.semver_texts.specs.Steps.PrecedenceLaws.{precedence_total}
+use Rattle.version_sets.proofs.PrintedEndpoints.{item_prints, narrowed_print}
 use Rattle.version_sets.proofs.of_comparators.met_pre_releases.Goals as goal
 
 pub loop-comparator-init : goal.loop-comparator-init

@@ -1,15 +1,15 @@
 use Rattle.std.proofs.Common.{◌∙◌, ◌&&◌, ap, ap₂, is_ge, sym, refl, map}
 use Rattle.std.proofs.lemmas.List.{take_all}
 use Rattle.std.specs.List.{list_all}
-use Rattle.semver_parser.specs.Meeting.{meets_comparator, op_holds}
-use Rattle.semver_parser.specs.Precedence.{precedence}
+use Rattle.semver_ranges.specs.Meeting.{meets_comparator, op_holds}
+use Rattle.semver_texts.specs.Precedence.{precedence}
 use Rattle.version_sets.specs.DigitViews.{comparator_by}
 use Rattle.version_sets.specs.Steps.Spans.{is_between}
 use Rattle.version_sets.proofs.BoundLaws.{and_true, against, release_reaches}
 use Rattle.version_sets.proofs.KindLaws.{release_lowest}
 use Rattle.version_sets.proofs.MetLaws.{met_more}
 use Rattle.version_sets.proofs.SpanLaws.{narrowed_met}
-use Rattle.semver_parser.specs.PrecedenceLaws.{precedence_total}
+use Rattle.semver_texts.specs.Steps.PrecedenceLaws.{precedence_total}
 use Rattle.version_sets.proofs.of_comparators.met_releases.Goals as goal
 
 pub loop-comparator-init : goal.loop-comparator-init

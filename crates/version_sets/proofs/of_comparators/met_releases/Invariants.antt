@@ -1,9 +1,9 @@
 use Rattle.std.proofs.Common.{◌≡◌, map, take}
 use Rattle.std.specs.List.{list_all}
-use Rattle.semver_parser.specs.Meeting.{meets_comparator}
+use Rattle.semver_ranges.specs.Meeting.{meets_comparator}
 use Rattle.semver_texts.specs.declared.grammar.Digits.{Digits}
 use Rattle.version_sets.specs.DigitViews.{comparator_by}
-use Rattle.semver_parser.specs.Versions.{PlainVersion}
+use Rattle.semver_texts.specs.Versions.{PlainVersion}
 use Rattle.version_sets.specs.Releases.{release_value}
 use Rattle.version_sets.specs.VersionSets.{IsRelease}
 use Rattle.version_sets.specs.Steps.SpanViews.{is_within}

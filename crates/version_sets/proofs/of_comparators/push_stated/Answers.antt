@@ -1,14 +1,14 @@
 use Rattle.std.proofs.Common.{◌≡◌, ◌∙◌, ◌&&◌, ◌||◌, not, List, [], ◌∷◌, refl, ap, ap₂, sym, map}
 use Rattle.std.specs.List.{list_all, list_any}
-use Rattle.semver_parser.specs.Meeting.{meets_comparator}
-use Rattle.semver_parser.specs.Precedence.{precedence}
-use Rattle.semver_parser.specs.RangeViews.{comparator_of}
-use Rattle.semver_parser.specs.StatedPreReleases.{has_pre_release_at}
+use Rattle.semver_ranges.specs.Meeting.{meets_comparator}
+use Rattle.semver_texts.specs.Precedence.{precedence}
+use Rattle.semver_ranges.specs.RangeViews.{comparator_of}
+use Rattle.semver_ranges.specs.StatedPreReleases.{has_pre_release_at}
 use Rattle.version_sets.specs.Steps.Spans.{in_some}
-use Rattle.version_sets.specs.Steps.SpanViews.{limit_place, span_value}
+use Rattle.version_sets.specs.Steps.SpanViews.{endpoint_place, span_value}
 use Rattle.version_sets.specs.Steps.RangeRules.{is_less, states_pre_release}
 use Rattle.semver_texts.specs.declared.grammar.Digits.{Digits}
-use Rattle.semver_parser.specs.declared.Comparator.{Comparator}
+use Rattle.semver_ranges.specs.declared.range.Comparator.{Comparator}
 use Rattle.version_sets.specs.DigitViews.{comparator_by}
 use Rattle.version_sets.proofs.DigitLaws.{by_empty, lowest_by}
 use Rattle.version_sets.proofs.Lists.{list_any-map}
@@ -29,7 +29,7 @@ loop-comparator-preserved c = record {
   spans = λ e. c.in_ok-push_at.ensures.spans (c.loop-comparator.invariant.spans e);
   meaning = λ v kind.
       let at = has_pre_release_at v (comparator_by c.args.digits c.comparator-item.result) in
-      let before = in_some precedence (map (span_value limit_place) c.args.spans.now.items) v in
+      let before = in_some precedence (map (span_value endpoint_place) c.args.spans.now.items) v in
       let met = list_all (meets_comparator v) (map (comparator_by c.args.digits) c.args.comparators.now) in
       c.in_ok-push_at.ensures.meaning v kind
       ∙ ap₂ (λ a m. a || (m && at)) (c.loop-comparator.invariant.meaning v kind) (c.met_pre_releases-met.ensures.meaning v kind)

@@ -2,8 +2,8 @@ use Rattle.std.proofs.Common.{◌∙◌, ◌||◌, map, ap, ap₂, sym, arith}
 use Rattle.std.proofs.lemmas.List.{take_all}
 use Rattle.std.proofs.lemmas.List.Folds.{list_any_more}
 use Rattle.std.specs.List.{list_all, list_any}
-use Rattle.semver_parser.specs.Meeting.{meets_comparator, meets_range}
-use Rattle.semver_parser.specs.Precedence.{precedence}
+use Rattle.semver_ranges.specs.Meeting.{meets_comparator, meets_range}
+use Rattle.semver_texts.specs.Precedence.{precedence}
 use Rattle.version_sets.specs.DigitViews.{comparator_by, range_by}
 use Rattle.version_sets.specs.Releases.{release_value}
 use Rattle.version_sets.specs.Steps.Spans.{in_some}
@@ -13,7 +13,7 @@ use Rattle.version_sets.proofs.of_comparators.releases_of.Goals as goal
 
 pub returns-in-len1-clause-meaning : goal.returns-in-len1-clause-meaning
 returns-in-len1-clause-meaning c =
-    answered_so _ c.switches.result c.switches.ensures.meaning (λ switches is d v kind. is v ∙ c.met_releases.ensures d v kind
+    answered_so _ c.boundaries.result c.boundaries.ensures.meaning (λ boundaries is d v kind. is v ∙ c.met_releases.ensures d v kind
     ∙ ap (λ cs. list_all (meets_comparator v) (map (comparator_by d) cs)) c.deref.ensures.value
     ∙ ap (λ range. meets_range v (range_by d range)) c.range-item.is
     ∙ any_of_one (λ range. meets_range v (range_by d range)) c.args.ranges.now c.range-item.result
@@ -33,7 +33,7 @@ loop-range-preserved c = (
 
 pub returns-clause-meaning : goal.returns-clause-meaning
 returns-clause-meaning c =
-    answered_so _ c.switches_of.result c.switches_of.ensures.meaning (λ switches is d v kind. is v
+    answered_so _ c.boundaries_of.result c.boundaries_of.ensures.meaning (λ boundaries is d v kind. is v
     ∙ ap (λ spans. in_some precedence (map (span_value release_value) spans) v) c.deref_mut.ensures.value ∙ c.loop-range.invariant.1 d v
     kind
     ∙ ap (list_any (λ range. meets_range v (range_by d range))) (take_all c.loop-range.range-index c.args.ranges.now

@@ -1,10 +1,10 @@
 use Rattle.std.proofs.Common.{◌≡◌, false, map, take}
 use Rattle.std.specs.List.{list_any}
-use Rattle.semver_parser.specs.Meeting.{meets_range}
-use Rattle.semver_parser.specs.Precedence.{precedence}
+use Rattle.semver_ranges.specs.Meeting.{meets_range}
+use Rattle.semver_texts.specs.Precedence.{precedence}
 use Rattle.semver_texts.specs.declared.grammar.Digits.{Digits}
 use Rattle.version_sets.specs.DigitViews.{range_by}
-use Rattle.semver_parser.specs.Versions.{PlainVersion}
+use Rattle.semver_texts.specs.Versions.{PlainVersion}
 use Rattle.version_sets.specs.Releases.{release_value}
 use Rattle.version_sets.specs.VersionSets.{IsRelease}
 use Rattle.version_sets.specs.Steps.Spans.{some_empty, in_some}

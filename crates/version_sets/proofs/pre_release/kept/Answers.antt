@@ -1,7 +1,7 @@
 use Rattle.std.proofs.Common.{◌∙◌, ap, map, sym}
 use Rattle.std.proofs.lemmas.List.{take_all}
 use Rattle.semver_texts.specs.Digits.{as_kept, identifier_by}
-use Rattle.semver_parser.specs.VersionViews.{identifier_value}
+use Rattle.semver_texts.specs.VersionViews.{identifier_value}
 use Rattle.version_sets.proofs.DigitLaws.{kept_each}
 use Rattle.version_sets.proofs.pre_release.kept.Goals as goal
 

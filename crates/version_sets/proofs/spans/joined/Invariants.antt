@@ -1,14 +1,14 @@
--- The switches so far, and those of the spans that are left, are those of all.
+-- The boundaries so far, and those of the spans that are left, are those of all.
 use Rattle.std.proofs.Common.{◌≡◌, ◌++◌, drop, map}
 use Rattle.std.specs.List.{AllByRecursion}
-use Rattle.semver_parser.specs.Precedence.{precedence}
+use Rattle.semver_texts.specs.Precedence.{precedence}
 use Rattle.version_sets.specs.Steps.Spans.{joined}
 use Rattle.version_sets.specs.Steps.SpanViews.{span_value}
 use Rattle.version_sets.proofs.spans.joined.Given as goal
 
 abbrev pub invariant-loop-next : goal.invariant-loop-next
 invariant-loop-next g l =
-    let seen = span_value g.L.Limit.place in
-    AllByRecursion g.L.Limit.IsOfKind (map g.L.Switch.Switch.place l.switches.items)
-    × (map g.L.Switch.Switch.place l.switches.items ++ joined precedence (seen l.span) (map seen (drop l.next-index l.others))
+    let seen = span_value g.L.Endpoint.place in
+    AllByRecursion g.L.Endpoint.IsOfKind (map g.L.Boundary.Boundary.place l.boundaries.items)
+    × (map g.L.Boundary.Boundary.place l.boundaries.items ++ joined precedence (seen l.span) (map seen (drop l.next-index l.others))
     ≡ joined precedence (seen l.initial.span) (map seen l.others))

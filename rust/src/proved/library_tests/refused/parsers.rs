@@ -40,7 +40,7 @@ pub fn version() -> Ending {
     }
 }
 
-/// At most so many tokens are taken before the bad character is met.
+/// At most so many tokens are taken before the bad character is read.
 fn leads_to_a_slash(parser: &mut Parser<'_>, tokens: u32) -> bool {
     for _ in 0..tokens {
         if matches!(

@@ -55,8 +55,8 @@ pub fn of_refused_texts() -> Ending {
     )
 }
 
-/// The releases that meet the comparator `>=2.0.0`. Dialect it is part of the call. The least of
-/// them is told without a request.
+/// The releases that the comparator `>=2.0.0` contains. Reading it is part of the call. The lowest
+/// of them is found without a request.
 pub fn of_set() -> Ending {
     let set = match RangeSet::try_parse(">=2.0.0", Compat::Npm) {
         Ok(set) => set,
@@ -64,7 +64,7 @@ pub fn of_set() -> Ending {
         Err(_) => return Ending::Wrong,
     };
     match VersionSet::of_set(&set, PreReleases::Excluded) {
-        Ok(set) => Ending::full_if(begins_at(&set, 2) && matches!(set.least(), Ok(Some(_)))),
+        Ok(set) => Ending::full_if(begins_at(&set, 2) && matches!(set.lowest(), Ok(Some(_)))),
         Err(_) => Ending::Refused,
     }
 }
@@ -90,8 +90,8 @@ pub fn of_refused_requirements() -> Ending {
     )
 }
 
-/// The versions that two range texts mean to npm. To the first 1.2.0-c is stated, and 1.3.0-c
-/// isn't. By the second npm asks nothing, and it means every release.
+/// The versions that two range texts mean to npm. The first contains 1.2.0-c, and not 1.3.0-c. The
+/// second contains every release.
 pub fn of_npm_ranges() -> Ending {
     let asked = match npm::read(">=0 >=1.2.0-b <1.5 || 3.x") {
         Ok(set) => set,
@@ -150,21 +150,21 @@ pub fn of_refused_bounds() -> Ending {
     )
 }
 
-/// The union has both sets, and 0.0.0 of the second is its least release.
+/// The union has both sets, and 0.0.0 of the second is its lowest release.
 pub fn union(first: &VersionSet, second: &VersionSet) -> Ending {
     match first.union(second) {
         Ok(set) => Ending::full_if(
-            first.is_within(&set) && second.is_within(&set) && begins_at(&set, 0),
+            first.is_subset(&set) && second.is_subset(&set) && begins_at(&set, 0),
         ),
         Err(_) => Ending::Refused,
     }
 }
 
-/// The intersection is within both sets, and 1.2.0 is its least release.
+/// The intersection is within both sets, and 1.2.0 is its lowest release.
 pub fn intersection(first: &VersionSet, second: &VersionSet) -> Ending {
     match first.intersection(second) {
         Ok(set) => Ending::full_if(
-            set.is_within(first) && set.is_within(second) && begins_at(&set, 1),
+            set.is_subset(first) && set.is_subset(second) && begins_at(&set, 1),
         ),
         Err(_) => Ending::Refused,
     }
@@ -174,16 +174,16 @@ pub fn intersection(first: &VersionSet, second: &VersionSet) -> Ending {
 pub fn difference(first: &VersionSet, second: &VersionSet) -> Ending {
     match second.difference(first) {
         Ok(set) => Ending::full_if(
-            set.is_within(second) && !set.overlaps(first) && begins_at(&set, 0),
+            set.is_subset(second) && set.is_disjoint(first) && begins_at(&set, 0),
         ),
         Err(_) => Ending::Refused,
     }
 }
 
-/// The least version of the first set is 1.2.0-b.c.
-pub fn least(first: &VersionSet) -> Ending {
-    match first.least() {
-        Ok(Some(least)) => Ending::full_if(least.minor == 2 && least.pre.len() == 2),
+/// The lowest version of the first set is 1.2.0-b.c.
+pub fn lowest(first: &VersionSet) -> Ending {
+    match first.lowest() {
+        Ok(Some(lowest)) => Ending::full_if(lowest.minor == 2 && lowest.pre.len() == 2),
         Ok(None) => Ending::Wrong,
         Err(_) => Ending::Refused,
     }
@@ -220,19 +220,19 @@ pub fn pre_release_ranges(first: &VersionSet) -> Ending {
     }
 }
 
-/// What is asked of sets without a request: also the least version where there is none, a
+/// What is asked of sets without a request: also the lowest version where there is none, a
 /// combination that has no version, a comparison of sets that have none, and their ranges.
 pub fn without_requests(first: &VersionSet, second: &VersionSet) -> Ending {
     let empty = VersionSet::empty();
     let is_told = empty.is_empty()
         && !first.is_empty()
-        && !first.is_within(second)
-        && first.overlaps(second)
+        && !first.is_subset(second)
+        && !first.is_disjoint(second)
         && first != second
         && begins_at(first, 1);
-    let has_both = has(first, "1.9.0") && has(second, "1.9.0");
-    let has_one = has(first, "2.0.0") && !has(second, "2.0.0");
-    let is_least = matches!(empty.least(), Ok(None));
+    let has_both = contains(first, "1.9.0") && contains(second, "1.9.0");
+    let has_one = contains(first, "2.0.0") && !contains(second, "2.0.0");
+    let is_lowest = matches!(empty.lowest(), Ok(None));
     let nothing = match first.difference(first) {
         Ok(nothing) => nothing == empty,
         Err(_) => false,
@@ -244,7 +244,7 @@ pub fn without_requests(first: &VersionSet, second: &VersionSet) -> Ending {
     let is_shown = has_no_range(empty.release_ranges())
         && has_no_range(empty.pre_release_ranges());
     Ending::full_if(
-        is_told && has_both && has_one && is_least && nothing && is_compared && is_shown,
+        is_told && has_both && has_one && is_lowest && nothing && is_compared && is_shown,
     )
 }
 
@@ -265,20 +265,20 @@ fn has_no_range(ranges: Result<SetRanges, AllocError>) -> bool {
 }
 
 /// Whether a version without identifiers, which is read without a request, is in a set.
-fn has(set: &VersionSet, text: &str) -> bool {
+fn contains(set: &VersionSet, text: &str) -> bool {
     match version::read(text) {
-        Ok(Some(version)) => set.has(&version),
+        Ok(Some(version)) => set.contains(&version),
         _ => false,
     }
 }
 
 /// Whether a version, which is looked at without a request, is in a set.
 fn has_stated(set: &VersionSet, text: &str) -> bool {
-    version::outline(text).is_some_and(|outline| set.has_outline(&outline))
+    version::outline(text).is_some_and(|outline| set.contains_outline(&outline))
 }
 
-/// Whether the least release of a set has this major number.
+/// Whether the lowest release of a set has this major number.
 fn begins_at(set: &VersionSet, major: u64) -> bool {
-    set.least_release()
+    set.lowest_release()
         .is_some_and(|release| release.major == major)
 }

@@ -4,7 +4,7 @@
 use crate::rattle_std::prelude::*;
 use super::MOST_COMPARATORS;
 use super::grammar::read_comparator;
-use crate::proved::tool_ranges::rows;
+use crate::proved::tool_ranges::desugaring;
 use crate::proved::semver_ranges::Compat;
 
 /// How many comparators of a requirement that state a number, from the left, fit.
@@ -16,7 +16,7 @@ pub(crate) fn fitting(text: &[u8]) -> u128 {
             return fitting;
         };
         if !simple.partial.states_nothing() {
-            if !rows::cell_of(&simple, Compat::Cargo).fits(&simple.partial) {
+            if !desugaring::desugared_by_tool(&simple, Compat::Cargo).fits(&simple.partial) {
                 return fitting;
             }
             fitting += 1;

@@ -1,7 +1,7 @@
 // Made by tools/erase from crates/tool_ranges/src/cargo/grammar.rt; not edited by hand.
 //! What is at the front of a requirement: a comparator.
 //!
-//! Nothing here takes memory, and a call looks at each byte a fixed number of times. What can't be
+//! Nothing here allocates, and a call looks at each byte a fixed number of times. What can't be
 //! read is `None`.
 
 use crate::rattle_std::prelude::*;
@@ -61,7 +61,7 @@ fn has_wildcard(written: &Components<'_>) -> bool {
     }
 }
 
-/// Whether Cargo reads such a comparator: a wildcard alone stands for every release, and else the
+/// Whether Cargo reads such a comparator: a wildcard alone matches every release, and else the
 /// first number is stated, nothing but wildcards is after a wildcard, a pre-release or a build
 /// after three numbers alone, and no number in the pre-release has a leading zero.
 #[inline(always)]

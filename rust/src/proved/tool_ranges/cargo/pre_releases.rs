@@ -1,15 +1,15 @@
 // Made by tools/erase from crates/tool_ranges/src/cargo/pre_releases.rt; not edited by hand.
-//! The comparators that judge pre-releases as a requirement does, and the ranges of those that
+//! The comparators that check pre-releases as a requirement does, and the ranges of those that
 //! count.
 
 use crate::rattle_std::prelude::*;
-use crate::proved::tool_ranges::rows;
+use crate::proved::tool_ranges::desugaring;
 use crate::proved::semver_ranges::grammar::{Form, Simple};
 use crate::proved::semver_ranges::partial::{LowerBounds, Partial, PartialKind, RaisedBounds};
 use crate::proved::semver_ranges::{Comparator, Compat, Identifier, Op, Range};
 use crate::rattle_std::AllocError;
 
-/// Adds the comparators that judge pre-releases.
+/// Adds the comparators that check pre-releases.
 pub(crate) fn push(
     simple: &Simple<'_>,
     comparators: &mut Vec<Comparator>,
@@ -21,7 +21,7 @@ pub(crate) fn push(
         }
         PartialKind::MajorOnly | PartialKind::MajorMinor => push_some(simple, comparators),
         PartialKind::MajorMinorPatch => {
-            rows::push(
+            desugaring::push(
                 simple,
                 Compat::Cargo,
                 LowerBounds::Stated,
@@ -56,7 +56,7 @@ fn push_some(
     Ok(())
 }
 
-/// The comparator that no version meets: `<0.0.0-0`.
+/// The comparator that no version satisfies: `<0.0.0-0`.
 fn below_all() -> Result<Comparator, AllocError> {
     Ok(Comparator {
         op: Op::Lt,
@@ -83,7 +83,7 @@ fn above_last(partial: &Partial<'_>) -> Comparator {
 }
 
 /// Adds the range of the pre-releases that count beside a partial, if it has a pre-release, and if
-/// such ranges are asked for.
+/// such ranges are wanted.
 #[inline(always)]
 pub(crate) fn push_counting(
     counts: bool,

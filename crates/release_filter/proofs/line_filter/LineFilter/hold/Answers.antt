@@ -1,6 +1,7 @@
 use Rattle.std.proofs.Common.{◌≡◌, ◌∙◌, ◌+◌, ℕ, ap, arith, length, refl, subst, sym, take}
 use Rattle.std.specs.Prelude.{IfSome, MatchOption, Option, Some, None}
-use Rattle.semver_parser.specs.Texts.{Text}
+use Rattle.tool_ranges.specs.VersionRanges.{versions_grammar}
+use Rattle.semver_texts.specs.Texts.{Text}
 use Rattle.release_filter.specs.Skipping.{MayUpTo, ShowsNone, without_room}
 use Rattle.release_filter.specs.Steps.Taking.{texts}
 use Rattle.release_filter.proofs.Looks.{before_looks}
@@ -14,7 +15,7 @@ told (Some n) P Q none some = some
 pub returns-then-end-le-FIRST_LOOK-clause-shown : goal.returns-then-end-le-FIRST_LOOK-clause-shown
 returns-then-end-le-FIRST_LOOK-clause-shown c =
     let self = c.args.self.now in
-    before_looks self.filter.grammar (texts self.prefixes.items) c.args.at_front _ _ (omega arith)
+    before_looks (versions_grammar self.filter) (texts self.prefixes.items) c.args.at_front _ _ (omega arith)
 
 pub returns-clause-shown : goal.returns-clause-shown
 returns-clause-shown c =
@@ -29,6 +30,6 @@ returns-clause-shown c =
     let same : without_room c.deref_mut.result.now ≡ c.truncate-2.new.self.items =
     ap without_room (c.deref_mut.ensures.value ∙ all) ∙ with_room _ _ refl ∙ sym held in
     let Is : Text → Type 0 = λ t. MatchOption c.shown_end-shown.result
-    (MayUpTo self.filter.grammar (texts self.prefixes.items) c.args.at_front t (length t))
-    (λ size. ShowsNone self.filter.grammar (texts self.prefixes.items) c.args.at_front (take size t)) in
+    (MayUpTo (versions_grammar self.filter) (texts self.prefixes.items) c.args.at_front t (length t))
+    (λ size. ShowsNone (versions_grammar self.filter) (texts self.prefixes.items) c.args.at_front (take size t)) in
     subst Is same (told c.shown_end-shown.result _ _ c.shown_end-shown.ensures.none c.shown_end-shown.ensures.some)

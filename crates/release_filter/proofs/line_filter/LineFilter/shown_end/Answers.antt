@@ -1,5 +1,6 @@
 use Rattle.std.proofs.Common.{◌≡◌, ◌∙◌, ◌-◌, ap, arith, length, length-take, refl, subst, sym, take}
-use Rattle.semver_parser.specs.Texts.{Text}
+use Rattle.tool_ranges.specs.VersionRanges.{versions_grammar}
+use Rattle.semver_texts.specs.Texts.{Text}
 use Rattle.release_filter.specs.Skipping.{MayHaveVersion, without_room}
 use Rattle.release_filter.specs.Steps.Taking.{texts}
 use Rattle.release_filter.proofs.Looks.{before_looks, looked_again, next_look, shows_at}
@@ -12,7 +13,7 @@ pub loop-size-init : goal.loop-size-init
 loop-size-init c =
     let self = c.args.self.now in record {
       looked_at = (0, refl);
-      may = before_looks self.filter.grammar (texts self.prefixes.items) c.args.at_front (without_room c.args.line.now) 4096 (omega arith);
+      may = before_looks (versions_grammar self.filter) (texts self.prefixes.items) c.args.at_front (without_room c.args.line.now) 4096 (omega arith);
       same = refl;
     }
 
@@ -22,7 +23,7 @@ loop-size-preserved c =
     let before = c.loop-size.invariant in
     let size = c.loop-size.size in
     let line = without_room c.args.line.now in
-    let May : Text → Type 0 = MayHaveVersion self.filter.grammar (texts self.prefixes.items) c.args.at_front in
+    let May : Text → Type 0 = MayHaveVersion (versions_grammar self.filter) (texts self.prefixes.items) c.args.at_front in
     let here : May (take size line) = elim c.else-size-seen.branch [
       | else-size-seen-via-then-size-seen+else-not-may_have_version w ↦
           subst May (ap (take size) before.same ∙ fewer c.args.line.now size (omega arith))
@@ -35,7 +36,7 @@ loop-size-preserved c =
     ] in
     record {
       looked_at = next_look size before.looked_at;
-      may = looked_again self.filter.grammar (texts self.prefixes.items) c.args.at_front line size before.looked_at before.may here;
+      may = looked_again (versions_grammar self.filter) (texts self.prefixes.items) c.args.at_front line size before.looked_at before.may here;
       same = same;
     }
 
@@ -46,8 +47,8 @@ returns-then-not-may_have_version-clause-some c =
     let size = c.loop-size.size in
     let line = without_room c.args.line.now in
     let same = ap (take size) before.same ∙ fewer c.args.line.now size (omega arith) in
-    let May : Text → Type 0 = MayHaveVersion self.filter.grammar (texts self.prefixes.items) c.args.at_front in
-    shows_at self.filter.grammar (texts self.prefixes.items) c.args.at_front line size
+    let May : Text → Type 0 = MayHaveVersion (versions_grammar self.filter) (texts self.prefixes.items) c.args.at_front in
+    shows_at (versions_grammar self.filter) (texts self.prefixes.items) c.args.at_front line size
     (omega (arith, length-take (length c.args.line.now - 8) c.args.line.now)) before.looked_at before.may
     (λ may. let h = c.may_have_version.ensures.may.1 (subst May (sym same) may) in cc)
 

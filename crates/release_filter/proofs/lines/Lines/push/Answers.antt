@@ -1,10 +1,10 @@
-use Rattle.std.proofs.Common.{◌∙◌, ◌++◌, ◌∷◌, [], ap, arith, inl, refl, subst, sym}
+use Rattle.std.proofs.Common.{drop, ◌∙◌, ◌++◌, ◌∷◌, [], ap, arith, inl, refl, subst, sym}
 use Rattle.std.proofs.lemmas.List.{take_rest}
 use Rattle.release_filter.specs.Pieces.{LinesValue, NextAllocates}
 use Rattle.release_filter.specs.Verdicts.{is_invalid}
 use Rattle.release_filter.proofs.Endings.{bad_verdict, one_more_valid, opposite, opposite_bad}
-use Rattle.release_filter.proofs.Passing.{not_both}
-use Rattle.release_filter.proofs.TakenPieces.{NoEnd, took_next, took_nothing, took_piece}
+use Rattle.release_filter.proofs.Matching.{not_both}
+use Rattle.release_filter.proofs.TakenPieces.{NoEnd, end_in, took_next, took_nothing, took_piece}
 use Rattle.release_filter.proofs.lines.Lines.push.Goals as goal
 use Rattle.release_filter.proofs.lines.Lines.push.Goals.{else-self-via-then-self+else-not-is_valid, else-self-via-else-self}
 
@@ -77,4 +77,7 @@ returns-in-Err-clause-allocates c = λ _.
 pub returns-in-Err-take_rest-clause-allocates : goal.returns-in-Err-take_rest-clause-allocates
 returns-in-Err-take_rest-clause-allocates c = λ _.
     let found = rw c.in-Ok-None.field-0-is at c.in-Ok-None.ensures.takes in
-    rw c.out_of_memory-in-Err-take_rest.ensures.taken (inl (subst NoEnd (take_rest c.args.piece.now c.lines.taken) found.0))
+    let same = c.in-Err-take_rest.ensures.unchanged ∙ found.1 in
+    let none = subst (λ (s : LinesValue). NoEnd (end_in s) (drop c.lines.taken c.args.piece.now)) (sym same)
+    (subst (NoEnd (end_in c.lines.self)) (take_rest c.args.piece.now c.lines.taken) found.0) in
+    rw c.out_of_memory-in-Err-take_rest.ensures.taken (inl none)

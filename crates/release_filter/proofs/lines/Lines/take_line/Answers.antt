@@ -1,6 +1,8 @@
-use Rattle.std.proofs.Common.{Bor, ap, false, refl, subst}
-use Rattle.semver_parser.specs.Texts.{Text}
+use Rattle.std.proofs.Common.{Bor, ap, false, refl, subst, sym}
+use Rattle.semver_texts.specs.Texts.{Text}
 use Rattle.release_filter.specs.Counting.{counts_value}
+use Rattle.release_filter.specs.LineTexts.{IsWholeLine, end_byte}
+use Rattle.release_filter.specs.Pieces.{LinesValue}
 use Rattle.release_filter.specs.declared.lines.Lines.TheView.{view}
 use Rattle.release_filter.specs.Steps.Taking.{TakesJudged, held_value}
 use Rattle.release_filter.proofs.Endings.{skips_end, took_judged}
@@ -18,7 +20,7 @@ returns-in-Ok-clause-takes c =
     let new = c.take_ended.new.kept.items in
     let valid = c.in-Ok.is_valid in
     let Judged : Text → Type 0 =
-    λ l. TakesJudged value.filter value.prefixes value.held value.counts (line_with value l) held counts old new valid in
+    λ l. TakesJudged value.rule value.held value.counts (line_with value l) held counts old new valid in
     let took : Judged c.if-self.end.now = rw c.in_ok-extend_from_slice.ensures.items at c.in-Ok.ensures.takes in
     let taken : Judged end = elim c.if-self.branch [
       | then-self w ↦
@@ -26,6 +28,7 @@ returns-in-Ok-clause-takes c =
           (c.self.invariant.skipped w.if-self.true) took
       | else-self w ↦ subst Judged (ap (λ (b : Bor Text). b.now) w.end-is) took
     ] in
-    let whole = took_judged value end c.clear.new.self.items false held counts old new valid c.requires c.self.invariant.no_end taken
+    let whole_end = subst (λ (v : LinesValue). IsWholeLine (end_byte v.rule.ending) end) (sym c.self.view_is) c.requires in
+    let whole = took_judged value end c.clear.new.self.items false held counts old new valid whole_end c.self.invariant.no_end taken
     c.clear.ensures.items refl in
     (whole.0, seen _ _ _ _ _ _ _ c.self.view_is whole.1, whole.2, whole.3)

@@ -15,7 +15,7 @@ returns-in_default c = λ tree spelled.
     let seen = c.loop.invariant in absurd (at_none c.args.text.now seen.0 c.loop.rest.now seen.1 c.in_default.ensures tree spelled)
 
 pub fits-requires : goal.fits-requires
-fits-requires c = let found = c.in-Some.ensures in (c.cell_of.ensures (as_read found.0) found.2).0
+fits-requires c = let found = c.in-Some.ensures in (c.desugared_by_tool.ensures (as_read found.0) found.2).0
 
 pub returns-then-not-fits : goal.returns-then-not-fits
 returns-then-not-fits c = λ tree spelled.
@@ -25,7 +25,7 @@ returns-then-not-fits c = λ tree spelled.
     let left = seen.1.whole tree spelled.comparators in
     let here = first_left s c.loop.rest.now (after_comma c.in-Some.after) left.0 found.1 left.2 in
     let none = states_kind s.partial c.in-Some.simple.partial found.2.1 ∙ sym c.states_nothing.ensures ∙ c.if-not-states_nothing.true in
-    let large = sym (c.fits.ensures ∙ (c.cell_of.ensures (as_read s) found.2).1) ∙ c.if-not-fits.true in
+    let large = sym (c.fits.ensures ∙ (c.desugared_by_tool.ensures (as_read s) found.2).1) ∙ c.if-not-fits.true in
     let whole : fitting (term_fits_as Cargo) tree ≡ c.loop.fitting + fitting (term_fits_as Cargo) (s ∷ here.0) =
     ap (fitting (term_fits_as Cargo)) (left.1 ∙ ap (λ x. seen.0 ++ x) here.1) ∙ seen.4 (s ∷ here.0) in
     let end = fitting_end (term_fits_as Cargo) s here.0 none large in
@@ -43,7 +43,7 @@ returns-in_default-after c = λ tree spelled.
     let whole : fitting p tree ≡ c.loop.fitting + fitting p (s ∷ []) = ap (fitting p) (last.1 tree spelled.comparators) ∙ seen.4 (s ∷ []) in
     elim c.if-not-states_nothing.branch [
       | then-not-states_nothing+else-not-fits w ↦ (
-          let fits = sym (w.fits.ensures ∙ (w.cell_of.ensures (as_read s) found.2).1) ∙ w.if-not-fits.false in
+          let fits = sym (w.fits.ensures ∙ (w.desugared_by_tool.ensures (as_read s) found.2).1) ∙ w.if-not-fits.false in
           let more = fitting_more p s [] (states ∙ w.if-not-states_nothing.true) fits in
           omega (arith, whole, more, w.fitting-is))
       | else-not-states_nothing w ↦ (
@@ -64,7 +64,7 @@ loop-preserved c =
     λ left. ap (fitting p) (one_more s seen.0 left) ∙ seen.4 (s ∷ left) in
     elim c.if-not-states_nothing.branch [
       | then-not-states_nothing+else-not-fits w ↦ (
-          let fits = sym (w.fits.ensures ∙ (w.cell_of.ensures (as_read s) found.2).1) ∙ w.if-not-fits.false in (
+          let fits = sym (w.fits.ensures ∙ (w.desugared_by_tool.ensures (as_read s) found.2).1) ∙ w.if-not-fits.false in (
             seen.0 ++ s ∷ [],
             at,
             count_more seen.0 s c.loop.counter seen.2,

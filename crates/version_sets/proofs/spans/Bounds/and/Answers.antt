@@ -1,9 +1,9 @@
 use Rattle.std.proofs.Common.{◌∙◌, ap₂}
-use Rattle.semver_parser.specs.Precedence.{precedence}
-use Rattle.semver_parser.specs.PrecedenceLaws.{precedence_total}
+use Rattle.semver_texts.specs.Precedence.{precedence}
+use Rattle.semver_texts.specs.Steps.PrecedenceLaws.{precedence_total}
 use Rattle.version_sets.specs.Steps.Spans.{is_between}
 use Rattle.version_sets.proofs.SpanLaws.{between-both}
-use Rattle.version_sets.proofs.HeldLimits.{and_hold}
+use Rattle.version_sets.proofs.HeldEndpoints.{and_hold}
 use Rattle.version_sets.proofs.spans.Bounds.and.Goals as goal
 
 pub returns-clause-meaning : goal.returns-clause-meaning

@@ -1,4 +1,4 @@
-use Rattle.semver_parser.specs.RangeViews.{set_of}
+use Rattle.semver_ranges.specs.RangeViews.{set_of}
 use Rattle.version_sets.proofs.PrintableRanges.{ranges_print}
 use Rattle.version_sets.proofs.version_set.VersionSet.of_text.Goals as goal
 

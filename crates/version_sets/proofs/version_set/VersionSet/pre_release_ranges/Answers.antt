@@ -1,9 +1,10 @@
 use Rattle.std.proofs.Common.{rules, ◌≡◌, refl, sym, ap, subst, ◌∙◌, IsTrue, not}
-use Rattle.semver_parser.specs.declared.Compat.TheVariants.{Npm}
-use Rattle.semver_parser.specs.RangeViews.{set_of as ranges_of_set}
-use Rattle.semver_parser.specs.RewritingTable.{PlainSet}
-use Rattle.semver_parser.specs.Versions.{PlainVersion}
-use Rattle.version_sets.specs.Steps.Places.{set_of, pre_release_place}
+use Rattle.semver_ranges.specs.declared.range.Compat.TheVariants.{Npm}
+use Rattle.semver_ranges.specs.RangeViews.{set_of as ranges_of_set}
+use Rattle.semver_ranges.specs.RewritingTable.{PlainSet}
+use Rattle.semver_texts.specs.Versions.{PlainVersion}
+use Rattle.semver_versions.specs.ReadVersions.{read_plain}
+use Rattle.version_sets.specs.Steps.Places.{set_of}
 use Rattle.version_sets.specs.VersionSets.{IsIn, IsPreRelease, IsNormal}
 use Rattle.version_sets.specs.SetRanges.{next_pre_release, pre_release_ranges, is_whole, ranges_text, ReadsBack}
 use Rattle.version_sets.specs.DigitViews.{set_kept}
@@ -21,7 +22,7 @@ returns-in_err-ranges-clause-out_of_memory c =
     let s = set_of c.self.inside.releases.items c.self.inside.pre_releases.items in
     on_err c.from_residual.result
     (subst (λ t. (v : PlainVersion) × IsPreRelease v × IsIn v t) c.self.view_is
-    (has_pre_release s c.self.invariant pre_release_place c.self.inside.pre_releases.items refl (search rules)))
+    (has_pre_release s c.self.invariant read_plain c.self.inside.pre_releases.items refl (search rules)))
 
 pub returns-clause-meaning : goal.returns-clause-meaning
 returns-clause-meaning c =

@@ -1,0 +1,36 @@
+use Rattle.std.proofs.Common.{◌≡◌, Bool, Result, Ok, sym, ◌∙◌}
+use Rattle.semver_parser.specs.Outlines.{version_of}
+use Rattle.tool_ranges.specs.Dialects.{HasSetAs, IsTextAs, IsTooLargeAs}
+use Rattle.tool_ranges.proofs.ReadSets.{same_refusal}
+use Rattle.tool_ranges.proofs.ReadingLaws.{answered_too}
+use Rattle.version_sets.specs.declared.VersionSet.{VersionSet}
+use Rattle.answer_laws.specs.OneAnswer.{itself}
+use Rattle.answer_laws.proofs.OneAnswer.{one, said}
+use Rattle.answer_laws.proofs.sets.satisfies_as_the_set.Goals as goal
+use Rattle.answer_laws.proofs.sets.satisfies_as_the_set.Goals.{in-Ok, in-Err}
+
+inner : {a b : Bool} {E : Type 0} → ◌≡◌ {A = Result Bool E} (Ok a) (Ok b) → a ≡ b
+inner e = cc
+
+pub returns : goal.returns
+returns c =
+    let dialect = c.args.meaning.dialect in
+    let range = c.args.range.now in
+    let w = version_of c.args.version.now in
+    let r = c.satisfies.ensures in
+    elim c.match-read.branch [
+      | in-Ok o ↦ record {
+        same = rw o.contains-is (one itself _ c.satisfies.result
+            (answered_too (IsTextAs dialect range) (IsTooLargeAs dialect range) (HasSetAs dialect range) o.in-Ok.set _
+            o.in-Ok.ensures.refusals)
+            r.refusals
+            (λ a b is is' text. sym (inner is) ∙ o.contains_outline.ensures.of_version
+            ∙ o.in-Ok.ensures.meaning text.0 w text.1 (c.numbers_of_outlines_fit.ensures.major, c.numbers_of_outlines_fit.ensures.minor, c.numbers_of_outlines_fit.ensures.patch) ∙ sym (said _ is' r.meaning text.0 text.1)));
+      }
+      | in-Err o ↦ record {
+        same = rw o.contains-is (one itself _ c.satisfies.result
+            (same_refusal VersionSet Bool (IsTextAs dialect range) (IsTooLargeAs dialect range) (HasSetAs dialect range) o.in-Err.error
+            o.in-Err.ensures.refusals)
+            r.refusals (λ a b is is' text. cc));
+      }
+    ]

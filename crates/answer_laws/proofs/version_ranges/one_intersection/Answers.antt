@@ -1,0 +1,11 @@
+use Rattle.answer_laws.proofs.RangeAnswers.{one_combined}
+use Rattle.answer_laws.proofs.version_ranges.one_intersection.Goals as goal
+
+pub returns : goal.returns
+returns c =
+    let r = c.intersection-first.ensures in
+    let s = c.intersection-second.ensures in
+    record {
+      one = one_combined c.args.range.now.meaning c.args.other.now.meaning _ _ _ c.answers_are_alike.ensures.alike r.refused s.refused
+          r.contains s.contains r.meaning s.meaning;
+    }

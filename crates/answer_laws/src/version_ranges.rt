@@ -1,0 +1,106 @@
+//! The calls that read a range, combine two, or check versions by one.
+
+ghost use Rattle.std.specs.Prelude.{◌≡◌, IfOk};
+ghost use Rattle.answer_laws.specs.OneAnswer.{AreOne, itself};
+ghost use Rattle.answer_laws.specs.SameSets.{AreAlike};
+
+use semver_ranges::RangeError;
+use std::alloc::Global;
+use tool_ranges::meaning::Meaning;
+use tool_ranges::range_operations::OperationError;
+use tool_ranges::satisfying::SatisfiesError;
+use tool_ranges::version_range::VersionRange;
+use version_sets::laws::{one_set, sets_are_normal};
+
+/// Two answers of a call that combines two ranges, on the same inputs.
+type Combined = (
+    Result<VersionRange, OperationError>,
+    Result<VersionRange, OperationError>,
+);
+
+/// The versions of two ranges that are answered are alike. It does nothing.
+fn answers_are_alike<E>(first: &Result<VersionRange, E>, second: &Result<VersionRange, E>)
+    ensures alike { IfOk first.now (λ a. IfOk second.now (λ b. AreAlike a.versions b.versions)) }
+{
+    one_set();
+    let Ok(first) = first else {
+        return;
+    };
+    let Ok(second) = second else {
+        return;
+    };
+    sets_are_normal(first.versions());
+    sets_are_normal(second.versions());
+}
+
+/// `VersionRange::parse` has one answer.
+pub fn one_range(
+    alloc: Global,
+    range: &str,
+    meaning: Meaning,
+) -> (
+    Result<VersionRange, RangeError>,
+    Result<VersionRange, RangeError>,
+)
+    ensures one { AreOne RangeError.OutOfMemory itself result.0 result.1 }
+{
+    let first = VersionRange::parse(alloc, range, meaning);
+    let second = VersionRange::parse(alloc, range, meaning);
+    answers_are_alike(&first, &second);
+    (first, second)
+}
+
+/// `VersionRange::contains_bytes` has one answer.
+pub fn one_contains(
+    range: &VersionRange,
+    version: &[u8],
+) -> (Result<bool, SatisfiesError>, Result<bool, SatisfiesError>)
+    ensures one { result.0 ≡ result.1 }
+{
+    semver_versions::laws::one_version_in();
+    (range.contains_bytes(version), range.contains_bytes(version))
+}
+
+/// `VersionRange::highest_of` has one answer.
+pub fn one_highest_of(range: &VersionRange, versions: &[&[u8]]) -> (Option<usize>, Option<usize>)
+    ensures one { result.0 ≡ result.1 }
+{
+    (range.highest_of(versions), range.highest_of(versions))
+}
+
+/// `VersionRange::lowest_of` has one answer.
+pub fn one_lowest_of(range: &VersionRange, versions: &[&[u8]]) -> (Option<usize>, Option<usize>)
+    ensures one { result.0 ≡ result.1 }
+{
+    (range.lowest_of(versions), range.lowest_of(versions))
+}
+
+/// `VersionRange::union` has one answer.
+pub fn one_union(alloc: Global, range: &VersionRange, other: &VersionRange) -> Combined
+    ensures one { AreOne OperationError.OutOfMemory itself result.0 result.1 }
+{
+    let first = range.union(alloc, other);
+    let second = range.union(alloc, other);
+    answers_are_alike(&first, &second);
+    (first, second)
+}
+
+/// `VersionRange::intersection` has one answer.
+pub fn one_intersection(alloc: Global, range: &VersionRange, other: &VersionRange) -> Combined
+    ensures one { AreOne OperationError.OutOfMemory itself result.0 result.1 }
+{
+    let first = range.intersection(alloc, other);
+    let second = range.intersection(alloc, other);
+    answers_are_alike(&first, &second);
+    (first, second)
+}
+
+/// `VersionRange::difference` has one answer.
+pub fn one_difference(alloc: Global, range: &VersionRange, other: &VersionRange) -> Combined
+    ensures one { AreOne OperationError.OutOfMemory itself result.0 result.1 }
+{
+    let first = range.difference(alloc, other);
+    let second = range.difference(alloc, other);
+    answers_are_alike(&first, &second);
+    (first, second)
+}

@@ -1,0 +1,61 @@
+-- serves: release_filter::filter::filter_text, kept
+-- What matches a range, and what is said of a text by it.
+use Rattle.std.proofs.Common.{◌≡◌, ◌<◌, ◌==◌, ◌∷◌, arith, length, ℕ, List, [], Option, Some, None, IfErr, Result, Ok, Err}
+use Rattle.std.proofs.Common.{◌↔◌, ◌&&◌, ◌∙◌, ap, sym, Bool, true, false, refl, rules}
+use Rattle.tool_ranges.specs.VersionRanges.{RangeValue}
+use Rattle.semver_texts.specs.Texts.{Text, is_empty}
+use Rattle.semver_texts.specs.Versions.{IdentifierValue, PlainVersion, VersionValue}
+use Rattle.semver_texts.specs.ToolVersions.{SpellsIn, IsVersionTextIn}
+use Rattle.semver_texts.specs.declared.grammar.Grammar.{Grammar}
+use Rattle.semver_texts.specs.declared.grammar.Grammar.TheVariants.{Crate, Cargo, Npm}
+use Rattle.semver_versions.specs.Outlines.{OutlineValue, IsOutlineIn, dotted_text}
+use Rattle.semver_ranges.specs.RangeTree.{SetTree}
+use Rattle.semver_ranges.specs.declared.range.Compat.{Compat}
+use Rattle.version_sets.specs.PreReleaseRules.{is_kept, meets_text_with, numbers_fit}
+use Rattle.version_sets.specs.declared.PreReleases.TheVariants.{Excluded}
+use Rattle.release_filter.specs.Steps.Outlined.{IsOutlined}
+use Rattle.version_sets.specs.VersionSets.{contains, Fits}
+use Rattle.release_filter.specs.Matching.{matches}
+use Rattle.release_filter.specs.Steps.Members.{is_member}
+use Rattle.semver_texts.specs.VersionViews.{version_value}
+use Rattle.semver_texts.specs.declared.version.Version.{Version}
+use Rattle.version_sets.specs.VersionSets.{SetValue}
+
+-- what is so, is so where an error is answered
+pub on_err : {T E : Type 0} (P : Type 0) (r : Result T E) → P → IfErr r (λ e. P)
+on_err P (Ok x) p = tt
+on_err P (Err e) p = p
+
+pub not_both : {b : Bool} → b ≡ true → b ≡ false → ⊥
+not_both met never = absurd (search rules)
+
+-- what some value is
+pub some_is : {X : Type 0} {x y : X} → Some x ≡ Some y → x ≡ y
+some_is e = cc
+
+pub no_length : (xs : List ℕ) → (length xs == 0) ≡ true → xs ≡ []
+no_length [] e = refl
+no_length (x ∷ xs) e = absurd (search rules)
+
+-- ---- versions whose numbers fit
+
+pub fitting : (v : PlainVersion) → numbers_fit v ≡ true → Fits v
+fitting v fits = grind (arith, rules)
+
+-- a member of the set of a text is a version that the text means
+pub member_as_meant : (mode : Compat) (tree : SetTree) (set : SetValue) (v : Version)
+    → (Fits (version_value v).plain → contains set (version_value v).plain ≡ is_kept mode tree (version_value v))
+    → is_member set v ≡ is_kept mode tree (version_value v)
+member_as_meant mode tree set v told = by_fit (numbers_fit (version_value v).plain) refl
+  where
+    by_fit : (b : Bool) → numbers_fit (version_value v).plain ≡ b → is_member set v ≡ is_kept mode tree (version_value v)
+    by_fit true e = ap (λ b. b && contains set (version_value v).plain) e ∙ told (fitting (version_value v).plain e)
+    by_fit false e = ap (λ b. b && contains set (version_value v).plain) e
+        ∙ sym (ap (λ b. b && meets_text_with Excluded mode tree (version_value v)) e)
+
+-- what `outline_in` tells of a text
+pub outlined_as : (grammar : Grammar) (text : Text) (found : Option OutlineValue)
+    → ((o : OutlineValue) → (found ≡ Some o) ↔ IsOutlineIn grammar text o) → ((found ≡ None) ↔ ¬ (IsVersionTextIn grammar text))
+    → IsOutlined grammar text found
+outlined_as grammar text None told none = none.0 refl
+outlined_as grammar text (Some o) told none = (told o).0 refl

@@ -1,6 +1,0 @@
--- So many lines were appended.
-use Rattle.release_filter.proofs.HeldLines.{AppendsSome}
-use Rattle.release_filter.proofs.wanted.append_ended.Given as goal
-
-abbrev pub invariant-loop-indexed : goal.invariant-loop-indexed
-invariant-loop-indexed l = AppendsSome l.lines l.indexed-index l.initial.kept.items l.kept.items

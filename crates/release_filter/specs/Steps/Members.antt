@@ -1,0 +1,11 @@
+-- A set of versions as a test on versions: a means of proof.
+use Rattle.std.specs.Prelude.{Bool, ◌&&◌}
+use Rattle.semver_texts.specs.VersionViews.{version_value}
+use Rattle.semver_texts.specs.declared.version.Version.{Version}
+use Rattle.version_sets.specs.PreReleaseRules.{numbers_fit}
+use Rattle.version_sets.specs.VersionSets.{SetValue, contains}
+
+-- the numbers of a version fit, and it is in the set
+abbrev pub is_member : SetValue → Version → Bool
+is_member set version =
+    numbers_fit (version_value version).plain && contains set (version_value version).plain

@@ -1,0 +1,220 @@
+//! How simples are rewritten to comparators: which operator compares with which version, and which
+//! number is raised for the bound above.
+//!
+//! The rewriting does not allocate or raise: only building does both, once all is
+//! known to fit.
+
+ghost use Rattle.std.specs.Prelude.{◌≡◌, ◌≤◌, ◌++◌, ◌∷◌, [], length, map, true, IfOk};
+ghost use Rattle.semver_ranges.specs.declared.partial.Partial.{Partial as PartialView};
+ghost use Rattle.semver_ranges.specs.declared.partial.RaisedBounds.{RaisedBounds as RaisedView};
+ghost use Rattle.semver_ranges.specs.RangeTree.{Simple as SimpleTree};
+ghost use Rattle.semver_ranges.specs.RewritingTable.{nothing_stated, some_stated, three_stated};
+ghost use Rattle.semver_ranges.specs.RangeViews.{comparator_of};
+ghost use Rattle.semver_ranges.specs.Steps.PartialViews.{stated_of, place_number};
+ghost use Rattle.semver_ranges.specs.Steps.CursorViews.{form_of, IsSimpleOf};
+ghost use Rattle.semver_ranges.specs.Steps.DesugaredViews.{cell_of, op_of, place_of, bounds_fit};
+ghost use Rattle.semver_ranges.specs.Steps.DesugaredViews.{comparators_of, with_version, IsPlaced};
+ghost use Rattle.semver_ranges.specs.Steps.DesugaredViews.{IsBuildable, IsRow};
+
+use crate::grammar::{Form, Simple};
+use crate::partial::{Partial, PartialKind, Place, RaisedBounds};
+use crate::range::{Comparator, Compat, Op};
+use std::alloc::{AllocError, Global};
+
+/// The cell of the table that has the one or two comparators of a simple.
+#[derive(Drop)]
+pub enum Desugared {
+    /// A comparison with the partial.
+    Against(Op),
+    /// Below the bound that is raised at a place.
+    Below(Place),
+    /// From the partial on, and below the bound that is raised at a place.
+    Between(Place),
+}
+
+impl Desugared {
+    // Answer: equation.
+    /// Whether the numbers that the partial states, and the bound that is raised, are at most
+    /// 2^64 - 1.
+    #[inline(always)]
+    pub fn fits(&self, partial: &Partial<'_>) -> bool
+        requires { IsPlaced self.now partial.now }
+        ensures { result ≡ bounds_fit self.now partial.now }
+    {
+        partial.fits()
+            && match self {
+                Desugared::Against(_) => true,
+                Desugared::Below(place) | Desugared::Between(place) => partial.may_rise(*place),
+            }
+    }
+
+    // Answer: equation.
+    /// How many comparators. Vectors are made at this size.
+    #[inline(always)]
+    pub fn count(&self) -> usize
+        ensures { (raised : RaisedView) (partial : PartialView)
+            → result ≡ length (comparators_of raised self.now partial) }
+    {
+        match self {
+            Desugared::Against(_) | Desugared::Below(_) => 1,
+            Desugared::Between(_) => 2,
+        }
+    }
+
+    // Answer: equation.
+    /// The place of the bound that is raised, where there is one.
+    #[inline(always)]
+    pub fn raised(&self) -> Option<Place>
+        ensures { result ≡ place_of self.now }
+    {
+        match self {
+            Desugared::Against(_) => None,
+            Desugared::Below(place) | Desugared::Between(place) => Some(*place),
+        }
+    }
+
+    /// The operator that the partial is compared by, and the place of the raised bound, each where
+    /// there is one.
+    #[inline(always)]
+    fn split(self) -> (Option<Op>, Option<Place>)
+        ensures op { result.0 ≡ op_of self }
+        ensures place { result.1 ≡ place_of self }
+    {
+        match self {
+            Desugared::Against(op) => (Some(op), None),
+            Desugared::Below(place) => (None, Some(place)),
+            Desugared::Between(place) => (Some(Op::Gte), Some(place)),
+        }
+    }
+
+    // Answer: equation.
+    /// The comparators by themselves. For speed none is pushed where there might be no capacity.
+    #[inline(always)]
+    pub fn to_vec(
+        self,
+        alloc: Global,
+        partial: &Partial<'_>,
+        raised: RaisedBounds,
+    ) -> Result<Vec<Comparator>, AllocError>
+        requires buildable { IsBuildable self partial.now }
+        requires fits { bounds_fit self partial.now ≡ true }
+        ensures { IfOk result (λ comparators. map comparator_of comparators.items
+            ≡ comparators_of raised self partial.now) }
+    {
+        match self {
+            Desugared::Against(op) => singleton(alloc, partial.as_comparator(alloc, op)?),
+            Desugared::Below(place) => singleton(alloc, partial.raised(alloc, place, raised)?),
+            Desugared::Between(place) => {
+                let mut comparators = Vec::with_capacity(alloc, 2)?;
+                comparators.push_reserved(partial.as_comparator(alloc, Op::Gte)?);
+                comparators.push_reserved(partial.raised(alloc, place, raised)?);
+                Ok(comparators)
+            }
+        }
+    }
+
+    // Answer: equation.
+    /// Adds the comparators.
+    #[inline(always)]
+    pub fn push(
+        self,
+        alloc: Global,
+        partial: &Partial<'_>,
+        comparators: &mut Vec<Comparator>,
+        raised: RaisedBounds,
+    ) -> Result<(), AllocError>
+        requires buildable { IsBuildable self partial.now }
+        requires fits { bounds_fit self partial.now ≡ true }
+        ensures { IfOk result (λ _. map comparator_of comparators.new.items
+            ≡ map comparator_of comparators.old.items ++ comparators_of raised self partial.now) }
+    {
+        let (op, place) = self.split();
+        if let Some(op) = op {
+            comparators.push(partial.as_comparator(alloc, op)?)?;
+        }
+        if let Some(place) = place {
+            comparators.push(partial.raised(alloc, place, raised)?)?;
+        }
+        Ok(())
+    }
+}
+
+/// A vector of one comparator.
+#[inline(always)]
+fn singleton(alloc: Global, comparator: Comparator) -> Result<Vec<Comparator>, AllocError>
+    ensures { IfOk result (λ comparators. comparators.items ≡ comparator ∷ []) }
+{
+    let mut comparators = Vec::with_capacity(alloc, 1)?;
+    comparators.push_reserved(comparator);
+    Ok(comparators)
+}
+
+// Answer: free, the row of a number above 2^64 - 1: ../replayed_cases/stdin.
+/// The comparators of a simple, by the table: its form, how many numbers it states, and the mode.
+#[inline(always)]
+pub fn rewritten(simple: &Simple<'_>, compat: Compat) -> Desugared
+    ensures { (s : SimpleTree) → IsSimpleOf s simple.now
+        → IsRow compat s simple.now.partial result }
+{
+    let partial = &simple.partial;
+    match partial.kind() {
+        PartialKind::XRangeOnly => with_nothing_stated(simple.form),
+        PartialKind::MajorOnly => with_some_stated(simple.form, partial, Place::Major),
+        PartialKind::MajorMinor => with_some_stated(simple.form, partial, Place::Minor),
+        PartialKind::MajorMinorPatch => with_three_stated(simple.form, partial, compat),
+    }
+}
+
+/// The column where no number is stated: the partial is 0.0.0 then.
+#[inline(always)]
+fn with_nothing_stated(form: Form) -> Desugared
+    ensures cell { cell_of result ≡ with_version (nothing_stated (form_of form)) }
+    ensures placed { (partial : PartialView) → IsPlaced result partial }
+{
+    match form {
+        Form::Less | Form::Greater => Desugared::Against(Op::Lt),
+        Form::Bare | Form::Equal | Form::AtMost | Form::AtLeast | Form::Tilde | Form::Caret =>
+            Desugared::Against(Op::Gte),
+    }
+}
+
+/// The column where one or two numbers are stated, the last of them at a place.
+#[inline(always)]
+fn with_some_stated(form: Form, partial: &Partial<'_>, last: Place) -> Desugared
+    requires some { 1 ≤ length (stated_of partial.now) }
+    requires last { length (stated_of partial.now) ≡ place_number last }
+    ensures cell { cell_of result ≡ some_stated (form_of form) (stated_of partial.now) }
+    ensures placed { IsPlaced result partial.now }
+{
+    match form {
+        Form::Bare | Form::Equal | Form::Tilde => Desugared::Between(last),
+        Form::Less => Desugared::Against(Op::Lt),
+        Form::AtMost => Desugared::Below(last),
+        Form::Greater => Desugared::Against(Op::Gt),
+        Form::AtLeast => Desugared::Against(Op::Gte),
+        Form::Caret => Desugared::Between(partial.leading_place()),
+    }
+}
+
+/// The column where three numbers are stated: the mode decides what a bare version is, and nothing
+/// else.
+#[inline(always)]
+fn with_three_stated(form: Form, partial: &Partial<'_>, compat: Compat) -> Desugared
+    requires { length (stated_of partial.now) ≡ 3 }
+    ensures cell { cell_of result ≡ three_stated compat (form_of form) (stated_of partial.now) }
+    ensures placed { IsPlaced result partial.now }
+{
+    match form {
+        Form::Bare => match compat {
+            Compat::Cargo => Desugared::Between(partial.leading_place()),
+            Compat::Npm => Desugared::Against(Op::Eq),
+        },
+        Form::Equal => Desugared::Against(Op::Eq),
+        Form::Less => Desugared::Against(Op::Lt),
+        Form::AtMost => Desugared::Against(Op::Lte),
+        Form::Greater => Desugared::Against(Op::Gt),
+        Form::AtLeast => Desugared::Against(Op::Gte),
+        Form::Tilde => Desugared::Between(Place::Minor),
+        Form::Caret => Desugared::Between(partial.leading_place()),
+    }
+}

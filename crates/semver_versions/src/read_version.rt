@@ -1,0 +1,113 @@
+//! Versions that own their identifiers, and know how those of digits alone are read.
+
+ghost use Rattle.std.specs.Prelude.{◌≡◌, IfOk};
+ghost use Rattle.semver_texts.specs.Digits.{plain_by};
+ghost use Rattle.semver_texts.specs.Precedence.{precedence};
+ghost use Rattle.semver_texts.specs.VersionViews.{version_value};
+ghost use Rattle.semver_versions.specs.Outlines.{version_of};
+ghost use Rattle.semver_versions.specs.ReadVersions.{read_plain};
+
+use crate::outlines::Outline;
+use semver_texts::grammar::Digits;
+use semver_texts::identifiers::ByDigits;
+use semver_texts::precedence::{Identifiers, compare};
+use semver_texts::version::{Identifier, Version};
+use std::alloc::{AllocError, Global};
+use std::cmp::Ordering;
+
+/// A version, and how its identifiers of digits alone are read: from 2^64 on they are texts, as a
+/// `Version` keeps them, or numbers, as Cargo and npm read them.
+#[derive(Debug, Drop)]
+pub struct ReadVersion {
+    /// The version.
+    pub version: Version,
+    /// How its identifiers of digits alone are read.
+    pub digits: Digits,
+}
+
+impl ReadVersion {
+    // Answer: equation.
+    /// Returns the version of an outline, without its build. `Err` is out of memory.
+    #[inline(always)]
+    pub fn of(alloc: Global, outline: &Outline<'_>) -> Result<ReadVersion, AllocError>
+        ensures { IfOk result (λ read. read_plain read ≡ (version_of outline.now).plain) }
+    {
+        let version = Version {
+            major: outline.major(),
+            minor: outline.minor(),
+            patch: outline.patch(),
+            pre: outline.pre_identifiers(alloc)?,
+            build: Vec::new(alloc),
+        };
+        Ok(ReadVersion {
+            version,
+            digits: outline.digits(),
+        })
+    }
+
+    // Answer: equation.
+    /// Returns the same version, without its build. `Err` is out of memory.
+    pub fn without_build(&self, alloc: Global) -> Result<ReadVersion, AllocError>
+        ensures { IfOk result (λ same. read_plain same ≡ read_plain self.now) }
+    {
+        let version = Version {
+            major: self.version.major,
+            minor: self.version.minor,
+            patch: self.version.patch,
+            pre: self.version.pre.clone()?,
+            build: Vec::new(alloc),
+        };
+        Ok(ReadVersion {
+            version,
+            digits: self.digits,
+        })
+    }
+
+    // Answer: equation.
+    /// Returns the identifiers of the pre-release, as they are compared.
+    #[inline(always)]
+    pub fn pre<'a>(&'a self) -> ByDigits<&'a [Identifier]>
+        ensures { ⟦<ByDigits<&'a [Identifier]> as Identifiers<'a>>⟧.left result
+            ≡ (read_plain self.now).pre }
+    {
+        ByDigits::of(self.version.pre.as_slice(), self.digits)
+    }
+
+    // Answer: equation.
+    /// Returns how it compares with another by precedence.
+    pub fn compare(&self, other: &ReadVersion) -> Ordering
+        ensures { result ≡ precedence (read_plain self.now) (read_plain other.now) }
+    {
+        self.compare_version(&other.version, other.digits)
+    }
+
+    // Answer: equation.
+    /// Returns how it compares by precedence with a version whose identifiers of digits alone are
+    /// read so.
+    #[inline(always)]
+    pub fn compare_version(&self, version: &Version, digits: Digits) -> Ordering
+        ensures { result ≡ precedence (read_plain self.now)
+            (plain_by digits (version_value version.now).plain) }
+    {
+        compare(
+            (self.version.major, self.version.minor, self.version.patch),
+            self.pre(),
+            (version.major, version.minor, version.patch),
+            ByDigits::of(version.pre.as_slice(), digits),
+        )
+    }
+
+    // Answer: equation.
+    /// Returns how the version of an outline compares with it by precedence.
+    #[inline(always)]
+    pub fn compared_outline(&self, outline: &Outline<'_>) -> Ordering
+        ensures { result ≡ precedence (version_of outline.now).plain (read_plain self.now) }
+    {
+        compare(
+            (outline.major, outline.minor, outline.patch),
+            outline.compared_pre(),
+            (self.version.major, self.version.minor, self.version.patch),
+            self.pre(),
+        )
+    }
+}

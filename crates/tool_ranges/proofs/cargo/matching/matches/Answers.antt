@@ -1,0 +1,21 @@
+use Rattle.std.proofs.Common.{false, ◌∙◌, ap}
+use Rattle.tool_ranges.specs.Steps.Matching.{plain_of, requirement_met}
+use Rattle.tool_ranges.proofs.MatchedRequirements.{IsRequired, required}
+use Rattle.tool_ranges.proofs.ReadRows.{if_ok}
+use Rattle.tool_ranges.proofs.cargo.matching.matches.Goals as goal
+use Rattle.tool_ranges.proofs.cargo.matching.matches.Goals.{After-matches_comparators}
+
+found : (c : After-matches_comparators)
+    → IsRequired false (plain_of c.args.version.now) c.is_release.result c.args.requirement.now c.matches_comparators.result
+found c = required false (plain_of c.args.version.now) c.is_release.result c.args.requirement.now c.matches_comparators.result
+    (rw c.as_bytes.ensures.value at c.matches_comparators.ensures)
+
+pub returns-clause-refusals : goal.returns-clause-refusals
+returns-clause-refusals c = (found c).refusals
+
+pub returns-clause-no_memory : goal.returns-clause-no_memory
+returns-clause-no_memory c = (found c).no_memory
+
+pub returns-clause-meaning : goal.returns-clause-meaning
+returns-clause-meaning c = if_ok c.matches_comparators.result (λ said says tree spelled. says tree spelled
+    ∙ ap (λ counts. requirement_met false (plain_of c.args.version.now) counts tree) c.is_release.ensures) (found c).says

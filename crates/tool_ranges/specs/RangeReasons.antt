@@ -1,0 +1,148 @@
+-- Why a text is not a range: a reason, by the longest prefix that some range text begins with and
+-- the byte after it, if there is one. The first row that applies decides.
+use Prim.Native.Char.{code}
+use Rattle.std.specs.Prelude.{◌≡◌, ◌↔◌, ◌-◌, ℕ, Bool, not, ◌&&◌, ◌||◌, ◌==◌, nat_lt, ◌++◌, codes}
+use Rattle.std.specs.Prelude.{if◌then◌else◌, false, IsTrue, Option, Some, None, drop, length}
+use Rattle.std.specs.Char.{is_ascii_digit}
+use Rattle.std.specs.Int.{is_in_range}
+use Rattle.std.specs.List.{list_all}
+use Rattle.semver_texts.specs.Texts.{Text, is_dotted_byte}
+use Rattle.text_prefixes.specs.Reasons.{ends_in_digit, ends_in_zero, from_end, has_no_digit}
+use Rattle.text_prefixes.specs.Reasons as version
+use Rattle.text_prefixes.specs.declared.reasons.Reason.{Reason}
+use Rattle.text_prefixes.specs.declared.reasons.Reason.TheVariants.{Empty, NotThreeNumbers}
+use Rattle.text_prefixes.specs.declared.reasons.Reason.TheVariants.{LeadingZero, EmptyIdentifier}
+use Rattle.text_prefixes.specs.declared.reasons.Reason.TheVariants.{UnexpectedCharacter, TooLong}
+use Rattle.text_prefixes.specs.declared.reasons.Reason.TheVariants.{NumberExpected, UnexpectedEnd}
+use Rattle.text_prefixes.specs.declared.reasons.Reason.TheVariants.{CargoBars, CargoCommas}
+use Rattle.text_prefixes.specs.declared.reasons.Reason.TheVariants.{CargoHyphen, CargoV}
+use Rattle.text_prefixes.specs.declared.reasons.Reason.TheVariants.{CargoWildcard, NpmComma}
+use Rattle.text_prefixes.specs.declared.reasons.Reason.TheVariants.{CrateComma, CrateV}
+use Rattle.tool_ranges.specs.declared.dialect.Dialect.{Dialect}
+use Rattle.tool_ranges.specs.declared.dialect.Dialect.TheVariants.{Cargo, Npm, CrateCargo}
+use Rattle.tool_ranges.specs.declared.dialect.Dialect.TheVariants.{CrateNpm}
+use Rattle.tool_ranges.specs.Dialects.{IsTextAs}
+use Rattle.tool_ranges.specs.TooLarge.{is_separator}
+
+-- ---- the prefix
+
+-- nothing but spaces
+abbrev pub is_spaces : Text → Bool
+is_spaces prefix = list_all (λ b. b == 32) prefix
+
+abbrev pub ends_in_space : Text → Bool
+ends_in_space prefix = from_end prefix 0 == 32
+
+-- it ends in a digit or a wildcard
+abbrev pub is_wildcard : ℕ → Bool
+is_wildcard b = (b == code "x") || ((b == code "X") || (b == code "*"))
+
+abbrev pub ends_in_component : Text → Bool
+ends_in_component prefix = ends_in_digit prefix || is_wildcard (from_end prefix 0)
+
+-- it doesn't end within a comparator's word
+abbrev pub is_between : Text → Bool
+is_between prefix = is_separator (from_end prefix 0)
+
+-- it ends in one word of 250 bytes and more: npm bounds versions and identifiers so long
+abbrev pub is_word : Text → Bool
+is_word t = list_all (λ b. not (is_separator b)) t
+
+abbrev pub is_long : Text → Bool
+is_long prefix =
+    if nat_lt (length prefix) 250 then false else is_word (drop (length prefix - 250) prefix)
+
+-- ---- the byte after it
+
+abbrev pub is_operator : ℕ → Bool
+is_operator b = is_in_range 60 62 b || ((b == code "^") || (b == code "~"))
+
+-- a comparator without operator begins with it
+abbrev pub begins_partial : ℕ → Bool
+begins_partial b = is_ascii_digit b || is_wildcard b
+
+-- it begins a pre-release or a build
+abbrev pub is_mark : ℕ → Bool
+is_mark b = (b == code "-") || (b == code "+")
+
+-- an identifier may end before it
+abbrev pub ends_identifier : ℕ → Bool
+ends_identifier b = version.is_separator b || ((b == code "|") || (b == code ","))
+
+-- ---- the rows, by whether the prefix is a range text, and whether a letter after it makes one
+
+-- it ends within an identifier that is empty, or has a leading zero
+abbrev pub is_open : Bool → Bool → Bool
+is_open complete letter = letter && not complete
+
+-- it ends where a number or a wildcard is to come, or the second of two bars
+abbrev pub is_begun : Bool → Bool → Bool
+is_begun complete letter = not complete && not letter
+
+-- the identifier has one, or the number before a digit
+abbrev pub has_leading_zero : Bool → Bool → Text → ℕ → Bool
+has_leading_zero complete letter prefix b = (is_open complete letter && ends_in_digit prefix)
+    || (is_ascii_digit b && (ends_in_zero prefix && not letter))
+
+-- nothing follows
+abbrev pub reason_at_end : Bool → Text → Reason
+reason_at_end letter prefix = if is_spaces prefix then Empty
+    else (if letter then (if ends_in_digit prefix then LeadingZero else EmptyIdentifier)
+    else (if from_end prefix 0 == code "|" then UnexpectedEnd else NumberExpected))
+
+-- to Cargo, else another
+abbrev pub reason_of_cargo : Bool → Bool → Text → ℕ → Reason → Reason
+reason_of_cargo complete letter prefix b other = if b == code "|" then CargoBars
+    else (if (b == code "v") && is_between prefix then CargoV
+    else (if complete && ((b == code "-") && ends_in_space prefix) then CargoHyphen
+    else (if complete && (is_operator b || (begins_partial b && ends_in_space prefix))
+    then CargoCommas
+    else (if is_begun complete letter && is_wildcard b then CargoWildcard
+    else (if complete && ((b == code ",") && has_no_digit prefix) then CargoWildcard
+    else other)))))
+
+-- to npm
+abbrev pub reason_of_npm : Bool → Bool → Text → ℕ → Reason → Reason
+reason_of_npm complete letter prefix b other =
+    if is_dotted_byte b && (not (is_open complete letter) && is_long prefix) then TooLong
+    else (if b == code "," then NpmComma else other)
+
+-- to the crate
+abbrev pub reason_of_crate : Text → ℕ → Reason → Reason
+reason_of_crate prefix b other = if b == code "," then CrateComma
+    else (if (b == code "v") && is_between prefix then CrateV else other)
+
+abbrev pub reason_of : Dialect → Bool → Bool → Text → ℕ → Reason → Reason
+reason_of Cargo complete letter prefix b other = reason_of_cargo complete letter prefix b other
+reason_of Npm complete letter prefix b other = reason_of_npm complete letter prefix b other
+reason_of CrateCargo complete letter prefix b other = reason_of_crate prefix b other
+reason_of CrateNpm complete letter prefix b other = reason_of_crate prefix b other
+
+-- a number is to come, and the byte begins none
+abbrev pub expects_number : Bool → Bool → Text → ℕ → Bool
+expects_number complete letter prefix b = is_begun complete letter && not (is_ascii_digit b)
+    && not (is_spaces prefix
+    || ((from_end prefix 0 == code "|") || (from_end prefix 0 == code "-")))
+
+-- to each dialect
+abbrev pub reason_of_any : Bool → Bool → Text → ℕ → Reason
+reason_of_any complete letter prefix b =
+    if is_mark b && (ends_in_component prefix && not letter) then NotThreeNumbers
+    else (if is_open complete letter && ends_identifier b then EmptyIdentifier
+    else (if expects_number complete letter prefix b then NumberExpected
+    else UnexpectedCharacter))
+
+abbrev pub reason_by : Dialect → Bool → Bool → Text → Option ℕ → Reason
+reason_by d complete letter prefix None = reason_at_end letter prefix
+reason_by d complete letter prefix (Some b) =
+    if has_leading_zero complete letter prefix b then LeadingZero
+    else reason_of d complete letter prefix b (reason_of_any complete letter prefix b)
+
+-- the reason at a prefix and the byte after it
+pub record IsReasonAs (d : Dialect) (prefix : Text) (next : Option ℕ) (reason : Reason) : Type 0
+  where
+    pub complete : Bool
+    pub letter : Bool
+    pub is_complete : IsTrue complete ↔ IsTextAs d prefix
+    pub takes_letter : IsTrue letter ↔ IsTextAs d (prefix ++ codes "a")
+    pub is : reason ≡ reason_by d complete letter prefix next

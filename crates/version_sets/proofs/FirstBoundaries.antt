@@ -1,0 +1,216 @@
+-- serves: version_sets::lowest::VersionSet::lowest, lowest
+-- The first boundary of a kind is in the set, and none of its kind that is in the set is below it.
+use Rattle.std.proofs.Common.{arith, ◌≡◌, ◌≢◌, ◌↔◌, Bool, true, false, ◌&&◌, cond, List, [], ◌∷◌, refl, Ordering, is_lt}
+use Rattle.std.proofs.Common.{sym, ap, ◌∙◌, subst, true≢false, Less, Option, Some, None, map, Bor}
+use Rattle.std.specs.Option.{option_copied}
+use Rattle.std.specs.Prelude.{MatchOption, IfSome, slice_get, option_map}
+use Rattle.semver_texts.specs.Digits.{plain_kept}
+use Rattle.semver_texts.specs.VersionViews.{version_value}
+use Rattle.semver_texts.specs.declared.version.Version.{Version}
+use Rattle.version_sets.specs.Comparisons.{TellsLowest, IsLowestOf, LowestIsPreRelease, IsInFirstAlone, IsInBoth}
+use Rattle.version_sets.specs.Steps.Combined.{combined_sets, IsKept}
+use Rattle.version_sets.specs.Steps.Lower.{lower}
+use Rattle.version_sets.specs.declared.set_operations.Combination.{Combination}
+use Rattle.version_sets.specs.declared.set_operations.Combination.TheVariants.{Difference, Intersection}
+use Rattle.semver_texts.specs.Texts.{is_empty}
+use Rattle.semver_texts.specs.Versions.{PlainVersion, VersionValue, without_build}
+use Rattle.semver_texts.specs.Precedence.{precedence}
+use Rattle.version_sets.specs.Boundaries.{is_inside}
+use Rattle.version_sets.specs.VersionSets.{SetValue, contains, Fits, IsIn, IsRelease, IsPreRelease, AreBoundaries, IsNormal, IsLowest, HasNone}
+use Rattle.semver_texts.specs.Steps.PrecedenceLaws.{precedence_total}
+use Rattle.version_sets.proofs.SetLaws.{contains-release, contains-pre_release, contains-combined, combined-normal}
+use Rattle.version_sets.proofs.BoundaryLaws.{is_inside-first, is_inside-below, by_order, turned_below}
+use Rattle.version_sets.proofs.SweepLaws.{by_test}
+
+-- the lowest of some versions in a set, or that there is none
+abbrev pub TellsPlain : (PlainVersion → Type 0) → SetValue → Option PlainVersion → Type 0
+TellsPlain P set o = MatchOption o (HasNone P set) (IsLowest P set)
+
+-- the first boundary of a kind is the lowest of its kind
+first_tells : (set : SetValue) (P : PlainVersion → Type 0) (xs : List PlainVersion) → AreBoundaries P xs
+    → ((v : PlainVersion) → P v → Fits v × (contains set v ≡ is_inside precedence xs v)) → TellsPlain P set (slice_get xs 0)
+first_tells set P [] s is = λ v k h. true≢false (sym h.1 ∙ (is v k).1)
+first_tells set P (b ∷ ys) s is =
+    let k = s.are_of_kind.0 in
+    record {
+      is_of_kind = k;
+      is_in = ((is b k).0, (is b k).1 ∙ is_inside-first precedence precedence_total b ys s.increase.0);
+      lowest = λ w k h l. true≢false (sym h.1 ∙ (is w k).1 ∙ is_inside-below precedence w (b ∷ ys) l);
+    }
+
+module _ (set : SetValue) (s : IsNormal set) where
+  pub first_release : TellsPlain IsRelease set (slice_get set.releases 0)
+  first_release = first_tells set IsRelease set.releases s.releases (λ v k. (k.0, contains-release set v k.1))
+
+  pub first_pre_release : TellsPlain IsPreRelease set (slice_get set.pre_releases 0)
+  first_pre_release = first_tells set IsPreRelease set.pre_releases s.pre_releases (λ v k. (k.0, contains-pre_release set v k.1))
+
+  pub pre_release_is : (p : PlainVersion) → slice_get set.pre_releases 0 ≡ Some p → IsPreRelease p
+  pre_release_is p e = let told = subst (TellsPlain IsPreRelease set) e first_pre_release in told.is_of_kind
+
+-- ---- the lowest of both kinds
+
+module _ (set : SetValue) where
+  -- what is in the set is of one kind or the other
+  by_kind : (w : PlainVersion) {G : Type 0} → IsIn w set → (IsRelease w → G) → (IsPreRelease w → G) → G
+  by_kind w h f g = by_test (is_empty w.pre) (λ t. f (h.0, t)) (λ t. g (h.0, t))
+
+  neither : HasNone IsRelease set → HasNone IsPreRelease set → HasNone Fits set
+  neither r p = λ v fits h. by_kind v h (λ k. r v k h) (λ k. p v k h)
+
+  -- it is in the set, and none of either kind is below it
+  lower_one : (b : PlainVersion) → IsIn b set → ((w : PlainVersion) → IsRelease w → IsIn w set → precedence w b ≢ Less)
+      → ((w : PlainVersion) → IsPreRelease w → IsIn w set → precedence w b ≢ Less) → IsLowest Fits set b
+  lower_one b h f g = record { is_of_kind = h.0; is_in = h; lowest = λ w fits i. by_kind w i (λ k. f w k i) (λ k. g w k i) }
+
+  -- what is not below b, and is below p, has b below p
+  below_then : (b v p : PlainVersion) → precedence v b ≢ Less → precedence v p ≡ Less → precedence b p ≡ Less
+  below_then b v p n e =
+      by_order (precedence v b) (λ l. absurd (n l)) (λ t. sym (precedence_total.congr v b p t) ∙ e)
+      (λ g. precedence_total.trans b v p (turned_below precedence precedence_total v b g) e)
+
+  -- the lower one of the lowest of each kind is the lowest of both
+  lower_is : (r p : Option PlainVersion) → TellsPlain IsRelease set r → TellsPlain IsPreRelease set p → TellsPlain Fits set (lower r p)
+  lower_is None None f g = neither f g
+  lower_is (Some b) None l g = lower_one b l.is_in l.lowest (λ w k h. absurd (g w k h))
+  lower_is None (Some p) f m = lower_one p m.is_in (λ w k h e. f w k h) m.lowest
+  lower_is (Some b) (Some p) l m = at (is_lt (precedence b p)) refl
+    where
+      less : (o : Ordering) → is_lt o ≡ true → o ≡ Less
+      less o e = grind arith
+
+      at : (t : Bool) → is_lt (precedence b p) ≡ t → TellsPlain Fits set (cond t (Some b) (Some p))
+      at true e = lower_one b l.is_in l.lowest (λ w k h below. m.lowest w k h (precedence_total.trans w b p below (less _ e)))
+      at false e =
+          lower_one p m.is_in (λ w k h below. true≢false (sym (ap is_lt (below_then b w p (l.lowest w k h) below)) ∙ e)) m.lowest
+
+  pub first_is : IsNormal set → TellsPlain Fits set (lower (slice_get set.releases 0) (slice_get set.pre_releases 0))
+  first_is s = lower_is _ _ (first_release set s) (first_pre_release set s)
+
+  -- a set is empty exactly where it has no boundaries
+  empty_lists : (xs ys : List PlainVersion) → TellsPlain IsRelease set (slice_get xs 0) → TellsPlain IsPreRelease set (slice_get ys 0)
+      → (is_empty xs && is_empty ys ≡ true) ↔ ((v : PlainVersion) → ¬ IsIn v set)
+  empty_lists [] [] f g = (λ _ v h. neither f g v h.0 h, λ _. refl)
+  empty_lists (b ∷ xs) ys f g = (λ h. absurd (true≢false (sym h)), λ none. absurd (none b f.is_in))
+  empty_lists [] (b ∷ ys) f g = (λ h. absurd (true≢false (sym h)), λ none. absurd (none b g.is_in))
+
+  pub tells_empty : IsNormal set → (r : Bool) → r ≡ (is_empty set.releases && is_empty set.pre_releases)
+      → (r ≡ true) ↔ ((v : PlainVersion) → ¬ IsIn v set)
+  tells_empty s r e =
+      let is = empty_lists set.releases set.pre_releases (first_release set s) (first_pre_release set s) in
+      (λ h. is.0 (sym e ∙ h), λ none. e ∙ is.1 none)
+
+-- ---- what is told by a version
+
+module _ {X : Type 0} (f : X → PlainVersion) (P : PlainVersion → Type 0) (set : SetValue) where
+  pub told_some : (o : Option X) → TellsPlain P set (option_map f o) → IfSome o (λ x. IsLowest P set (f x))
+  told_some None t = tt
+  told_some (Some x) t = t
+
+  pub told_none : (o : Option X) → TellsPlain P set (option_map f o) → (o ≡ None) ↔ HasNone P set
+  told_none None t = (λ _. t, λ _. refl)
+  told_none (Some x) t = (λ e. cc, λ none. absurd (none (f x) t.is_of_kind t.is_in))
+
+pub first_map : {X : Type 0} (f : X → PlainVersion) (xs : List X) → option_map f (slice_get xs 0) ≡ slice_get (map f xs) 0
+first_map f [] = refl
+first_map f (x ∷ xs) = refl
+
+-- the first item by reference
+pub first_copied : {X : Type 0} (f : X → PlainVersion) (o : Option (Bor X)) (xs ys : List X) → option_copied o ≡ slice_get xs 0 → xs ≡ ys
+    → option_map (λ x. f x.now) o ≡ slice_get (map f ys) 0
+first_copied {X = X} f o xs ys e is = after o ∙ ap (option_map f) e ∙ ap (λ l. option_map f (slice_get l 0)) is ∙ first_map f ys
+  where
+    after : (o : Option (Bor X)) → option_map (λ x. f x.now) o ≡ option_map f (option_copied o)
+    after None = refl
+    after (Some x) = refl
+
+-- what is told of it as a version without a build
+pub record IsTold (set : SetValue) (lowest : Option Version) : Type 0 where
+  pub is_lowest : IfSome lowest (λ v. (p : PlainVersion) × IsLowest Fits set p × ((version_value v).plain ≡ plain_kept p))
+  pub no_build : IfSome lowest (λ v. (version_value v).build ≡ [])
+  pub none : (lowest ≡ None) ↔ HasNone Fits set
+
+pub is_told : (set : SetValue) (o : Option PlainVersion) → TellsPlain Fits set o → (lowest : Option Version)
+    → option_map version_value lowest ≡ option_map (λ v. without_build (plain_kept v)) o → IsTold set lowest
+is_told set None told None e = record { is_lowest = tt; no_build = tt; none = (λ _. told, λ _. refl) }
+is_told set None told (Some v) e = absurd (cc)
+is_told set (Some w) told None e = absurd (cc)
+is_told set (Some w) told (Some v) e =
+    let same : version_value v ≡ without_build (plain_kept w) = cc in
+    record {
+      is_lowest = (w, told, ap (λ (u : VersionValue). u.plain) same);
+      no_build = ap (λ (u : VersionValue). u.build) same;
+      none = (λ n. cc, λ none. absurd (none w told.is_in.0 told.is_in));
+    }
+
+module _ (how : Combination) (a b : SetValue) (s : IsNormal a) (t : IsNormal b) where
+  -- the lowest of a combination is the lowest of what is kept
+  pub kept_lower_one : (v : VersionValue) → v.build ≡ [] → IsLowest Fits (combined_sets how a b) v.plain → IsLowestOf (IsKept how a b) v
+  kept_lower_one v no_build l = record {
+    is_one = (l.is_in.0, sym (contains-combined how a b s t v.plain) ∙ l.is_in.1);
+    no_build = no_build;
+    lowest = λ w kept. l.lowest w kept.0 (kept.0, contains-combined how a b s t w ∙ kept.1);
+  }
+
+  -- what is told of a combination
+  pub kept_lowest : (lowest : Option Version) → IsTold (combined_sets how a b) lowest → TellsLowest (IsKept how a b) lowest
+  kept_lowest None told = λ v kept. told.none.0 refl v kept.0 (kept.0, contains-combined how a b s t v ∙ kept.1)
+  kept_lowest (Some version) told =
+      let w : VersionValue = without_build told.is_lowest.0 in (
+        w,
+        kept_lower_one w refl told.is_lowest.1,
+        λ i. record { plain = told.is_lowest.2 i; build = told.no_build i },
+      )
+
+  -- a first pre-release that is the lowest of both kinds is the lowest of what is kept
+  pub kept_pre_release : (p : PlainVersion) → slice_get (combined_sets how a b).pre_releases 0 ≡ Some p
+      → IsLowest Fits (combined_sets how a b) p
+      → LowestIsPreRelease (IsKept how a b)
+  kept_pre_release p is l =
+      let v : VersionValue = record { plain = p; build = [] } in
+      (v, pre_release_is (combined_sets how a b) (combined-normal how a b s t) p is, kept_lower_one v refl l)
+
+-- what a difference keeps is in the first set alone, and what an intersection keeps is in both
+module _ (a b : SetValue) where
+  kept_alone : (v : PlainVersion) → IsKept Difference a b v → IsInFirstAlone a b v
+  kept_alone v (fits, k) = grind arith
+
+  alone_kept : (v : PlainVersion) → IsInFirstAlone a b v → IsKept Difference a b v
+  alone_kept v ((fits, e), n) = at (contains b v) refl
+    where
+      at : (y : Bool) → contains b v ≡ y → IsKept Difference a b v
+      at true y = absurd (n (fits, y))
+      at false y = (fits, grind arith)
+
+  kept_both : (v : PlainVersion) → IsKept Intersection a b v → IsInBoth a b v
+  kept_both v (fits, k) = ((fits, grind arith), (fits, grind arith))
+
+  both_kept : (v : PlainVersion) → IsInBoth a b v → IsKept Intersection a b v
+  both_kept v ((fits, e), (_, f)) = (fits, grind arith)
+
+  -- so the lowest of one is the lowest of the other
+  the_same : (P Q : PlainVersion → Type 0) → ((v : PlainVersion) → P v → Q v) → ((v : PlainVersion) → Q v → P v)
+      → LowestIsPreRelease P → LowestIsPreRelease Q
+  the_same P Q f g (v, p, l) = (v, p, record { is_one = f v.plain l.is_one; no_build = l.no_build; lowest = λ w q. l.lowest w (g w q) })
+
+  pub alone_pre_release : LowestIsPreRelease (IsKept Difference a b) → LowestIsPreRelease (IsInFirstAlone a b)
+  alone_pre_release = the_same _ _ kept_alone alone_kept
+
+  pub shared_pre_release : LowestIsPreRelease (IsKept Intersection a b) → LowestIsPreRelease (IsInBoth a b)
+  shared_pre_release = the_same _ _ kept_both both_kept
+
+  -- so with what is told of them
+  tells_same : (P Q : PlainVersion → Type 0) → ((v : PlainVersion) → P v → Q v) → ((v : PlainVersion) → Q v → P v)
+      → (lowest : Option Version) → TellsLowest P lowest → TellsLowest Q lowest
+  tells_same P Q f g None none = λ v q. none v (g v q)
+  tells_same P Q f g (Some version) (v, l, kept) = (
+    v,
+    record { is_one = f v.plain l.is_one; no_build = l.no_build; lowest = λ w q. l.lowest w (g w q) },
+    kept,
+  )
+
+  pub alone_tells : (lowest : Option Version) → TellsLowest (IsKept Difference a b) lowest → TellsLowest (IsInFirstAlone a b) lowest
+  alone_tells = tells_same _ _ kept_alone alone_kept
+
+  pub shared_tells : (lowest : Option Version) → TellsLowest (IsKept Intersection a b) lowest → TellsLowest (IsInBoth a b) lowest
+  shared_tells = tells_same _ _ kept_both both_kept

@@ -1,0 +1,17 @@
+use Rattle.std.proofs.Common.{◌≡◌, true, map, ◌++◌, ◌||◌}
+use Rattle.version_sets.specs.Steps.Sweeps.{changes}
+use Rattle.version_sets.specs.Steps.SweepViews.{pieces_left}
+use Rattle.version_sets.specs.Steps.Combined.{keeps, pieces, keeps_some, combined}
+use Rattle.version_sets.proofs.set_operations.Combination.of.Given as goal
+
+-- the boundaries so far, and those to come, are those of the combination; and what is kept so far, or
+-- will be, is kept of the whole
+abbrev pub invariant-loop-piece : goal.invariant-loop-piece
+invariant-loop-piece g l =
+    let place = g.T.Boundary.place in
+    let whole = pieces (map place l.first) (map place l.second) in
+    let left = pieces_left place l.piece-iterator in
+    record {
+      told : map place l.boundaries.items ++ changes (keeps l.self) l.is_kept left ≡ combined l.self whole;
+      kept : (l.is_kept || keeps_some l.self left) ≡ true → keeps_some l.self whole ≡ true;
+    }

@@ -1,0 +1,103 @@
+//! Lists of boundaries: whether one has a place, and whether two are the same.
+
+ghost use Rattle.std.specs.Prelude.{◌≡◌, ◌%◌, map, nat_eq};
+ghost use Rattle.std.specs.Ordering.{eq_by_cmp};
+ghost use Rattle.std.specs.Cmp.Lexicographic.{pointwise};
+ghost use Rattle.semver_texts.specs.Digits.{plain_by};
+ghost use Rattle.semver_versions.specs.Outlines.{version_of};
+ghost use Rattle.semver_texts.specs.Precedence.{precedence};
+ghost use Rattle.semver_versions.specs.ReadVersions.{read_plain};
+ghost use Rattle.version_sets.specs.Steps.Places.{version_place};
+ghost use Rattle.version_sets.specs.Releases.{release_value};
+ghost use Rattle.version_sets.specs.Boundaries.{is_inside, IsIncreasing};
+
+use crate::boundary::Boundary;
+use crate::release::Release;
+use semver_texts::grammar::Digits;
+use semver_versions::read_version::ReadVersion;
+use semver_versions::version::{Outline, Version};
+
+/// Whether an odd number of the boundaries are at or below a place. It takes time in the logarithm
+/// of their number, and does not allocate.
+pub(crate) fn contains<T: Boundary>(boundaries: &[T], place: &T) -> bool
+    requires { IsIncreasing precedence (map T.place boundaries.now) }
+    ensures { result ≡ is_inside precedence (map T.place boundaries.now) (T.place place.now) }
+{
+    is_odd(boundaries.partition_point(|boundary| boundary.compare(place).is_le()))
+}
+
+/// Whether an odd number of the boundaries are at or below a version, whose identifiers of digits
+/// alone are read so. It takes time in the logarithm of their number, and does not allocate.
+pub(crate) fn contains_version(
+    boundaries: &[ReadVersion],
+    version: &Version,
+    digits: Digits,
+) -> bool
+    requires { IsIncreasing precedence (map read_plain boundaries.now) }
+    ensures { result ≡ is_inside precedence (map read_plain boundaries.now)
+        (plain_by digits (version_place version.now)) }
+{
+    is_odd(boundaries.partition_point(|boundary| boundary.compare_version(version, digits).is_le()))
+}
+
+/// So many boundaries of releases are compared one by one, which is quicker than a search among
+/// them.
+const FEW: usize = 8;
+
+/// Whether an odd number of the boundaries are at or below a release. It takes time in the
+/// logarithm of their number, and does not allocate.
+#[inline(always)]
+pub(crate) fn contains_release(boundaries: &[Release], release: &Release) -> bool
+    requires { IsIncreasing precedence (map release_value boundaries.now) }
+    ensures { result
+        ≡ is_inside precedence (map release_value boundaries.now) (release_value release.now) }
+{
+    if boundaries.len() > FEW {
+        return contains(boundaries, release);
+    }
+    let mut is_in = false;
+    for boundary in boundaries {
+        is_in ^= !release.is_below(boundary);
+    }
+    is_in
+}
+
+/// Whether an odd number of the boundaries are at or below the version of an outline. It takes time
+/// in the logarithm of their number, and does not allocate.
+#[inline(always)]
+pub(crate) fn contains_outline(boundaries: &[ReadVersion], outline: &Outline<'_>) -> bool
+    requires { IsIncreasing precedence (map read_plain boundaries.now) }
+    ensures { result ≡ is_inside precedence (map read_plain boundaries.now)
+        (version_of outline.now).plain }
+{
+    let mut low = 0;
+    let mut high = boundaries.len();
+    while low < high {
+        let middle = low + (high - low) / 2;
+        if boundaries[middle].compared_outline(outline).is_ge() {
+            low = middle + 1;
+        } else {
+            high = middle;
+        }
+    }
+    is_odd(low)
+}
+
+/// Whether a number is odd.
+fn is_odd(number: usize) -> bool
+    ensures { result ≡ nat_eq (number % 2) 1 }
+{
+    number % 2 == 1
+}
+
+/// Whether two lists of boundaries have the same places. It does not allocate.
+pub(crate) fn are_same<T: Boundary>(boundaries: &[T], others: &[T]) -> bool
+    ensures { result ≡ pointwise (eq_by_cmp precedence) (map T.place boundaries.now)
+        (map T.place others.now) }
+{
+    boundaries.len() == others.len()
+        && boundaries
+            .iter()
+            .zip(others)
+            .all(|(boundary, other)| boundary.compare(other).is_eq())
+}

@@ -1,0 +1,115 @@
+//! The lowest version of a set.
+
+ghost use Rattle.std.specs.Prelude.{◌≡◌, ◌↔◌, None, Some, [], IfOk, IfErr, IfSome, option_map};
+ghost use Rattle.semver_texts.specs.Digits.{plain_kept};
+ghost use Rattle.semver_texts.specs.Versions.{PlainVersion, without_build as unbuilt};
+ghost use Rattle.semver_texts.specs.VersionViews.{version_value};
+ghost use Rattle.version_sets.specs.Releases.{release_value};
+ghost use Rattle.version_sets.specs.VersionSets.{Fits, IsRelease, IsPreRelease};
+ghost use Rattle.version_sets.specs.VersionSets.{IsLowest, HasNone};
+ghost use Rattle.version_sets.specs.Steps.Lower.{is_below, lower};
+ghost use Rattle.semver_versions.specs.ReadVersions.{read_plain};
+
+use crate::pre_release::kept_version;
+use crate::release::Release;
+use crate::version_set::VersionSet;
+use semver_versions::read_version::ReadVersion;
+use semver_versions::version::Version;
+use std::alloc::{AllocError, Global};
+
+impl VersionSet {
+    // Answer: law answer_laws::sets::one_lowest.
+    /// The lowest version in the set by precedence, without a build; `None` exactly where the set
+    /// is empty.
+    ///
+    /// It allocates only if a pre-release is answered. `Err` is out of memory.
+    ///
+    /// ```
+    /// use semver_parser::{sets, Dialect};
+    ///
+    /// let set = sets::read(">1.0.0-rc.1 || >=2.0.0", Dialect::Npm)?;
+    /// assert_eq!(set.lowest().unwrap().unwrap().to_string(), "1.0.0-rc.1.0");
+    /// # Ok::<(), semver_parser::RangeError>(())
+    /// ```
+    pub fn lowest(&self, alloc: Global) -> Result<Option<Version>, AllocError>
+        // It is as it is kept: a number of 2^64 or more as its text.
+        ensures lowest { IfOk result (λ lowest. IfSome lowest (λ version. (v : PlainVersion)
+            × IsLowest Fits self.now v × ((version_value version).plain ≡ plain_kept v))) }
+        ensures no_build { IfOk result (λ lowest. IfSome lowest (λ version.
+            (version_value version).build ≡ [])) }
+        ensures none { IfOk result (λ lowest. (lowest ≡ None) ↔ HasNone Fits self.now) }
+        // Memory runs out only where the lowest version is a pre-release.
+        ensures out_of_memory { IfErr result (λ _. (v : PlainVersion)
+            × IsLowest Fits self.now v × IsPreRelease v) }
+    {
+        lower_one(alloc, self.releases.first(), self.pre_releases.first())
+    }
+
+    // Answer: law answer_laws::sets::one_lowest_release.
+    /// The lowest release in the set by precedence; `None` exactly where it has no release. It does
+    /// not allocate.
+    ///
+    /// ```
+    /// use semver_parser::sets::{self, Release};
+    /// use semver_parser::Dialect;
+    ///
+    /// let set = sets::read(">1.0.0-rc.1 <1.0.0 || >=2.0.0", Dialect::Npm)?;
+    /// assert_eq!(set.lowest_release(), Some(Release { major: 2, minor: 0, patch: 0 }));
+    /// # Ok::<(), semver_parser::RangeError>(())
+    /// ```
+    pub fn lowest_release(&self) -> Option<Release>
+        ensures lowest { IfSome result (λ release.
+            IsLowest IsRelease self.now (release_value release)) }
+        ensures none { (result ≡ None) ↔ HasNone IsRelease self.now }
+    {
+        self.releases.first().copied()
+    }
+}
+
+/// The lower one of a release and a pre-release, or the one that there is, without a build. `Err`
+/// is out of memory, which is allocated only for a pre-release.
+pub(crate) fn lower_one(
+    alloc: Global,
+    release: Option<&Release>,
+    pre_release: Option<&ReadVersion>,
+) -> Result<Option<Version>, AllocError>
+    ensures lowest { IfOk result (λ lowest. option_map version_value lowest
+        ≡ option_map (λ v. unbuilt (plain_kept v))
+        (lower (option_map (λ r. release_value r.now) release.entry)
+        (option_map (λ p. read_plain p.now) pre_release.entry))) }
+    ensures out_of_memory { IfErr result (λ _. (p : PlainVersion)
+        × (option_map (λ p. read_plain p.now) pre_release.entry ≡ Some p)
+        × (lower (option_map (λ r. release_value r.now) release.entry)
+        (option_map (λ p. read_plain p.now) pre_release.entry) ≡ Some p)) }
+{
+    let Some(pre_release) = pre_release else {
+        return Ok(as_version(alloc, release));
+    };
+    if is_below(release, pre_release) {
+        return Ok(as_version(alloc, release));
+    }
+    Ok(Some(kept_version(alloc, pre_release)?))
+}
+
+/// The release as a version, if there is one.
+fn as_version(alloc: Global, release: Option<&Release>) -> Option<Version>
+    ensures { option_map version_value result
+        ≡ option_map unbuilt (option_map (λ r. release_value r.now) release.entry) }
+{
+    match release {
+        Some(release) => Some(release.version(alloc)),
+        None => None,
+    }
+}
+
+/// Whether there is a release, and it is below a version by precedence: its numbers are, since no
+/// version of the same numbers is above it.
+fn is_below(release: Option<&Release>, version: &ReadVersion) -> bool
+    ensures { result ≡ is_below (option_map (λ r. release_value r.now) release.entry)
+        (read_plain version.now) }
+{
+    match release {
+        Some(release) => release.cmp(&Release::of(&version.version)).is_lt(),
+        None => false,
+    }
+}

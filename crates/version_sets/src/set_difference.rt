@@ -1,0 +1,191 @@
+//! How two sets differ: what is lost, gained and shared, and whether one is a subset of the other,
+//! disjoint from it, or the same.
+
+ghost use Rattle.std.specs.Prelude.{IfErr, IfOk, true, ◌↔◌, ◌≡◌, ◌⊎◌};
+ghost use Rattle.semver_texts.specs.Versions.{PlainVersion};
+ghost use Rattle.version_sets.specs.Comparisons.{IsInBoth, IsInFirstAlone};
+ghost use Rattle.version_sets.specs.Comparisons.{LowestIsPreRelease, TellsLowest};
+ghost use Rattle.version_sets.specs.Steps.Combined.{IsKept, KeepsSome};
+ghost use Rattle.version_sets.specs.VersionSets.{IsIn, same_boundaries};
+
+use crate::boundaries::are_same;
+use crate::lowest::lower_one;
+use crate::set_operations::Combination;
+use crate::version_set::VersionSet;
+use semver_versions::version::Version;
+use std::alloc::{AllocError, Global};
+
+/// How two sets differ, and what they share, each by the lowest version by precedence. None of
+/// these has a build.
+///
+/// ```
+/// use semver_parser::{sets, Dialect};
+///
+/// let old = sets::read("^1.2.3-b", Dialect::Npm)?;
+/// let comparison = old.compare(&sets::read("^1.2.3", Dialect::Npm)?).unwrap();
+/// assert_eq!(comparison.lost.unwrap().to_string(), "1.2.3-b");
+/// assert_eq!(comparison.gained, None);
+/// # Ok::<(), semver_parser::RangeError>(())
+/// ```
+#[derive(Debug, Drop)]
+pub struct Comparison {
+    /// The lowest version that is in the old set and not in the new one; `None` where there is
+    /// none.
+    pub lost: Option<Version>,
+    /// The lowest version that is in the new set and not in the old one; `None` where there is
+    /// none.
+    pub gained: Option<Version>,
+    /// The lowest version that is in both; `None` where there is none.
+    pub shared: Option<Version>,
+}
+
+impl VersionSet {
+    // Answer: law answer_laws::sets::one_compare.
+    /// Compares the set with a new one that is to take its place. It takes time in the number of
+    /// their boundaries.
+    ///
+    /// Both sets have the same versions exactly where nothing is lost or gained.
+    ///
+    /// It allocates only for the identifiers of a pre-release that is answered. `Err` is out of
+    /// memory.
+    ///
+    /// ```
+    /// use semver_parser::{sets, Dialect};
+    ///
+    /// let old = sets::read("^1.2.0", Dialect::Npm)?;
+    /// let comparison = old.compare(&sets::read(">=1.4.0", Dialect::Npm)?).unwrap();
+    /// assert_eq!(comparison.lost.unwrap().to_string(), "1.2.0");
+    /// assert_eq!(comparison.gained.unwrap().to_string(), "2.0.0");
+    /// assert_eq!(comparison.shared.unwrap().to_string(), "1.4.0");
+    /// # Ok::<(), semver_parser::RangeError>(())
+    /// ```
+    pub fn compare(&self, alloc: Global, new: &VersionSet) -> Result<Comparison, AllocError>
+        ensures lost { IfOk result (λ answer.
+            TellsLowest (IsInFirstAlone self.now new.now) answer.lost) }
+        ensures gained { IfOk result (λ answer.
+            TellsLowest (IsInFirstAlone new.now self.now) answer.gained) }
+        ensures shared { IfOk result (λ answer.
+            TellsLowest (IsInBoth self.now new.now) answer.shared) }
+        // Memory runs out only where the lowest that is lost, gained or shared is a pre-release.
+        ensures out_of_memory { IfErr result (λ _.
+            LowestIsPreRelease (IsInFirstAlone self.now new.now)
+            ⊎ LowestIsPreRelease (IsInFirstAlone new.now self.now)
+            ⊎ LowestIsPreRelease (IsInBoth self.now new.now)) }
+    {
+        Ok(Comparison {
+            lost: self.lowest_combined(alloc, Combination::Difference, new)?,
+            gained: new.lowest_combined(alloc, Combination::Difference, self)?,
+            shared: self.lowest_combined(alloc, Combination::Intersection, new)?,
+        })
+    }
+
+    /// The lowest version of a combination.
+    fn lowest_combined(
+        &self,
+        alloc: Global,
+        how: Combination,
+        other: &VersionSet,
+    ) -> Result<Option<Version>, AllocError>
+        ensures lowest { IfOk result (TellsLowest (IsKept how self.now other.now)) }
+        ensures out_of_memory { IfErr result (λ _.
+            LowestIsPreRelease (IsKept how self.now other.now)) }
+    {
+        let release = how.first(&self.releases, &other.releases);
+        let pre_release = how.first(&self.pre_releases, &other.pre_releases);
+        lower_one(alloc, release, pre_release)
+    }
+}
+
+impl VersionSet {
+    // Answer: equation.
+    /// Whether no version is in the set. It does not allocate.
+    ///
+    /// ```
+    /// use semver_parser::{sets, Dialect};
+    ///
+    /// assert!(sets::read(">2.0.0 <1.0.0", Dialect::Npm)?.is_empty());
+    /// # Ok::<(), semver_parser::RangeError>(())
+    /// ```
+    pub fn is_empty(&self) -> bool
+        ensures { (result ≡ true) ↔ ((v : PlainVersion) → ¬ IsIn v self.now) }
+    {
+        self.releases.is_empty() && self.pre_releases.is_empty()
+    }
+
+    // Answer: equation.
+    /// Whether each version that is in the set is in the other, too. It takes time in the number of
+    /// their boundaries, and does not allocate.
+    ///
+    /// ```
+    /// use semver_parser::{sets, Dialect};
+    ///
+    /// let (narrow, wide) = (sets::read("~1.2", Dialect::Npm)?, sets::read("^1", Dialect::Npm)?);
+    /// assert!(narrow.is_subset(&wide));
+    /// assert!(!wide.is_subset(&narrow));
+    /// # Ok::<(), semver_parser::RangeError>(())
+    /// ```
+    pub fn is_subset(&self, other: &VersionSet) -> bool
+        ensures { (result ≡ true)
+            ↔ ((v : PlainVersion) → IsIn v self.now → IsIn v other.now) }
+    {
+        !self.keeps_some(Combination::Difference, other)
+    }
+
+    // Answer: equation.
+    /// Whether no version is in both sets. It takes time in the number of their boundaries, and
+    /// does not allocate.
+    ///
+    /// ```
+    /// use semver_parser::{sets, Dialect};
+    ///
+    /// let set = sets::read("^1.2.0", Dialect::Npm)?;
+    /// assert!(set.is_disjoint(&sets::read("<1.2.0", Dialect::Npm)?));
+    /// assert!(!set.is_disjoint(&sets::read("<=1.2.0", Dialect::Npm)?)); // 1.2.0 is in both
+    /// # Ok::<(), semver_parser::RangeError>(())
+    /// ```
+    pub fn is_disjoint(&self, other: &VersionSet) -> bool
+        ensures { (result ≡ true)
+            ↔ ((v : PlainVersion) → IsIn v self.now → ¬ IsIn v other.now) }
+    {
+        !self.keeps_some(Combination::Intersection, other)
+    }
+
+    /// Whether some version is in a combination of two sets.
+    fn keeps_some(&self, how: Combination, other: &VersionSet) -> bool
+        ensures { (result ≡ true) ↔ KeepsSome how self.now other.now }
+    {
+        how.keeps_some(&self.releases, &other.releases)
+            || how.keeps_some(&self.pre_releases, &other.pre_releases)
+    }
+}
+
+// Answer: equation.
+impl PartialEq for VersionSet {
+    ghost use Rattle.version_sets.specs.VersionSets.{same_boundaries};
+    ghost use Rattle.std.specs.Cmp.{partial_equiv_from_equiv};
+    ghost use Rattle.version_sets.specs.Steps.SameBoundaries.{boundaries_equiv};
+
+    ghost eq = { same_boundaries };
+
+    ghost laws = { partial_equiv_from_equiv boundaries_equiv };
+
+    /// Whether both sets have the same versions. It takes time in the number of their boundaries,
+    /// and does not allocate.
+    ///
+    /// Those of `>=1.0.0 <2.0.0 || >=2.0.0 <3.0.0` and of `>=1.0.0 <3.0.0` are equal.
+    fn eq(&self, other: &VersionSet) -> bool
+        ensures value { result ≡ same_boundaries self.now other.now }
+        ensures same_versions { (result ≡ true)
+            ↔ ((v : PlainVersion) → IsIn v self.now ↔ IsIn v other.now) }
+        ensures one_form { (result ≡ true) ↔ (self.now ≡ other.now) }
+    {
+        are_same(&self.releases, &other.releases)
+            && are_same(&self.pre_releases, &other.pre_releases)
+    }
+}
+
+impl Eq for VersionSet {
+    ghost use Rattle.version_sets.specs.Steps.SameBoundaries.{boundaries_equiv};
+
+    ghost laws = { boundaries_equiv };
+}

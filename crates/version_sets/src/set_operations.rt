@@ -1,0 +1,185 @@
+//! What is in one set or another, in both, or in the first alone.
+
+ghost use Rattle.std.specs.Prelude.{IfErr, IfOk, false, map, not, option_map};
+ghost use Rattle.std.specs.Prelude.{slice_get, true, ◌&&◌, ◌||◌, ◌≡◌, ◌⊎◌};
+ghost use Rattle.semver_texts.specs.Versions.{PlainVersion};
+ghost use Rattle.version_sets.specs.Printable.{IsPrintable};
+ghost use Rattle.version_sets.specs.Steps.Combined.{KeepsSome, combined, keeps, keeps_some, pieces};
+ghost use Rattle.version_sets.specs.VersionSets.{IsIn, contains};
+
+use crate::boundary::Boundary;
+use crate::sweep::Sweep;
+use crate::version_set::VersionSet;
+use std::alloc::{AllocError, Global};
+
+/// What of two sets is in their combination.
+#[derive(Clone, Copy)]
+pub(crate) enum Combination {
+    /// What is in one or the other.
+    Union,
+    /// What is in both.
+    Intersection,
+    /// What is in the first alone.
+    Difference,
+}
+
+impl Combination {
+    /// Whether what is in the first or in the second is in the combination.
+    fn keeps(self, in_first: bool, in_second: bool) -> bool
+        ensures { result ≡ keeps self in_first in_second }
+    {
+        match self {
+            Combination::Union => in_first || in_second,
+            Combination::Intersection => in_first && in_second,
+            Combination::Difference => in_first && !in_second,
+        }
+    }
+
+    /// Whether some piece of two sets is in the combination. It does not allocate.
+    pub(crate) fn keeps_some<T: Boundary>(self, first: &[T], second: &[T]) -> bool
+        ensures { result ≡ keeps_some self
+            (pieces (map T.place first.now) (map T.place second.now)) }
+    {
+        Sweep::over(first, second).any(|piece| self.keeps(piece.in_first, piece.in_second))
+    }
+
+    /// The first boundary of the combination, where the first piece begins that is in it. It does
+    /// not allocate.
+    pub(crate) fn first<'a, T: Boundary>(self, first: &'a [T], second: &'a [T]) -> Option<&'a T>
+        ensures { option_map (λ x. T.place x.now) result ≡ slice_get (combined self
+            (pieces (map T.place first.entry.now) (map T.place second.entry.now))) 0 }
+    {
+        for piece in Sweep::over(first, second) {
+            if self.keeps(piece.in_first, piece.in_second) {
+                return Some(piece.from);
+            }
+        }
+        None
+    }
+
+    /// The boundaries of the combination, which are those where being in it changes. `Err` is out
+    /// of memory; nothing is allocated if there are none.
+    pub(crate) fn of<T: Boundary>(
+        self,
+        alloc: Global,
+        first: &[T],
+        second: &[T],
+    ) -> Result<Vec<T>, AllocError>
+        ensures combined { IfOk result (λ boundaries. map T.place boundaries.items
+            ≡ combined self (pieces (map T.place first.now) (map T.place second.now))) }
+        ensures out_of_memory { IfErr result (λ _. keeps_some self
+            (pieces (map T.place first.now) (map T.place second.now)) ≡ true) }
+    {
+        let mut boundaries = Vec::new(alloc);
+        let mut is_kept = false;
+        for piece in Sweep::over(first, second) {
+            if self.keeps(piece.in_first, piece.in_second) != is_kept {
+                boundaries.push(piece.from.at_same_place(alloc)?)?;
+                is_kept = !is_kept;
+            }
+        }
+        Ok(boundaries)
+    }
+}
+
+impl VersionSet {
+    // Answer: law answer_laws::sets::one_union.
+    /// The versions of one set or the other. It takes time in the number of their boundaries.
+    ///
+    /// The result is allocated as it grows, and not at all if it is empty. `Err` is out of
+    /// memory.
+    ///
+    /// ```
+    /// use semver_parser::{sets, Dialect};
+    ///
+    /// let set = |range| sets::read(range, Dialect::Npm).unwrap();
+    /// let union = set(">=1.0.0 <1.5.0").union(&set(">=1.2.0 <2.0.0"))?;
+    /// assert_eq!(union, set(">=1.0.0 <2.0.0"));
+    /// # Ok::<(), semver_parser::AllocError>(())
+    /// ```
+    pub fn union(&self, alloc: Global, other: &VersionSet) -> Result<VersionSet, AllocError>
+        ensures contains { IfOk result (λ set. (v : PlainVersion)
+            → contains set v ≡ (contains self.now v || contains other.now v)) }
+        // Identifiers that can be read back from their texts are kept so.
+        ensures printable { IsPrintable self.now → IsPrintable other.now
+            → IfOk result IsPrintable }
+        // Memory runs out only where the answer has a version.
+        ensures out_of_memory { IfErr result (λ _. (v : PlainVersion)
+            × (IsIn v self.now ⊎ IsIn v other.now)) }
+    {
+        self.combined(alloc, Combination::Union, other)
+    }
+
+    // Answer: law answer_laws::sets::one_intersection.
+    /// The versions of both sets. It takes time in the number of their boundaries.
+    ///
+    /// The result is allocated as it grows, and not at all if it is empty. `Err` is out of
+    /// memory.
+    ///
+    /// ```
+    /// use semver_parser::{sets, Dialect};
+    ///
+    /// let set = |range| sets::read(range, Dialect::Npm).unwrap();
+    /// let intersection = set(">=1.0.0 <1.5.0").intersection(&set(">=1.2.0 <2.0.0"))?;
+    /// assert_eq!(intersection, set(">=1.2.0 <1.5.0"));
+    /// # Ok::<(), semver_parser::AllocError>(())
+    /// ```
+    pub fn intersection(&self, alloc: Global, other: &VersionSet) -> Result<VersionSet, AllocError>
+        ensures contains { IfOk result (λ set. (v : PlainVersion)
+            → contains set v ≡ (contains self.now v && contains other.now v)) }
+        // Identifiers that can be read back from their texts are kept so.
+        ensures printable { IsPrintable self.now → IsPrintable other.now
+            → IfOk result IsPrintable }
+        // Memory runs out only where the answer has a version.
+        ensures out_of_memory { IfErr result (λ _. (v : PlainVersion)
+            × IsIn v self.now × IsIn v other.now) }
+    {
+        self.combined(alloc, Combination::Intersection, other)
+    }
+
+    // Answer: law answer_laws::sets::one_difference.
+    /// The versions of the first set that the other doesn't have. It takes time in the number of
+    /// their boundaries.
+    ///
+    /// The result is allocated as it grows, and not at all if it is empty. `Err` is out of
+    /// memory.
+    ///
+    /// ```
+    /// use semver_parser::{sets, Dialect};
+    ///
+    /// let set = |range| sets::read(range, Dialect::Npm).unwrap();
+    /// let difference = set(">=1.0.0 <1.5.0").difference(&set(">=1.2.0 <2.0.0"))?;
+    /// assert_eq!(difference, set(">=1.0.0 <1.2.0"));
+    /// # Ok::<(), semver_parser::AllocError>(())
+    /// ```
+    pub fn difference(&self, alloc: Global, other: &VersionSet) -> Result<VersionSet, AllocError>
+        ensures contains { IfOk result (λ set. (v : PlainVersion)
+            → contains set v ≡ (contains self.now v && not (contains other.now v))) }
+        // Identifiers that can be read back from their texts are kept so.
+        ensures printable { IsPrintable self.now → IsPrintable other.now
+            → IfOk result IsPrintable }
+        // Memory runs out only where the answer has a version.
+        ensures out_of_memory { IfErr result (λ _. (v : PlainVersion)
+            × IsIn v self.now × (¬ IsIn v other.now)) }
+    {
+        self.combined(alloc, Combination::Difference, other)
+    }
+
+    /// The versions of a combination.
+    pub(crate) fn combined(
+        &self,
+        alloc: Global,
+        how: Combination,
+        other: &VersionSet,
+    ) -> Result<VersionSet, AllocError>
+        ensures contains { IfOk result (λ set. (v : PlainVersion)
+            → contains set v ≡ keeps how (contains self.now v) (contains other.now v)) }
+        ensures printable { IsPrintable self.now → IsPrintable other.now
+            → IfOk result IsPrintable }
+        ensures out_of_memory { IfErr result (λ _. KeepsSome how self.now other.now) }
+    {
+        let releases = how.of(alloc, &self.releases, &other.releases)?;
+        let pre_releases = how.of(alloc, &self.pre_releases, &other.pre_releases)?;
+        Ok(VersionSet::of_boundaries(releases, pre_releases))
+    }
+}

@@ -1,0 +1,69 @@
+// Made by tools/erase from crates/library_tests/src/refused/version_ranges.rt; not edited by hand.
+//! Ranges that are read and combined.
+#![cfg(feature = "std")]
+
+use crate::rattle_std::prelude::*;
+use super::Ending;
+use crate::proved::semver_parser::RangeError;
+use crate::proved::tool_ranges::dialect::Dialect;
+use crate::proved::tool_ranges::meaning::Meaning;
+use crate::proved::tool_ranges::range_operations::OperationError;
+use crate::proved::tool_ranges::version_range::VersionRange;
+use crate::proved::version_sets::PreReleases;
+
+/// Cargo's dialect, with each pre-release within the bounds.
+const CARGO: Meaning = Meaning {
+    dialect: Dialect::Cargo,
+    pre_releases: PreReleases::Included,
+};
+
+/// A range that contains 1.9.0-rc and not 2.0.0.
+pub fn parse() -> Ending {
+    match VersionRange::read("^1.2", CARGO) {
+        Ok(range) => Ending::full_if(
+            range.contains_bytes(b"1.9.0-rc") == Ok(true)
+                && range.contains_bytes(b"2.0.0") == Ok(false),
+        ),
+        Err(RangeError::OutOfMemory) => Ending::Refused,
+        Err(_) => Ending::Wrong,
+    }
+}
+
+/// What two ranges contain together, or the first alone. Reading them is part of the call.
+pub fn combined() -> Ending {
+    let range = match VersionRange::read("^1.2", CARGO) {
+        Ok(range) => range,
+        Err(RangeError::OutOfMemory) => return Ending::Refused,
+        Err(_) => return Ending::Wrong,
+    };
+    let other = match VersionRange::read(">=1.5, <3", CARGO) {
+        Ok(other) => other,
+        Err(RangeError::OutOfMemory) => return Ending::Refused,
+        Err(_) => return Ending::Wrong,
+    };
+    let union = ends(range.union(&other), [true, true, true]);
+    let intersection = ends(range.intersection(&other), [false, true, false]);
+    let difference = ends(range.difference(&other), [true, false, false]);
+    if [union, intersection, difference].contains(&Ending::Wrong) {
+        return Ending::Wrong;
+    }
+    if [union, intersection, difference].contains(&Ending::Refused) {
+        return Ending::Refused;
+    }
+    Ending::Full
+}
+
+/// How a combination ends that is to contain 1.2.0, 1.5.0 and 2.0.0 so.
+fn ends(combined: Result<VersionRange, OperationError>, wanted: [bool; 3]) -> Ending {
+    let range = match combined {
+        Ok(range) => range,
+        Err(OperationError::OutOfMemory) => return Ending::Refused,
+        Err(OperationError::DifferentMeanings) => return Ending::Wrong,
+    };
+    let texts: [&[u8]; 3] = [b"1.2.0", b"1.5.0", b"2.0.0"];
+    let mut is_right = true;
+    for (text, is_in) in texts.iter().zip(wanted.iter()) {
+        is_right &= range.contains_bytes(text) == Ok(*is_in);
+    }
+    Ending::full_if(is_right)
+}

@@ -1,0 +1,58 @@
+// Made by tools/erase from crates/release_filter/src/line_options.rt; not edited by hand.
+//! What is done with lines.
+
+use crate::rattle_std::prelude::*;
+use crate::proved::release_filter::line_texts::LineEnd;
+use crate::proved::release_filter::selection::Selection;
+
+/// What [`Lines`](crate::proved::release_filter::lines::Lines) does with lines.
+///
+/// ```
+/// use semver_parser::filters::{LineOptions, Lines, Selection};
+/// use semver_parser::{Dialect, VersionRange};
+///
+/// let range = VersionRange::parse("^1", Dialect::Npm)?;
+/// let options = LineOptions {
+///     selection: Selection::Highest,
+///     strips_prefix: true,
+///     ..LineOptions::new()
+/// };
+/// let mut lines = Lines::new(range, vec!["v".to_string()], options);
+/// let mut kept = Vec::new();
+/// lines.push(b"v1.4.0\nv1.9.2\nv2.0.0\n", &mut kept).unwrap();
+/// lines.finish(&mut kept).unwrap();
+/// assert_eq!(kept, b"1.9.2\n");
+/// # Ok::<(), semver_parser::RangeError>(())
+/// ```
+#[derive(Clone, Copy, Debug, PartialEq, Eq)]
+pub struct LineOptions {
+    /// Which of the kept lines are wanted.
+    pub selection: Selection,
+    /// What ends a line.
+    pub ending: LineEnd,
+    /// Whether a kept line is given without the prefix that its version is after.
+    pub strips_prefix: bool,
+    /// Whether a line that isn't empty and has no version is an error.
+    pub is_strict: bool,
+}
+
+impl LineOptions {
+    /// Returns the options by default: each kept line is wanted, as it is, a line feed ends a line,
+    /// and a line without a version is no error.
+    ///
+    /// ```
+    /// use semver_parser::filters::{LineEnd, LineOptions, Selection};
+    ///
+    /// let options = LineOptions::new();
+    /// assert!(options.selection == Selection::Each && options.ending == LineEnd::LineFeed);
+    /// assert!(!options.strips_prefix && !options.is_strict);
+    /// ```
+    pub fn new() -> LineOptions {
+        LineOptions {
+            selection: Selection::Each,
+            ending: LineEnd::LineFeed,
+            strips_prefix: false,
+            is_strict: false,
+        }
+    }
+}

@@ -1,0 +1,142 @@
+// Made by tools/erase from crates/release_filter/src/line_statistics.rt; not edited by hand.
+//! How many lines a text has, how many of these are kept, how many have no version, and the first
+//! of those.
+
+use crate::rattle_std::prelude::*;
+use crate::proved::release_filter::line_texts::{LineEnd, text_of};
+use crate::proved::release_filter::verdict::Judged;
+use crate::rattle_std::AllocError;
+
+/// So many bytes of the first line that is invalid are kept.
+const FRONT: usize = 81;
+
+/// How many lines a text has, and how many of these are kept or have no version. Each count stops
+/// at 2^64 - 1.
+///
+/// ```
+/// use semver_parser::filters::{LineOptions, Lines};
+/// use semver_parser::{Dialect, VersionRange};
+///
+/// let range = VersionRange::parse("^1", Dialect::Npm)?;
+/// let mut lines = Lines::new(range, vec![], LineOptions::new());
+/// lines.push(b"1.4.0\n2.0.0\n\n1.2\n", &mut Vec::new()).unwrap();
+/// let counts = lines.counts();
+/// assert_eq!((counts.lines, counts.kept, counts.empty, counts.invalid), (4, 1, 1, 1));
+/// # Ok::<(), semver_parser::RangeError>(())
+/// ```
+#[derive(Debug)]
+pub struct Counts {
+    /// The lines that have ended, and the last one, once the end of the text was taken.
+    pub lines: u64,
+    /// Those of them that are kept, whichever of these are wanted.
+    pub kept: u64,
+    /// Those of them whose text is empty.
+    pub empty: u64,
+    /// Those of them that are invalid: they aren't empty, and have no version.
+    pub invalid: u64,
+    /// The first invalid one.
+    pub first_invalid: Option<InvalidLine>,
+}
+
+/// A line that is not empty and has no version.
+///
+/// ```
+/// use semver_parser::filters::{LineOptions, Lines};
+/// use semver_parser::{Dialect, VersionRange};
+///
+/// let range = VersionRange::parse("^1", Dialect::Npm)?;
+/// let mut lines = Lines::new(range, vec![], LineOptions::new());
+/// lines.push(b"1.4.0\n1.2\n", &mut Vec::new()).unwrap();
+/// let invalid = lines.counts().first_invalid.as_ref().unwrap();
+/// assert_eq!((invalid.number, invalid.front.as_slice()), (2, b"1.2".as_slice()));
+/// # Ok::<(), semver_parser::RangeError>(())
+/// ```
+#[derive(Debug)]
+pub struct InvalidLine {
+    /// Its number: that of the first line is 1.
+    pub number: u64,
+    /// The first 81 bytes of its text, without what ends it; fewer if it is shorter.
+    pub front: Vec<u8>,
+}
+
+/// What is to be counted of a line.
+pub(crate) enum Noted {
+    /// It is kept.
+    Kept,
+    /// It has a version that doesn't pass.
+    Dropped,
+    /// It is empty.
+    Empty,
+    /// It is invalid, and an earlier one is.
+    Invalid,
+    /// It is invalid, and the first such line.
+    FirstInvalid(InvalidLine),
+}
+
+impl Counts {
+    /// Counts no line.
+    pub(crate) fn new() -> Counts {
+        Counts {
+            lines: 0,
+            kept: 0,
+            empty: 0,
+            invalid: 0,
+            first_invalid: None,
+        }
+    }
+
+    /// What is to be counted of a line of which a filter says this.
+    #[inline(always)]
+    pub(crate) fn noted(
+        &self,
+        ending: LineEnd,
+        line: &[u8],
+        judged: &Judged<'_>,
+    ) -> Result<Noted, AllocError> {
+        match judged {
+            Judged::NoVersion => self.noted_without_version(ending, line),
+            Judged::DoesNotMatch => Ok(Noted::Dropped),
+            Judged::Matches(_) => Ok(Noted::Kept),
+        }
+    }
+
+    /// What is to be counted of a line that has no version.
+    fn noted_without_version(
+        &self,
+        ending: LineEnd,
+        line: &[u8],
+    ) -> Result<Noted, AllocError> {
+        let text = text_of(line, ending);
+        if text.is_empty() {
+            return Ok(Noted::Empty);
+        }
+        if self.first_invalid.is_some() {
+            return Ok(Noted::Invalid);
+        }
+        let number = self.lines.saturating_add(1);
+        let front = Vec::fallible_from_slice(&text[..text.len().min(FRONT)])?;
+        Ok(Noted::FirstInvalid(InvalidLine { number, front }))
+    }
+
+    /// Counts a line of which this was noted.
+    #[inline(always)]
+    pub(crate) fn add(&mut self, noted: Noted) {
+        self.lines = self.lines.saturating_add(1);
+        match noted {
+            Noted::Kept => self.kept = self.kept.saturating_add(1),
+            Noted::Dropped => {}
+            Noted::Empty => self.empty = self.empty.saturating_add(1),
+            Noted::Invalid => self.invalid = self.invalid.saturating_add(1),
+            Noted::FirstInvalid(line) => {
+                self.invalid = self.invalid.saturating_add(1);
+                self.first_invalid = Some(line);
+            }
+        }
+    }
+}
+
+/// Whether a line of which a filter says this is not empty, and has no version.
+#[inline(always)]
+pub(crate) fn is_invalid(ending: LineEnd, line: &[u8], judged: &Judged<'_>) -> bool {
+    matches!(judged, Judged::NoVersion) && !text_of(line, ending).is_empty()
+}

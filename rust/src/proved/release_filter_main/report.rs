@@ -1,0 +1,67 @@
+// Made by tools/erase from crates/release_filter_main/src/report.rt; not edited by hand.
+//! What is said on standard error of lines without a version.
+#![cfg(feature = "std")]
+
+use crate::rattle_std::prelude::*;
+use crate::proved::release_filter_main::arguments::Filtering;
+use crate::proved::release_filter::Counts;
+use crate::proved::semver_parser::version::outline_in;
+use crate::rattle_std::io::IsTerminal;
+
+/// So many bytes of a line without a version are shown.
+const SHOWN: usize = 80;
+
+/// Says how many lines have no version, if no line was kept, and shows the first, with a hint if a
+/// prefix is missing. If some were kept, this is said at a terminal alone, and only with the hint.
+pub fn report_invalid(rt: &HostRuntime, counts: &Counts, filtering: &Filtering, has_lines: bool) {
+    let Some(first) = &counts.first_invalid else {
+        return;
+    };
+    let front = first.front.as_slice();
+    let lacks_prefix = filtering.options.prefixes.is_empty() && has_v(front, filtering);
+    if has_lines && !(lacks_prefix && rt.stderr().is_terminal()) {
+        return;
+    }
+    let all = counts.lines.saturating_sub(counts.empty);
+    let line = if filtering.options.is_json {
+        "string"
+    } else {
+        "line"
+    };
+    let plural = if all == 1 { "" } else { "s" };
+    let are = if counts.invalid == 1 {
+        "is an invalid version"
+    } else {
+        "are invalid versions"
+    };
+    let (shown, more) = shown(front);
+    let hint = if !lacks_prefix {
+        ""
+    } else if has_lines {
+        "; --prefix v --prefix '' takes it, too"
+    } else {
+        "; --prefix v takes it"
+    };
+    let _ = crate::rattle_std::fallible_eprintln!(rt;
+        "release-filter: {} of {all} {line}{plural} {are}; the first, {line} {}: {}{more}{hint}",
+        counts.invalid,
+        first.number,
+        shown.escape_ascii()
+    );
+}
+
+/// Whether a line is a version after a `v`.
+fn has_v(front: &[u8], filtering: &Filtering) -> bool {
+    match front.strip_prefix(b"v") {
+        Some(version) => outline_in(version, filtering.meaning.dialect.grammar()).is_some(),
+        None => false,
+    }
+}
+
+/// The first 80 bytes of the front of a line, and dots if there are more.
+pub fn shown(front: &[u8]) -> (&[u8], &'static str) {
+    match front.get(..SHOWN) {
+        Some(shown) if front.len() > SHOWN => (shown, "..."),
+        _ => (front, ""),
+    }
+}

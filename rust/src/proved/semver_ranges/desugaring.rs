@@ -1,0 +1,163 @@
+// Made by tools/erase from crates/semver_ranges/src/desugaring.rt; not edited by hand.
+//! How simples are rewritten to comparators: which operator compares with which version, and which
+//! number is raised for the bound above.
+//!
+//! The rewriting does not allocate or raise: only building does both, once all is
+//! known to fit.
+
+use crate::rattle_std::prelude::*;
+use crate::proved::semver_ranges::grammar::{Form, Simple};
+use crate::proved::semver_ranges::partial::{Partial, PartialKind, Place, RaisedBounds};
+use crate::proved::semver_ranges::range::{Comparator, Compat, Op};
+use crate::rattle_std::AllocError;
+
+/// The cell of the table that has the one or two comparators of a simple.
+pub enum Desugared {
+    /// A comparison with the partial.
+    Against(Op),
+    /// Below the bound that is raised at a place.
+    Below(Place),
+    /// From the partial on, and below the bound that is raised at a place.
+    Between(Place),
+}
+
+impl Desugared {
+    /// Whether the numbers that the partial states, and the bound that is raised, are at most
+    /// 2^64 - 1.
+    #[inline(always)]
+    pub(crate) fn fits(&self, partial: &Partial<'_>) -> bool {
+        partial.fits()
+            && match self {
+                Desugared::Against(_) => true,
+                Desugared::Below(place) | Desugared::Between(place) => partial.may_rise(*place),
+            }
+    }
+
+    /// How many comparators. Vectors are made at this size.
+    #[inline(always)]
+    pub fn count(&self) -> usize {
+        match self {
+            Desugared::Against(_) | Desugared::Below(_) => 1,
+            Desugared::Between(_) => 2,
+        }
+    }
+
+    /// The place of the bound that is raised, where there is one.
+    #[inline(always)]
+    pub fn raised(&self) -> Option<Place> {
+        match self {
+            Desugared::Against(_) => None,
+            Desugared::Below(place) | Desugared::Between(place) => Some(*place),
+        }
+    }
+
+    /// The operator that the partial is compared by, and the place of the raised bound, each where
+    /// there is one.
+    #[inline(always)]
+    fn split(self) -> (Option<Op>, Option<Place>) {
+        match self {
+            Desugared::Against(op) => (Some(op), None),
+            Desugared::Below(place) => (None, Some(place)),
+            Desugared::Between(place) => (Some(Op::Gte), Some(place)),
+        }
+    }
+
+    /// The comparators by themselves. For speed none is pushed where there might be no capacity.
+    #[inline(always)]
+    pub(crate) fn to_vec(
+        self,
+        partial: &Partial<'_>,
+        raised: RaisedBounds,
+    ) -> Result<Vec<Comparator>, AllocError> {
+        match self {
+            Desugared::Against(op) => singleton(partial.as_comparator(op)?),
+            Desugared::Below(place) => singleton(partial.raised(place, raised)?),
+            Desugared::Between(place) => {
+                let mut comparators = Vec::fallible_with_capacity(2)?;
+                comparators.push_reserved(partial.as_comparator(Op::Gte)?);
+                comparators.push_reserved(partial.raised(place, raised)?);
+                Ok(comparators)
+            }
+        }
+    }
+
+    /// Adds the comparators.
+    #[inline(always)]
+    pub(crate) fn push(
+        self,
+        partial: &Partial<'_>,
+        comparators: &mut Vec<Comparator>,
+        raised: RaisedBounds,
+    ) -> Result<(), AllocError> {
+        let (op, place) = self.split();
+        if let Some(op) = op {
+            comparators.fallible_push(partial.as_comparator(op)?)?;
+        }
+        if let Some(place) = place {
+            comparators.fallible_push(partial.raised(place, raised)?)?;
+        }
+        Ok(())
+    }
+}
+
+/// A vector of one comparator.
+#[inline(always)]
+fn singleton(comparator: Comparator) -> Result<Vec<Comparator>, AllocError> {
+    let mut comparators = Vec::fallible_with_capacity(1)?;
+    comparators.push_reserved(comparator);
+    Ok(comparators)
+}
+
+/// The comparators of a simple, by the table: its form, how many numbers it states, and the mode.
+#[inline(always)]
+pub fn rewritten(simple: &Simple<'_>, compat: Compat) -> Desugared {
+    let partial = &simple.partial;
+    match partial.kind() {
+        PartialKind::XRangeOnly => with_nothing_stated(simple.form),
+        PartialKind::MajorOnly => with_some_stated(simple.form, partial, Place::Major),
+        PartialKind::MajorMinor => with_some_stated(simple.form, partial, Place::Minor),
+        PartialKind::MajorMinorPatch => with_three_stated(simple.form, partial, compat),
+    }
+}
+
+/// The column where no number is stated: the partial is 0.0.0 then.
+#[inline(always)]
+fn with_nothing_stated(form: Form) -> Desugared {
+    match form {
+        Form::Less | Form::Greater => Desugared::Against(Op::Lt),
+        Form::Bare | Form::Equal | Form::AtMost | Form::AtLeast | Form::Tilde | Form::Caret =>
+            Desugared::Against(Op::Gte),
+    }
+}
+
+/// The column where one or two numbers are stated, the last of them at a place.
+#[inline(always)]
+fn with_some_stated(form: Form, partial: &Partial<'_>, last: Place) -> Desugared {
+    match form {
+        Form::Bare | Form::Equal | Form::Tilde => Desugared::Between(last),
+        Form::Less => Desugared::Against(Op::Lt),
+        Form::AtMost => Desugared::Below(last),
+        Form::Greater => Desugared::Against(Op::Gt),
+        Form::AtLeast => Desugared::Against(Op::Gte),
+        Form::Caret => Desugared::Between(partial.leading_place()),
+    }
+}
+
+/// The column where three numbers are stated: the mode decides what a bare version is, and nothing
+/// else.
+#[inline(always)]
+fn with_three_stated(form: Form, partial: &Partial<'_>, compat: Compat) -> Desugared {
+    match form {
+        Form::Bare => match compat {
+            Compat::Cargo => Desugared::Between(partial.leading_place()),
+            Compat::Npm => Desugared::Against(Op::Eq),
+        },
+        Form::Equal => Desugared::Against(Op::Eq),
+        Form::Less => Desugared::Against(Op::Lt),
+        Form::AtMost => Desugared::Against(Op::Lte),
+        Form::Greater => Desugared::Against(Op::Gt),
+        Form::AtLeast => Desugared::Against(Op::Gte),
+        Form::Tilde => Desugared::Between(Place::Minor),
+        Form::Caret => Desugared::Between(partial.leading_place()),
+    }
+}

@@ -1,0 +1,119 @@
+// Made by tools/erase from crates/semver_ranges/src/npm_lengths.rt; not edited by hand.
+//! Which words are too long to npm. Up to 250 bytes none is, so little of this runs.
+
+use crate::rattle_std::prelude::*;
+use crate::proved::semver_ranges::grammar::{Form, Role, after_v, read_components};
+use crate::proved::semver_ranges::partial::{Component, Components};
+use crate::proved::semver_texts::dotted::{marked_len, split_at_dot};
+use crate::proved::semver_texts::grammar::Grammar;
+use crate::proved::semver_texts::npm_limits::{MAX_LENGTH, MAX_SAFE_BUILD_LENGTH};
+
+/// Of which kind the parts between dots are.
+#[derive(Clone, Copy)]
+enum Kind {
+    /// The numbers, or wildcards.
+    Number,
+    /// The identifiers of the pre-release.
+    PreRelease,
+    /// Those of the build.
+    Build,
+}
+
+/// Whether a word isn't too long to npm. For speed it is read anew: so nothing else is kept of it
+/// where no word is long.
+#[inline(never)]
+pub(crate) fn is_short_word(word: &[u8], role: Role) -> bool {
+    let partial = after_v(word, Grammar::Npm);
+    match read_components(partial) {
+        Some((written, _)) => is_short_partial(word.len(), partial, &written, role),
+        None => false,
+    }
+}
+
+/// Whether a word of so many bytes, which ends with this partial, isn't too long.
+fn is_short_partial(len: usize, partial: &[u8], written: &Components<'_>, role: Role) -> bool {
+    let version = partial.len() - marked_len(written.build);
+    let numbers = version - marked_len(written.pre);
+    if !has_short_parts(&partial[..numbers], written) {
+        return false;
+    }
+    is_short_version(len, version, written, role)
+}
+
+/// Whether none of its numbers and identifiers is too long.
+fn has_short_parts(numbers: &[u8], written: &Components<'_>) -> bool {
+    are_short(numbers, Kind::Number)
+        && are_short(written.pre, Kind::PreRelease)
+        && are_short(written.build, Kind::Build)
+}
+
+/// Whether the version of its comparator isn't too long, where three numbers are stated. It is the
+/// word, or the numbers and the pre-release alone, which have so many bytes.
+fn is_short_version(word: usize, version: usize, written: &Components<'_>, role: Role) -> bool {
+    if !states_three(written) {
+        return true;
+    }
+    if is_taken_whole(written, role) {
+        return word <= MAX_LENGTH;
+    }
+    version <= MAX_LENGTH
+}
+
+/// Whether node-semver takes a word of three stated numbers over with its `v` and its build.
+fn is_taken_whole(written: &Components<'_>, role: Role) -> bool {
+    match role {
+        Role::AfterForm(form) => !matches!(form, Form::Tilde | Form::Caret),
+        Role::AfterHyphen => written.pre.is_empty(),
+    }
+}
+
+/// Whether three numbers are stated.
+fn states_three(written: &Components<'_>) -> bool {
+    matches!(
+        (written.major, written.minor, written.patch),
+        (
+            Component::Number(_),
+            Component::Number(_),
+            Component::Number(_)
+        )
+    )
+}
+
+/// Whether none of the parts between dots is too long.
+fn are_short(parts: &[u8], kind: Kind) -> bool {
+    if parts.is_empty() {
+        return true;
+    }
+    let mut rest = Some(parts);
+    while let Some(bytes) = rest {
+        let (part, after) = split_at_dot(bytes);
+        if !is_short(part, kind) {
+            return false;
+        }
+        rest = after;
+    }
+    true
+}
+
+/// Whether a part isn't too long.
+fn is_short(part: &[u8], kind: Kind) -> bool {
+    match kind {
+        Kind::Number => part.len() <= MAX_LENGTH + 1,
+        Kind::PreRelease => is_short_pre(part),
+        Kind::Build => part.len() <= MAX_SAFE_BUILD_LENGTH,
+    }
+}
+
+/// Whether an identifier of a pre-release isn't too long: digits alone are a number.
+fn is_short_pre(part: &[u8]) -> bool {
+    let digits = leading_digits(part);
+    if digits == part.len() {
+        return digits <= MAX_LENGTH + 1;
+    }
+    digits <= MAX_LENGTH && part.len() <= digits + 1 + MAX_SAFE_BUILD_LENGTH
+}
+
+/// How many digits a text begins with.
+fn leading_digits(text: &[u8]) -> usize {
+    text.iter().take_while(|byte| byte.is_ascii_digit()).count()
+}

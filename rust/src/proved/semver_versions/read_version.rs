@@ -1,0 +1,88 @@
+// Made by tools/erase from crates/semver_versions/src/read_version.rt; not edited by hand.
+//! Versions that own their identifiers, and know how those of digits alone are read.
+
+use crate::rattle_std::prelude::*;
+use crate::proved::semver_versions::outlines::Outline;
+use crate::proved::semver_texts::grammar::Digits;
+use crate::proved::semver_texts::identifiers::ByDigits;
+use crate::proved::semver_texts::precedence::{Identifiers, compare};
+use crate::proved::semver_texts::version::{Identifier, Version};
+use crate::rattle_std::AllocError;
+use crate::rattle_std::cmp::Ordering;
+
+/// A version, and how its identifiers of digits alone are read: from 2^64 on they are texts, as a
+/// `Version` keeps them, or numbers, as Cargo and npm read them.
+#[derive(Debug)]
+pub struct ReadVersion {
+    /// The version.
+    pub version: Version,
+    /// How its identifiers of digits alone are read.
+    pub digits: Digits,
+}
+
+impl ReadVersion {
+    /// Returns the version of an outline, without its build. `Err` is out of memory.
+    #[inline(always)]
+    pub fn of(outline: &Outline<'_>) -> Result<ReadVersion, AllocError> {
+        let version = Version {
+            major: outline.major(),
+            minor: outline.minor(),
+            patch: outline.patch(),
+            pre: outline.pre_identifiers()?,
+            build: Vec::new(),
+        };
+        Ok(ReadVersion {
+            version,
+            digits: outline.digits(),
+        })
+    }
+
+    /// Returns the same version, without its build. `Err` is out of memory.
+    pub fn without_build(&self) -> Result<ReadVersion, AllocError> {
+        let version = Version {
+            major: self.version.major,
+            minor: self.version.minor,
+            patch: self.version.patch,
+            pre: self.version.pre.fallible_clone()?,
+            build: Vec::new(),
+        };
+        Ok(ReadVersion {
+            version,
+            digits: self.digits,
+        })
+    }
+
+    /// Returns the identifiers of the pre-release, as they are compared.
+    #[inline(always)]
+    pub fn pre<'a>(&'a self) -> ByDigits<&'a [Identifier]> {
+        ByDigits::of(self.version.pre.as_slice(), self.digits)
+    }
+
+    /// Returns how it compares with another by precedence.
+    pub fn compare(&self, other: &ReadVersion) -> Ordering {
+        self.compare_version(&other.version, other.digits)
+    }
+
+    /// Returns how it compares by precedence with a version whose identifiers of digits alone are
+    /// read so.
+    #[inline(always)]
+    pub fn compare_version(&self, version: &Version, digits: Digits) -> Ordering {
+        compare(
+            (self.version.major, self.version.minor, self.version.patch),
+            self.pre(),
+            (version.major, version.minor, version.patch),
+            ByDigits::of(version.pre.as_slice(), digits),
+        )
+    }
+
+    /// Returns how the version of an outline compares with it by precedence.
+    #[inline(always)]
+    pub fn compared_outline(&self, outline: &Outline<'_>) -> Ordering {
+        compare(
+            (outline.major, outline.minor, outline.patch),
+            outline.compared_pre(),
+            (self.version.major, self.version.minor, self.version.patch),
+            self.pre(),
+        )
+    }
+}

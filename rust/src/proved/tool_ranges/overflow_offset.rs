@@ -1,0 +1,70 @@
+// Made by tools/erase from crates/tool_ranges/src/overflow_offset.rt; not edited by hand.
+//! Where a number of a range text is too large: the end of the first term that does not fit.
+
+use crate::rattle_std::prelude::*;
+use crate::proved::tool_ranges::cargo;
+use crate::proved::tool_ranges::dialect::Dialect;
+use crate::proved::tool_ranges::range_matching::{self, Terms};
+use crate::proved::semver_ranges::Compat;
+
+/// The end of the first term of a range text that states a number, or has a raised bound, above the
+/// limit of the dialect: 21 in `=18446744073709551616 || 1`. It does not allocate.
+pub(crate) fn limit_offset(dialect: Dialect, text: &str) -> usize {
+    end_of_word(text.as_bytes(), fitting(dialect, text.as_bytes()))
+}
+
+/// How many terms of a range text that state a number, from the left, fit.
+fn fitting(dialect: Dialect, text: &[u8]) -> u128 {
+    match dialect {
+        Dialect::Cargo => cargo::fitting(text),
+        Dialect::Npm => range_matching::fitting(text, Terms::Npm),
+        Dialect::CrateCargo => range_matching::fitting(text, Terms::Crate(Compat::Cargo)),
+        Dialect::CrateNpm => range_matching::fitting(text, Terms::Crate(Compat::Npm)),
+    }
+}
+
+/// The end of the word that states a number after so many others, or of the last word.
+fn end_of_word(text: &[u8], others: u128) -> usize {
+    let mut begin = 0;
+    let mut left = others;
+    let mut rest = text;
+    loop {
+        let (word, after) = split_word(rest);
+        let end = begin + word.len();
+        let Some(after) = after else {
+            return end;
+        };
+        if states_number(word) {
+            if left == 0 {
+                return end;
+            }
+            left -= 1;
+        }
+        begin = end + 1;
+        rest = after;
+    }
+}
+
+/// The word at the begin of a text, and what follows the byte after it.
+fn split_word(text: &[u8]) -> (&[u8], Option<&[u8]>) {
+    for at in 0..text.len() {
+        if is_separator(text[at]) {
+            return (&text[..at], Some(&text[at + 1..]));
+        }
+    }
+    (text, None)
+}
+
+/// Whether a byte separates words.
+pub(crate) fn is_separator(byte: u8) -> bool {
+    !(byte.is_ascii_alphanumeric() || matches!(byte, b'-' | b'.' | b'+' | b'*'))
+}
+
+/// Whether a word states a number.
+fn states_number(word: &[u8]) -> bool {
+    match word {
+        [first] => first.is_ascii_digit(),
+        [first, second, ..] => first.is_ascii_digit() || *first == b'v' && second.is_ascii_digit(),
+        [] => false,
+    }
+}

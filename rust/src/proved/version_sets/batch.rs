@@ -1,0 +1,46 @@
+// Made by tools/erase from crates/version_sets/src/batch.rt; not edited by hand.
+//! Which of many versions are in a set.
+
+use crate::rattle_std::prelude::*;
+use crate::proved::version_sets::release::Release;
+use crate::proved::version_sets::version_set::VersionSet;
+use crate::proved::semver_texts::grammar::Digits;
+use crate::proved::semver_versions::version::Version;
+
+/// Whether each version is in the set.
+pub(crate) fn contains(set: &VersionSet, versions: &[Version], answers: &mut [bool]) {
+    for at in 0..versions.len() {
+        answers[at] = set.contains(&versions[at]);
+    }
+}
+
+/// Whether each version is in the set, if its identifiers of digits alone are read so.
+pub(crate) fn contains_by(
+    set: &VersionSet,
+    versions: &[Version],
+    digits: Digits,
+    answers: &mut [bool],
+) {
+    for at in 0..versions.len() {
+        answers[at] = set.contains_by(&versions[at], digits);
+    }
+}
+
+/// Whether each version is a release that isn't below one, and that is below another, where there
+/// is another. No answer depends on a branch.
+pub(crate) fn is_release_between(
+    from: Release,
+    to: Option<Release>,
+    versions: &[Version],
+    answers: &mut [bool],
+) {
+    for at in 0..versions.len() {
+        let version = &versions[at];
+        let release = Release::of(version);
+        let is_below = match &to {
+            Some(to) => release.is_below(to),
+            None => true,
+        };
+        answers[at] = version.pre.is_empty() & (!release.is_below(&from) & is_below);
+    }
+}

@@ -1,0 +1,74 @@
+// Made by tools/erase from crates/version_sets/src/boundaries.rt; not edited by hand.
+//! Lists of boundaries: whether one has a place, and whether two are the same.
+
+use crate::rattle_std::prelude::*;
+use crate::proved::version_sets::boundary::Boundary;
+use crate::proved::version_sets::release::Release;
+use crate::proved::semver_texts::grammar::Digits;
+use crate::proved::semver_versions::read_version::ReadVersion;
+use crate::proved::semver_versions::version::{Outline, Version};
+
+/// Whether an odd number of the boundaries are at or below a place. It takes time in the logarithm
+/// of their number, and does not allocate.
+pub(crate) fn contains<T: Boundary>(boundaries: &[T], place: &T) -> bool {
+    is_odd(boundaries.partition_point(|boundary| boundary.compare(place).is_le()))
+}
+
+/// Whether an odd number of the boundaries are at or below a version, whose identifiers of digits
+/// alone are read so. It takes time in the logarithm of their number, and does not allocate.
+pub(crate) fn contains_version(
+    boundaries: &[ReadVersion],
+    version: &Version,
+    digits: Digits,
+) -> bool {
+    is_odd(boundaries.partition_point(|boundary| boundary.compare_version(version, digits).is_le()))
+}
+
+/// So many boundaries of releases are compared one by one, which is quicker than a search among
+/// them.
+const FEW: usize = 8;
+
+/// Whether an odd number of the boundaries are at or below a release. It takes time in the
+/// logarithm of their number, and does not allocate.
+#[inline(always)]
+pub(crate) fn contains_release(boundaries: &[Release], release: &Release) -> bool {
+    if boundaries.len() > FEW {
+        return contains(boundaries, release);
+    }
+    let mut is_in = false;
+    for boundary in boundaries {
+        is_in ^= !release.is_below(boundary);
+    }
+    is_in
+}
+
+/// Whether an odd number of the boundaries are at or below the version of an outline. It takes time
+/// in the logarithm of their number, and does not allocate.
+#[inline(always)]
+pub(crate) fn contains_outline(boundaries: &[ReadVersion], outline: &Outline<'_>) -> bool {
+    let mut low = 0;
+    let mut high = boundaries.len();
+    while low < high {
+        let middle = low + (high - low) / 2;
+        if boundaries[middle].compared_outline(outline).is_ge() {
+            low = middle + 1;
+        } else {
+            high = middle;
+        }
+    }
+    is_odd(low)
+}
+
+/// Whether a number is odd.
+fn is_odd(number: usize) -> bool {
+    number % 2 == 1
+}
+
+/// Whether two lists of boundaries have the same places. It does not allocate.
+pub(crate) fn are_same<T: Boundary>(boundaries: &[T], others: &[T]) -> bool {
+    boundaries.len() == others.len()
+        && boundaries
+            .iter()
+            .zip(others)
+            .all(|(boundary, other)| boundary.compare(other).is_eq())
+}

@@ -1,0 +1,75 @@
+// Made by tools/erase from crates/version_sets/src/lowest.rt; not edited by hand.
+//! The lowest version of a set.
+
+use crate::rattle_std::prelude::*;
+use crate::proved::version_sets::pre_release::kept_version;
+use crate::proved::version_sets::release::Release;
+use crate::proved::version_sets::version_set::VersionSet;
+use crate::proved::semver_versions::read_version::ReadVersion;
+use crate::proved::semver_versions::version::Version;
+use crate::rattle_std::AllocError;
+
+impl VersionSet {
+    /// The lowest version in the set by precedence, without a build; `None` exactly where the set
+    /// is empty.
+    ///
+    /// It allocates only if a pre-release is answered. `Err` is out of memory.
+    ///
+    /// ```
+    /// use semver_parser::{sets, Dialect};
+    ///
+    /// let set = sets::read(">1.0.0-rc.1 || >=2.0.0", Dialect::Npm)?;
+    /// assert_eq!(set.lowest().unwrap().unwrap().to_string(), "1.0.0-rc.1.0");
+    /// # Ok::<(), semver_parser::RangeError>(())
+    /// ```
+    pub fn lowest(&self) -> Result<Option<Version>, AllocError> {
+        lower_one(self.releases.first(), self.pre_releases.first())
+    }
+
+    /// The lowest release in the set by precedence; `None` exactly where it has no release. It does
+    /// not allocate.
+    ///
+    /// ```
+    /// use semver_parser::sets::{self, Release};
+    /// use semver_parser::Dialect;
+    ///
+    /// let set = sets::read(">1.0.0-rc.1 <1.0.0 || >=2.0.0", Dialect::Npm)?;
+    /// assert_eq!(set.lowest_release(), Some(Release { major: 2, minor: 0, patch: 0 }));
+    /// # Ok::<(), semver_parser::RangeError>(())
+    /// ```
+    pub fn lowest_release(&self) -> Option<Release> {
+        self.releases.first().copied()
+    }
+}
+
+/// The lower one of a release and a pre-release, or the one that there is, without a build. `Err`
+/// is out of memory, which is allocated only for a pre-release.
+pub(crate) fn lower_one(
+    release: Option<&Release>,
+    pre_release: Option<&ReadVersion>,
+) -> Result<Option<Version>, AllocError> {
+    let Some(pre_release) = pre_release else {
+        return Ok(as_version(release));
+    };
+    if is_below(release, pre_release) {
+        return Ok(as_version(release));
+    }
+    Ok(Some(kept_version(pre_release)?))
+}
+
+/// The release as a version, if there is one.
+fn as_version(release: Option<&Release>) -> Option<Version> {
+    match release {
+        Some(release) => Some(release.version()),
+        None => None,
+    }
+}
+
+/// Whether there is a release, and it is below a version by precedence: its numbers are, since no
+/// version of the same numbers is above it.
+fn is_below(release: Option<&Release>, version: &ReadVersion) -> bool {
+    match release {
+        Some(release) => release.cmp(&Release::of(&version.version)).is_lt(),
+        None => false,
+    }
+}

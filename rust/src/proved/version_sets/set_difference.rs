@@ -1,0 +1,138 @@
+// Made by tools/erase from crates/version_sets/src/set_difference.rt; not edited by hand.
+//! How two sets differ: what is lost, gained and shared, and whether one is a subset of the other,
+//! disjoint from it, or the same.
+
+use crate::rattle_std::prelude::*;
+use crate::proved::version_sets::boundaries::are_same;
+use crate::proved::version_sets::lowest::lower_one;
+use crate::proved::version_sets::set_operations::Combination;
+use crate::proved::version_sets::version_set::VersionSet;
+use crate::proved::semver_versions::version::Version;
+use crate::rattle_std::AllocError;
+
+/// How two sets differ, and what they share, each by the lowest version by precedence. None of
+/// these has a build.
+///
+/// ```
+/// use semver_parser::{sets, Dialect};
+///
+/// let old = sets::read("^1.2.3-b", Dialect::Npm)?;
+/// let comparison = old.compare(&sets::read("^1.2.3", Dialect::Npm)?).unwrap();
+/// assert_eq!(comparison.lost.unwrap().to_string(), "1.2.3-b");
+/// assert_eq!(comparison.gained, None);
+/// # Ok::<(), semver_parser::RangeError>(())
+/// ```
+#[derive(Debug)]
+pub struct Comparison {
+    /// The lowest version that is in the old set and not in the new one; `None` where there is
+    /// none.
+    pub lost: Option<Version>,
+    /// The lowest version that is in the new set and not in the old one; `None` where there is
+    /// none.
+    pub gained: Option<Version>,
+    /// The lowest version that is in both; `None` where there is none.
+    pub shared: Option<Version>,
+}
+
+impl VersionSet {
+    /// Compares the set with a new one that is to take its place. It takes time in the number of
+    /// their boundaries.
+    ///
+    /// Both sets have the same versions exactly where nothing is lost or gained.
+    ///
+    /// It allocates only for the identifiers of a pre-release that is answered. `Err` is out of
+    /// memory.
+    ///
+    /// ```
+    /// use semver_parser::{sets, Dialect};
+    ///
+    /// let old = sets::read("^1.2.0", Dialect::Npm)?;
+    /// let comparison = old.compare(&sets::read(">=1.4.0", Dialect::Npm)?).unwrap();
+    /// assert_eq!(comparison.lost.unwrap().to_string(), "1.2.0");
+    /// assert_eq!(comparison.gained.unwrap().to_string(), "2.0.0");
+    /// assert_eq!(comparison.shared.unwrap().to_string(), "1.4.0");
+    /// # Ok::<(), semver_parser::RangeError>(())
+    /// ```
+    pub fn compare(&self, new: &VersionSet) -> Result<Comparison, AllocError> {
+        Ok(Comparison {
+            lost: self.lowest_combined(Combination::Difference, new)?,
+            gained: new.lowest_combined(Combination::Difference, self)?,
+            shared: self.lowest_combined(Combination::Intersection, new)?,
+        })
+    }
+
+    /// The lowest version of a combination.
+    fn lowest_combined(
+        &self,
+        how: Combination,
+        other: &VersionSet,
+    ) -> Result<Option<Version>, AllocError> {
+        let release = how.first(&self.releases, &other.releases);
+        let pre_release = how.first(&self.pre_releases, &other.pre_releases);
+        lower_one(release, pre_release)
+    }
+}
+
+impl VersionSet {
+    /// Whether no version is in the set. It does not allocate.
+    ///
+    /// ```
+    /// use semver_parser::{sets, Dialect};
+    ///
+    /// assert!(sets::read(">2.0.0 <1.0.0", Dialect::Npm)?.is_empty());
+    /// # Ok::<(), semver_parser::RangeError>(())
+    /// ```
+    pub fn is_empty(&self) -> bool {
+        self.releases.is_empty() && self.pre_releases.is_empty()
+    }
+
+    /// Whether each version that is in the set is in the other, too. It takes time in the number of
+    /// their boundaries, and does not allocate.
+    ///
+    /// ```
+    /// use semver_parser::{sets, Dialect};
+    ///
+    /// let (narrow, wide) = (sets::read("~1.2", Dialect::Npm)?, sets::read("^1", Dialect::Npm)?);
+    /// assert!(narrow.is_subset(&wide));
+    /// assert!(!wide.is_subset(&narrow));
+    /// # Ok::<(), semver_parser::RangeError>(())
+    /// ```
+    pub fn is_subset(&self, other: &VersionSet) -> bool {
+        !self.keeps_some(Combination::Difference, other)
+    }
+
+    /// Whether no version is in both sets. It takes time in the number of their boundaries, and
+    /// does not allocate.
+    ///
+    /// ```
+    /// use semver_parser::{sets, Dialect};
+    ///
+    /// let set = sets::read("^1.2.0", Dialect::Npm)?;
+    /// assert!(set.is_disjoint(&sets::read("<1.2.0", Dialect::Npm)?));
+    /// assert!(!set.is_disjoint(&sets::read("<=1.2.0", Dialect::Npm)?)); // 1.2.0 is in both
+    /// # Ok::<(), semver_parser::RangeError>(())
+    /// ```
+    pub fn is_disjoint(&self, other: &VersionSet) -> bool {
+        !self.keeps_some(Combination::Intersection, other)
+    }
+
+    /// Whether some version is in a combination of two sets.
+    fn keeps_some(&self, how: Combination, other: &VersionSet) -> bool {
+        how.keeps_some(&self.releases, &other.releases)
+            || how.keeps_some(&self.pre_releases, &other.pre_releases)
+    }
+}
+
+impl PartialEq for VersionSet {
+    /// Whether both sets have the same versions. It takes time in the number of their boundaries,
+    /// and does not allocate.
+    ///
+    /// Those of `>=1.0.0 <2.0.0 || >=2.0.0 <3.0.0` and of `>=1.0.0 <3.0.0` are equal.
+    fn eq(&self, other: &VersionSet) -> bool {
+        are_same(&self.releases, &other.releases)
+            && are_same(&self.pre_releases, &other.pre_releases)
+    }
+}
+
+impl Eq for VersionSet {
+}
