@@ -195,19 +195,21 @@ pub extern "C" fn range_is_empty(range: &Range) -> i32 {
 /// Returns 1 if each version of a range is in the other.
 #[no_mangle]
 pub extern "C" fn range_is_within(range: &Range, other: &Range) -> i32 {
-    range.is_subset(other).into()
+    range.versions().is_subset(other.versions()).into()
 }
 
 /// Returns 1 if a version is in both ranges.
 #[no_mangle]
 pub extern "C" fn range_overlaps(range: &Range, other: &Range) -> i32 {
-    (!range.is_disjoint(other)).into()
+    (!range.versions().is_disjoint(other.versions())).into()
 }
 
-/// Returns what is in a range and not in the other; null if memory ran out, or their meanings differ.
+/// Returns what is in a range and not in the other, as a range with the meaning of the first; null if
+/// memory ran out. The meaning of the other may be another one, as in JavaScript each range has its own.
 #[no_mangle]
 pub extern "C" fn range_difference(range: &Range, other: &Range) -> *mut Range {
-    range.difference(other).map_or(null_mut(), kept)
+    let versions = range.versions().difference(other.versions());
+    versions.map_or(null_mut(), |it| kept(Range::of_versions(it, range.meaning())))
 }
 
 /// Returns the lowest version in a range as a string, empty if there is none.
