@@ -29,8 +29,8 @@ use version_sets::VersionSet;
 /// let old = VersionRange::parse("^1.2", Dialect::Cargo)?;
 /// let new = VersionRange::parse(">=1.2.1, <1.9", Dialect::Cargo)?;
 /// assert_eq!((&old - &new).to_string(), "=1.2.0 || >=1.9.0 <2.0.0");
-/// assert!(new.is_subset(&old) && old.contains("1.2.0")?);
-/// # Ok::<(), Box<dyn std::error::Error>>(())
+/// assert!(new.is_subset(&old) && old.contains("1.2.0") == Ok(true));
+/// # Ok::<(), semver_parser::RangeError>(())
 /// ```
 #[derive(Debug, Drop)]
 pub struct VersionRange {
