@@ -3,7 +3,7 @@
 // and numbers, and makes each call of node-semver with them, with and without `includePrerelease`, and
 // some with what was read of them. It prints the first difference, and then ends with status 1.
 //
-// What docs/DIFFERENCES.md and js/README.md list is counted by kind: texts that node-semver reads by
+// What docs/GRAMMAR.md, docs/MEANING.md and js/README.md list is counted by kind: texts that node-semver reads by
 // accident, digits above 2^53, which it compares as floats, and what it says of two ranges by their
 // comparators.
 'use strict'

@@ -6,11 +6,6 @@ import re
 
 PROMISES = '''## The promises
 
-Every function returns on every input, without a panic, an overflow or an access out of bounds. Contracts determine every
-result, but for ten calls ([which](#one-answer-for-each-call)).
-
-Caution: `RangeSet::parse` turns `^1.2.3` into `>=1.2.3 <2.0.0`, which admits 2.0.0-alpha; `parse_exact` uses `<2.0.0-0`.
-
 | crate | promise | call and clause | definition |
 |---|---|---|---|
 | `semver_tokens` | the lexer gives exactly the tokens of a text, then one error at most | [`Lexer::new`](../crates/semver_tokens/src/lexer.rt): `state` | [`Tokens`](../crates/semver_tokens/specs/Tokens.antt) |
@@ -37,47 +32,36 @@ Caution: `RangeSet::parse` turns `^1.2.3` into `>=1.2.3 <2.0.0`, which admits 2.
 
 Below these is `semver_texts`. Programs: `semver_parser_main`, `release_filter_main`, `compare_ranges_main`. Tests:
 `library_tests`, `replayed_cases`.
-
-## What isn't proved
-
-- **Not guaranteed**: stack depth, speed, how much memory a call takes at once, debug texts, texts
-  under width and fill flags.
-- **Only tested** ([TESTED](TESTED.md)): that calls succeed if memory is there; that writing fails only
-  if the writer does; the programs' `main` and other options; reading and writing by
-  `release-filter`; the lines of C, Python and shell; derived orders and clones; that the definitions
-  say what was meant.
-- **Trusted**: the toolchain, the C library, for the Rust crate its [erasure](ERASURE.md#what-is-trusted) and rustc, the kit's `thiserror`; in C, Python and
-  JavaScript the layers over it (`rust/capi`, `rust/wasm`) and their callers.
 '''
 
-HEAD = '''# What is proved, and where
+HEAD = '''# Index of the proofs
 
-Made of the sources by `tests/documents --proofs`. A promise is a clause of a public call, in `src/`. A clause cites
-definitions, by the names of their files in `specs/`, and a proof imports lemmas from files of `proofs/`.
+[PROVED](PROVED.md) says what is proved, and on what that rests; this index, made of the sources by
+`tests/documents --proofs`, is for looking up. A promise is a clause of a public call, in `src/`. A clause cites definitions,
+by the names of their files in `specs/`, and a proof imports lemmas from files of `proofs/`.
 
-`semver_parser` passes on the calls of the layers below it under the Rust crate's paths. The rest of `specs/Steps` is a
-means of proof: it says what the code does step by step, and no clause of a call for users cites it, but for the views of
-`Lexer`, `VersionSet` and `Lines`.
+`semver_parser` passes on the calls of the layers below it under the Rust crate's paths. A clause with a star cites
+`specs/Steps`, which says what the code does step by step: it is a means of proof between the crates, and no call for users
+has one, except the views of `Lexer`, `VersionSet` and `Lines`. `requires` marks a premise; a call with a lone clause has
+the word "one".
 
 ''' + PROMISES + '''
 ## One answer for each call
 
-Can a wrong body be proved? A public call rules that out in one of three ways, which the comment `// Answer: ..` above it
-names:
+The comment `// Answer: ..` above a public call says what determines its result:
 
 - **equation**: a clause gives what the call returns and leaves as a function of what it was given, always, or if it
   returns `Ok`, and then `Err` is out of memory or the writer's own error.
-- **a law** by its name: a function that makes the call twice with the same arguments. Its clause says that both results
-  are equal, or that one is out of memory. Its proof sees the clauses of the call only. Some say less: if a text is
-  refused as a version, memory may run out before the error is found (`one_version_of_parser`, `one_version_parse`,
-  `one_parse_by_tokens`). A law doesn't say when memory runs out: a clause of the call does, if it has one
-  (`out_of_memory`, `no_memory`).
-- **free**: what the clauses leave open, and the mutant that they still reject, or the file of tests that shows it.
+- **a law** by its name: a function that makes the call twice with the same arguments, and whose clause says that both
+  results have equal views, or that one is out of memory. Its proof sees the clauses of the call and the invariants of types
+  only. Some say less: if a text is refused as a version, memory may run out before the error is found
+  (`one_version_of_parser`, `one_version_parse`, `one_parse_by_tokens`). When memory runs out a clause of the call says, if
+  it has one (`out_of_memory`, `no_memory`).
+- **free**: what the clauses leave open ([all](PROVED.md#what-is-left-open)), and the mutant that they still reject, or the
+  file of tests that shows it.
 
-Eight calls are free, and two more leave something open if memory ran out: how many tokens `Parser::version` took, and how
-much of a piece `Lines::push` did. What is left then is an end part of the tokens (`out_of_memory`; of
-`Parser::identifier` the law fixes it), and what `Lines::push` appended is what that much ends. The clauses of `Lines`
-don't speak of a reader or a writer: they are functions of the bytes. The sort is `Vec::sort_unstable_by` of the kit.
+If memory ran out, what is left of `Parser::version` is an end part of the tokens (`out_of_memory`; of `Parser::identifier`
+the law fixes it), and what `Lines::push` appended is what as much of the piece as it took gives.
 '''
 
 
@@ -110,10 +94,19 @@ def function(lines, at):
     return '\n'.join(taken)
 
 
-def clauses(head):
-    """The names of the clauses of a head; a lone clause has none."""
-    named = [f'`{name}`' for name in re.findall(r'\b(?:ensures|requires) ([a-z_0-9]+) \{', head)]
-    return [*named, 'one'] if re.search(r'\bensures \{', head) else named
+def parts(head):
+    """The premises and clauses of a head: whether it is a premise, its name if it has one, and its text."""
+    return re.findall(r'\b(requires|ensures) ([a-z_0-9]* ?)\{(.*?)(?=\b(?:requires|ensures) [a-z_0-9]* ?\{|\Z)', head, re.S)
+
+
+def clauses(head, known):
+    """The names of the premises and clauses of a head; a lone one has none. A star marks one that cites a means of proof."""
+    shown = []
+    for kind, name, text in parts(head):
+        steps = any(known.get(word, '').startswith('Steps/') for word in re.findall(r'\w+', text))
+        word = f'`{name.strip()}`' if name.strip() else 'one'
+        shown.append(('requires ' if kind == 'requires' else '') + word + ('*' if steps else ''))
+    return sorted(shown, key=lambda it: not it.startswith('requires'))
 
 
 def cited(head, known):
@@ -149,7 +142,7 @@ def row(top, crate, path, lines, at, name, comment, answer):
     parts = name.split('::')
     folder = '/'.join(([] if module in ('lib', 'main') else [module]) + parts)
     known = imports('\n'.join(lines), crate)
-    shown = ', '.join(clauses(head))
+    shown = ', '.join(clauses(head, known))
     by = f'`{answer}`' if answer and not answer.startswith(('equation', 'free')) else answer or ''
     cells = [
         f'`{name}`', first_sentence(comment), by, shown, ', '.join(f'`{it}`' for it in cited(head, known)),

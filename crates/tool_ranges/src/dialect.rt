@@ -18,7 +18,7 @@ use semver_ranges::{Compat, RangeError, RangeSet};
 use semver_texts::grammar::Grammar;
 use std::alloc::Global;
 
-/// A dialect of range texts. `docs/MEANING.md` compares them ("Which dialect?").
+/// A dialect of range texts. `docs/RANGES.md` compares them.
 ///
 /// ```
 /// use semver_parser::{satisfies, Dialect};

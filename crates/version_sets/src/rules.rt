@@ -4,7 +4,7 @@ ghost use Rattle.std.specs.Prelude.{◌≡◌, MatchOption};
 ghost use Rattle.version_sets.specs.PreReleaseTable.{name_of, number_of};
 ghost use Rattle.version_sets.specs.declared.rules.PreReleases.{PreReleases as SomePreReleases};
 
-/// Which pre-releases a range text means: docs/MEANING.md, "Three rules for pre-releases". Releases
+/// Which pre-releases a range text means: docs/RANGES.md, "Pre-releases". Releases
 /// count by each of them.
 ///
 /// ```
