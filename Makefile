@@ -7,7 +7,7 @@
 #   make wheel                makes a wheel in OUT, for pip: the Python package with the library
 #   make js                   makes the JavaScript package in OUT, for npm
 #   make crate                makes the Rust crate in OUT, for cargo
-#   make page                 makes OUT/semver-ranges.html, the page of web/ in one file
+#   make page                 makes OUT/semver-ranges.html, the page of js/web in one file
 #   make release              makes all that is published in OUT, with SHA256SUMS
 #   make clean                removes what was built
 #   dpkg-buildpackage -b -uc  makes the Debian packages, in the directory above this one
@@ -113,13 +113,13 @@ stage stage-python: all out/man/made
 	fi
 	for page in $(programs:%=%.1) semver_parser.3 semver-ranges.7 \
 			$(if $(filter %-python,$@),$(checkers:%=%.1)); do
-		sed 's/@VERSION@/$(version)/; s/@DATE@/$(date)/' man/$$page \
+		sed 's/@VERSION@/$(version)/; s/@DATE@/$(date)/' docs/man/$$page \
 			> "$$to/share/man/man$${page##*.}/$$page"
 	done
 	cp -P out/man/*.3 "$$to/share/man/man3"
 	for name in $(filter-out semver-parser,$(programs)) $(if $(filter %-python,$@),$(checkers)); do
-		install -D -m 644 completions/$$name.bash "$$to/share/bash-completion/completions/$$name"
-		install -D -m 644 completions/_$$name "$$to/$(ZSHDIR)/_$$name"
+		install -D -m 644 tools/completions/$$name.bash "$$to/share/bash-completion/completions/$$name"
+		install -D -m 644 tools/completions/_$$name "$$to/$(ZSHDIR)/_$$name"
 	done
 
 # All is made in a directory of its own, and only then put where it belongs.

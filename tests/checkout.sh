@@ -11,8 +11,10 @@ checkout="$work/a checkout"
 
 copy_checkout() {
     mkdir -p "$checkout" "$work/bin"
-    cp -R Cargo.toml crates.txt VERSION LICENSE-APACHE LICENSE-MIT Makefile completions debian compare-ranges release-filter semver-parser man \
-        python rust tests tools "$checkout"
+    cp -R Cargo.toml crates.txt VERSION LICENSE-APACHE LICENSE-MIT Makefile debian semver-parser python \
+        rust tests tools "$checkout"
+    mkdir "$checkout/docs"
+    cp -R docs/man "$checkout/docs"
 }
 
 # stub COMMAND BODY: what runs as the command from now on.

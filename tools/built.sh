@@ -1,4 +1,4 @@
-# What the Makefile, the wrappers and the tests share. Each sets `top` first, the directory of the
+# What the Makefile, ./semver-parser and the tests share. Each sets `top` first, the directory of the
 # repository by its whole path, and then reads this file, which has `cd` look in no others.
 unset CDPATH
 # A folder for temporary files, what isn't whole yet, and whether a command runs beside the script.
@@ -36,19 +36,6 @@ beside() {
 # again GOAL..: has make make something, by the variables of the environment.
 again() {
     beside env MAKEFLAGS= make -s --no-print-directory -C "$top" "$@"
-}
-
-# run PROGRAM ARGUMENT..: runs a program, and has cargo build it first if anything is newer.
-run() {
-    built=$top/out/cargo/release/$1
-    is_built "$built" || {
-        [ -e "$built" ] || echo "building $1, which can take a minute" >&2
-        begin
-        build -p semver-parser-proved --bins >&2
-        let_go
-    }
-    shift
-    exec "$built" "$@"
 }
 
 # is_built FILE: whether nothing of the sources in Rust is newer than what cargo built of them.

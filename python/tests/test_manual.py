@@ -1,4 +1,4 @@
-"""What the tables of man/semver-ranges.7 have is what the library returns."""
+"""What the tables of docs/man/semver-ranges.7 have is what the library returns."""
 
 import re
 import unittest
@@ -7,7 +7,7 @@ from typing import List
 
 from semver_parser import Dialect, PreReleases, Range, RangeError, Version, VersionError
 
-MANUAL = Path(__file__).resolve().parents[2] / "man" / "semver-ranges.7"
+MANUAL = Path(__file__).resolve().parents[2] / "docs" / "man" / "semver-ranges.7"
 DIALECTS = (Dialect.CARGO, Dialect.NPM, Dialect.CRATE_CARGO, Dialect.CRATE_NPM)
 RULES = (PreReleases.DEFAULT, PreReleases.INCLUDED)
 

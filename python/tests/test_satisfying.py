@@ -47,7 +47,7 @@ ORDERED = [
 DIALECTS = (Dialect.CARGO, Dialect.NPM, Dialect.CRATE_CARGO, Dialect.CRATE_NPM)
 RULES = (PreReleases.EXCLUDED, PreReleases.DEFAULT, PreReleases.INCLUDED)
 
-# Of man/semver-ranges.7, and what docs/MEANING.md has of each tool: a range, a version, and whether
+# Of docs/man/semver-ranges.7, and what docs/MEANING.md has of each tool: a range, a version, and whether
 # it satisfies by each dialect, in the order above and with the default pre-releases; None if the
 # string is no range.
 BY_DIALECT = [
@@ -69,7 +69,7 @@ BY_DIALECT = [
     ("^1.2.3-beta", "1.3.0-rc", (False, False, False, False)),
 ]
 
-# Of man/semver-ranges.7 and docs/MEANING.md ("Three rules"): range, version, and by which rules it
+# Of docs/man/semver-ranges.7 and docs/MEANING.md ("Three rules"): range, version, and by which rules it
 # satisfies.
 THREE_RULES = [
     ("^1.2.3-beta.4", "1.9.0", (True, True, True)),

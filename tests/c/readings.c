@@ -1,5 +1,5 @@
 /* How the four dialects read versions and ranges: the parts of versions, precedence, what ranges
- * are rewritten to, and comparators. What is expected is in the tables of man/semver-ranges.7,
+ * are rewritten to, and comparators. What is expected is in the tables of docs/man/semver-ranges.7,
  * docs/GRAMMAR.md, docs/MEANING.md and docs/CRATE.md. */
 #include "calls.h"
 

@@ -1,6 +1,6 @@
 /* Which versions satisfy which ranges, by each dialect and each rule for pre-releases: of short
  * strings and of long ones, one by one and many at once; which error comes first; and options that
- * aren't any. What is expected is in the tables of man/semver-ranges.7 and of
+ * aren't any. What is expected is in the tables of docs/man/semver-ranges.7 and of
  * docs/MEANING.md. */
 #include "calls.h"
 

@@ -1,6 +1,6 @@
 """The program `check-lock-file`: lists the versions of lock files that are not what is required.
 
-man/check-lock-file.1 describes what it prints. It needs the library only to check something.
+docs/man/check-lock-file.1 describes what it prints. It needs the library only to check something.
 """
 
 import sys

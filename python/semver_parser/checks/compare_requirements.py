@@ -1,6 +1,6 @@
 """The program `compare-requirements`: what the changed requirements of a manifest lose and gain.
 
-man/compare-requirements.1 describes the lines. It needs the library only to compare something.
+docs/man/compare-requirements.1 describes the lines. It needs the library only to compare something.
 """
 
 import sys

@@ -16,7 +16,7 @@ mod generation;
 mod growth;
 mod npm;
 mod programs;
-#[path = "../../compare/src/random.rs"]
+#[path = "../../comparisons/src/random.rs"]
 mod random;
 mod rows;
 mod source;

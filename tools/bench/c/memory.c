@@ -1,7 +1,7 @@
 /* Finds how much memory the functions that allocate hold at most for each byte of a range, beyond
  * the first 1,000 bytes: on ranges of many forms and lengths, by each dialect and rule. Linked by
  * -Wl,--wrap=malloc,--wrap=realloc,--wrap=free, it counts all that the library allocates. */
-#include "../../rust/capi/include/semver_parser.h"
+#include "../../../rust/capi/include/semver_parser.h"
 
 #include <stdio.h>
 #include <stdlib.h>

@@ -5,7 +5,7 @@ import os
 import sys
 from typing import Any, Dict, List, NamedTuple, Set, Tuple
 
-TOP = os.path.dirname(os.path.dirname(os.path.dirname(os.path.abspath(__file__))))
+TOP = os.path.dirname(os.path.dirname(os.path.dirname(os.path.dirname(os.path.abspath(__file__)))))
 sys.path.insert(0, os.path.join(TOP, "python"))
 from semver_parser.checks.findings import PROJECT, Finding, Kind, Scope  # noqa: E402
 from semver_parser.checks.reports import report_on  # noqa: E402

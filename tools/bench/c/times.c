@@ -1,7 +1,7 @@
 /* Times a range that is read once and asked of 1 to 6 versions, and `semver_parser_satisfies` of
  * each: the best of many passes. */
 #define _POSIX_C_SOURCE 200809L
-#include "../../rust/capi/include/semver_parser.h"
+#include "../../../rust/capi/include/semver_parser.h"
 
 #include <stdio.h>
 #include <string.h>

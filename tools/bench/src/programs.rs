@@ -14,7 +14,7 @@ use std::process::{Command, Stdio};
 const BY_CARGO: &str = "target/crate/release/release-filter";
 
 /// The one that the kit built, if it did.
-const BY_KIT: &str = "../crates/release_filter_main/out/release_filter_main";
+const BY_KIT: &str = "../../crates/release_filter_main/out/release_filter_main";
 
 /// How many distinct lines a run reads.
 const LINES: usize = 1_000_000;

@@ -16,7 +16,7 @@ import sys
 import tempfile
 import traceback
 
-TOP = os.path.dirname(os.path.dirname(os.path.abspath(__file__)))
+TOP = os.path.dirname(os.path.dirname(os.path.dirname(os.path.abspath(__file__))))
 CASES = os.path.join(TOP, "python", "cases")
 sys.path.insert(0, os.path.join(TOP, "python"))
 

@@ -1,4 +1,4 @@
-//! What the C functions of bench/c/times.c are timed beside: the same ranges and versions by the
+//! What the C functions of tools/bench/c/times.c are timed beside: the same ranges and versions by the
 //! crate `semver`, in a table of the same form.
 
 use semver::{Version, VersionReq};

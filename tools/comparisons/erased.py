@@ -1,4 +1,4 @@
-"""Compares the kit's build with cargo's: python3 compare/erased.py KIT CARGO FILTER FILTER COUNT SEED.
+"""Compares the kit's build with cargo's: python3 tools/comparisons/erased.py KIT CARGO FILTER FILTER COUNT SEED.
 
 KIT and CARGO are the program of cases as the kit and as cargo build it, each a command; the two FILTERs are
 release-filter so built. COUNT random texts of versions, ranges and lines are made by the seed, each

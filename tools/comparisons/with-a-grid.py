@@ -13,7 +13,7 @@ import sys
 from itertools import product
 from pathlib import Path
 
-sys.path.insert(0, str(Path(__file__).resolve().parents[1] / "tools"))
+sys.path.insert(0, str(Path(__file__).resolve().parents[1]))
 from range_meaning import RULES, meets_term, precedence, ranges, shown, version
 
 NUMBERS = (0, 1, 2)

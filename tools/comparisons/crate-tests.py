@@ -1,4 +1,4 @@
-"""Runs the Rust crate's own tests and examples against rust/: python3 compare/crate-tests.py SOURCES WORK.
+"""Runs the Rust crate's own tests and examples against rust/: python3 tools/comparisons/crate-tests.py SOURCES WORK.
 
 SOURCES is the folder `src` of the crate semver-parser, as Debian's librust-semver-parser-dev has it. In
 the folder WORK a project is made whose Cargo.toml asks for semver-parser by its name, and has
@@ -13,7 +13,7 @@ import subprocess
 import sys
 
 SOURCES, WORK = sys.argv[1:]
-TOP = os.path.dirname(os.path.dirname(os.path.realpath(__file__)))
+TOP = os.path.dirname(os.path.dirname(os.path.dirname(os.path.realpath(__file__))))
 
 # What `super` has for the tests of a module.
 FOUND = {
