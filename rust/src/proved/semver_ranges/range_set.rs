@@ -77,8 +77,8 @@ impl RangeSet {
     /// The text is one or more ranges separated by `||`. A range is nothing, one or more simples
     /// separated by blanks, or two partials round a hyphen between blanks; a simple is a partial
     /// after `=`, `<`, `<=`, `>`, `>=`, `~`, `~>`, `^` or no operator. A blank is a space or a
-    /// tab. `docs/GRAMMAR.md` states the whole grammar, and `docs/CRATE.md` the comparators of
-    /// each simple, and what they mean.
+    /// tab. `docs/CRATE.md` states the whole grammar, the comparators of each simple, and what
+    /// they mean.
     ///
     /// The answer has the ranges in the order of the text, each with its comparators in order, and
     /// `compat` in the set and in each range. It has at least one range, and each range at least

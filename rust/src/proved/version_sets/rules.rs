@@ -2,7 +2,7 @@
 //! The three rules by which pre-releases count, with their numbers and names.
 
 use crate::rattle_std::prelude::*;
-/// Which pre-releases a range text means: docs/MEANING.md, "Three rules for pre-releases". Releases
+/// Which pre-releases a range text means: docs/RANGES.md, "Pre-releases". Releases
 /// count by each of them.
 ///
 /// ```
