@@ -77,11 +77,11 @@ out/lib/$(shared) out/lib/libsemver_parser.a &: $(built)/libsemver_parser.a \
 	mv $(shared) libsemver_parser.a "$$top/out/lib"
 
 # A page of the manual for each function of the header.
-out/man/made: $(capi)/include/semver_parser.h tools/make-manuals VERSION debian/changelog
+out/man/made: $(capi)/include/semver_parser.h tools/make-manuals.py VERSION debian/changelog
 	$(begin)
 	command -v python3 > /dev/null || refuse 'needs the command python3'
 	rm -rf out/man
-	python3 tools/make-manuals $(version) $(date) "$$work/man" < $<
+	python3 tools/make-manuals.py $(version) $(date) "$$work/man" < $<
 	mkdir -p out && mv "$$work/man" out/man
 	: > $@
 
@@ -174,16 +174,16 @@ wheel: out/lib/$(shared)
 	$(begin)
 	may_write "$$OUT"
 	strip --strip-unneeded --remove-section=.comment -o "$$work/library" out/lib/$(shared)
-	name=$$(python3 tools/make-wheel "$$work/library" "$$work")
+	name=$$(python3 tools/make-wheel.py "$$work/library" "$$work")
 	mkdir -p "$$OUT" && to=$$OUT put "$$work" "./$$name"
 	echo "made $$OUT/$$name"
 
 # The JavaScript package and the page, of the module for WebAssembly that cargo builds.
 js:
-	tools/make-js package "$(OUT)"
+	tools/make-js.sh package "$(OUT)"
 
 page:
-	tools/make-js page "$(OUT)"
+	tools/make-js.sh page "$(OUT)"
 
 # The files of rust/, the licences, and what its tests read of crates/.
 crate:
@@ -210,7 +210,7 @@ release:
 		command -v "$${tool%=*}" > /dev/null ||
 			refuse "needs the command $${tool%=*} (Debian: apt-get install $${tool#*=})"
 	done
-	rust/wasm/build --check
+	rust/wasm/build.sh --check
 	export SOURCE_DATE_EPOCH=$${SOURCE_DATE_EPOCH-$$(git log -1 --format=%ct)}
 	out=$$OUT made=$$work/made
 	export OUT="$$made"

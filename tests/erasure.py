@@ -1,5 +1,5 @@
-"""The rules of docs/ERASURE.md, for tests/erased: the tokens that a source in Rattle has in Rust.
-Doc comments are tokens, other comments aren't. Nothing here is of tools/erase.
+"""The rules of docs/ERASURE.md, for tests/erased.py: the tokens that a source in Rattle has in Rust.
+Doc comments are tokens, other comments aren't. Nothing here is of tools/erase.py.
 """
 import collections
 import functools

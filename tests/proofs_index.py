@@ -37,7 +37,7 @@ Below these is `semver_texts`. Programs: `semver_parser_main`, `release_filter_m
 HEAD = '''# Index of the proofs
 
 [PROVED](PROVED.md) says what is proved, and on what that rests; this index, made of the sources by
-`tests/documents --proofs`, is for looking up. A promise is a clause of a public call, in `src/`. A clause cites definitions,
+`tests/documents.py --proofs`, is for looking up. A promise is a clause of a public call, in `src/`. A clause cites definitions,
 by the names of their files in `specs/`, and a proof imports lemmas from files of `proofs/`.
 
 `semver_parser` passes on the calls of the layers below it under the Rust crate's paths. A clause with a star cites
@@ -152,7 +152,7 @@ def row(top, crate, path, lines, at, name, comment, answer):
 
 
 def page(top, crates, what, sources, public, exported, traits, answer_of):
-    """The page. The arguments are what tests/documents knows of the tree."""
+    """The page. The arguments are what tests/documents.py knows of the tree."""
     blocks = [HEAD]
     for crate in crates:
         modules, used = [], set()

@@ -129,7 +129,7 @@ def errors(top, crates, sources, public):
         if line is None:
             yield f'crates/{crate}/proofs/{name}.antt serves no public call'
         elif text.split('\n', 1)[0] != line:
-            yield f'crates/{crate}/proofs/{name}.antt does not begin with: {line} (tests/documents --serves writes it)'
+            yield f'crates/{crate}/proofs/{name}.antt does not begin with: {line} (tests/documents.py --serves writes it)'
 
 
 def write(top, crates, sources, public):

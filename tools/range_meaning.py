@@ -3,7 +3,7 @@
 A version is a tuple `(numbers, identifiers)`: three numbers, and the identifiers of its pre-release, each a number or a text. A term is
 `(operator, stated numbers, identifiers)`. Whether a version meets a term is decided by the table "The meaning of a text" alone, one version at a
 time; no comparator and no bound list occurs here. The least version that has some property of this kind is looked for among all places at
-which an answer about the terms can change, which are few; `tools/set-rows` and `tools/compare grid` check that against a grid of versions.
+which an answer about the terms can change, which are few; `tools/set-rows.py` and `tools/compare.sh grid` check that against a grid of versions.
 """
 
 import re

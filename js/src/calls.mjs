@@ -3,7 +3,7 @@
 // The module has one buffer for strings, which grows. A call reads all its arguments first and then
 // writes them, so no code of a caller runs between the first byte that is written and the result.
 //
-// js/build puts the bytes of the module in place of this import, or where they are.
+// js/build.cjs puts the bytes of the module in place of this import, or where they are.
 import { EMBEDDED, WHERE } from './module.mjs'
 
 /** What a call returns if memory ran out. */

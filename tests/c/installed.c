@@ -1,5 +1,5 @@
-/* Prints the releases of a range by the installed library: for tests/installed-programs and
- * tests/packages. */
+/* Prints the releases of a range by the installed library: for tests/installed-programs.sh and
+ * tests/packages.sh. */
 #include <semver_parser.h>
 #include <stdio.h>
 

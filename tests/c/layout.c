@@ -1,5 +1,5 @@
 /* Prints the size of each type of the header and the offset of each field, which no flag of a
- * compiler changes: tests/c-calls compares what it prints with and without -fshort-enums. */
+ * compiler changes: tests/c-calls.sh compares what it prints with and without -fshort-enums. */
 #include "../../rust/capi/include/semver_parser.h"
 
 #include <stdio.h>

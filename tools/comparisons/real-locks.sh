@@ -1,4 +1,4 @@
-# Sourced by tools/compare: lists what check-lock-file says of the lock files in Debian's source
+# Sourced by tools/compare.sh: lists what check-lock-file says of the lock files in Debian's source
 # packages of these names, and beside it what npm says of its own.
 set -eu
 [ $# -gt 0 ] || set -- node-graphql node-lodash

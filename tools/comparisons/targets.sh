@@ -1,4 +1,4 @@
-# The tests of rust/ for other processors, read by tools/compare: rows, library tests and refused
+# The tests of rust/ for other processors, read by tools/compare.sh: rows, library tests and refused
 # requests on i686, which this processor runs, and on aarch64 by qemu, with checks of overflow, over
 # Debian's std for these; and `cargo check` for each other target for which there is a std. The
 # packages are unpacked into a folder of its own.

@@ -57,7 +57,7 @@ impl MeaningOptions {
         }
     }
 
-    // Answer: free, UnknownDialect or Unreadable: ../../tests/release-filter-runs.
+    // Answer: free, UnknownDialect or Unreadable: ../../tests/release-filter-runs.sh.
     /// Takes an argument, and returns whether it is one of these options, or the name that follows
     /// `--dialect` or `--as`. Others are left to the program.
     ///

@@ -3,7 +3,7 @@
 //! set, what `concat` adds, or the other text of a pair of sets. Each line of standard output has
 //! the name and what the call returned, or of a call after `sum-of-` the length and the checksum of
 //! that. The wanted lines are in the file `stdout` of this crate: they come from the published
-//! rows, from the Rust crate, of sets from `tools/set-rows`, and of a tool's dialect from that
+//! rows, from the Rust crate, of sets from `tools/set-rows.py`, and of a tool's dialect from that
 //! tool (`docs/TESTED.md`).
 #![tactic(auto)]
 

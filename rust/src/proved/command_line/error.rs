@@ -1,4 +1,4 @@
-// Made by tools/erase from crates/command_line/src/error.rt; not edited by hand.
+// Made by tools/erase.py from crates/command_line/src/error.rt; not edited by hand.
 //! What is wrong with arguments.
 
 use crate::rattle_std::prelude::*;

@@ -1,4 +1,4 @@
-// Made by tools/erase from crates/command_line/src/excerpt.rt; not edited by hand.
+// Made by tools/erase.py from crates/command_line/src/excerpt.rt; not edited by hand.
 //! A text, or the part of a long one round an offset.
 
 use crate::rattle_std::prelude::*;

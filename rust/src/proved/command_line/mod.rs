@@ -1,4 +1,4 @@
-// Made by tools/erase from crates/command_line/src/lib.rt; not edited by hand.
+// Made by tools/erase.py from crates/command_line/src/lib.rt; not edited by hand.
 //! What the programs `release-filter` and `compare-ranges` share: the options that choose the
 //! dialect and which pre-releases count, what a program writes of itself and of errors, and how it
 //! writes.

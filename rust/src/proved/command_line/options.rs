@@ -1,4 +1,4 @@
-// Made by tools/erase from crates/command_line/src/options.rt; not edited by hand.
+// Made by tools/erase.py from crates/command_line/src/options.rt; not edited by hand.
 //! The options of the dialect, `--dialect`, `--as` and `--npm`, and of pre-releases,
 //! `--include-prerelease`, `--releases-only` and their short forms.
 

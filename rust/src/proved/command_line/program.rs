@@ -1,4 +1,4 @@
-// Made by tools/erase from crates/command_line/src/program.rt; not edited by hand.
+// Made by tools/erase.py from crates/command_line/src/program.rt; not edited by hand.
 //! What a program writes of itself and of errors.
 #![cfg(feature = "std")]
 

@@ -1,4 +1,4 @@
-// Made by tools/erase from crates/command_line/src/refused.rt; not edited by hand.
+// Made by tools/erase.py from crates/command_line/src/refused.rt; not edited by hand.
 //! The text of a range's error: the offset of the first byte that no range could have there, with a
 //! caret under it, and the reason.
 

@@ -1,4 +1,4 @@
-// Made by tools/erase from crates/compare_ranges_main/src/lines.rt; not edited by hand.
+// Made by tools/erase.py from crates/compare_ranges_main/src/lines.rt; not edited by hand.
 //! What is written of sets of versions: lines, or an object of JSON.
 #![cfg(feature = "std")]
 

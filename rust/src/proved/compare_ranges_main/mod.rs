@@ -1,4 +1,4 @@
-// Made by tools/erase from crates/compare_ranges_main/src/main.rt; not edited by hand.
+// Made by tools/erase.py from crates/compare_ranges_main/src/main.rt; not edited by hand.
 //! The program `compare-ranges`: arguments, standard output, and exit status, nothing else. What it
 //! says of ranges are the calls of `VersionRange`.
 #![cfg(feature = "std")]

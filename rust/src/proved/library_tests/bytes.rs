@@ -1,4 +1,4 @@
-// Made by tools/erase from crates/library_tests/src/bytes.rt; not edited by hand.
+// Made by tools/erase.py from crates/library_tests/src/bytes.rt; not edited by hand.
 //! Versions read from bytes, which needn't be UTF-8.
 #![cfg(feature = "std")]
 

@@ -1,4 +1,4 @@
-// Made by tools/erase from crates/library_tests/src/example.rt; not edited by hand.
+// Made by tools/erase.py from crates/library_tests/src/example.rt; not edited by hand.
 //! The example of README.md.
 #![cfg(feature = "std")]
 

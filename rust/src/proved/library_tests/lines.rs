@@ -1,4 +1,4 @@
-// Made by tools/erase from crates/library_tests/src/lines.rt; not edited by hand.
+// Made by tools/erase.py from crates/library_tests/src/lines.rt; not edited by hand.
 //! The lines of a text that comes in pieces: cut at each place, and in pieces of equal lengths.
 #![cfg(feature = "std")]
 

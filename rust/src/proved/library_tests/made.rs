@@ -1,4 +1,4 @@
-// Made by tools/erase from crates/library_tests/src/made.rt; not edited by hand.
+// Made by tools/erase.py from crates/library_tests/src/made.rt; not edited by hand.
 //! Versions and sets that are made by hand, and what their printed texts read back as.
 #![cfg(feature = "std")]
 

@@ -1,4 +1,4 @@
-// Made by tools/erase from crates/library_tests/src/main.rt; not edited by hand.
+// Made by tools/erase.py from crates/library_tests/src/main.rt; not edited by hand.
 //! Tests of the library that need more than data. On what its calls return: what is read of texts,
 //! sets of versions, the derived orders and precedence, and values made by hand. On what they write
 //! and append: printed values, whole writes and the report, at writers that fail, and the lines of

@@ -1,4 +1,4 @@
-// Made by tools/erase from crates/library_tests/src/orders.rt; not edited by hand.
+// Made by tools/erase.py from crates/library_tests/src/orders.rt; not edited by hand.
 //! The derived orders: the cases of an enum in the order declared, and the fields of a struct from
 //! the first on.
 #![cfg(feature = "std")]

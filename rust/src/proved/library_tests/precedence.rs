@@ -1,4 +1,4 @@
-// Made by tools/erase from crates/library_tests/src/precedence.rt; not edited by hand.
+// Made by tools/erase.py from crates/library_tests/src/precedence.rt; not edited by hand.
 //! The order of precedence, by the examples of the standard.
 #![cfg(feature = "std")]
 

@@ -1,4 +1,4 @@
-// Made by tools/erase from crates/library_tests/src/reading.rt; not edited by hand.
+// Made by tools/erase.py from crates/library_tests/src/reading.rt; not edited by hand.
 //! Versions that a range contains, by their texts.
 #![cfg(feature = "std")]
 

@@ -1,4 +1,4 @@
-// Made by tools/erase from crates/library_tests/src/refused.rt; not edited by hand.
+// Made by tools/erase.py from crates/library_tests/src/refused.rt; not edited by hand.
 //! Calls what allocates, and checks that each call returns in full or out of memory, and leaves
 //! what it promises. With ample memory every call has to return in full; else the one request that
 //! is refused has to be made by exactly one call, which is named.

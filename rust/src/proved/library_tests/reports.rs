@@ -1,4 +1,4 @@
-// Made by tools/erase from crates/library_tests/src/reports.rt; not edited by hand.
+// Made by tools/erase.py from crates/library_tests/src/reports.rt; not edited by hand.
 //! The report at a writer that refuses.
 #![cfg(feature = "std")]
 

@@ -1,4 +1,4 @@
-// Made by tools/erase from crates/library_tests/src/writers.rt; not edited by hand.
+// Made by tools/erase.py from crates/library_tests/src/writers.rt; not edited by hand.
 //! A writer that refuses once.
 #![cfg(feature = "std")]
 

@@ -1,4 +1,4 @@
-// Made by tools/erase from crates/library_tests/src/writes.rt; not edited by hand.
+// Made by tools/erase.py from crates/library_tests/src/writes.rt; not edited by hand.
 //! Whole writes: of no byte and of some, at a writer that refuses.
 #![cfg(feature = "std")]
 

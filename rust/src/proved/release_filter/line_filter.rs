@@ -1,4 +1,4 @@
-// Made by tools/erase from crates/release_filter/src/line_filter.rt; not edited by hand.
+// Made by tools/erase.py from crates/release_filter/src/line_filter.rt; not edited by hand.
 //! What a filter says of a line, after one of some prefixes.
 
 use crate::rattle_std::prelude::*;

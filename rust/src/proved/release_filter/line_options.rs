@@ -1,4 +1,4 @@
-// Made by tools/erase from crates/release_filter/src/line_options.rt; not edited by hand.
+// Made by tools/erase.py from crates/release_filter/src/line_options.rt; not edited by hand.
 //! What is done with lines.
 
 use crate::rattle_std::prelude::*;

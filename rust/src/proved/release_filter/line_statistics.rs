@@ -1,4 +1,4 @@
-// Made by tools/erase from crates/release_filter/src/line_statistics.rt; not edited by hand.
+// Made by tools/erase.py from crates/release_filter/src/line_statistics.rt; not edited by hand.
 //! How many lines a text has, how many of these are kept, how many have no version, and the first
 //! of those.
 

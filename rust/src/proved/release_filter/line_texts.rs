@@ -1,4 +1,4 @@
-// Made by tools/erase from crates/release_filter/src/line_texts.rt; not edited by hand.
+// Made by tools/erase.py from crates/release_filter/src/line_texts.rt; not edited by hand.
 //! The lines of a text, the text of a line, and where a byte order mark is.
 
 use crate::rattle_std::prelude::*;

@@ -1,4 +1,4 @@
-// Made by tools/erase from crates/release_filter/src/lines.rt; not edited by hand.
+// Made by tools/erase.py from crates/release_filter/src/lines.rt; not edited by hand.
 //! The lines of a text that comes in pieces, and which of them a filter keeps.
 
 use crate::rattle_std::prelude::*;

@@ -1,4 +1,4 @@
-// Made by tools/erase from crates/release_filter/src/long_lines.rt; not edited by hand.
+// Made by tools/erase.py from crates/release_filter/src/long_lines.rt; not edited by hand.
 //! Lines that are skipped: bytes that begin them show that they have no version.
 
 use crate::rattle_std::prelude::*;

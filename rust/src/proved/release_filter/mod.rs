@@ -1,4 +1,4 @@
-// Made by tools/erase from crates/release_filter/src/lib.rt; not edited by hand.
+// Made by tools/erase.py from crates/release_filter/src/lib.rt; not edited by hand.
 //! Which versions and lines match a range: the releases among many versions, the lines of a text
 //! that comes in pieces, the line of the highest or the lowest version, and the lines sorted; and
 //! which versions satisfy a range set.

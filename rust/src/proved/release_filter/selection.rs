@@ -1,4 +1,4 @@
-// Made by tools/erase from crates/release_filter/src/selection.rt; not edited by hand.
+// Made by tools/erase.py from crates/release_filter/src/selection.rt; not edited by hand.
 //! Which of the kept lines are wanted, and those that are held until the end of the text.
 
 use crate::rattle_std::prelude::*;

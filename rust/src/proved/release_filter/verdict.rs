@@ -1,4 +1,4 @@
-// Made by tools/erase from crates/release_filter/src/verdict.rt; not edited by hand.
+// Made by tools/erase.py from crates/release_filter/src/verdict.rt; not edited by hand.
 //! What a range says of a version text.
 
 use crate::rattle_std::prelude::*;

@@ -1,4 +1,4 @@
-// Made by tools/erase from crates/release_filter_main/src/arguments.rt; not edited by hand.
+// Made by tools/erase.py from crates/release_filter_main/src/arguments.rt; not edited by hand.
 //! What the arguments request.
 #![cfg(feature = "std")]
 

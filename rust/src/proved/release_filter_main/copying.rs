@@ -1,4 +1,4 @@
-// Made by tools/erase from crates/release_filter_main/src/copying.rt; not edited by hand.
+// Made by tools/erase.py from crates/release_filter_main/src/copying.rt; not edited by hand.
 //! What is read, filtered and written, file by file.
 #![cfg(feature = "std")]
 

@@ -1,4 +1,4 @@
-// Made by tools/erase from crates/release_filter_main/src/output.rt; not edited by hand.
+// Made by tools/erase.py from crates/release_filter_main/src/output.rt; not edited by hand.
 //! How kept lines are written: as they are, in reverse, as JSON, or only counted.
 #![cfg(feature = "std")]
 

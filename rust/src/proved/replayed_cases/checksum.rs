@@ -1,4 +1,4 @@
-// Made by tools/erase from crates/replayed_cases/src/checksum.rt; not edited by hand.
+// Made by tools/erase.py from crates/replayed_cases/src/checksum.rt; not edited by hand.
 //! The length and the Adler-32 checksum of a long answer, written in its place. A byte that is
 //! dropped, changed or moved changes them. Python's `zlib.adler32` computes the same.
 #![cfg(feature = "std")]

@@ -1,4 +1,4 @@
-// Made by tools/erase from crates/replayed_cases/src/filtering.rt; not edited by hand.
+// Made by tools/erase.py from crates/replayed_cases/src/filtering.rt; not edited by hand.
 //! What the filter keeps, and which versions a set contains.
 #![cfg(feature = "std")]
 

@@ -1,4 +1,4 @@
-// Made by tools/erase from crates/replayed_cases/src/lexing.rt; not edited by hand.
+// Made by tools/erase.py from crates/replayed_cases/src/lexing.rt; not edited by hand.
 //! Tokens, written by the names of their variants.
 #![cfg(feature = "std")]
 

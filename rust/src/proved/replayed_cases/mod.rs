@@ -1,10 +1,10 @@
-// Made by tools/erase from crates/replayed_cases/src/main.rt; not edited by hand.
+// Made by tools/erase.py from crates/replayed_cases/src/main.rt; not edited by hand.
 //! Replays a table of cases. Each line of standard input has a name, a call and a text, separated
 //! by tabs, and for some calls a fourth field: the steps of a parser, the versions of a filter or a
 //! set, what `concat` adds, or the other text of a pair of sets. Each line of standard output has
 //! the name and what the call returned, or of a call after `sum-of-` the length and the checksum of
 //! that. The wanted lines are in the file `stdout` of this crate: they come from the published
-//! rows, from the Rust crate, of sets from `tools/set-rows`, and of a tool's dialect from that
+//! rows, from the Rust crate, of sets from `tools/set-rows.py`, and of a tool's dialect from that
 //! tool (`docs/TESTED.md`).
 #![cfg(feature = "std")]
 

@@ -1,4 +1,4 @@
-// Made by tools/erase from crates/replayed_cases/src/modes.rt; not edited by hand.
+// Made by tools/erase.py from crates/replayed_cases/src/modes.rt; not edited by hand.
 //! The calls that read a range in a mode of the crate, which is the first word of their name or the
 //! last one. Of some the word before it is a rule for pre-releases: `npm-exact`, `filter-npm`,
 //! `stated-npm`, `set-stated-npm`.

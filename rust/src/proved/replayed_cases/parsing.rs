@@ -1,4 +1,4 @@
-// Made by tools/erase from crates/replayed_cases/src/parsing.rt; not edited by hand.
+// Made by tools/erase.py from crates/replayed_cases/src/parsing.rt; not edited by hand.
 //! Calls on one parser, step by step.
 #![cfg(feature = "std")]
 

@@ -1,4 +1,4 @@
-// Made by tools/erase from crates/replayed_cases/src/prefixes.rt; not edited by hand.
+// Made by tools/erase.py from crates/replayed_cases/src/prefixes.rt; not edited by hand.
 //! Texts that are no versions: where and why.
 #![cfg(feature = "std")]
 

@@ -1,4 +1,4 @@
-// Made by tools/erase from crates/replayed_cases/src/ranges.rt; not edited by hand.
+// Made by tools/erase.py from crates/replayed_cases/src/ranges.rt; not edited by hand.
 //! Range sets, by their fields and as they print.
 #![cfg(feature = "std")]
 

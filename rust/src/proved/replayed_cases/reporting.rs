@@ -1,4 +1,4 @@
-// Made by tools/erase from crates/replayed_cases/src/reporting.rt; not edited by hand.
+// Made by tools/erase.py from crates/replayed_cases/src/reporting.rt; not edited by hand.
 //! The lines of the report, and the status that follows.
 #![cfg(feature = "std")]
 

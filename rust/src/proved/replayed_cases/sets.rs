@@ -1,4 +1,4 @@
-// Made by tools/erase from crates/replayed_cases/src/sets.rt; not edited by hand.
+// Made by tools/erase.py from crates/replayed_cases/src/sets.rt; not edited by hand.
 //! Sets of the versions that range texts mean, and how two of them compare.
 #![cfg(feature = "std")]
 

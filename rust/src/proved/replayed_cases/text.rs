@@ -1,4 +1,4 @@
-// Made by tools/erase from crates/replayed_cases/src/text.rt; not edited by hand.
+// Made by tools/erase.py from crates/replayed_cases/src/text.rt; not edited by hand.
 //! Texts of the table, where `\n`, `\r`, `\t` and `\\` are characters, and `\(3,a,-)` for
 //! `a-a-a`. In a unit that is so repeated `\#` is its index: `\(3,a\#,.)` is `a0.a1.a2`.
 

@@ -1,4 +1,4 @@
-// Made by tools/erase from crates/replayed_cases/src/tools.rt; not edited by hand.
+// Made by tools/erase.py from crates/replayed_cases/src/tools.rt; not edited by hand.
 //! Range texts as Cargo or npm itself reads them.
 #![cfg(feature = "std")]
 

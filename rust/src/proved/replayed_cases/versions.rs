@@ -1,4 +1,4 @@
-// Made by tools/erase from crates/replayed_cases/src/versions.rt; not edited by hand.
+// Made by tools/erase.py from crates/replayed_cases/src/versions.rt; not edited by hand.
 //! Versions, by their fields and as they print.
 #![cfg(feature = "std")]
 

@@ -1,4 +1,4 @@
-// Made by tools/erase from crates/semver_parser/src/lib.rt; not edited by hand.
+// Made by tools/erase.py from crates/semver_parser/src/lib.rt; not edited by hand.
 //! The port of the Rust crate `semver-parser`: version texts and range texts as plain data, under
 //! its names and in its modules. [`version::parse`] reads a version, and [`RangeSet::parse`] a
 //! range set.

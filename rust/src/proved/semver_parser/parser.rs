@@ -1,4 +1,4 @@
-// Made by tools/erase from crates/semver_parser/src/parser.rt; not edited by hand.
+// Made by tools/erase.py from crates/semver_parser/src/parser.rt; not edited by hand.
 //! A parser over the tokens of a text, one token ahead: its methods take a number, a component, an
 //! identifier, or a whole version, and [`Error`] says what came instead.
 

@@ -1,4 +1,4 @@
-// Made by tools/erase from crates/semver_parser/src/range.rt; not edited by hand.
+// Made by tools/erase.py from crates/semver_parser/src/range.rt; not edited by hand.
 //! A range as plain data, and its printed text: comparators, which a version has to satisfy all.
 
 use crate::rattle_std::prelude::*;

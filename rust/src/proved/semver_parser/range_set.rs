@@ -1,4 +1,4 @@
-// Made by tools/erase from crates/semver_parser/src/range_set.rt; not edited by hand.
+// Made by tools/erase.py from crates/semver_parser/src/range_set.rt; not edited by hand.
 //! A range text as plain data: [`RangeSet::parse`] reads ranges, of which a version has to satisfy
 //! one, in the mode of Cargo or npm, and rewrites `^`, `~`, wildcards and hyphens to comparators.
 

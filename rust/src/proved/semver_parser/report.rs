@@ -1,4 +1,4 @@
-// Made by tools/erase from crates/semver_parser/src/report.rt; not edited by hand.
+// Made by tools/erase.py from crates/semver_parser/src/report.rt; not edited by hand.
 //! What the program `semver-parser` writes of a text, as a version and as a range in each mode, and
 //! its exit status.
 #![cfg(feature = "std")]

@@ -1,4 +1,4 @@
-// Made by tools/erase from crates/semver_parser/src/version.rt; not edited by hand.
+// Made by tools/erase.py from crates/semver_parser/src/version.rt; not edited by hand.
 //! Version texts as plain data, and back: read from bytes, and by [`parse`], which also says what
 //! is wrong with an invalid version.
 

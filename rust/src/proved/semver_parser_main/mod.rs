@@ -1,4 +1,4 @@
-// Made by tools/erase from crates/semver_parser_main/src/main.rt; not edited by hand.
+// Made by tools/erase.py from crates/semver_parser_main/src/main.rt; not edited by hand.
 //! The program `semver-parser [TEXT]`: arguments and exit status, nothing else.
 #![cfg(feature = "std")]
 

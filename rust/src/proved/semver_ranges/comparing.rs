@@ -1,4 +1,4 @@
-// Made by tools/erase from crates/semver_ranges/src/comparing.rt; not edited by hand.
+// Made by tools/erase.py from crates/semver_ranges/src/comparing.rt; not edited by hand.
 //! How the identifiers that a range states are compared, kept or still a text.
 
 use crate::rattle_std::prelude::*;

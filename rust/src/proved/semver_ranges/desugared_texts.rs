@@ -1,4 +1,4 @@
-// Made by tools/erase from crates/semver_ranges/src/desugared_texts.rt; not edited by hand.
+// Made by tools/erase.py from crates/semver_ranges/src/desugared_texts.rt; not edited by hand.
 //! Range texts read by a table, of the crate or of a tool: to which comparators a simple is
 //! desugared.
 

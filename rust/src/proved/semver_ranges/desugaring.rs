@@ -1,4 +1,4 @@
-// Made by tools/erase from crates/semver_ranges/src/desugaring.rt; not edited by hand.
+// Made by tools/erase.py from crates/semver_ranges/src/desugaring.rt; not edited by hand.
 //! How simples are rewritten to comparators: which operator compares with which version, and which
 //! number is raised for the bound above.
 //!

@@ -1,4 +1,4 @@
-// Made by tools/erase from crates/semver_ranges/src/events.rt; not edited by hand.
+// Made by tools/erase.py from crates/semver_ranges/src/events.rt; not edited by hand.
 //! The events of a range text, from the left to the right.
 //!
 //! Nothing here allocates, and a call looks at each byte a fixed number of times.

@@ -1,4 +1,4 @@
-// Made by tools/erase from crates/semver_ranges/src/grammar.rt; not edited by hand.
+// Made by tools/erase.py from crates/semver_ranges/src/grammar.rt; not edited by hand.
 //! What is at the front of a range text: a simple, or the right side of a hyphen range.
 //!
 //! Nothing here allocates, and a call looks at each byte a fixed number of times. What can't be

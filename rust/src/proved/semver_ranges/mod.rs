@@ -1,4 +1,4 @@
-// Made by tools/erase from crates/semver_ranges/src/lib.rt; not edited by hand.
+// Made by tools/erase.py from crates/semver_ranges/src/lib.rt; not edited by hand.
 //! Range texts as plain data: a `RangeSet` of plain comparators.
 //!
 //! Hints for speed: what reads a byte of most texts, and the table, is `inline(always)`, one copy a

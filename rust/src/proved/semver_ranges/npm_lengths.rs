@@ -1,4 +1,4 @@
-// Made by tools/erase from crates/semver_ranges/src/npm_lengths.rt; not edited by hand.
+// Made by tools/erase.py from crates/semver_ranges/src/npm_lengths.rt; not edited by hand.
 //! Which words are too long to npm. Up to 250 bytes none is, so little of this runs.
 
 use crate::rattle_std::prelude::*;

@@ -1,4 +1,4 @@
-// Made by tools/erase from crates/semver_ranges/src/partial.rt; not edited by hand.
+// Made by tools/erase.py from crates/semver_ranges/src/partial.rt; not edited by hand.
 //! Partials: the numbers that one states, and its pre-release as a slice of the text.
 
 use crate::rattle_std::prelude::*;

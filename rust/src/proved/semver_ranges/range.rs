@@ -1,4 +1,4 @@
-// Made by tools/erase from crates/semver_ranges/src/range.rt; not edited by hand.
+// Made by tools/erase.py from crates/semver_ranges/src/range.rt; not edited by hand.
 //! Ranges as plain data: comparators, and their printed text.
 
 use crate::rattle_std::prelude::*;

@@ -1,4 +1,4 @@
-// Made by tools/erase from crates/semver_ranges/src/range_set.rt; not edited by hand.
+// Made by tools/erase.py from crates/semver_ranges/src/range_set.rt; not edited by hand.
 //! Range sets: the ranges of a text in one of two modes, and their printed text.
 
 use crate::rattle_std::prelude::*;

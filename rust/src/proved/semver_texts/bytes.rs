@@ -1,4 +1,4 @@
-// Made by tools/erase from crates/semver_texts/src/bytes.rt; not edited by hand.
+// Made by tools/erase.py from crates/semver_texts/src/bytes.rt; not edited by hand.
 //! Tests of bytes, and how many bytes at the front pass one.
 
 use crate::rattle_std::prelude::*;

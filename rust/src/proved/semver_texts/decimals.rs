@@ -1,4 +1,4 @@
-// Made by tools/erase from crates/semver_texts/src/decimals.rt; not edited by hand.
+// Made by tools/erase.py from crates/semver_texts/src/decimals.rt; not edited by hand.
 //! Numbers: canonical decimals, which are `0`, or digits that don't begin with `0`.
 
 use crate::rattle_std::prelude::*;

@@ -1,4 +1,4 @@
-// Made by tools/erase from crates/semver_texts/src/dotted.rt; not edited by hand.
+// Made by tools/erase.py from crates/semver_texts/src/dotted.rt; not edited by hand.
 //! Parts joined by dots after their mark, as the identifiers of a pre-release and those of a build
 //! are written in version texts and in range texts.
 

@@ -1,4 +1,4 @@
-// Made by tools/erase from crates/semver_texts/src/grammar.rt; not edited by hand.
+// Made by tools/erase.py from crates/semver_texts/src/grammar.rt; not edited by hand.
 //! The grammars that range texts and version texts are read by.
 
 use crate::rattle_std::prelude::*;

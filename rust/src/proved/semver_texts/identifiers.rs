@@ -1,4 +1,4 @@
-// Made by tools/erase from crates/semver_texts/src/identifiers.rt; not edited by hand.
+// Made by tools/erase.py from crates/semver_texts/src/identifiers.rt; not edited by hand.
 //! Pre-releases whose identifiers are compared: lists of identifiers, and texts that join them by
 //! dots.
 

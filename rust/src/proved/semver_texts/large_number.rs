@@ -1,4 +1,4 @@
-// Made by tools/erase from crates/semver_texts/src/large_number.rt; not edited by hand.
+// Made by tools/erase.py from crates/semver_texts/src/large_number.rt; not edited by hand.
 //! Numbers of 2^64 or more, by their digits.
 
 use crate::rattle_std::prelude::*;

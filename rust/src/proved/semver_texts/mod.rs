@@ -1,4 +1,4 @@
-// Made by tools/erase from crates/semver_texts/src/lib.rt; not edited by hand.
+// Made by tools/erase.py from crates/semver_texts/src/lib.rt; not edited by hand.
 //! What version texts and range texts share: versions as plain data and their precedence, bytes,
 //! numbers, identifiers joined by dots, white space, npm's limits, dialects, and how bytes and
 //! lists of printed values are written; and, in `specs/`, texts as their bytes, the grammar of

@@ -1,4 +1,4 @@
-// Made by tools/erase from crates/semver_texts/src/npm_limits.rt; not edited by hand.
+// Made by tools/erase.py from crates/semver_texts/src/npm_limits.rt; not edited by hand.
 //! npm's limits, under the names of node-semver 7. The other dialects have none of them.
 
 use crate::rattle_std::prelude::*;

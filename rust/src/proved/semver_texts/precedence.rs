@@ -1,4 +1,4 @@
-// Made by tools/erase from crates/semver_texts/src/precedence.rt; not edited by hand.
+// Made by tools/erase.py from crates/semver_texts/src/precedence.rt; not edited by hand.
 //! The precedence of versions (SemVer 2.0.0, section 11).
 
 use crate::rattle_std::prelude::*;

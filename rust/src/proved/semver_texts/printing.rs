@@ -1,4 +1,4 @@
-// Made by tools/erase from crates/semver_texts/src/printing.rt; not edited by hand.
+// Made by tools/erase.py from crates/semver_texts/src/printing.rt; not edited by hand.
 //! Lists of values, written one after the other.
 
 use crate::rattle_std::prelude::*;

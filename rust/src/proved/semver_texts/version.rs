@@ -1,4 +1,4 @@
-// Made by tools/erase from crates/semver_texts/src/version.rt; not edited by hand.
+// Made by tools/erase.py from crates/semver_texts/src/version.rt; not edited by hand.
 //! Versions as plain data, and their printed texts.
 //!
 //! What is printed are three numbers separated by dots, then where there is a pre-release `-` and

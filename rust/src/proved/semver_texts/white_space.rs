@@ -1,4 +1,4 @@
-// Made by tools/erase from crates/semver_texts/src/white_space.rt; not edited by hand.
+// Made by tools/erase.py from crates/semver_texts/src/white_space.rt; not edited by hand.
 //! What JavaScript calls white space, and npm takes around versions and between comparators.
 
 use crate::rattle_std::prelude::*;

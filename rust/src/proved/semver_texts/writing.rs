@@ -1,4 +1,4 @@
-// Made by tools/erase from crates/semver_texts/src/writing.rt; not edited by hand.
+// Made by tools/erase.py from crates/semver_texts/src/writing.rt; not edited by hand.
 //! Writing bytes so that an error leaves a known beginning of them.
 #![cfg(feature = "std")]
 

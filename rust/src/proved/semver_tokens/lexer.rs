@@ -1,4 +1,4 @@
-// Made by tools/erase from crates/semver_tokens/src/lexer.rt; not edited by hand.
+// Made by tools/erase.py from crates/semver_tokens/src/lexer.rt; not edited by hand.
 //! The tokens of a text: its signs, its white space, and its runs of ASCII letters and digits.
 //!
 //! The text is read by bytes, from the left; a character past ASCII is decoded only to be named in

@@ -1,4 +1,4 @@
-// Made by tools/erase from crates/semver_tokens/src/parser.rt; not edited by hand.
+// Made by tools/erase.py from crates/semver_tokens/src/parser.rt; not edited by hand.
 //! Numbers, components, identifiers and versions, read from the tokens of a text with one token
 //! ahead.
 //!

@@ -1,4 +1,4 @@
-// Made by tools/erase from crates/semver_versions/src/comparing.rt; not edited by hand.
+// Made by tools/erase.py from crates/semver_versions/src/comparing.rt; not edited by hand.
 //! How the identifiers of a version are compared while they are still a text.
 
 use crate::rattle_std::prelude::*;

@@ -1,4 +1,4 @@
-// Made by tools/erase from crates/semver_versions/src/identifiers.rt; not edited by hand.
+// Made by tools/erase.py from crates/semver_versions/src/identifiers.rt; not edited by hand.
 //! Identifiers, cut from their text at its dots.
 
 use crate::rattle_std::prelude::*;

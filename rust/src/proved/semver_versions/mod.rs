@@ -1,4 +1,4 @@
-// Made by tools/erase from crates/semver_versions/src/lib.rt; not edited by hand.
+// Made by tools/erase.py from crates/semver_versions/src/lib.rt; not edited by hand.
 //! Version texts read from their bytes in three dialects, as an outline without allocating, or as a
 //! `Version`.
 

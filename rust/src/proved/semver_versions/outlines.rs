@@ -1,4 +1,4 @@
-// Made by tools/erase from crates/semver_versions/src/outlines.rt; not edited by hand.
+// Made by tools/erase.py from crates/semver_versions/src/outlines.rt; not edited by hand.
 //! Versions in outline.
 
 use crate::rattle_std::prelude::*;

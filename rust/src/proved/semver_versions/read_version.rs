@@ -1,4 +1,4 @@
-// Made by tools/erase from crates/semver_versions/src/read_version.rt; not edited by hand.
+// Made by tools/erase.py from crates/semver_versions/src/read_version.rt; not edited by hand.
 //! Versions that own their identifiers, and know how those of digits alone are read.
 
 use crate::rattle_std::prelude::*;

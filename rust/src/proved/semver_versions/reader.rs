@@ -1,4 +1,4 @@
-// Made by tools/erase from crates/semver_versions/src/reader.rt; not edited by hand.
+// Made by tools/erase.py from crates/semver_versions/src/reader.rt; not edited by hand.
 //! A version text read from its bytes to its outline, by a dialect: three numbers, and the
 //! pre-release and the build as slices. Each byte that is read as a part of a version is ASCII, so
 //! the bytes need no check for UTF-8.

@@ -1,4 +1,4 @@
-// Made by tools/erase from crates/semver_versions/src/version.rt; not edited by hand.
+// Made by tools/erase.py from crates/semver_versions/src/version.rt; not edited by hand.
 //! Version texts read straight from their bytes: as a `Version`, or as an outline without memory.
 //!
 //! A version text is three numbers separated by dots, then optionally `-` and the identifiers of a

@@ -1,4 +1,4 @@
-// Made by tools/erase from crates/text_prefixes/src/buffers.rt; not edited by hand.
+// Made by tools/erase.py from crates/text_prefixes/src/buffers.rt; not edited by hand.
 //! Buffers in which prefixes are completed.
 
 use crate::rattle_std::prelude::*;

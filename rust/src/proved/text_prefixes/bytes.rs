@@ -1,4 +1,4 @@
-// Made by tools/erase from crates/text_prefixes/src/bytes.rt; not edited by hand.
+// Made by tools/erase.py from crates/text_prefixes/src/bytes.rt; not edited by hand.
 //! Whether some version begins with bytes, which may end within a character.
 
 use crate::rattle_std::prelude::*;

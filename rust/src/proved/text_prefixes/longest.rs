@@ -1,4 +1,4 @@
-// Made by tools/erase from crates/text_prefixes/src/longest.rt; not edited by hand.
+// Made by tools/erase.py from crates/text_prefixes/src/longest.rt; not edited by hand.
 //! The end of the longest prefix of a text that some text of a language begins with, found by
 //! asking the language itself what a prefix could be completed with.
 

@@ -1,4 +1,4 @@
-// Made by tools/erase from crates/text_prefixes/src/prefix_bytes.rt; not edited by hand.
+// Made by tools/erase.py from crates/text_prefixes/src/prefix_bytes.rt; not edited by hand.
 //! The bytes at the end of a prefix, and the one after it.
 
 use crate::rattle_std::prelude::*;

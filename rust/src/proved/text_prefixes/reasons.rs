@@ -1,4 +1,4 @@
-// Made by tools/erase from crates/text_prefixes/src/reasons.rt; not edited by hand.
+// Made by tools/erase.py from crates/text_prefixes/src/reasons.rt; not edited by hand.
 //! Why a text is refused: the one list of reasons, with their numbers, names and sentences.
 
 use crate::rattle_std::prelude::*;

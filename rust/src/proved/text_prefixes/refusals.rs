@@ -1,4 +1,4 @@
-// Made by tools/erase from crates/text_prefixes/src/refusals.rt; not edited by hand.
+// Made by tools/erase.py from crates/text_prefixes/src/refusals.rt; not edited by hand.
 //! Where and why a text is no valid version.
 
 use crate::rattle_std::prelude::*;

@@ -1,4 +1,4 @@
-// Made by tools/erase from crates/text_prefixes/src/versions.rt; not edited by hand.
+// Made by tools/erase.py from crates/text_prefixes/src/versions.rt; not edited by hand.
 //! The versions of a dialect as a language.
 
 use crate::rattle_std::prelude::*;

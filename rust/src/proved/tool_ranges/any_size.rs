@@ -1,4 +1,4 @@
-// Made by tools/erase from crates/tool_ranges/src/any_size.rt; not edited by hand.
+// Made by tools/erase.py from crates/tool_ranges/src/any_size.rt; not edited by hand.
 //! Sets of comparators as Cargo and npm read them: identifiers of digits alone are numbers of any
 //! size.
 

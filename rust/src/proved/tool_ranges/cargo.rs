@@ -1,4 +1,4 @@
-// Made by tools/erase from crates/tool_ranges/src/cargo.rt; not edited by hand.
+// Made by tools/erase.py from crates/tool_ranges/src/cargo.rt; not edited by hand.
 //! Requirements as Cargo reads them: `1.2` is `>=1.2.0 <2.0.0`, and commas separate comparators.
 
 use crate::rattle_std::prelude::*;

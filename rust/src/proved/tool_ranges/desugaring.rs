@@ -1,4 +1,4 @@
-// Made by tools/erase from crates/tool_ranges/src/desugaring.rt; not edited by hand.
+// Made by tools/erase.py from crates/tool_ranges/src/desugaring.rt; not edited by hand.
 //! The cells of the tables of Cargo and npm that have the comparators of a simple. Nothing here
 //! allocates but `push`, which comes once all is known to fit.
 

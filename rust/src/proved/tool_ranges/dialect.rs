@@ -1,4 +1,4 @@
-// Made by tools/erase from crates/tool_ranges/src/dialect.rt; not edited by hand.
+// Made by tools/erase.py from crates/tool_ranges/src/dialect.rt; not edited by hand.
 //! The dialects of range texts: Cargo's, npm's, and those of the Rust crate in its two modes, with
 //! their numbers and names.
 

@@ -1,4 +1,4 @@
-// Made by tools/erase from crates/tool_ranges/src/meaning.rt; not edited by hand.
+// Made by tools/erase.py from crates/tool_ranges/src/meaning.rt; not edited by hand.
 //! What a range text means: in which dialect, and with which pre-releases.
 
 use crate::rattle_std::prelude::*;

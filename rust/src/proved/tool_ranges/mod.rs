@@ -1,4 +1,4 @@
-// Made by tools/erase from crates/tool_ranges/src/lib.rt; not edited by hand.
+// Made by tools/erase.py from crates/tool_ranges/src/lib.rt; not edited by hand.
 //! Range texts as Cargo and npm themselves read them, which differs from the port's two modes.
 
 use crate::rattle_std::prelude::*;

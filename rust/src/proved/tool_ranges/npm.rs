@@ -1,4 +1,4 @@
-// Made by tools/erase from crates/tool_ranges/src/npm.rt; not edited by hand.
+// Made by tools/erase.py from crates/tool_ranges/src/npm.rt; not edited by hand.
 //! Range texts as npm reads them: `>1.2` is `>=1.3.0`, and `v1` is a range.
 
 use crate::rattle_std::prelude::*;

@@ -1,4 +1,4 @@
-// Made by tools/erase from crates/tool_ranges/src/offset.rt; not edited by hand.
+// Made by tools/erase.py from crates/tool_ranges/src/offset.rt; not edited by hand.
 //! The offset of a range text's error: the end of the longest prefix that some range text begins
 //! with. It is found by asking the dialect itself what completes a prefix, so there is no second
 //! grammar.

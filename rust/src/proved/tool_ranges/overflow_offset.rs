@@ -1,4 +1,4 @@
-// Made by tools/erase from crates/tool_ranges/src/overflow_offset.rt; not edited by hand.
+// Made by tools/erase.py from crates/tool_ranges/src/overflow_offset.rt; not edited by hand.
 //! Where a number of a range text is too large: the end of the first term that does not fit.
 
 use crate::rattle_std::prelude::*;

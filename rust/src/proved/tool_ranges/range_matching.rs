@@ -1,4 +1,4 @@
-// Made by tools/erase from crates/tool_ranges/src/range_matching.rt; not edited by hand.
+// Made by tools/erase.py from crates/tool_ranges/src/range_matching.rt; not edited by hand.
 //! Range texts as npm and the crate read them, matched with one version as they are read. Nothing
 //! here allocates.
 

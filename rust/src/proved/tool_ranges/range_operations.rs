@@ -1,4 +1,4 @@
-// Made by tools/erase from crates/tool_ranges/src/range_operations.rt; not edited by hand.
+// Made by tools/erase.py from crates/tool_ranges/src/range_operations.rt; not edited by hand.
 //! What two ranges of one meaning contain together, and how they compare.
 
 use crate::rattle_std::prelude::*;

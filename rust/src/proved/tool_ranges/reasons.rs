@@ -1,4 +1,4 @@
-// Made by tools/erase from crates/tool_ranges/src/reasons.rt; not edited by hand.
+// Made by tools/erase.py from crates/tool_ranges/src/reasons.rt; not edited by hand.
 //! Why a text stops being a range at an offset: what another dialect takes there, which rule of the
 //! dialect is broken, or what is missing. The dialect itself says whether the text before the
 //! offset is a range, and whether it ends within an identifier; the bytes at its end say the rest.

@@ -1,4 +1,4 @@
-// Made by tools/erase from crates/tool_ranges/src/refusals.rt; not edited by hand.
+// Made by tools/erase.py from crates/tool_ranges/src/refusals.rt; not edited by hand.
 //! Where a text stops being a range, and why.
 
 use crate::rattle_std::prelude::*;

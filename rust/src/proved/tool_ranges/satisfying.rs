@@ -1,4 +1,4 @@
-// Made by tools/erase from crates/tool_ranges/src/satisfying.rt; not edited by hand.
+// Made by tools/erase.py from crates/tool_ranges/src/satisfying.rt; not edited by hand.
 //! Whether a version satisfies a range, of two texts.
 
 use crate::rattle_std::prelude::*;

@@ -1,4 +1,4 @@
-// Made by tools/erase from crates/tool_ranges/src/stated_numbers.rt; not edited by hand.
+// Made by tools/erase.py from crates/tool_ranges/src/stated_numbers.rt; not edited by hand.
 //! How a version compares with what a partial states. Nothing here allocates.
 
 use crate::rattle_std::prelude::*;

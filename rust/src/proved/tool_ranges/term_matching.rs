@@ -1,4 +1,4 @@
-// Made by tools/erase from crates/tool_ranges/src/term_matching.rt; not edited by hand.
+// Made by tools/erase.py from crates/tool_ranges/src/term_matching.rt; not edited by hand.
 //! Whether a version satisfies a term of a range, by the definition of what the range means: by
 //! precedence against the zero-filled version of the term, and by the numbers that it states.
 

@@ -1,4 +1,4 @@
-// Made by tools/erase from crates/tool_ranges/src/version_range.rt; not edited by hand.
+// Made by tools/erase.py from crates/tool_ranges/src/version_range.rt; not edited by hand.
 //! A range that was read: a set of versions, and the meaning by which it was read.
 
 use crate::rattle_std::prelude::*;

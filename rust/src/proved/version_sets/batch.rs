@@ -1,4 +1,4 @@
-// Made by tools/erase from crates/version_sets/src/batch.rt; not edited by hand.
+// Made by tools/erase.py from crates/version_sets/src/batch.rt; not edited by hand.
 //! Which of many versions are in a set.
 
 use crate::rattle_std::prelude::*;

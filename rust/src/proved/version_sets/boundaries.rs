@@ -1,4 +1,4 @@
-// Made by tools/erase from crates/version_sets/src/boundaries.rt; not edited by hand.
+// Made by tools/erase.py from crates/version_sets/src/boundaries.rt; not edited by hand.
 //! Lists of boundaries: whether one has a place, and whether two are the same.
 
 use crate::rattle_std::prelude::*;

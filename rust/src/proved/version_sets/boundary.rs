@@ -1,4 +1,4 @@
-// Made by tools/erase from crates/version_sets/src/boundary.rt; not edited by hand.
+// Made by tools/erase.py from crates/version_sets/src/boundary.rt; not edited by hand.
 //! What both kinds of boundaries have: a place in the order of precedence.
 
 use crate::rattle_std::prelude::*;

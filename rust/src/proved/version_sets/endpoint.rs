@@ -1,4 +1,4 @@
-// Made by tools/erase from crates/version_sets/src/endpoint.rt; not edited by hand.
+// Made by tools/erase.py from crates/version_sets/src/endpoint.rt; not edited by hand.
 //! Where spans of versions begin and end, and those of releases.
 
 use crate::rattle_std::prelude::*;

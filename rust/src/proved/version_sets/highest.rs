@@ -1,4 +1,4 @@
-// Made by tools/erase from crates/version_sets/src/highest.rt; not edited by hand.
+// Made by tools/erase.py from crates/version_sets/src/highest.rt; not edited by hand.
 //! Which of many version texts is the highest in a set, or the lowest.
 
 use crate::rattle_std::prelude::*;

@@ -1,4 +1,4 @@
-// Made by tools/erase from crates/version_sets/src/intervals.rt; not edited by hand.
+// Made by tools/erase.py from crates/version_sets/src/intervals.rt; not edited by hand.
 //! The intervals of a set's boundaries as ranges of comparators.
 
 use crate::rattle_std::prelude::*;

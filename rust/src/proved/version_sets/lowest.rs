@@ -1,4 +1,4 @@
-// Made by tools/erase from crates/version_sets/src/lowest.rt; not edited by hand.
+// Made by tools/erase.py from crates/version_sets/src/lowest.rt; not edited by hand.
 //! The lowest version of a set.
 
 use crate::rattle_std::prelude::*;

@@ -1,4 +1,4 @@
-// Made by tools/erase from crates/version_sets/src/lib.rt; not edited by hand.
+// Made by tools/erase.py from crates/version_sets/src/lib.rt; not edited by hand.
 //! Sets of versions, in one normal form: which versions are in one, those that a range text means,
 //! what two have in common or one alone, the lowest version, and whether two sets are the same.
 

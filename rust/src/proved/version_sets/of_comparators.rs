@@ -1,4 +1,4 @@
-// Made by tools/erase from crates/version_sets/src/of_comparators.rt; not edited by hand.
+// Made by tools/erase.py from crates/version_sets/src/of_comparators.rt; not edited by hand.
 //! Sets of the versions that satisfy comparators, by a rule for pre-releases.
 
 use crate::rattle_std::prelude::*;

@@ -1,4 +1,4 @@
-// Made by tools/erase from crates/version_sets/src/pre_release.rt; not edited by hand.
+// Made by tools/erase.py from crates/version_sets/src/pre_release.rt; not edited by hand.
 //! Boundaries of pre-releases.
 
 use crate::rattle_std::prelude::*;

@@ -1,4 +1,4 @@
-// Made by tools/erase from crates/version_sets/src/pre_release_endpoint.rt; not edited by hand.
+// Made by tools/erase.py from crates/version_sets/src/pre_release_endpoint.rt; not edited by hand.
 //! Where spans of pre-releases begin and end.
 
 use crate::rattle_std::prelude::*;

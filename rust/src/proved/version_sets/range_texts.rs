@@ -1,4 +1,4 @@
-// Made by tools/erase from crates/version_sets/src/range_texts.rt; not edited by hand.
+// Made by tools/erase.py from crates/version_sets/src/range_texts.rt; not edited by hand.
 //! Range texts as sets of versions, and as comparators for a rule for pre-releases.
 
 use crate::rattle_std::prelude::*;

@@ -1,4 +1,4 @@
-// Made by tools/erase from crates/version_sets/src/release.rt; not edited by hand.
+// Made by tools/erase.py from crates/version_sets/src/release.rt; not edited by hand.
 //! Releases: versions without a pre-release and without a build.
 
 use crate::rattle_std::prelude::*;

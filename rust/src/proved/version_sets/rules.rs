@@ -1,4 +1,4 @@
-// Made by tools/erase from crates/version_sets/src/rules.rt; not edited by hand.
+// Made by tools/erase.py from crates/version_sets/src/rules.rt; not edited by hand.
 //! The three rules by which pre-releases count, with their numbers and names.
 
 use crate::rattle_std::prelude::*;

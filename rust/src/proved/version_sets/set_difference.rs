@@ -1,4 +1,4 @@
-// Made by tools/erase from crates/version_sets/src/set_difference.rt; not edited by hand.
+// Made by tools/erase.py from crates/version_sets/src/set_difference.rt; not edited by hand.
 //! How two sets differ: what is lost, gained and shared, and whether one is a subset of the other,
 //! disjoint from it, or the same.
 

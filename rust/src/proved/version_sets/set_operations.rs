@@ -1,4 +1,4 @@
-// Made by tools/erase from crates/version_sets/src/set_operations.rt; not edited by hand.
+// Made by tools/erase.py from crates/version_sets/src/set_operations.rt; not edited by hand.
 //! What is in one set or another, in both, or in the first alone.
 
 use crate::rattle_std::prelude::*;

@@ -1,4 +1,4 @@
-// Made by tools/erase from crates/version_sets/src/set_ranges.rt; not edited by hand.
+// Made by tools/erase.py from crates/version_sets/src/set_ranges.rt; not edited by hand.
 //! A set as ranges of plain comparators, and their text.
 
 use crate::rattle_std::prelude::*;

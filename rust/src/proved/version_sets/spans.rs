@@ -1,4 +1,4 @@
-// Made by tools/erase from crates/version_sets/src/spans.rt; not edited by hand.
+// Made by tools/erase.py from crates/version_sets/src/spans.rt; not edited by hand.
 //! Spans of one kind of versions, and the boundaries of what is in some of them.
 
 use crate::rattle_std::prelude::*;

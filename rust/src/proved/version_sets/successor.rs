@@ -1,4 +1,4 @@
-// Made by tools/erase from crates/version_sets/src/successor.rt; not edited by hand.
+// Made by tools/erase.py from crates/version_sets/src/successor.rt; not edited by hand.
 //! Identifiers with the number 0 after them: the pre-release right above theirs.
 
 use crate::rattle_std::prelude::*;

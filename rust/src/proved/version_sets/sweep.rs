@@ -1,4 +1,4 @@
-// Made by tools/erase from crates/version_sets/src/sweep.rt; not edited by hand.
+// Made by tools/erase.py from crates/version_sets/src/sweep.rt; not edited by hand.
 //! Two lists of boundaries, swept together from the lowest to the highest.
 
 use crate::rattle_std::prelude::*;

@@ -1,4 +1,4 @@
-// Made by tools/erase from crates/version_sets/src/version_set.rt; not edited by hand.
+// Made by tools/erase.py from crates/version_sets/src/version_set.rt; not edited by hand.
 //! Sets of versions, and which versions are in them.
 
 use crate::rattle_std::prelude::*;

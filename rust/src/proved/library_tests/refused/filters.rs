@@ -1,4 +1,4 @@
-// Made by tools/erase from crates/library_tests/src/refused/filters.rt; not edited by hand.
+// Made by tools/erase.py from crates/library_tests/src/refused/filters.rt; not edited by hand.
 //! What is kept of versions and lines.
 #![cfg(feature = "std")]
 

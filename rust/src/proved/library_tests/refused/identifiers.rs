@@ -1,4 +1,4 @@
-// Made by tools/erase from crates/library_tests/src/refused/identifiers.rt; not edited by hand.
+// Made by tools/erase.py from crates/library_tests/src/refused/identifiers.rt; not edited by hand.
 //! `concat`, and the text of an error.
 #![cfg(feature = "std")]
 

@@ -1,4 +1,4 @@
-// Made by tools/erase from crates/library_tests/src/refused/parsers.rt; not edited by hand.
+// Made by tools/erase.py from crates/library_tests/src/refused/parsers.rt; not edited by hand.
 //! Calls of a parser.
 #![cfg(feature = "std")]
 

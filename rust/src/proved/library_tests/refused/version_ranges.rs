@@ -1,4 +1,4 @@
-// Made by tools/erase from crates/library_tests/src/refused/version_ranges.rt; not edited by hand.
+// Made by tools/erase.py from crates/library_tests/src/refused/version_ranges.rt; not edited by hand.
 //! Ranges that are read and combined.
 #![cfg(feature = "std")]
 

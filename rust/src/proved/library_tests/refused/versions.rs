@@ -1,4 +1,4 @@
-// Made by tools/erase from crates/library_tests/src/refused/versions.rt; not edited by hand.
+// Made by tools/erase.py from crates/library_tests/src/refused/versions.rt; not edited by hand.
 //! Calls that read a version, and its clone.
 #![cfg(feature = "std")]
 

@@ -1,4 +1,4 @@
-// Made by tools/erase from crates/tool_ranges/src/cargo/checking.rt; not edited by hand.
+// Made by tools/erase.py from crates/tool_ranges/src/cargo/checking.rt; not edited by hand.
 //! The comparators of one comparator of a requirement where releases, pre-releases or all versions
 //! are checked.
 

@@ -1,4 +1,4 @@
-// Made by tools/erase from crates/tool_ranges/src/cargo/fitting.rt; not edited by hand.
+// Made by tools/erase.py from crates/tool_ranges/src/cargo/fitting.rt; not edited by hand.
 //! Which comparators of a requirement fit.
 
 use crate::rattle_std::prelude::*;

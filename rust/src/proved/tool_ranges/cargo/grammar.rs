@@ -1,4 +1,4 @@
-// Made by tools/erase from crates/tool_ranges/src/cargo/grammar.rt; not edited by hand.
+// Made by tools/erase.py from crates/tool_ranges/src/cargo/grammar.rt; not edited by hand.
 //! What is at the front of a requirement: a comparator.
 //!
 //! Nothing here allocates, and a call looks at each byte a fixed number of times. What can't be

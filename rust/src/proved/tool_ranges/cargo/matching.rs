@@ -1,4 +1,4 @@
-// Made by tools/erase from crates/tool_ranges/src/cargo/matching.rt; not edited by hand.
+// Made by tools/erase.py from crates/tool_ranges/src/cargo/matching.rt; not edited by hand.
 //! Requirements matched with one version as they are read. Nothing here allocates.
 
 use crate::rattle_std::prelude::*;

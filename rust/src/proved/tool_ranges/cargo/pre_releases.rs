@@ -1,4 +1,4 @@
-// Made by tools/erase from crates/tool_ranges/src/cargo/pre_releases.rt; not edited by hand.
+// Made by tools/erase.py from crates/tool_ranges/src/cargo/pre_releases.rt; not edited by hand.
 //! The comparators that check pre-releases as a requirement does, and the ranges of those that
 //! count.
 

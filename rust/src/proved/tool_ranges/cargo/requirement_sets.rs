@@ -1,4 +1,4 @@
-// Made by tools/erase from crates/tool_ranges/src/cargo/requirement_sets.rt; not edited by hand.
+// Made by tools/erase.py from crates/tool_ranges/src/cargo/requirement_sets.rt; not edited by hand.
 //! Requirements as sets of versions: what Cargo takes, with its pre-releases.
 
 use crate::rattle_std::prelude::*;

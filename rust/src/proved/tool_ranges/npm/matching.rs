@@ -1,4 +1,4 @@
-// Made by tools/erase from crates/tool_ranges/src/npm/matching.rt; not edited by hand.
+// Made by tools/erase.py from crates/tool_ranges/src/npm/matching.rt; not edited by hand.
 //! Range texts of npm matched with one version as they are read. Nothing here allocates.
 
 use crate::rattle_std::prelude::*;

@@ -1,4 +1,4 @@
-// Made by tools/erase from crates/tool_ranges/src/npm/range_sets.rt; not edited by hand.
+// Made by tools/erase.py from crates/tool_ranges/src/npm/range_sets.rt; not edited by hand.
 //! Range texts of npm as sets of versions: what npm takes, with its pre-releases.
 
 use crate::rattle_std::prelude::*;

@@ -74,7 +74,7 @@ works() {
 # has_tag FILE PLATFORM NAME: of such a library, on such a system, a wheel has this tag and library.
 has_tag() {
     rm -rf "$work/tagged" && mkdir "$work/tagged"
-    made=$(_PYTHON_HOST_PLATFORM=${2-} python3 "$top/tools/make-wheel" "$1" "$work/tagged")
+    made=$(_PYTHON_HOST_PLATFORM=${2-} python3 "$top/tools/make-wheel.py" "$1" "$work/tagged")
     [ "${made%"-py3-none-$3.whl"}" = "semver_parser_proved-$(cat "$top/VERSION")" ] || refuse "a wheel has the name $made"
     python3 -m zipfile -l "$work/tagged/$made" | grep -q "^semver_parser/$4 " || refuse "$made has no $4"
 }
@@ -90,7 +90,7 @@ tags() {
     printf 'MZ' > "$work/other.dll"
     has_tag "$work/other.dll" win-amd64 win_amd64 'semver_parser\.dll'
     status=0
-    python3 "$top/tools/make-wheel" "$work/told" "$work" 2> "$work/lines" || status=$?
+    python3 "$top/tools/make-wheel.py" "$work/told" "$work" 2> "$work/lines" || status=$?
     [ "$status" = 1 ] && grep -q '^make-wheel: .* is no shared library$' "$work/lines" || refuse "make-wheel: $(cat "$work/lines")"
 }
 

@@ -19,9 +19,9 @@ as_built() {
     [ $(($(date +%s) - begun)) -le 5 ] || fail 'it takes time to build nothing'
     OPENED=yes
     export OPENED
-    tests/program-runs out/cargo/release/semver-parser
-    tests/release-filter-runs out/cargo/release/release-filter
-    tests/compare-ranges-runs out/cargo/release/compare-ranges
+    tests/program-runs.sh out/cargo/release/semver-parser
+    tests/release-filter-runs.sh out/cargo/release/release-filter
+    tests/compare-ranges-runs.sh out/cargo/release/compare-ranges
     mkdir "$work/elsewhere"
     (cd "$work/elsewhere" && CDPATH=.:$work && export CDPATH && ends 0 make -C "$checkout")
 }

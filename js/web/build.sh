@@ -1,7 +1,7 @@
 #!/bin/sh
-# Makes the page in one file, of the package that js/build made in a directory.
+# Makes the page in one file, of the package that js/build.cjs made in a directory.
 #
-#   js/web/build PACKAGE FILE
+#   js/web/build.sh PACKAGE FILE
 set -eu
 web=$(dirname -- "$(readlink -f -- "$0")")
 package=$1 file=$2

@@ -1,7 +1,7 @@
 #!/usr/bin/env python3
 """Makes a wheel of the Python package with the shared library inside.
 
-    tools/make-wheel LIBRARY DIRECTORY
+    tools/make-wheel.py LIBRARY DIRECTORY
 
 It is made by Python alone, of 3.11 or later, and for Linux by readelf, without setuptools and
 without a network. Its tag and the name of the library in it are those of the platform that the

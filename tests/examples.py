@@ -3,8 +3,8 @@
 has a block of Rust in its own text, and so has each of its methods that isn't of a trait. That the
 blocks run, `cargo test --doc` shows.
 
-tests/examples          makes the pages.
-tests/examples PAGES    reads those of a directory, such as target/doc/semver_parser.
+tests/examples.py          makes the pages.
+tests/examples.py PAGES    reads those of a directory, such as target/doc/semver_parser.
 """
 import pathlib
 import re

@@ -1,5 +1,5 @@
 #!/bin/sh
-# Runs the program as a user does: tests/program-runs PROGRAM. What each run writes to standard
+# Runs the program as a user does: tests/program-runs.sh PROGRAM. What each run writes to standard
 # output and to standard error, and its status, have to be those of program-runs.expected, to the
 # byte; else it prints what differs, and ends with status 1.
 set -eu

@@ -1,9 +1,9 @@
 #!/usr/bin/env python3
 """Compares rust/src/proved with crates/, token by token, by the rules of docs/ERASURE.md, and what
 it counted with the table of that page. Then it plants changes in a copy, and fails if one of them
-isn't refused. tests/erasure.py has the rules; neither shares anything with tools/erase.
+isn't refused. tests/erasure.py has the rules; neither shares anything with tools/erase.py.
 
-tests/erased --counts  prints the table.
+tests/erased.py --counts  prints the table.
 """
 import collections
 import os
@@ -30,7 +30,7 @@ def difference(source, text, name, written):
     where, there = f'crates/{source.crate}/src/{source.path}', f'rust/src/proved/{name}'
     found, due = tokens_of(written), [token.text for token in tokens_of(source.expected())]
     source.counts.update(files=1, source=len(tokens_of(text)), written=len(found))
-    if written.split('\n')[0] != f'// Made by tools/erase from {where}; not edited by hand.':
+    if written.split('\n')[0] != f'// Made by tools/erase.py from {where}; not edited by hand.':
         return f'{there}:1: not the first line of what is made of {where}'
     for token in found:
         if token.kind == 'word' and token.text in NEVER:
@@ -186,13 +186,13 @@ def must_fail(top, right):
 
 def main():
     if sys.argv[1:] not in ([], ['--counts']):
-        print('usage: tests/erased [--counts]', file=sys.stderr)
+        print('usage: tests/erased.py [--counts]', file=sys.stderr)
         sys.exit(2)
     top, right = os.path.dirname(os.path.dirname(os.path.realpath(__file__))), set()
     wrong, counts = check(top, right)
     messages = [message for _, message in wrong]
     if BEGIN + table(counts) + END not in read(f'{top}/docs/ERASURE.md'):
-        messages.append('docs/ERASURE.md: not the counts that `tests/erased --counts` prints')
+        messages.append('docs/ERASURE.md: not the counts that `tests/erased.py --counts` prints')
     if sys.argv[1:]:
         print(table(counts))
     elif messages:

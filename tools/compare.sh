@@ -1,6 +1,6 @@
 #!/bin/sh
 # Compares what texts mean here with what they mean elsewhere, on COUNT random cases of each kind:
-# tools/compare WITH [COUNT] [SEED], where WITH is
+# tools/compare.sh WITH [COUNT] [SEED], where WITH is
 # - crate: the Rust crate semver-parser, on everything that it reads (needs cargo and Debian's
 #   librust-semver-parser-dev);
 # - cargo: Cargo's crate semver, which pre-releases a range takes as stated, and what requirements
@@ -26,7 +26,7 @@
 #   cargo check for each other target that is there (cargo, Debian's rustc-web, its std for these, gcc
 #   for both, libc6-i386 and qemu-user);
 # - js: node-semver as npm ships it, each call of it that the JavaScript package has (npm, and what
-#   rust/wasm/build needs);
+#   rust/wasm/build.sh needs);
 # - npm-on-it: npm itself with the JavaScript package in the place of semver, what its commands write
 #   of COUNT projects (as js, and python3);
 # - locks FILE..: node-semver, what check-lock-file lists of changed copies of lock files of yarn and
@@ -71,7 +71,7 @@ js | npm-on-it)
     package=$(mktemp -d)
     trap 'rm -rf "$package"' EXIT
     trap 'exit 2' HUP INT TERM
-    tools/make-js directory "$package"
+    tools/make-js.sh directory "$package"
     NODE_PATH=$(npm root -g)/npm/node_modules
     export NODE_PATH
     node -e 'console.log("node-semver", require("semver/package.json").version)'
@@ -108,7 +108,7 @@ damaged-locks)
 crate | cargo | node | npm | versions | real | grid | lines | places | version-places | erased) ;;
 *)
     kinds='crate|cargo|node|npm|versions|real|grid|lines|places|version-places|js|npm-on-it|managers|damaged-locks|erased'
-    echo "usage: tools/compare $kinds [COUNT] [SEED], or locks FILE.., or real-locks [NAME..]," >&2
+    echo "usage: tools/compare.sh $kinds [COUNT] [SEED], or locks FILE.., or real-locks [NAME..]," >&2
     echo '       or crate-tests, or targets' >&2
     exit 2
     ;;
@@ -165,7 +165,7 @@ real)
     trap 'rm -rf "$packages"' EXIT
     trap 'exit 2' HUP INT TERM
     (cd "$packages" && apt-get download -qq $(every node- "${2:-100}") $(every librust- "${2:-100}"))
-    tools/real-texts "$packages"
+    tools/real-texts.py "$packages"
     NODE_PATH=$(npm root -g)/npm/node_modules node tools/comparisons/npm-with-node-semver.js "$cases" \
         --texts "$packages/npm.texts" "$packages/npm.versions"
     tools/comparisons/target/release/requirements-with-cargo-semver "$cases" \

@@ -1,25 +1,25 @@
 #!/bin/sh
-# tools/measure-speed times the calls of rust/ beside those of the Rust crates semver-parser and
+# tools/measure-speed.sh times the calls of rust/ beside those of the Rust crates semver-parser and
 # semver, all as `cargo build --release` compiles them, on 100,000 distinct texts of each kind that
 # it makes (tools/bench/texts/README.md says of what), and prints a table; and it times whole runs of the
 # program release-filter beside the same filter over the crate semver, on a million distinct lines,
 # and prints a second one, with the runs of the program that the kit built, if it has. It
-# takes six minutes; tools/measure-speed seed N does so on the texts of another seed than 1;
-# tools/measure-speed texts [N] writes the texts that are made (of seed N) into
-# tools/bench/target/texts, to be looked at: nothing reads them there; tools/measure-speed growth
+# takes six minutes; tools/measure-speed.sh seed N does so on the texts of another seed than 1;
+# tools/measure-speed.sh texts [N] writes the texts that are made (of seed N) into
+# tools/bench/target/texts, to be looked at: nothing reads them there; tools/measure-speed.sh growth
 # counts the instructions of calls on texts of growing size, by callgrind, and prints another
-# table; tools/measure-speed npm times ranges of npm's dialect, each asked of one version, beside
-# the node-semver of npm, and tools/measure-speed js the JavaScript package, which needs what
-# rust/wasm/build does; tools/measure-speed c times functions of the C library beside the crate
-# semver, and finds how much memory they take, by cc; tools/measure-speed locks [CHECKOUT].. times
+# table; tools/measure-speed.sh npm times ranges of npm's dialect, each asked of one version, beside
+# the node-semver of npm, and tools/measure-speed.sh js the JavaScript package, which needs what
+# rust/wasm/build.sh does; tools/measure-speed.sh c times functions of the C library beside the crate
+# semver, and finds how much memory they take, by cc; tools/measure-speed.sh locks [CHECKOUT].. times
 # check-lock-file on large lock files that it makes, here and as other checkouts have it, over the
-# library of this one, and needs python3 with PyYAML alone. tools/measure-speed plot draws
+# library of this one, and needs python3 with PyYAML alone. tools/measure-speed.sh plot draws
 # docs/ratios.svg and docs/growth.svg from the tables of docs/SPEED.md, by gnuplot, and measures
 # nothing. But for locks it needs cargo and Debian's packages librust-semver-parser-dev and
 # librust-semver-dev, for growth valgrind too. It stands outside the gate.
 set -eu
 cd "$(dirname "$0")/.."
-[ "${1-}" != plot ] || exec tools/plot-speed docs/SPEED.md docs
+[ "${1-}" != plot ] || exec tools/plot-speed.sh docs/SPEED.md docs
 
 # Builds what is here, and what it is timed beside, of Debian's crates.
 build_bench() {
@@ -62,7 +62,7 @@ if [ "${1-}" = js ]; then
     work=$(mktemp -d)
     trap 'rm -rf "$work"' EXIT
     trap 'exit 2' HUP INT TERM
-    tools/make-js directory "$work"
+    tools/make-js.sh directory "$work"
     of_node_semver
     node tools/bench/package.js "$work/index.cjs"
     exit

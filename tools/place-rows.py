@@ -1,5 +1,5 @@
 #!/usr/bin/env python3
-"""Writes the rows in crates/replayed_cases on where a text stops being a range: tools/place-rows > FILE
+"""Writes the rows in crates/replayed_cases on where a text stops being a range: tools/place-rows.py > FILE
 
 Of two lines, the first is one of `stdin` and the second one of `stdout`.
 Whether a text is a range is decided by regular expressions after docs/GRAMMAR.md. A prefix is one of a range if some text of up to four characters makes one of

@@ -1,7 +1,7 @@
 #!/usr/bin/env python3
 """Writes the manual semver-ranges(7) of the page docs/RANGES.md, which has the same sections.
 
-    tools/make-ranges-manual < docs/RANGES.md > docs/man/semver-ranges.7
+    tools/make-ranges-manual.py < docs/RANGES.md > docs/man/semver-ranges.7
 
 The page has headings, paragraphs, tables, lists and indented examples, and no more."""
 

@@ -1,8 +1,8 @@
 #!/usr/bin/env python3
 """Runs the commands of the programs that pages and manuals show: each prints what is written below it.
 
-tests/page-examples [DIRECTORY]  takes the programs from a directory, else from the repository.
-tests/page-examples --list       prints the commands.
+tests/page-examples.py [DIRECTORY]  takes the programs from a directory, else from the repository.
+tests/page-examples.py --list       prints the commands.
 """
 import os
 import re

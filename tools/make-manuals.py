@@ -1,7 +1,7 @@
 #!/usr/bin/env python3
 """Writes a page of the manual for each function of the header in C, of its comment and prototype.
 
-    tools/make-manuals VERSION DATE DIRECTORY < semver_parser.h
+    tools/make-manuals.py VERSION DATE DIRECTORY < semver_parser.h
 
 Functions that share a comment share a page: that of the first, to which the others are links."""
 
@@ -128,7 +128,7 @@ def page(version, date, comment, prototypes):
 
 def main():
     if len(sys.argv) != 4:
-        sys.exit("usage: tools/make-manuals VERSION DATE DIRECTORY < HEADER")
+        sys.exit("usage: tools/make-manuals.py VERSION DATE DIRECTORY < HEADER")
     version, date, directory = *sys.argv[1:3], pathlib.Path(sys.argv[3])
     directory.mkdir()
     for comment, prototypes in pages(sys.stdin.read()):

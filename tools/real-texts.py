@@ -1,5 +1,5 @@
 #!/usr/bin/env python3
-"""Gathers the range texts and the versions of real packages, for tools/compare real.
+"""Gathers the range texts and the versions of real packages, for tools/compare.sh real.
 
 real-texts FOLDER: of the Debian packages that were downloaded into FOLDER it reads each
 package.json of a node-* package, and each Cargo.toml of a librust-* package, and writes the texts of

@@ -33,9 +33,9 @@ diff "$work/layout-fno-short-enums" "$work/layout-fshort-enums"
 
 # The example in C of docs/COMING_FROM.md, which writes what is said of it there.
 include=rust/capi/include
-tests/documents --example-in-c > "$work/example.c"
+tests/documents.py --example-in-c > "$work/example.c"
 cc -Wall -Wextra -Werror -I$include -o "$work/example" "$work/example.c" $library
-[ "$("$work/example")" = "$(tests/documents --output-in-c)" ]
+[ "$("$work/example")" = "$(tests/documents.py --output-in-c)" ]
 
 # The example of the header.
 {

@@ -1,8 +1,8 @@
 #!/bin/sh
 # Builds the WebAssembly module by cargo, and makes it smaller by wasm-opt if that is there:
 #
-#   rust/wasm/build FILE [DIRECTORY]   keeps what cargo builds in the directory, else in target/
-#   rust/wasm/build --check            only says which tool is missing
+#   rust/wasm/build.sh FILE [DIRECTORY]   keeps what cargo builds in the directory, else in target/
+#   rust/wasm/build.sh --check            only says which tool is missing
 #
 # rustc needs a standard library for wasm32-unknown-unknown. If it has none, core and alloc are
 # built of the sources of rustup's component rust-src, or of Debian's rust-web-src by rustc-web.
@@ -13,7 +13,7 @@ wasm=$(dirname -- "$(readlink -f -- "$0")")
 target=wasm32-unknown-unknown
 
 refuse() {
-    echo "rust/wasm/build: $*" >&2
+    echo "rust/wasm/build.sh: $*" >&2
     exit 2
 }
 
@@ -74,6 +74,6 @@ if command -v wasm-opt > /dev/null; then
         refuse "wasm-opt cannot read $module"
     module=$built/optimized.wasm
 else
-    echo 'rust/wasm/build: no wasm-opt (Debian: apt-get install binaryen): a larger module' >&2
+    echo 'rust/wasm/build.sh: no wasm-opt (Debian: apt-get install binaryen): a larger module' >&2
 fi
 cp "$module" "$file"

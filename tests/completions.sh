@@ -4,7 +4,7 @@
 set -eu
 top=$(dirname -- "$(dirname -- "$(readlink -f -- "$0")")")
 cd "$top"
-tools/make-completions --check
+tools/make-completions.py --check
 work=$(mktemp -d)
 trap 'rm -rf "$work"' EXIT
 trap 'exit 2' HUP INT TERM

@@ -1,5 +1,5 @@
 #!/usr/bin/env python3
-"""Writes the rows of sets of versions in crates/replayed_cases anew: tools/set-rows
+"""Writes the rows of sets of versions in crates/replayed_cases anew: tools/set-rows.py
 
 What is wanted of each comes from tools/range_meaning.py, which decides by the definitions of docs/CRATE.md, and not from the code.
 """

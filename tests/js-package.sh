@@ -13,7 +13,7 @@ trap 'exit 2' HUP INT TERM
 export HOME="${HOME:-$work}" npm_config_cache="$work/cache" npm_config_offline=true \
     npm_config_update_notifier=false npm_config_audit=false npm_config_fund=false \
     npm_config_userconfig=/dev/null
-"$top/tools/make-js" package "$work" > /dev/null
+"$top/tools/make-js.sh" package "$work" > /dev/null
 cd "$work"
 packed=$(echo semver-parser-proved-*.tgz)
 mkdir unpacked && tar -xzf "$packed" -C unpacked

@@ -1,5 +1,5 @@
 #!/bin/sh
-# tools/plot-speed FILE FOLDER: draws the tables of tools/measure-speed, as they stand in FILE, into
+# tools/plot-speed.sh FILE FOLDER: draws the tables of tools/measure-speed.sh, as they stand in FILE, into
 # ratios.svg and growth.svg of FOLDER, by gnuplot: the time here over that of each Rust crate, and
 # instructions over the size of a text.
 set -eu

@@ -5,11 +5,11 @@ file that the comment names is there; the example in Rattle of docs/COMING_FROM.
 docs/PROOFS.md is made of the sources, and docs/CRATES.md of crates.txt; each file of lemmas begins with the call that it
 serves, and each lemma is cited; pages have the field's terms; the Python package has the licences; and no paragraph or row of a table is in two of them.
 
-tests/documents --must-fail  shows that it fails where one of these is changed.
-tests/documents --proofs     prints docs/PROOFS.md.
-tests/documents --crates     prints docs/CRATES.md.
-tests/documents --serves     writes the first line of each file of lemmas.
-tests/documents --example-in-c  prints the example in C of docs/COMING_FROM.md, and --output-in-c what it says that this prints.
+tests/documents.py --must-fail  shows that it fails where one of these is changed.
+tests/documents.py --proofs     prints docs/PROOFS.md.
+tests/documents.py --crates     prints docs/CRATES.md.
+tests/documents.py --serves     writes the first line of each file of lemmas.
+tests/documents.py --example-in-c  prints the example in C of docs/COMING_FROM.md, and --output-in-c what it says that this prints.
 """
 import os
 import re
@@ -101,14 +101,14 @@ def crates_page():
               if used in uses and not any(used in below(other) for other in uses[name])]
     table = [f'| `{name}` | {what} | {", ".join(f"`{used}`" for used in used_here)} |' for name, what, used_here in lines]
     return '\n'.join([
-        '# Crates', '', 'Made of `crates.txt` by `tests/documents --crates`. An arrow goes from a crate to one that uses it; the picture leaves out',
+        '# Crates', '', 'Made of `crates.txt` by `tests/documents.py --crates`. An arrow goes from a crate to one that uses it; the picture leaves out',
         'the tests, the laws and arrows that follow from others.', '', '```mermaid', 'flowchart BT', *arrows, '```', '',
         '| crate | what it is | uses |', '|---|---|---|', *table, ''])
 
 
 def errors_of_crates():
     if read('docs/CRATES.md') != crates_page():
-        yield "docs/CRATES.md isn't what tests/documents --crates prints"
+        yield "docs/CRATES.md isn't what tests/documents.py --crates prints"
 
 
 def files(crate, folder, ending):
@@ -221,7 +221,7 @@ def proofs_page():
 
 def errors_of_proofs():
     if read('docs/PROOFS.md') != proofs_page():
-        yield "docs/PROOFS.md isn't what tests/documents --proofs prints"
+        yield "docs/PROOFS.md isn't what tests/documents.py --proofs prints"
 
 
 def what_lemmas_serve(do):
@@ -364,7 +364,7 @@ def worded():
         for folder, _, names in sorted(os.walk(os.path.join(TOP, place))):
             for name in sorted(names):
                 path = os.path.relpath(os.path.join(folder, name), TOP)
-                if path != 'tests/documents' and not {'out', 'target', '__pycache__'} & set(path.split(os.sep)):
+                if path != 'tests/documents.py' and not {'out', 'target', '__pycache__'} & set(path.split(os.sep)):
                     yield path
 
 
@@ -478,9 +478,9 @@ def errors_of_the_readme():
 def errors_of_ranges():
     """The manual semver-ranges(7) is made of docs/RANGES.md."""
     made = subprocess.run(
-        [os.path.join(TOP, 'tools/make-ranges-manual')], input=read('docs/RANGES.md'), capture_output=True, text=True, check=True)
+        [os.path.join(TOP, 'tools/make-ranges-manual.py')], input=read('docs/RANGES.md'), capture_output=True, text=True, check=True)
     if made.stdout != read('docs/man/semver-ranges.7'):
-        yield 'docs/man/semver-ranges.7 is another than tools/make-ranges-manual makes of docs/RANGES.md'
+        yield 'docs/man/semver-ranges.7 is another than tools/make-ranges-manual.py makes of docs/RANGES.md'
 
 
 def errors_of_licences():
@@ -547,7 +547,7 @@ def shows_each_edit():
                 assert old in text, f'{path} has no {old}'
                 with open(os.path.join(copy, path), 'w', encoding='utf-8') as file:
                     file.write(text.replace(old, new))
-            ran = subprocess.run([os.path.join(copy, 'tests/documents')], capture_output=True, text=True, check=False)
+            ran = subprocess.run([os.path.join(copy, 'tests/documents.py')], capture_output=True, text=True, check=False)
             if ran.returncode != 1:
                 print(f'documents: {path} was changed, and nothing was seen: {ran.stdout}{ran.stderr}')
                 return False

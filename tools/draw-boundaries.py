@@ -1,5 +1,5 @@
 #!/usr/bin/env python3
-"""Draws docs/boundaries.svg anew: one line of versions, and the boundaries of one range text on it. tools/draw-boundaries
+"""Draws docs/boundaries.svg anew: one line of versions, and the boundaries of one range text on it. tools/draw-boundaries.py
 
 Where the boundaries are comes from tools/range_meaning.py: the places at which being meant by the text changes.
 """

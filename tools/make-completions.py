@@ -1,8 +1,8 @@
 #!/usr/bin/env python3
 """Writes tools/completions: what bash and zsh complete of the programs' options, made of their help texts.
 
-    tools/make-completions            writes the files
-    tools/make-completions --check    says which aren't as they would be written, with status 1
+    tools/make-completions.py            writes the files
+    tools/make-completions.py --check    says which aren't as they would be written, with status 1
 """
 import os
 import re
@@ -76,7 +76,7 @@ def in_bash(program, options, takes_files):
     if takes_files:
         other.append('    *) COMPREPLY=($(compgen -f -- "$word")) ;;')
     return '\n'.join([
-        f'# bash completion for {program}, made of its help text by tools/make-completions.',
+        f'# bash completion for {program}, made of its help text by tools/make-completions.py.',
         f'{function}() {{',
         '    local word=${COMP_WORDS[COMP_CWORD]} before=${COMP_WORDS[COMP_CWORD - 1]}',
         '    [ "$word" != = ] || word=',
@@ -94,7 +94,7 @@ def in_zsh(program, options, takes_files):
         lines.append(f"    '*{name}{'=' if value and name.startswith('--') else ''}[{told}]{action}'")
     if takes_files:
         lines.append("    '*:file:_files'")
-    return '\n'.join([f'#compdef {program}', f'# zsh completion for {program}, made of its help text by tools/make-completions.',
+    return '\n'.join([f'#compdef {program}', f'# zsh completion for {program}, made of its help text by tools/make-completions.py.',
                       '_arguments \\', ' \\\n'.join(lines), ''])
 
 
@@ -113,7 +113,7 @@ def main(arguments):
         if arguments == ['--check']:
             is_there = os.path.exists(whole) and open(whole, encoding='utf-8').read() == text
             if not is_there:
-                print(f"{path} isn't what tools/make-completions writes")
+                print(f"{path} isn't what tools/make-completions.py writes")
             wrong |= not is_there
         else:
             with open(whole, 'w', encoding='utf-8') as file:

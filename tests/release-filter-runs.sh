@@ -1,5 +1,5 @@
 #!/bin/sh
-# Runs the program as a user does: tests/release-filter-runs PROGRAM. What each run writes to
+# Runs the program as a user does: tests/release-filter-runs.sh PROGRAM. What each run writes to
 # standard output and to standard error, and its status, have to be those of
 # release-filter-runs.expected, to the byte; else it prints what differs, and ends with status 1.
 set -eu

@@ -1,6 +1,6 @@
 #!/bin/sh
-# Tests the Rust crate of rust/, which cargo builds: rust/src/proved is what tools/erase writes, to
-# the byte, and is of crates/ token by token; tools/erase stops at what it doesn't know; cargo's
+# Tests the Rust crate of rust/, which cargo builds: rust/src/proved is what tools/erase.py writes, to
+# the byte, and is of crates/ token by token; tools/erase.py stops at what it doesn't know; cargo's
 # tests pass, with and without the feature std; the programs write what the kit's build does; the
 # documentation has no warning, nor clippy, where it is there; each public item has an example; and
 # what is packed passes by itself.
@@ -25,19 +25,19 @@ quietly() {
 }
 
 made_anew() {
-    tools/erase "$work/proved"
+    tools/erase.py "$work/proved"
     diff -r "$work/proved" rust/src/proved > "$work/log" || {
         head -n 20 "$work/log"
-        echo 'rust/src/proved is not what tools/erase writes: run it, and commit what it wrote'
+        echo 'rust/src/proved is not what tools/erase.py writes: run it, and commit what it wrote'
         exit 1
     }
 }
 
 # stops_at LINE WHY: in a copy of the sources a line is put after the imports of a file, and
-# tools/erase has to name the file, that line and why.
+# tools/erase.py has to name the file, that line and why.
 stops_at() {
     rm -rf "$work/copy" && mkdir -p "$work/copy/tools"
-    cp tools/erase "$work/copy/tools" && cp crates.txt "$work/copy"
+    cp tools/erase.py "$work/copy/tools" && cp crates.txt "$work/copy"
     for crate in crates/*; do
         mkdir -p "$work/copy/$crate" && cp -R "$crate/src" "$work/copy/$crate"
     done
@@ -45,11 +45,11 @@ stops_at() {
     number=$(wc -l < "$file")
     printf '%s\n' "$1" >> "$work/copy/$file"
     status=0
-    "$work/copy/tools/erase" "$work/none" > "$work/log" 2>&1 || status=$?
-    wanted="tools/erase: $file:$((number + 1)): $2"
+    "$work/copy/tools/erase.py" "$work/none" > "$work/log" 2>&1 || status=$?
+    wanted="tools/erase.py: $file:$((number + 1)): $2"
     [ "$status" = 1 ] && [ "$(cat "$work/log")" = "$wanted" ] && [ ! -e "$work/none" ] || {
         cat "$work/log"
-        echo "tools/erase is wanted to say: $wanted"
+        echo "tools/erase.py is wanted to say: $wanted"
         exit 1
     }
 }
@@ -69,9 +69,9 @@ stops_at_what_it_does_not_know() {
 programs_run() {
     quietly 'the programs' cargo build --quiet --release --bins
     programs=${CARGO_TARGET_DIR:-target}/release
-    OPENED=yes tests/program-runs "$programs/semver-parser"
-    OPENED=yes tests/release-filter-runs "$programs/release-filter"
-    OPENED=yes tests/compare-ranges-runs "$programs/compare-ranges"
+    OPENED=yes tests/program-runs.sh "$programs/semver-parser"
+    OPENED=yes tests/release-filter-runs.sh "$programs/release-filter"
+    OPENED=yes tests/compare-ranges-runs.sh "$programs/compare-ranges"
 }
 
 cargo_tests() {
@@ -79,7 +79,7 @@ cargo_tests() {
     grep 'passed$' "$work/log"
     quietly 'without std' cargo test --quiet --no-default-features
     RUSTDOCFLAGS='-D warnings' quietly 'its documentation' cargo doc --quiet --no-deps
-    tests/examples "${CARGO_TARGET_DIR:-target}/doc/semver_parser"
+    tests/examples.py "${CARGO_TARGET_DIR:-target}/doc/semver_parser"
     ! cargo clippy --version > /dev/null 2>&1 ||
         quietly clippy cargo clippy --quiet --all-targets -- -D warnings
 }
@@ -93,7 +93,7 @@ packed_by_itself() {
 }
 
 made_anew
-tests/erased
+tests/erased.py
 stops_at_what_it_does_not_know
 cargo_tests
 programs_run

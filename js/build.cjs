@@ -1,7 +1,7 @@
 #!/usr/bin/env node
 // Makes the package of js/ in a directory, of the module:
 //
-//     js/build MODULE DIRECTORY
+//     js/build.cjs MODULE DIRECTORY
 //
 // `index.cjs` has the module's bytes and js/src, without comments; `index.mjs` and the paths of
 // node-semver (`functions/satisfies.js`) hand on what it has, so there is one state. `browser.mjs`

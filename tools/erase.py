@@ -122,7 +122,7 @@ class Code:
         self.t = read(open(f'{TOP}/{path}').read())
 
     def stop(self, i, why):
-        sys.exit(f'tools/erase: {self.path}:{self.t[i].line}: {why}: {self.t[i].text}')
+        sys.exit(f'tools/erase.py: {self.path}:{self.t[i].line}: {why}: {self.t[i].text}')
 
     def text(self, i):
         return '' if i is None else self.t[i].text
@@ -536,14 +536,14 @@ def layout(code, of_std):
     text = re.sub(r'\n{3,}', '\n\n', text)
     text = re.sub(r'([{(])\n\n', r'\1\n', text)
     head = re.match(r'(?:\s*//![^\n]*\n)*', text).end()
-    first = f'// Made by tools/erase from {code.path}; not edited by hand.\n'
+    first = f'// Made by tools/erase.py from {code.path}; not edited by hand.\n'
     return (first + text[:head].lstrip('\n') + '#![cfg(feature = "std")]\n' * of_std
             + '\nuse crate::rattle_std::prelude::*;\n' + text[head:].strip('\n') + '\n')
 
 
 def root_of(crates):
     """The module of all crates. Programs are modules of it only if they are tested."""
-    text = ('// Made by tools/erase from crates.txt; not edited by hand.\n'
+    text = ('// Made by tools/erase.py from crates.txt; not edited by hand.\n'
             '//! What is proved, as plain Rust: each crate of `crates/` without its contracts.\n'
             '#![allow(clippy::complexity, clippy::style, missing_docs, private_bounds, unused)]\n'
             '#![allow(clippy::large_const_arrays, clippy::manual_unwrap_or_default)]\n\n')
@@ -590,7 +590,7 @@ def erase():
 
 if __name__ == '__main__':
     if len(sys.argv) > 2:
-        sys.exit('usage: tools/erase [OUT]')
+        sys.exit('usage: tools/erase.py [OUT]')
     out = sys.argv[1] if len(sys.argv) > 1 else f'{TOP}/rust/src/proved'
     made = dict(erase())
     shutil.rmtree(out, ignore_errors=True)

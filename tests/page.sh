@@ -2,7 +2,7 @@
 # Opens the page of js/web in Chromium, types into it, and reads what it shows; and loads the package's
 # file for browsers there. With a file's name it also takes a picture.
 #
-#   tests/page [PICTURE]
+#   tests/page.sh [PICTURE]
 set -eu
 top=$(dirname -- "$(dirname -- "$(readlink -f -- "$0")")")
 command -v chromium > /dev/null || {
@@ -13,7 +13,7 @@ work=$(mktemp -d)
 # Chromium may still write there when it is stopped.
 trap 'rm -rf "$work" 2> /dev/null || { sleep 1 && rm -rf "$work"; }' EXIT
 trap 'exit 2' HUP INT TERM
-"$top/tools/make-js" page "$work" > /dev/null
-"$top/tools/make-js" directory "$work/package"
+"$top/tools/make-js.sh" page "$work" > /dev/null
+"$top/tools/make-js.sh" directory "$work/package"
 mkdir "$work/profile"
 node "$top/tests/page.js" "$work/semver-ranges.html" "$work/package" "$work/profile" ${1:+"$1"}
