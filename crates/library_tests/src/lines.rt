@@ -79,7 +79,7 @@ const FORMS: [(LineEnd, bool, Selection, &str, &str, &str); 9] = [
         false,
         Selection::Lowest,
         "",
-        "1.4.0\0\01.2.0\0",
+        "1.4.0\0\u{0}1.2.0\0",
         "1.2.0\0",
     ),
     (
