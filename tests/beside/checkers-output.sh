@@ -61,6 +61,46 @@ same "GitHub's escapes" 1 /dev/null "$work/lines" /dev/null sh -c 'cd "$1" && ex
 echo "::error file=cases/cut-off.json::it isn't JSON: line 1 column 37" > "$work/lines"
 same 'the annotation of an error' 2 /dev/null "$work/lines" cases/cut-off.told $check --format github cases/cut-off.json
 
+# ---- bytes and characters
+
+# in_each_form TOLD FILE: a file that is refused, in each form.
+in_each_form() {
+    echo "check-lock-file: $2: $1" > "$work/told"
+    for form in text tsv json github; do
+        status=0
+        $check --format $form "$2" > "$work/output" 2> "$work/errors" || status=$?
+        [ "$status" = 2 ] && diff -u "$work/told" "$work/errors"
+        case $form in
+        text | tsv) diff -u /dev/null "$work/output" ;;
+        json) grep -qxF "      \"error\": \"$2: $1\"," "$work/output" ;;
+        github) echo "::error file=$2::$1" | diff -u - "$work/output" ;;
+        esac
+    done
+    echo "$1, in each form: passed"
+}
+for encoding in UTF-16 UTF-16LE UTF-16BE; do
+    iconv -t "$encoding" cases/nothing-wrong.json > "$work/encoded"
+    in_each_form 'it is in UTF-16, not in UTF-8' "$work/encoded"
+done
+printf '\n{"lockfileVersion": 3, "packages": {"node_modules/\200": {"version": "1.0.0"}}}' > "$work/encoded"
+in_each_form "it isn't UTF-8: line 2" "$work/encoded"
+printf '# yarn lockfile v1\n\n"a\377@1":\n  version "1.0.0"\n' > "$work/encoded"
+in_each_form "it isn't UTF-8: line 3" "$work/encoded"
+
+# Characters that a terminal takes for more, of a lock file, of its name, and of known findings.
+mkdir "$work/controls"
+printf '{"lockfileVersion": 3, "packages": {"": {"dependencies": {"a\302\233\177": "1\342\200\256", "\\u001b[2J": "\342\200\250"}}}}' \
+    > "$work/controls/a$(printf '\302\233')"
+echo "b$(printf '\342\201\246') # known" > "$work/controls/known"
+for form in text tsv json github; do
+    status=0
+    (cd "$work/controls" && "$here/$check" --format $form --allow known a*) > "$work/output" 2> "$work/errors" || status=$?
+    [ "$status" = 1 ] || exit 1
+    LC_ALL=C grep -c "$(printf '[\001-\010\013-\037\177-\377]')" "$work/output" "$work/errors" | grep -v ':0$' && exit 1
+    grep -qF 'u009b' "$work/output" && grep -qF 'u202e' "$work/output" && grep -qF 'u2066' "$work/output"
+done
+echo 'control characters: passed'
+
 # ---- a terminal
 
 cat > "$work/terminal.py" <<'END'
@@ -113,6 +153,8 @@ unchecked() {
     same "nothing is checked in $file $*" 2 /dev/null /dev/null "$work/told" $check "$@" "cases/unchecked/$file"
 }
 unchecked '2 requirements and 2 packages (npm); 2 not checked: 1 git, 1 tag' package-lock.json
+echo "checked 0 requirements of 0 packages in cases/unchecked/paths/package-lock.json (npm); 1 not checked: 1 path" > "$work/told"
+same 'only paths' 0 /dev/null /dev/null "$work/told" $check cases/unchecked/paths/package-lock.json
 unchecked '2 requirements and 2 packages (npm); 2 not checked: 1 git, 1 tag' package-lock.json --quiet
 unchecked '0 requirements and 1 package (npm)' npm-shrinkwrap.json
 same 'nothing is checked, in JSON' 2 /dev/null cases/object-unchecked.json "$work/told" $check --json cases/unchecked/npm-shrinkwrap.json
@@ -171,6 +213,28 @@ END
         rust/Cargo.lock 1.0.10 1.0.4 'app 0.1.0 requires itoa' > "$work/fields"
     in_repository 1 "$work/fields" /dev/null --format tsv rust package-lock.json
 fi
+# git that refuses to list files, and directories that can't be read. All capabilities of root are
+# dropped, as it could read them.
+mkdir -p "$work/refused/shut" && cp cases/monorepo/package-lock.json cases/monorepo/package.json "$work/refused"
+chmod 0 "$work/refused/shut"
+unprivileged=
+[ "$(id -u)" != 0 ] || unprivileged='setpriv --bounding-set=-all --inh-caps=-all'
+# in_refused TOLD COMMAND..: runs a command there, whose error has to be that.
+in_refused() {
+    echo "$1" > "$work/told"
+    shift
+    same "refused: $*" 2 /dev/null /dev/null "$work/told" sh -c 'cd "$1" && shift && exec "$@"' - "$work/refused" "$@"
+}
+in_refused "check-lock-file: shut: it can't be read: Permission denied" $unprivileged "$here/$check"
+in_refused "check-lock-file: shut: it can't be read: Permission denied" $unprivileged "$here/$check" shut
+git init -q "$work/refused"
+in_refused "check-lock-file: shut: it can't be read: Permission denied" $unprivileged "$here/$check"
+in_refused "check-lock-file: .: git doesn't list its files: fatal: detected dubious ownership in repository at\
+ '$(cd "$work/refused" && pwd -P)' To add an exception for this directory, call: git config --global --add safe.directory\
+ $(cd "$work/refused" && pwd -P)" env GIT_TEST_ASSUME_DIFFERENT_OWNER=1 "$here/$check"
+rm -r "$work/refused/.git" && echo 'gitdir: nowhere' > "$work/refused/.git"
+in_refused "check-lock-file: .: git doesn't list its files: fatal: not a git repository: $(cd "$work/refused" && pwd -P)/nowhere" "$here/$check"
+chmod 700 "$work/refused/shut"
 mkdir "$work/shrinkwrap"
 cp cases/nothing-wrong.json "$work/shrinkwrap/package-lock.json" && cp cases/nothing-wrong.json "$work/shrinkwrap/npm-shrinkwrap.json"
 {
@@ -192,6 +256,19 @@ sed 's/^/standard input: /' cases/aliases.text > "$work/lines"
 $check --quiet cases/monorepo/web/yarn.lock | sed 's|^|cases/monorepo/web/yarn.lock: |' >> "$work/lines"
 same 'standard input and a file' 1 cases/aliases.json "$work/lines" /dev/null \
     $check --quiet - cases/monorepo/web/yarn.lock
+
+# The directories that patterns of workspaces find, as npm has them.
+mkdir -p "$work/patterns/packages/a/inner" "$work/patterns/packages/b" "$work/patterns/other/a" "$work/patterns/packages/.h"
+mkdir -p "$work/patterns/packages/a/node_modules/part" && ln -s ../../.. "$work/patterns/packages/a/inner/up"
+cut -f 1 cases/workspace-patterns | python3 -c 'import sys
+from semver_parser.checks.patterns import places_at
+for line in sys.stdin:
+    pattern = line.rstrip("\n")
+    print(pattern, " ".join(places_at(pattern, sys.argv[1])), sep="\t")' "$work/patterns" | diff -u cases/workspace-patterns -
+echo 'patterns of workspaces: passed'
+refused "$told $work/package.json: it is no package.json: workspaces: ../** is for directories outside of the project" \
+    /dev/null sh -c 'cd "$1" && echo "{\"workspaces\": [\"../**\"]}" > package.json && exec "$2" --package-json "$1/package.json" "$3"' \
+    - "$work" "$here/$check" "$here/cases/yarn/classic-right/yarn.lock"
 
 # ---- what is left out
 

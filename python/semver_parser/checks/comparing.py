@@ -4,7 +4,7 @@ import json
 from typing import Iterator, List, Optional, Tuple
 
 from .files import Refusal
-from .program import Options, Outcome, escaped
+from .program import Options, Outcome, escaped, visible
 from .requirements.changes import SAME, WHOLE, Change, changes
 from .requirements.sources import pairs_of
 
@@ -40,7 +40,8 @@ def compare(options: Options) -> Outcome:
     ]
     if "--json" in options.given:
         objects = [{"file": file, **it._asdict()} for file, it in found]
-        lines = [json.dumps(objects, indent=2, ensure_ascii=False)]
+        whole = json.dumps(objects, indent=2, ensure_ascii=False)
+        lines = [visible(line) for line in whole.split("\n")]
     else:
         lines = [
             escaped(line if file is None else f"{file}: {line}")

@@ -1,10 +1,10 @@
 """The lock files that paths name: files as they are, and of a directory those below it."""
 
 import os
-from typing import Dict, Iterator, List, NamedTuple, Tuple
+from typing import Dict, Iterator, List, NamedTuple, NoReturn, Tuple
 
 from .files import STANDARD_INPUT, Refusal
-from .git import output_of, paths_of
+from .git import files_in_work_tree
 
 # The lock files that are looked for. bun.lockb is binary, and is named when it is refused.
 NAMES = (
@@ -44,13 +44,24 @@ def discover(named: List[str]) -> Discovery:
     for path in named:
         found = [path]
         if path in directories:
-            found = list(read_in(path, notes))
-            if not found:
-                refusals.append(Refusal(path, "it is a directory without a lock file"))
+            found = found_in(path, notes, refusals)
         for each in found:
             paths.setdefault(os.path.normpath(each), each)
     is_several = len(named) != 1 or bool(directories)
     return Discovery(sorted(paths.values()), notes, refusals, is_several)
+
+
+def found_in(directory: str, notes: List[str], refusals: List[Refusal]) -> List[str]:
+    """The lock files below a directory that are checked; it is refused if there are none, and if it
+    or one below can't be read."""
+    try:
+        found = list(read_in(directory, notes))
+        if not found:
+            raise Refusal(directory, "it is a directory without a lock file")
+    except Refusal as error:
+        refusals.append(error)
+        return []
+    return found
 
 
 def read_in(directory: str, notes: List[str]) -> Iterator[str]:
@@ -81,13 +92,19 @@ def named_below(directory: str, names: Tuple[str, ...]) -> List[str]:
 
 def files_below(directory: str) -> List[str]:
     """The files below a directory by git, and without it, or outside of its work trees, all."""
-    listed, _ = output_of(["ls-files", "-z", "-co", "--exclude-standard"], directory)
-    return list(walked(directory)) if listed is None else paths_of(listed)
+    listed = files_in_work_tree(directory)
+    return list(walked(directory)) if listed is None else listed
+
+
+def refuse_unread(error: OSError) -> NoReturn:
+    """Refuses a directory that can't be read."""
+    path = os.path.normpath(os.fsdecode(error.filename or "."))
+    raise Refusal(path, f"it can't be read: {error.strerror}")
 
 
 def walked(directory: str) -> Iterator[str]:
     """The files below a directory, but for what tools put there."""
-    for folder, inner, names in os.walk(directory):
+    for folder, inner, names in os.walk(directory, onerror=refuse_unread):
         inner[:] = [it for it in inner if it not in MADE]
         for name in names:
             yield os.path.relpath(os.path.join(folder, name), directory).replace(os.sep, "/")

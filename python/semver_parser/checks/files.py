@@ -17,6 +17,9 @@ CONFLICT = re.compile(rb"(?:\A|\n)<<<<<<< ")
 
 BYTE_ORDER_MARK = b"\xef\xbb\xbf"
 
+# How a text in UTF-16 begins: by its own mark, or by a character of ASCII, half of which is zero.
+UTF_16 = re.compile(rb"\xff\xfe|\xfe\xff|\0[^\0]|[^\0]\0", re.S)
+
 
 def name_of(path: str) -> str:
     """A file as it is named in lines."""
@@ -47,12 +50,19 @@ def bytes_of(path: str) -> bytes:
     if path != STANDARD_INPUT:
         try:
             with open(path, "rb") as file:
-                return file.read().removeprefix(BYTE_ORDER_MARK)
+                return unmarked(file.read())
         except ValueError:
             raise Refusal(path, "it can't be read: no file has such a name") from None
     if sys.stdin is None:
         raise Refusal(path, "it can't be read: it is closed")
-    return sys.stdin.buffer.read().removeprefix(BYTE_ORDER_MARK)
+    return unmarked(sys.stdin.buffer.read())
+
+
+def unmarked(text: bytes) -> bytes:
+    """A text without a byte order mark. UTF-16 is refused."""
+    if UTF_16.match(text):
+        raise Unreadable("it is in UTF-16, not in UTF-8")
+    return text.removeprefix(BYTE_ORDER_MARK)
 
 
 @contextmanager
@@ -90,9 +100,9 @@ def refuse_conflict(text: bytes) -> None:
 
 def json_object(text: bytes) -> Entry:
     """The object that a text of JSON is."""
-    refuse_conflict(text)
+    whole = utf8(text)
     try:
-        value = json.loads(text, parse_constant=refuse_constant)
+        value = json.loads(whole, parse_constant=refuse_constant)
     except json.JSONDecodeError as error:
         raise Unreadable(f"it isn't JSON: line {error.lineno} column {error.colno}") from None
     except ValueError:
@@ -146,8 +156,9 @@ def utf8(text: bytes) -> str:
     refuse_conflict(text)
     try:
         return text.decode("utf-8")
-    except UnicodeDecodeError:
-        raise Unreadable("it isn't UTF-8") from None
+    except UnicodeDecodeError as error:
+        line = text.count(b"\n", 0, error.start) + 1
+        raise Unreadable(f"it isn't UTF-8: line {line}") from None
 
 
 # ---- shapes

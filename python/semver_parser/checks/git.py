@@ -1,20 +1,57 @@
 """What git says of the files of a repository."""
 
 import os
+import re
 import subprocess
 from typing import List, Optional, Tuple
 
 from .files import Refusal
 
 
+# What git says outside of its work trees, in English, and of a directory that it can't read. Of the
+# link to a repository that is gone it says the first without the parents.
+NO_WORK_TREE = "not a git repository (or any"
+NOT_OPENED = re.compile(r"warning: could not open directory '(.*)': (.*)")
+
+
+def run(arguments: List[str], directory: str) -> "subprocess.CompletedProcess[bytes]":
+    """Runs git in a directory."""
+    command = ["git", "-C", directory or ".", *arguments]
+    return subprocess.run(command, capture_output=True, env={**os.environ, "LC_ALL": "C"})
+
+
 def output_of(arguments: List[str], directory: str) -> Tuple[Optional[bytes], str]:
     """What git prints in a directory; if it fails None, and why."""
     try:
-        done = subprocess.run(["git", "-C", directory or ".", *arguments], capture_output=True)
+        done = run(arguments, directory)
     except OSError as error:
         return None, f"git can't be run: {error.strerror}"
-    why = " ".join(done.stderr.decode("utf-8", "replace").split())
-    return (None, why) if done.returncode else (done.stdout, "")
+    return (None, said_by(done)) if done.returncode else (done.stdout, "")
+
+
+def said_by(done: "subprocess.CompletedProcess[bytes]") -> str:
+    """What git said on standard error, in a line."""
+    return " ".join(done.stderr.decode("utf-8", "replace").split())
+
+
+def files_in_work_tree(directory: str) -> Optional[List[str]]:
+    """The files below a directory that git doesn't ignore; None outside of its work trees, and
+    without git. What git refuses to list is refused: it can't be known what it ignores."""
+    try:
+        done = run(["ls-files", "-z", "-co", "--exclude-standard"], directory)
+    except OSError:
+        return None
+    why = said_by(done)
+    if done.returncode:
+        if NO_WORK_TREE in why:
+            return None
+        raise Refusal(directory, f"git doesn't list its files: {why}")
+    for line in done.stderr.decode("utf-8", "surrogateescape").splitlines():
+        found = NOT_OPENED.fullmatch(line)
+        if found is not None:
+            path = os.path.normpath(os.path.join(directory, found.group(1)))
+            raise Refusal(path, f"it can't be read: {found.group(2)}")
+    return paths_of(done.stdout)
 
 
 def paths_of(listed: bytes) -> List[str]:

@@ -1,10 +1,10 @@
 """What the package.json files of a project and of its workspaces require, for yarn and pnpm."""
 
 import os
-from glob import escape, glob
 from typing import Dict, Iterator, NamedTuple, Optional, Tuple
 
-from .files import Entry, WrongShape, bytes_of, json_object, list_at, taking, text_at, texts_at
+from .files import Entry, bytes_of, json_object, list_at, taking, text_at, texts_at
+from .patterns import places_at
 
 MANIFEST = "package.json"
 
@@ -82,18 +82,7 @@ def folders_of(manifest: Entry, top: str) -> Iterator[str]:
     if isinstance(named, dict):
         named = named.get("packages", [])
     patterns = [text_at(it, "workspaces") for it in list_at(named, "workspaces")]
-    try:
-        excluded = {it for text in patterns if text[:1] == "!" for it in places_at(text[1:], top)}
-        for pattern in patterns:
-            if pattern[:1] != "!":
-                yield from (it for it in places_at(pattern, top) if it not in excluded)
-    except ValueError:
-        raise WrongShape(": workspaces: no folder has such a name") from None
-
-
-def places_at(pattern: str, top: str) -> Iterator[str]:
-    """The folders below another one that a pattern finds."""
-    for path in sorted(glob(os.path.join(escape(top), pattern), recursive=True)):
-        place = os.path.relpath(path, top or TOP).replace(os.sep, "/")
-        if os.path.isdir(path) and "node_modules" not in place.split("/"):
-            yield place
+    excluded = {it for text in patterns if text[:1] == "!" for it in places_at(text[1:], top)}
+    for pattern in patterns:
+        if pattern[:1] != "!":
+            yield from (it for it in places_at(pattern, top) if it not in excluded)

@@ -3,6 +3,7 @@
 import io
 import json
 import os
+import re
 import signal
 import sys
 from typing import Callable, Dict, List, NamedTuple, Tuple
@@ -18,9 +19,24 @@ class Misuse(Exception):
 # ---- what is written
 
 
+# What a terminal takes for more than a character: the controls of ASCII and after it, ends of lines,
+# and marks that change the direction of what follows.
+CONTROL = re.compile("[\0-\x1f\x7f-\x9f\u061c\u200e\u200f\u2028-\u202e\u2066-\u2069]")
+
+
+def visible(text: str) -> str:
+    """A text in which control characters are written as JSON may write them."""
+    return CONTROL.sub(lambda it: in_json(it.group()), text)
+
+
+def in_json(character: str) -> str:
+    """A control character as JSON may write it."""
+    return json.dumps(character)[1:-1] if character < " " else f"\\u{ord(character):04x}"
+
+
 def escaped(text: str) -> str:
-    """A text in which backslashes and control characters are written as JSON writes them."""
-    return "".join(json.dumps(it)[1:-1] if it < " " or it == "\\" else it for it in text)
+    """A text in which backslashes and control characters are written as JSON may write them."""
+    return visible(text.replace("\\", "\\\\"))
 
 
 def joined(*fields: str) -> str:

@@ -9,6 +9,9 @@ from .lines import lines_at
 from .lock_files import Input, findings
 from .sentences import quoted
 
+# Why what is in directories of the project isn't checked.
+OWN = {"path", "link", "workspace"}
+
 
 @dataclass
 class Report:
@@ -49,10 +52,13 @@ class Report:
         return self.tally.requirements - sum(self.not_checked().values())
 
     def is_unchecked(self) -> bool:
-        """Whether nothing is checked or listed by default, although something is required."""
+        """Whether nothing is checked or listed by default, although something is required that
+        isn't in the project's own directories."""
         tally, is_wrong = self.tally, any(not it.is_strict for it in self.findings)
         is_required = bool(tally.requirements + tally.packages)
-        return is_required and not (self.checked() or tally.left_out or is_wrong)
+        reasons = set(self.not_checked())
+        is_own = bool(reasons) and reasons <= OWN
+        return is_required and not (self.checked() or tally.left_out or is_wrong or is_own)
 
 
 class Unused(NamedTuple):

@@ -5,7 +5,7 @@ import re
 from typing import Callable
 
 from .findings import PROJECT, Finding, Kind
-from .program import escaped
+from .program import escaped, visible
 
 Paint = Callable[[str, str], str]
 """Gives a text the look of a part of a sentence."""
@@ -19,7 +19,9 @@ MISLEADING = re.compile(r'\A\Z|[\s",]')
 def quoted(text: str) -> str:
     """A text in which nobody misreads where it ends: in quotes, if it is empty or has blanks,
     commas or quotes."""
-    return json.dumps(text, ensure_ascii=False) if MISLEADING.search(text) else escaped(text)
+    if MISLEADING.search(text):
+        return visible(json.dumps(text, ensure_ascii=False))
+    return escaped(text)
 
 
 def plain(text: str, part: str) -> str:

@@ -3,6 +3,7 @@
 from typing import Iterator, Optional
 
 from ..closing import error_of
+from ..program import visible
 from ..reports import Results
 from ..sentences import sentence
 from .text import grouped
@@ -29,8 +30,8 @@ def annotation(file: str, line: Optional[int], message: str) -> str:
 
 
 def in_message(text: str) -> str:
-    """A text with GitHub's escapes."""
-    return text.replace("%", "%25").replace("\r", "%0D").replace("\n", "%0A")
+    """A text with GitHub's escapes, and without other control characters."""
+    return visible(text.replace("%", "%25").replace("\r", "%0D").replace("\n", "%0A"))
 
 
 def in_property(text: str) -> str:

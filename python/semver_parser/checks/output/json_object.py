@@ -5,6 +5,7 @@ from typing import Any, Dict, Iterator
 
 from ..closing import error_of
 from ..findings import Finding, Kind
+from ..program import visible
 from ..reports import Report, Results
 from ..sentences import sentence
 
@@ -18,7 +19,7 @@ def lines(results: Results) -> Iterator[str]:
         "errors": [{"file": it.path, "error": it.why} for it in results.refusals],
         "allow": [it._asdict() for it in results.unused],
     }
-    yield from json.dumps(whole, indent=2, ensure_ascii=False).split("\n")
+    yield from map(visible, json.dumps(whole, indent=2, ensure_ascii=False).split("\n"))
 
 
 def of_report(report: Report) -> Object:

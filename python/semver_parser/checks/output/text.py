@@ -3,6 +3,7 @@
 from typing import Dict, Iterator, List
 
 from ..findings import Finding
+from ..program import visible
 from ..reports import Results
 from ..sentences import PACKAGE, RANGE, VERSION, Paint, plain, quoted, sentence
 
@@ -22,7 +23,7 @@ def lines(results: Results, is_colored: bool = False) -> Iterator[str]:
         for finding in grouped(report.listed):
             yield before + sentence(finding, paint)
     for it in results.unused:
-        yield f"{quoted(it.path)}: line {it.line} no longer applies: {it.text}"
+        yield f"{quoted(it.path)}: line {it.line} no longer applies: {visible(it.text)}"
 
 
 def grouped(findings: List[Finding]) -> Iterator[Finding]:

@@ -6,7 +6,7 @@ from typing import Callable, Iterator, List, NamedTuple, Optional, Tuple
 from semver_parser import Dialect
 
 from ..discovery import is_among, named_below
-from ..files import BYTE_ORDER_MARK, Refusal, bytes_of, taking
+from ..files import Refusal, bytes_of, taking, unmarked
 from ..git import below_in_revision, changed_below, in_revision
 from ..program import Misuse, Options
 from .manifest import NAMES, NOWHERE, Manifest, manifest_of
@@ -28,7 +28,8 @@ class Side(NamedTuple):
         path = path_of(self, place)
         if self.revision is not None:
             text = in_revision(self.revision, path)
-            return None if text is None else text.removeprefix(BYTE_ORDER_MARK)
+            with taking(f"{self.revision}:{path}", WHAT):
+                return None if text is None else unmarked(text)
         if (self.may_lack or place) and not os.path.lexists(path):
             return None
         with taking(path, WHAT):
