@@ -92,6 +92,10 @@ def named_below(directory: str, names: Tuple[str, ...]) -> List[str]:
 
 def files_below(directory: str) -> List[str]:
     """The files below a directory by git, and without it, or outside of its work trees, all."""
+    try:
+        os.scandir(directory or ".").close()
+    except OSError as error:
+        refuse_unread(error)
     listed = files_in_work_tree(directory)
     return list(walked(directory)) if listed is None else listed
 

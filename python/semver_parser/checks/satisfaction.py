@@ -18,13 +18,17 @@ def is_version(text: str, dialect: Dialect) -> bool:
 
 
 @lru_cache(maxsize=None)
+def range_in(text: str, dialect: Dialect) -> Optional[Range]:
+    """The range that a text is to a tool; None if it is none."""
+    try:
+        return Range(text, dialect=dialect)
+    except RangeError:
+        return None
+
+
 def is_range(text: str, dialect: Dialect) -> bool:
     """Whether a text is a range to a tool."""
-    try:
-        Range(text, dialect=dialect)
-    except RangeError:
-        return False
-    return True
+    return range_in(text, dialect) is not None
 
 
 @lru_cache(maxsize=None)

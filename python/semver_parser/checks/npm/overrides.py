@@ -5,6 +5,7 @@ its range of versions, and what it has inside holds for all that these ask for, 
 others. Where several rules are of one name the innermost goes first.
 """
 
+import re
 from collections import deque
 from dataclasses import dataclass, field
 from typing import Dict, Iterator, List, Optional, Set, Tuple
@@ -18,18 +19,47 @@ from .specs import may_overlap, name_and_rest, range_of
 
 ANY = "*"
 
+# A release, as a range that contains it alone.
+RELEASE = re.compile(r"(?:(?:0|[1-9][0-9]*)(?:\.(?!\Z)|\Z)){3}")
+
+
+def is_release(text: str) -> bool:
+    """Whether a text is a release, and as a range contains it alone."""
+    return RELEASE.fullmatch(text) is not None and is_range(text, Dialect.NPM)
+
 
 @dataclass(eq=False)
 class Rule:
     """An override: the name and the range of its key, what it puts in place of what is asked for,
     where it puts something there, and the rules inside it, by their names. The outermost has no
-    name."""
+    name. Those inside have numbers in their order, and are also by their ranges if these are
+    releases, of which a file may have thousands, or else apart."""
 
     name: str = ""
     within: str = ANY
     spec: Optional[str] = None
     outer: Optional["Rule"] = None
     inner: Dict[str, List["Rule"]] = field(default_factory=dict)
+    of_releases: Dict[Tuple[str, str], List["Rule"]] = field(default_factory=dict)
+    of_others: Dict[str, List["Rule"]] = field(default_factory=dict)
+    number: int = 0
+
+    def add(self, rule: "Rule") -> None:
+        """Puts a rule inside."""
+        rules = self.inner.setdefault(rule.name, [])
+        rule.number = len(rules)
+        rules.append(rule)
+        if is_release(rule.within):
+            self.of_releases.setdefault((rule.name, rule.within), []).append(rule)
+        else:
+            self.of_others.setdefault(rule.name, []).append(rule)
+
+    def perhaps_for(self, name: str, wanted: str) -> List["Rule"]:
+        """The rules of a name inside that may be for what is asked for, in their order."""
+        if not is_release(wanted):
+            return self.inner.get(name, [])
+        others, exact = self.of_others.get(name, []), self.of_releases.get((name, wanted), [])
+        return sorted([*others, *exact], key=lambda it: it.number) if exact else others
 
 
 # ---- what package.json has
@@ -52,7 +82,7 @@ def add_rules(outer: Rule, overrides: Entry, where: str, manifest: Entry) -> Non
             own = value if isinstance(value, str) else object_at(value, its_place).get(".", "")
             spec = replacement(text_at(own, f"{its_place}: ."), manifest)
             rule = Rule(name, within, spec, outer)
-            outer.inner.setdefault(name, []).append(rule)
+            outer.add(rule)
             add_rules(rule, {} if isinstance(value, str) else value, its_place, manifest)
 
 
@@ -89,17 +119,19 @@ def names_in(rule: Rule) -> Set[str]:
     return set(rule.inner).union(*inner)
 
 
-def rules_named(name: str, here: Rule) -> Iterator[Rule]:
-    """The rules of a name that hold where a rule does, the innermost first."""
+def rules_named(name: str, here: Rule, wanted: str) -> Iterator[Rule]:
+    """The rules of a name that hold where a rule does, the innermost first, and that may be for what
+    is asked for."""
     at: Optional[Rule] = here
     while at is not None:
-        yield from at.inner.get(name, ())
+        yield from at.perhaps_for(name, wanted)
         at = at.outer
 
 
 def rule_for(here: Rule, name: str, spec: str, version: Optional[str]) -> Optional[Rule]:
     """The rule for what is asked for where a rule holds, and for the version that is found."""
-    rules = rules_named(name, here)
+    is_right = version is not None and is_met(spec, version, Dialect.NPM)
+    rules = rules_named(name, here, version if version is not None and is_right else spec)
     return next((rule for rule in rules if is_concerned(rule, spec, version)), None)
 
 
@@ -107,11 +139,11 @@ def rules_in_turn(here: Rule, ask: Ask) -> List[Rule]:
     """The rule for what is asked for, and those that npm 10.8.2 may take in its place: it compares
     the range of a key also with what another rule has already put there."""
     rule = rule_for(here, ask.name, ask.range, None if ask.found is None else ask.found.version)
-    found: List[Rule] = []
+    found: Dict[Rule, None] = {}
     while rule is not None and rule.spec is not None and rule not in found:
-        found.append(rule)
+        found[rule] = None
         rule = rule_for(here, ask.name, range_of(rule.spec), None)
-    return found
+    return list(found)
 
 
 def is_concerned(rule: Rule, spec: str, version: Optional[str]) -> bool:

@@ -5,10 +5,10 @@ from functools import lru_cache
 from typing import List, NamedTuple, Optional, Tuple
 from urllib.parse import unquote
 
-from semver_parser import Dialect, Range, RangeError
+from semver_parser import Dialect
 
 from ..findings import Kind
-from ..satisfaction import is_met
+from ..satisfaction import is_met, range_in
 
 # What npm takes for an address or a path, and for a tag. A tag begins with a letter here, and not
 # as a version does: so a range that isn't read is never taken for one.
@@ -106,10 +106,8 @@ def reason_of(spec: str) -> str:
 def may_overlap(spec: str, within: str) -> bool:
     """Whether two ranges have a version in common, or may have one, since one of them isn't
     read."""
-    try:
-        return not Range(spec, dialect="npm").isdisjoint(Range(within, dialect="npm"))
-    except RangeError:
-        return True
+    one, other = range_in(spec, Dialect.NPM), range_in(within, Dialect.NPM)
+    return one is None or other is None or not one.isdisjoint(other)
 
 
 def verdict_on(version: Optional[str], spec: str) -> Optional[Kind]:
