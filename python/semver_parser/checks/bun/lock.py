@@ -35,14 +35,19 @@ class Package(NamedTuple):
 
 
 def tree_of(text: bytes) -> Entry:
-    """The object of a file. Its lines stay where they are."""
+    """The object of a file."""
+    return json_object(json_of(text))
+
+
+def json_of(text: bytes) -> bytes:
+    """The JSON that a file is for. What is there stays at its place."""
     bare = COMMENT.sub(lambda it: kept(it.group()), text)
-    return json_object(LAST_COMMA.sub(lambda it: b" " if it.group() == b"," else it.group(), bare))
+    return LAST_COMMA.sub(lambda it: b" " if it.group() == b"," else it.group(), bare)
 
 
 def kept(part: bytes) -> bytes:
-    """A string as it is; of a comment its ends of lines."""
-    return part if part.startswith(b'"') else b"\n" * part.count(b"\n")
+    """A string as it is; of a comment blanks, and its ends of lines."""
+    return part if part.startswith(b'"') else re.sub(rb"[^\n]", b" ", part)
 
 
 def workspaces_of(lock: Entry) -> Dict[str, Entry]:
