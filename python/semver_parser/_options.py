@@ -29,6 +29,9 @@ class Dialect(enum.Enum):
 
     _number: int
 
+    # By identity, as values are compared. That of `enum` is slower, as it is written in Python.
+    __hash__ = object.__hash__
+
 
 class PreReleases(enum.Enum):
     """Which pre-releases satisfy a range. Each `pre_releases=` takes a value of it, too.

@@ -2,7 +2,6 @@
 
 import json
 import re
-from json.decoder import scanstring
 from typing import Dict, Iterator, List, Set, Tuple
 
 from .bun.lock import json_of
@@ -114,13 +113,13 @@ def of_objects(text: bytes, wanted: Set[Keys]) -> Offsets:
     while True:
         found = NEXT.match(whole, at)
         assert found is not None
-        at = found.end()
+        at = found.end(1)
         if found.group(1) == "}":
             if not path:
                 return
             path.pop()
             continue
-        key, end = scanstring(whole, at, True)
+        key, end = decoder.raw_decode(whole, at - 1)
         keys = (*path, key)
         if keys in wanted:
             yield keys, len(whole[:at].encode("utf-8"))

@@ -1,18 +1,22 @@
-"""Times check-lock-file on large lock files that it makes, and prints a table: for each checkout
-that is named the seconds of the processor in the best of three runs, and the most memory of these.
+"""Times check-lock-file on large lock files that it makes, and prints tables: for each checkout that
+is named the seconds of the processor in the best of three runs, and the most memory of these. In the
+files of the first table nothing is wrong; in those of the second one some versions are, which each
+format lists; and those of the third are made to take long.
 
 usage: measure.py CHECKOUT..
 """
 
 import os
+import re
 import subprocess
 import sys
 import tempfile
 from multiprocessing import Pool
 from pathlib import Path
-from typing import Callable, Iterable, List, NamedTuple, Tuple
+from typing import Callable, Iterable, List, NamedTuple, Sequence, Tuple
 
 import files
+import hostile
 from world import Shape, World, world_of
 
 SEED = 1
@@ -95,23 +99,41 @@ def of_metadata(folder: Path) -> Lock:
 MAKERS = (of_npm, of_overrides, of_yarn_1, of_yarn_4, of_pnpm, of_cargo, of_metadata)
 
 
-def run(program: str, path: Path) -> Tuple[float, float]:
+# Of each lock file the file that is changed, and how: ten versions, or what requires them.
+CHANGES = {
+    "package-lock.json": ("package-lock.json", rb'(\n      "version": ")[^"]+'),
+    "yarn.lock": ("yarn.lock", rb'(\n  version:? "?)[0-9.]+'),
+    "pnpm-lock.yaml": ("pnpm-lock.yaml", rb"(\n        version: )[0-9.]+"),
+    "Cargo.lock": ("Cargo.toml", rb'(-[0-9]+ = ")[^"]+'),
+    "metadata.json": ("metadata.json", rb'("req":")[^"]+'),
+}
+FORMATS = ("text", "tsv", "json", "github")
+
+
+def change(path: Path) -> None:
+    """Has a lock file have versions that aren't what is required."""
+    name, pattern = CHANGES[path.name]
+    changed = path.with_name(name)
+    changed.write_bytes(re.sub(pattern, rb"\g<1>0.0.1", changed.read_bytes(), count=10))
+
+
+def run(program: str, path: Path, options: Sequence[str] = (), wanted: int = 0) -> Tuple[float, float]:
     """The seconds of the processor and the megabytes that one run of a program takes, which has to
-    list nothing."""
-    command = [program, str(path)]
+    list nothing, or something."""
+    command = [program, *options, str(path)]
     child = subprocess.Popen(command, stdout=subprocess.PIPE, stderr=subprocess.DEVNULL)
     assert child.stdout is not None
     listed = child.stdout.read()
     _, status, usage = os.wait4(child.pid, 0)
     seconds = usage.ru_utime + usage.ru_stime
-    if status or listed:
+    if os.waitstatus_to_exitcode(status) != wanted or bool(listed) != bool(wanted):
         sys.exit(f"{program} {path.name}: status {status}: {listed[:300].decode()}")
     return seconds, usage.ru_maxrss / 1000
 
 
-def cells_of(program: str, lock: Lock) -> str:
+def cells_of(program: str, path: Path, options: Sequence[str] = (), wanted: int = 0) -> str:
     """The cells of a program: the seconds of its best run, and the most megabytes."""
-    runs = [run(program, lock.path) for _ in range(RUNS)]
+    runs = [run(program, path, options, wanted) for _ in range(RUNS)]
     seconds, megabytes = min(it[0] for it in runs), max(it[1] for it in runs)
     return f" {seconds:.1f} | {megabytes:,.0f} |"
 
@@ -119,20 +141,66 @@ def cells_of(program: str, lock: Lock) -> str:
 def main(checkouts: List[str]) -> None:
     """Prints the table."""
     programs = [f"{checkout}/python/bin/check-lock-file" for checkout in checkouts]
-    print("| file | packages | MB |" + " s | MB of memory |" * len(programs))
-    print("|---|---|---|" + "---|---|" * len(programs), flush=True)
     with tempfile.TemporaryDirectory() as top:
-        for number, make in enumerate(MAKERS):
-            folder = Path(top, str(number))
-            folder.mkdir()
-            # A program begins with as much memory as what starts it, so that has to be small.
-            with Pool(1) as other_process:
-                lock = other_process.apply(make, (folder,))
-            size = lock.path.stat().st_size / 1e6
-            print(f"| {lock.what} | {lock.packages:,} | {size:.1f} |", end="", flush=True)
+        locks = print_right(programs, Path(top))
+        print_by_format(programs, locks)
+        print_hostile(programs, Path(top))
+
+
+def made(make: Callable[[Path], Lock], folder: Path) -> Lock:
+    """A lock file that is made in a directory. A program begins with as much memory as what starts
+    it, so that has to be small."""
+    folder.mkdir()
+    with Pool(1) as other_process:
+        return other_process.apply(make, (folder,))
+
+
+def print_head(first: str, programs: List[str]) -> None:
+    """Prints the head of a table."""
+    columns = first.count("|") - 1
+    print("\n" + first + " s | MB of memory |" * len(programs))
+    print("|" + "---|" * columns + "---|---|" * len(programs), flush=True)
+
+
+def print_right(programs: List[str], top: Path) -> List[Lock]:
+    """Prints the table of files in which nothing is wrong. The files."""
+    print_head("| file | packages | MB |", programs)
+    locks = []
+    for number, make in enumerate(MAKERS):
+        lock = made(make, top / str(number))
+        locks.append(lock)
+        size = lock.path.stat().st_size / 1e6
+        print(f"| {lock.what} | {lock.packages:,} | {size:.1f} |", end="", flush=True)
+        for program in programs:
+            print(cells_of(program, lock.path), end="", flush=True)
+        print()
+    return locks
+
+
+def print_by_format(programs: List[str], locks: List[Lock]) -> None:
+    """Prints the table of the same files with something wrong, by format."""
+    print_head("| file, ten versions wrong | format |", programs)
+    for lock in locks:
+        change(lock.path)
+        for name in FORMATS:
+            print(f"| {lock.what} | {name} |", end="", flush=True)
             for program in programs:
-                print(cells_of(program, lock), end="", flush=True)
+                print(cells_of(program, lock.path, ("--format", name), 1), end="", flush=True)
             print()
+
+
+def print_hostile(programs: List[str], top: Path) -> None:
+    """Prints the table of files that are made to take long."""
+    print_head("| file | MB |", programs)
+    for what, make in hostile.MAKERS:
+        folder = top / what.replace(" ", "-")
+        folder.mkdir()
+        path, wanted = make(folder)
+        size = sum(it.stat().st_size for it in folder.iterdir()) / 1e6
+        print(f"| {what} | {size:.1f} |", end="", flush=True)
+        for program in programs:
+            print(cells_of(program, path, wanted=wanted), end="", flush=True)
+        print()
 
 
 main(sys.argv[1:])

@@ -5,9 +5,10 @@ and nothing for the project itself.
 """
 
 import posixpath
+from functools import lru_cache
 from typing import Dict, Iterator, List, NamedTuple, Optional, Set, Tuple
 
-from ..files import Entry, WrongShape, object_at, objects_at, text_at, texts_at
+from ..files import Entry, WrongShape, objects_at, text_at, texts_at
 from ..findings import Keys, Scope, Tally
 from .archives import archive_at
 from .specs import alias_of, range_of
@@ -81,7 +82,7 @@ def inside(folder: str, name: str) -> str:
 
 def is_top(place: str) -> bool:
     """Whether a place is the project, a workspace or what else lies below no `node_modules`."""
-    return "node_modules" not in place.split("/")
+    return "node_modules" not in place or "node_modules" not in place.split("/")
 
 
 def is_outside(place: str) -> bool:
@@ -101,7 +102,7 @@ def name_by_place(place: str) -> str:
     """The name that a package has where none is written: that of its folder."""
     if is_top(place):
         return place.rpartition("/")[2]
-    return place[len(inside(folder_round(place), "")) :]
+    return f"/{place}".rpartition("/node_modules/")[2]
 
 
 # ---- packages
@@ -234,19 +235,35 @@ def pinned_in(packages: Packages) -> Set[str]:
 def asks_at(place: str, entry: Entry, found: Dict[str, Package]) -> Iterator[Ask]:
     """What the package at a place asks for, in the order of the file, beside what is found at each
     place."""
-    if entry.get("link"):
+    asked = [] if entry.get("link") else asked_at(place, entry)
+    if not asked:
         return
-    accepted = texts_at(entry.get(ACCEPTED, {}), f"{place or 'the project'}: {ACCEPTED}")
+    accepted: Dict[str, str] = {}
+    if ACCEPTED in entry:
+        accepted = texts_at(entry[ACCEPTED], f"{place or 'the project'}: {ACCEPTED}")
     is_apart = PEERS in entry and not is_top(place)
-    around = [inside(folder, "") for folder in folders(place)]
-    of_peers = [inside(it, "") for it in folders(folder_round(place))] if is_apart else around
-    for kind, name, spec in asked_at(place, entry):
+    around = around_of(place)
+    of_peers = around_of(folder_round(place)) if is_apart else around
+    for kind, name, spec in asked:
         package = nearest(name, of_peers if kind == PEERS else around, found)
-        is_required = has_to_be_there(place, entry, kind, name)
+        is_required = package is None and has_to_be_there(place, entry, kind, name)
         yield Ask(place, name, spec, is_required, package, accepted.get(name))
 
 
-def nearest(name: str, around: List[str], found: Dict[str, Package]) -> Optional[Package]:
+def around_of(place: str) -> Tuple[str, ...]:
+    """What is before a name in the `node_modules` around a place, the nearest first."""
+    outer, slash, last = place.rpartition("/")
+    if last in ("", ".."):
+        return (inside(place, ""),)
+    rest = around_again(outer)
+    return rest if last == "node_modules" else (inside(place, ""), *rest)
+
+
+around_again = lru_cache(maxsize=None)(around_of)
+"""The same for a place that has many others inside."""
+
+
+def nearest(name: str, around: Tuple[str, ...], found: Dict[str, Package]) -> Optional[Package]:
     """The first package of a name in some folders."""
     for folder in around:
         package = found.get(folder + name)
@@ -255,19 +272,22 @@ def nearest(name: str, around: List[str], found: Dict[str, Package]) -> Optional
     return None
 
 
-def asked_at(place: str, entry: Entry) -> Iterator[Tuple[str, str, str]]:
+def asked_at(place: str, entry: Entry) -> List[Tuple[str, str, str]]:
     """What the package at a place asks for: in which way, for which name, and for what."""
     where = place or "the project"
     named = ASKS_OF_TOPS if is_top(place) else ASKS_OF_EACH
     kinds = [kind for kind in named if kind in entry]
-    specs = {kind: object_at(entry[kind], f"{where}: {kind}") for kind in kinds}
+    specs = {kind: texts_at(entry[kind], f"{where}: {kind}") for kind in kinds}
+    if len(kinds) < 2:
+        return [(kind, name, spec) for kind in kinds for name, spec in specs[kind].items()]
     last = {name: kind for kind in kinds for name in specs[kind]}
-    for kind in entry if len(kinds) > 1 else kinds:
-        for name, spec in specs.get(kind, {}).items():
-            if last[name] == kind:
-                if not isinstance(spec, str):
-                    text_at(spec, f"{where}: {kind}: {name}")
-                yield kind, name, spec
+    return [
+        (kind, name, spec)
+        for kind in entry
+        if kind in specs
+        for name, spec in specs[kind].items()
+        if last[name] == kind
+    ]
 
 
 def has_to_be_there(place: str, entry: Entry, kind: str, name: str) -> bool:
