@@ -23,7 +23,8 @@ VALUES = {
     'NAME': 'cargo npm crate-cargo crate-npm',
     'CHANGE': 'lost gained any',
     'KIND': 'releases pre-releases',
-    'FORMAT': 'text tsv json github',
+    'FORMAT': 'text tsv json github sarif',
+    'WHEN': 'auto always never',
 }
 
 # The line of a help text that begins with options, each with its value, and then says what they do.

@@ -38,6 +38,44 @@ grep -A 6 '"another-version"' "$work/object" | grep '"range"' > "$work/lines"
 printf '          "range": "%s",\n' 1.2.0 1.2.0 1.3.0 | diff -u - "$work/lines"
 echo 'what else an entry has, in JSON: passed'
 
+mkdir "$work/no-lock"
+echo 'cases/empty/yarn.lock: gone # known' > "$work/known"
+PYTHONPATH=. python3 "$top/tests/beside/checkers-json.py" cases "$top/man/check-lock-file.1" "$work/known" "$work/no-lock" ||
+    exit 1
+
+# SARIF: what GitHub requires of it, and the same findings at the same lines as annotations.
+status=0
+$check --quiet --format sarif --strict cases/monorepo cases/unread.json cases/cut-off.json "$work/no-lock" \
+    > "$work/sarif" 2> "$work/errors" || status=$?
+[ "$status" = 2 ] || exit 1
+$check --quiet --format github --strict cases/monorepo cases/unread.json cases/cut-off.json "$work/no-lock" \
+    > "$work/annotations" 2> "$work/errors" || :
+python3 -c 'import json, sys
+whole = json.load(open(sys.argv[1]))
+assert whole["version"] == "2.1.0" and whole["$schema"].endswith("sarif-2.1.0.json"), whole
+[run] = whole["runs"]
+driver = run["tool"]["driver"]
+rules = [it["id"] for it in driver["rules"]]
+for rule in driver["rules"]:
+    assert all(rule[it]["text"] for it in ("shortDescription", "fullDescription", "help")), rule
+assert driver["name"] == "check-lock-file" and run["invocations"] == [{"executionSuccessful": False}], run
+for it in run["results"]:
+    assert rules[it["ruleIndex"]] == it["ruleId"] and it["partialFingerprints"]["primaryLocationLineHash"], it
+    assert it["level"] == ("note" if it["ruleId"] == "not-checked" else "error"), it
+    [location] = it["locations"]
+    place = location["physicalLocation"]
+    line = place["region"]["startLine"]
+    at = "" if line == 1 else f",line={line}"
+    file, text = place["artifactLocation"]["uri"], it["message"]["text"]
+    print(f"::error file={file}{at}::{text}")' "$work/sarif" > "$work/lines"
+sed 's/,line=1::/::/' "$work/annotations" | diff -u - "$work/lines"
+grep -q '"not-checked"' "$work/sarif" && grep -q '"refused"' "$work/sarif"
+echo 'SARIF: passed'
+echo 'bad%20name%25.json' > "$work/lines"
+cp cases/cut-off.json "$work/bad name%.json"
+(cd "$work" && "$here/$check" --format sarif 'bad name%.json' 2> "$work/errors" || :) | sed -n 's/.*"uri": "\(.*\)"/\1/p' | diff -u "$work/lines" -
+echo 'the address of a file in SARIF: passed'
+
 # annotated FILE: the annotations of a file of cases/, each at the line where its entry begins.
 annotated() {
     status=0
@@ -56,10 +94,64 @@ printf '::error file=standard input%s::%s 1.0.0 does not satisfy 2, required by 
 same 'annotations of other lines' 1 "$work/lock" "$work/lines" /dev/null $check --quiet --format github -
 cp cases/monorepo/web/package.json cases/monorepo/web/yarn.lock "$work"
 mkdir "$work/a,b:c%d" && mv "$work/package.json" "$work/yarn.lock" "$work/a,b:c%d"
-echo '::error file=a%2Cb%3Ac%25d/yarn.lock::react ^18.2.0 is missing, required by the project' > "$work/lines"
+echo '::error file=a%2Cb%3Ac%25d/package.json,line=1::react ^18.2.0 is missing, required by the project' > "$work/lines"
 same "GitHub's escapes" 1 /dev/null "$work/lines" /dev/null sh -c 'cd "$1" && exec "$2" --quiet --format github a,*' - "$work" "$here/$check"
 echo "::error file=cases/cut-off.json::it isn't JSON: line 1 column 37" > "$work/lines"
 same 'the annotation of an error' 2 /dev/null "$work/lines" cases/cut-off.told $check --format github cases/cut-off.json
+
+# ---- paths, repairs and sums
+
+# why STATUS FILE PATH..: the paths below the findings of a file of cases/, by --why.
+why() {
+    wanted=$1 file=$2
+    shift 2
+    may_read "$file" || return 0
+    printf '  path: %s\n' "$@" > "$work/lines"
+    status=0
+    $check --quiet --why "cases/$file" > "$work/output" || status=$?
+    [ "$status" = "$wanted" ] && grep '^  path: ' "$work/output" | diff -u "$work/lines" -
+    $check --quiet "cases/$file" > "$work/lines" || :
+    grep -v '^  path: ' "$work/output" | diff -u "$work/lines" -
+    echo "paths to the findings of $file: passed"
+}
+why 1 monorepo/package-lock.json 'the project > lodash' 'packages/b > a'
+why 1 yarn/stale/yarn.lock 'the project > num' 'the project > tool' 'packages/a > c' 'packages/a > right' 'packages/b > a'
+why 1 pnpm/stale/pnpm-lock.yaml 'the project > num' 'the project > tool' 'packages/a > right' \
+    'packages/a > right 1.4.0 > missing'
+why 1 cargo-lock/root/Cargo.lock 'app 0.1.0 > numbers'
+$check --quiet --json --why cases/monorepo/package-lock.json > "$work/object" || :
+grep -A 3 '"path": \[' "$work/object" | tr -d ' \n' > "$work/output"
+printf '"path":["theproject","lodash"],--"path":["packages/b","a"],' | diff -u - "$work/output"
+echo '::error file=cases/monorepo/web/package.json,line=1::react ^18.2.0 is missing, required by the project%0A  path: the project > react' \
+    > "$work/lines"
+same 'a path in an annotation' 1 /dev/null "$work/lines" /dev/null $check --quiet --why --format github cases/monorepo/web/yarn.lock
+
+# repaired FILE COMMAND: the line that says how to repair a file of cases/.
+repaired() {
+    may_read "$1" || return 0
+    folder=cases/$(dirname "$1")
+    $check "cases/$1" 2>&1 > "$work/output" | grep '^to repair' > "$work/errors" || :
+    echo "to repair cases/$1, run $2 in $folder" | diff -u - "$work/errors"
+    echo "how to repair $1: passed"
+}
+repaired monorepo/package-lock.json 'npm install'
+repaired yarn/stale/yarn.lock 'yarn install'
+repaired yarn/stale-berry/yarn.lock 'yarn install'
+repaired pnpm/stale/pnpm-lock.yaml 'pnpm install'
+repaired bun/stale/bun.lock 'bun install'
+repaired deno/wrong/deno.lock 'deno install'
+repaired cargo-lock/no-source/Cargo.lock 'cargo update --workspace'
+echo 'checked 1 requirement of 1 package in Cargo.lock (Cargo)
+to repair Cargo.lock, run cargo update --workspace' > "$work/told"
+! has_toml || same 'how to repair a file here' 1 /dev/null "$work/lines" "$work/told" sh -c '
+    cd "$1" && "$2" Cargo.lock | sed "s|.*|$3|"; exit 1' - cases/monorepo/rust "$here/$check" "$(cat "$work/lines")"
+for name in yarn/resolution/yarn.lock nothing-wrong.json; do
+    ! $check cases/$name 2>&1 > /dev/null | grep '^to repair' || exit 1
+done
+$check cases/monorepo cases/cut-off.json 2>&1 > /dev/null | tail -n 1 > "$work/output" || :
+echo 'total: 5 requirements of 3 packages in 3 files; 4 findings; 1 error' | diff -u - "$work/output"
+! $check --quiet cases/monorepo 2>&1 > /dev/null | grep . || exit 1
+echo 'sums: passed'
 
 # ---- bytes and characters
 
@@ -125,6 +217,10 @@ at_terminal 'NO_COLOR' "$work/plain" env NO_COLOR=1 $terminal cases/monorepo/pac
 at_terminal 'an empty NO_COLOR' "$work/colored" env NO_COLOR= $terminal cases/monorepo/package-lock.json
 at_terminal 'a dumb terminal' "$work/plain" env TERM=dumb $terminal cases/monorepo/package-lock.json
 ! grep "$(printf '\033')" "$work/plain" || exit 1
+at_terminal '--color never' "$work/plain" $terminal --color never cases/monorepo/package-lock.json
+at_terminal '--color auto' "$work/plain" env NO_COLOR=1 $terminal --color=auto cases/monorepo/package-lock.json
+same '--color always' 1 /dev/null "$work/colored" /dev/null env NO_COLOR=1 $check --quiet --color always cases/monorepo/package-lock.json
+refused 'check-lock-file: unknown color: "red"; see check-lock-file --help' /dev/null $check --color red cases/missing.json
 
 # A pipe that gets its content after more than a second.
 mkfifo "$work/slow"
@@ -235,6 +331,26 @@ in_refused "check-lock-file: .: git doesn't list its files: fatal: detected dubi
 rm -r "$work/refused/.git" && echo 'gitdir: nowhere' > "$work/refused/.git"
 in_refused "check-lock-file: .: git doesn't list its files: fatal: not a git repository: $(cd "$work/refused" && pwd -P)/nowhere" "$here/$check"
 chmod 700 "$work/refused/shut"
+# Manifests, whose lock files are beside them or above.
+cat > "$work/lines" <<'END'
+package-lock.json: lodash 4.17.20 does not satisfy ^4.17.21, required by the project
+package-lock.json: a 2.0.0 does not satisfy ^1.0.0, required by packages/b
+web/yarn.lock: react ^18.2.0 is missing, required by the project
+END
+same 'manifests' 1 /dev/null "$work/lines" /dev/null \
+    sh -c 'cd cases/monorepo && exec "$1" --quiet packages/b/package.json package.json web/package.json' - "$here/$check"
+sed -n 's/^package-lock.json: //p' "$work/lines" > "$work/fields"
+same 'a manifest' 1 /dev/null "$work/fields" /dev/null sh -c 'cd cases/monorepo && exec "$1" --quiet packages/b/package.json' - "$here/$check"
+mkdir -p "$work/library/inner" && git init -q "$work/library" && cp cases/nothing-wrong.json "$work/package-lock.json"
+echo '{}' > "$work/library/inner/package.json"
+echo "$work/library/inner/package.json: no lock file is for it" > "$work/told"
+same 'a manifest without a lock file' 0 /dev/null /dev/null "$work/told" $check "$work/library/inner/package.json"
+rm "$work/package-lock.json"
+refused "check-lock-file: $work/gone/package.json: it can't be read: No such file or directory" /dev/null $check "$work/gone/package.json"
+if has_toml; then
+    echo 'itoa 1.0.4 does not satisfy 1.0.10, required by app 0.1.0' > "$work/lines"
+    same 'a Cargo.toml' 1 /dev/null "$work/lines" /dev/null $check --quiet cases/monorepo/rust/app/Cargo.toml
+fi
 mkdir "$work/shrinkwrap"
 cp cases/nothing-wrong.json "$work/shrinkwrap/package-lock.json" && cp cases/nothing-wrong.json "$work/shrinkwrap/npm-shrinkwrap.json"
 {
@@ -329,7 +445,8 @@ echo '{"lockfileVersion": 3, "packages": {"": {"dependencies": {"x": "1 # 2"}}, 
 echo 'x 1.0.0 cannot be checked: "1 # 2" is an invalid range, required by the project # known # so far' > "$work/known.txt"
 same 'a known finding with a mark in it' 0 "$work/lock" /dev/null /dev/null $check --quiet --allow "$work/known.txt" -
 printf '%s # later\n' "$lodash" > "$work/known.txt"
-echo 'checked 2 requirements of 1 package in cases/monorepo/package-lock.json (npm); 1 allowed' > "$work/told"
+echo 'checked 2 requirements of 1 package in cases/monorepo/package-lock.json (npm); 1 allowed
+to repair cases/monorepo/package-lock.json, run npm install in cases/monorepo' > "$work/told"
 echo "$a" > "$work/lines"
 same 'known findings are counted' 1 /dev/null "$work/lines" "$work/told" \
     $check --allow "$work/known.txt" cases/monorepo/package-lock.json
@@ -360,6 +477,11 @@ if command -v pre-commit > /dev/null; then
     [ "$status" = 1 ] || exit 1
     echo 'pre-commit: passed'
     git -C "$work/hooked" rm -qr --cached . && git -C "$work/hooked" add .pre-commit-config.yaml packages
+    status=0
+    (cd "$work/hooked" && PATH="$here/bin:$PATH" PRE_COMMIT_HOME="$work/pre-commit" pre-commit run --all-files) \
+        > "$work/output" 2> "$work/errors" || status=$?
+    [ "$status" = 1 ] && grep -q '^\(package-lock.json: \)\?a 2.0.0 does not satisfy' "$work/output"
+    git -C "$work/hooked" rm -qr --cached packages
     (cd "$work/hooked" && PATH=/usr/bin:/bin PRE_COMMIT_HOME="$work/pre-commit" pre-commit run --all-files) > "$work/output" 2>&1
     grep -q 'no files to check' "$work/output"
     echo 'pre-commit without lock files: passed'

@@ -5,11 +5,12 @@ _check_lock_file() {
     [ "$before" != = ] || before=${COMP_WORDS[COMP_CWORD - 2]}
     COMPREPLY=()
     case $before in
-    --format) COMPREPLY=($(compgen -W 'text tsv json github' -- "$word")); return ;;
+    --format) COMPREPLY=($(compgen -W 'text tsv json github sarif' -- "$word")); return ;;
+    --color) COMPREPLY=($(compgen -W 'auto always never' -- "$word")); return ;;
     --allow | --package-json) COMPREPLY=($(compgen -f -- "$word")); return ;;
     esac
     case $word in
-    -*) COMPREPLY=($(compgen -W '--format --json --allow --no-dev --no-peers --package-json --strict --quiet --version -h --help' -- "$word")) ;;
+    -*) COMPREPLY=($(compgen -W '--format --json --allow --no-dev --no-peers --package-json --strict --why --color --quiet --version -h --help' -- "$word")) ;;
     *) COMPREPLY=($(compgen -f -- "$word")) ;;
     esac
 }

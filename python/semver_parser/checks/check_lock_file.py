@@ -13,9 +13,10 @@ usage: check-lock-file [OPTION]... [PATH]...
 Lists each version of a lock file that does not satisfy what is required, as the
 tool that wrote the file reads ranges and versions.
 
-PATH is a lock file, or a directory, of which all lock files are checked that
-git does not ignore. Without a PATH it is the current directory. - is standard
-input. The content of a file shows which tool wrote it:
+PATH is a lock file; a directory, of which all lock files are checked that git
+does not ignore; or a manifest, as package.json, whose lock file is checked.
+Without a PATH it is the current directory. - is standard input. The content of
+a file shows which tool wrote it:
 
     package-lock.json, npm-shrinkwrap.json    npm, lockfileVersion 1, 2 and 3
     yarn.lock                                 yarn 1 and later
@@ -31,6 +32,7 @@ input. The content of a file shows which tool wrote it:
                                  and a word for the kind if it is no usual one
                          json:   one object with all that is known
                          github: annotations of GitHub Actions
+                         sarif:  SARIF 2.1.0, as for code scanning of GitHub
     --json               short for --format json
     --allow FILE         leave out known findings: one line of FILE for each, as
                          it is printed, and then " # " and a reason
@@ -39,12 +41,15 @@ input. The content of a file shows which tool wrote it:
     --package-json FILE  take this package.json, and not that beside the lock file
                          of npm or yarn
     --strict             also list what is not checked, as tags and URLs
+    --why                print the path from the project below each finding
+    --color WHEN         color sentences always, never, or auto: at a terminal
     --quiet              only print findings and errors
     --version            print the version
     -h, --help           print this
     --                   end the options
 
-The last line for each file, on standard error, counts what was checked.
+The lines for each file on standard error count what was checked, and say which
+command repairs what is listed.
 The status is 0 if nothing is wrong, 1 if something is listed, and 2 after an
 error, which standard error reports."""
 
@@ -67,6 +72,8 @@ PROGRAM = Program(
         "--no-peers": False,
         "--package-json": True,
         "--strict": False,
+        "--why": False,
+        "--color": True,
         "--quiet": False,
     },
     lambda options: True,

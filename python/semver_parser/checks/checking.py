@@ -5,14 +5,15 @@ import sys
 from typing import Callable, Dict, Iterator, List
 
 from .allowed import allow
-from .closing import closing_line, error_of
+from .closing import closing_line, error_of, total_line
 from .discovery import Discovery, discover
 from .files import STANDARD_INPUT
 from .findings import Scope
-from .output import github, json_object, text, tsv
+from .output import github, json_object, sarif, text, tsv
 from .program import Misuse, Options, Outcome, escaped
 from .progress import Progress
-from .reports import Report, Results, report_on
+from .repairs import repair_line
+from .reports import Report, Results, Wanted, report_on
 
 NAME = "check-lock-file"
 
@@ -23,8 +24,10 @@ FORMATS: Dict[str, Lines] = {
     "tsv": tsv.lines,
     "json": json_object.lines,
     "github": github.lines,
+    "sarif": sarif.lines,
 }
-WITH_LINES = ("json", "github")
+WITH_LINES = ("json", "github", "sarif")
+COLORS = ("auto", "always", "never")
 
 
 def format_of(options: Options) -> str:
@@ -48,20 +51,27 @@ def refuse_several(options: Options, found: Discovery) -> None:
         raise Misuse("two files are standard input")
 
 
-def is_colored() -> bool:
-    """Whether standard output is a terminal that shows colors, which nobody refused."""
+def is_colored(options: Options) -> bool:
+    """Whether sentences are in color: as it is asked for, or else if standard output is a terminal
+    that shows colors, which nobody refused."""
+    asked = options.given.get("--color", "auto")
+    if asked not in COLORS:
+        raise Misuse(f'unknown color: "{asked}"')
+    if asked != "auto":
+        return asked == "always"
     is_refused = os.environ.get("NO_COLOR") or os.environ.get("TERM") == "dumb"
     return sys.stdout.isatty() and not is_refused
 
 
-def reports_on(paths: List[str], options: Options, has_lines: bool) -> Iterator[Report]:
+def reports_on(paths: List[str], options: Options, form: str) -> Iterator[Report]:
     """What a check of each lock file reports."""
     scope = Scope("--no-peers" not in options.given, "--no-dev" not in options.given)
+    wanted = Wanted(scope, form in WITH_LINES, "--why" in options.given)
     progress = Progress(len(paths))
     try:
         for number, path in enumerate(paths, 1):
             progress.at(number, path)
-            report = report_on(path, options.given.get("--package-json"), scope, has_lines)
+            report = report_on(path, options.given.get("--package-json"), wanted)
             is_strict = "--strict" in options.given
             report.listed = [it for it in report.findings if is_strict or not it.is_strict]
             yield report
@@ -70,15 +80,21 @@ def reports_on(paths: List[str], options: Options, has_lines: bool) -> Iterator[
 
 
 def notes_of(results: Results, is_quiet: bool) -> Iterator[str]:
-    """What standard error gets of each lock file: its closing line, or why it isn't checked."""
+    """What standard error gets of each lock file: its closing line and what repairs it, or why it
+    isn't checked; and the line of all, if there are several."""
     for report in results.reports:
         error = error_of(report)
         if error is not None:
             yield f"{NAME}: {escaped(str(error))}"
         elif not is_quiet:
             yield escaped(closing_line(report))
+            repair = repair_line(report)
+            if repair is not None:
+                yield escaped(repair)
     for refusal in results.refusals:
         yield f"{NAME}: {escaped(str(refusal))}"
+    if len(results.reports) > 1 and not is_quiet:
+        yield total_line(results)
 
 
 def status_of(results: Results) -> int:
@@ -91,13 +107,13 @@ def status_of(results: Results) -> int:
 def check(options: Options) -> Outcome:
     """Lists what is wrong with the lock files that are named, and says how much is checked."""
     form, is_quiet = format_of(options), "--quiet" in options.given
+    in_color = is_colored(options) and form == "text"
     found = discover(options.files or ["."])
     refuse_several(options, found)
-    reports = list(reports_on(found.paths, options, form in WITH_LINES))
+    reports = list(reports_on(found.paths, options, form))
     named = options.given.get("--allow")
     unused = [] if named is None else allow(named, reports)
     results = Results(reports, found.refusals, unused, found.is_several)
-    in_color = form == "text" and is_colored()
     lines = list(text.lines(results, True) if in_color else FORMATS[form](results))
     notes = [] if is_quiet else [escaped(note) for note in found.notes]
     return Outcome(lines, [*notes, *notes_of(results, is_quiet)], status_of(results))

@@ -3,7 +3,7 @@
 from typing import List, Optional
 
 from .files import Refusal
-from .reports import Report
+from .reports import Report, Results
 
 # Why something isn't checked, of one and of several.
 REASONS = {
@@ -50,6 +50,21 @@ def closing_line(report: Report) -> str:
     packages = counted(report.tally.packages, "package", "packages")
     first = f"checked {requirements} of {packages} in {report.name} ({report.tool})"
     return "; ".join([first, *parts_of(report)])
+
+
+def total_line(results: Results) -> str:
+    """The line after those of several lock files."""
+    reports = [it for it in results.reports if error_of(it) is None]
+    requirements = sum(it.checked() for it in reports)
+    checked = counted(requirements, "requirement", "requirements")
+    packages = counted(sum(it.tally.packages for it in reports), "package", "packages")
+    files = counted(len(reports), "file", "files")
+    listed = sum(len(it.listed) for it in reports) + len(results.unused)
+    parts = [f"total: {checked} of {packages} in {files}", counted(listed, "finding", "findings")]
+    errors = len(results.reports) - len(reports) + len(results.refusals)
+    if errors:
+        parts.append(counted(errors, "error", "errors"))
+    return "; ".join(parts)
 
 
 def error_of(report: Report) -> Optional[Refusal]:

@@ -21,6 +21,17 @@ NAMES = (
 # What its tool doesn't read if the other is beside it.
 UNREAD_BESIDE = {"package-lock.json": "npm-shrinkwrap.json"}
 
+# The lock files that a manifest or the settings of a tool are for.
+OF_NPM = ("package-lock.json", "npm-shrinkwrap.json")
+FOR = {
+    "package.json": (*OF_NPM, "yarn.lock", "pnpm-lock.yaml", "bun.lock", "deno.lock"),
+    ".npmrc": OF_NPM,
+    "pnpm-workspace.yaml": ("pnpm-lock.yaml",),
+    "deno.json": ("deno.lock",),
+    "deno.jsonc": ("deno.lock",),
+    "Cargo.toml": ("Cargo.lock",),
+}
+
 # Directories that hold what a tool puts there.
 MADE = ("node_modules", ".git", "target")
 
@@ -45,9 +56,11 @@ def discover(named: List[str]) -> Discovery:
         found = [path]
         if path in directories:
             found = found_in(path, notes, refusals)
+        elif os.path.basename(path) in FOR and os.path.isfile(path):
+            found = locks_for(path, notes)
         for each in found:
             paths.setdefault(os.path.normpath(each), each)
-    is_several = len(named) != 1 or bool(directories)
+    is_several = len(named) != 1 or len(paths) > 1 or bool(directories)
     return Discovery(sorted(paths.values()), notes, refusals, is_several)
 
 
@@ -62,6 +75,23 @@ def found_in(directory: str, notes: List[str], refusals: List[Refusal]) -> List[
         refusals.append(error)
         return []
     return found
+
+
+def locks_for(path: str, notes: List[str]) -> List[str]:
+    """The lock files that a manifest is for: in the nearest directory that has one, from its own
+    upward in the repository. There is a note if there is none, as of a library."""
+    folder, name = os.path.split(path)
+    while True:
+        found = [it for it in FOR[name] if os.path.isfile(os.path.join(folder, it))]
+        unread = [it for it in found if UNREAD_BESIDE.get(it) in found]
+        if found:
+            left = (os.path.join(folder, it) for it in found if it not in unread)
+            return [os.path.normpath(it) for it in left]
+        is_top = os.path.exists(os.path.join(folder, ".git"))
+        if is_top or os.path.samefile(folder or ".", os.path.join(folder, "..")):
+            notes.append(f"{path}: no lock file is for it")
+            return []
+        folder = os.path.normpath(os.path.join(folder, ".."))
 
 
 def read_in(directory: str, notes: List[str]) -> Iterator[str]:

@@ -1,14 +1,17 @@
 """A finding of a lock file, in parts that every output has, and how much was looked at."""
 
-from dataclasses import dataclass
+from dataclasses import dataclass, field
 from enum import Enum
-from typing import NamedTuple, Tuple
+from typing import Callable, Dict, List, NamedTuple, Tuple
 
 PROJECT = "the project"
 """The project itself, where it requires something."""
 
 Keys = Tuple[str, ...]
 """The keys in a file that lead to an entry of it."""
+
+Graph = Dict[str, List[str]]
+"""What the project, its workspaces and each package lead to, named as what requires something."""
 
 
 class Kind(str, Enum):
@@ -65,9 +68,11 @@ class Scope(NamedTuple):
 @dataclass
 class Tally:
     """How much of a file was looked at: its requirements, and how many were left out by the scope,
-    its packages, and the workspaces and links that were taken from the lock file."""
+    its packages, and the workspaces and links that were taken from the lock file; and what makes the
+    graph of its requirements."""
 
     requirements: int = 0
     left_out: int = 0
     packages: int = 0
     from_lock: int = 0
+    graph: Callable[[], Graph] = field(default=dict, repr=False)

@@ -1,12 +1,14 @@
 """What a check of one lock file reports."""
 
 from dataclasses import dataclass, field
-from typing import Dict, List, NamedTuple, Optional
+from typing import Dict, List, NamedTuple, Optional, Tuple
 
 from .files import STANDARD_INPUT, Refusal, bytes_of, name_of, taking
 from .findings import Finding, Keys, Kind, Scope, Tally
 from .lines import lines_at
 from .lock_files import Input, findings
+from .manifest_lines import Position, positions_of
+from .paths import Paths
 from .sentences import quoted
 
 # Why what is in directories of the project isn't checked.
@@ -16,8 +18,8 @@ OWN = {"path", "link", "workspace"}
 @dataclass
 class Report:
     """A lock file, the tool that wrote it, what there is to say of it, what of that is listed, and
-    how much is allowed, how much was looked at, the lines of its entries if they were looked for,
-    and why it is refused, if it is."""
+    how much is allowed, how much was looked at, the lines of its entries, those of manifests and the
+    paths from the project if they were looked for, and why it is refused, if it is."""
 
     path: str
     tool: str = ""
@@ -26,6 +28,8 @@ class Report:
     allowed: int = 0
     tally: Tally = field(default_factory=Tally)
     lines: Dict[Keys, int] = field(default_factory=dict)
+    positions: Dict[Finding, Position] = field(default_factory=dict)
+    paths: Optional[Paths] = None
     refusal: Optional[Refusal] = None
 
     @property
@@ -37,6 +41,11 @@ class Report:
     def before(self) -> str:
         """What a sentence has before it, if it begins with its file."""
         return f"{self.name if self.path == STANDARD_INPUT else quoted(self.path)}: "
+
+    def position(self, finding: Finding) -> Tuple[str, Optional[int]]:
+        """The file that a finding is about, and the line there, if that is known: the manifest, if
+        that has the requirement."""
+        return self.positions.get(finding, (self.name, self.lines.get(finding.at)))
 
     def not_checked(self) -> Dict[str, int]:
         """How many requirements aren't checked for each reason, as far as that needs a human."""
@@ -79,16 +88,28 @@ class Results(NamedTuple):
     is_several: bool
 
 
-def report_on(path: str, named: Optional[str], scope: Scope, has_lines: bool) -> Report:
-    """What a check of a lock file reports, with the lines of its findings on demand."""
+class Wanted(NamedTuple):
+    """What of findings is wanted: those of which requirements, lines, and paths from the project."""
+
+    scope: Scope
+    has_lines: bool = False
+    has_paths: bool = False
+
+
+def report_on(path: str, named: Optional[str], wanted: Wanted) -> Report:
+    """What a check of a lock file reports, with lines and paths on demand."""
     report = Report(path)
     try:
         with taking(path, "lock file"):
             text = bytes_of(path)
-            report.tool, found = findings(Input(path, text, named, scope), report.tally)
+            file = Input(path, text, named, wanted.scope)
+            report.tool, found = findings(file, report.tally)
             report.findings = list(found)
-            if has_lines:
+            if wanted.has_paths:
+                report.paths = Paths(report.tally.graph())
+            if wanted.has_lines:
                 report.lines = lines_at(report.tool, text, {it.at for it in report.findings})
+                report.positions = positions_of(report.tool, file, report.findings)
     except Refusal as error:
         report.refusal = error
     return report

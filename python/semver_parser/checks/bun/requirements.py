@@ -16,7 +16,7 @@ from typing import Dict, Iterator, List, NamedTuple, Optional, Tuple
 from semver_parser import Dialect
 
 from ..files import Entry, list_at, objects_at, texts_at
-from ..findings import PROJECT, Finding, Keys, Kind, Scope, Tally
+from ..findings import PROJECT, Finding, Graph, Keys, Kind, Scope, Tally
 from ..satisfaction import is_version
 from ..manifests import manifest_in
 from ..npm.specs import CATALOG, has_name, is_no_range, reason_of, verdict_by, verdict_on
@@ -161,6 +161,16 @@ def of_version(package: Package) -> Iterator[Finding]:
         )
 
 
+def graph_of(requirers: List[Requirer], by_key: Dict[str, Package]) -> Graph:
+    """What each requires, by who that is."""
+    who = {it.path: f"{it.who} {it.version}" if it.version else it.who for it in requirers}
+    graph: Graph = {}
+    for it in requirers:
+        found = (nearest(it.path, need.name, by_key) for need in needs_of(it, Scope(), Tally()))
+        graph[who[it.path]] = [who[each.key] for each in found if each and each.key in who]
+    return graph
+
+
 def findings(lock: Entry, top: Optional[str], tally: Tally, scope: Scope) -> Iterator[Finding]:
     """What there is to say of a lock file, in its order, beside the package.json files in and below
     a directory, if that is known."""
@@ -171,7 +181,9 @@ def findings(lock: Entry, top: Optional[str], tally: Tally, scope: Scope) -> Ite
     tally.packages += sum(package.folder is None for package in packages)
     for package in packages:
         yield from of_version(package)
-    for it in requirers_of(workspaces, manifests, packages):
+    requirers = list(requirers_of(workspaces, manifests, packages))
+    tally.graph = lambda: graph_of(requirers, by_key)
+    for it in requirers:
         for need in needs_of(it, scope, tally):
             found = nearest(it.path, need.name, by_key)
             tally.requirements += found is not None or need.is_required

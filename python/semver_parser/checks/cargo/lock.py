@@ -14,6 +14,7 @@ from semver_parser import Dialect
 from ..files import Entry, WrongShape, list_at, object_at, text_at
 from ..findings import Finding, Keys, Kind, Scope, Tally
 from ..satisfaction import is_met, is_version
+from .graph import graph_of
 from .manifests import Manifest, Need, manifests_at
 
 
@@ -106,6 +107,7 @@ def findings(
     if folder is None:
         raise WrongShape(" beside a Cargo.toml: name the file")
     packages = packages_of(lock)
+    tally.graph = lambda: graph_of(lock)
     tally.packages += len(packages)
     by_name: Dict[str, List[str]] = {}
     for package in packages:

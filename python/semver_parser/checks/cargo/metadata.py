@@ -241,6 +241,10 @@ def findings(metadata: Entry, tally: Tally, scope: Scope) -> Iterator[Finding]:
     """What there is to say of a graph, in the order of its packages. With `--strict` a dependency
     for any target has to be there."""
     packages = list(packages_at(metadata))
+    tally.graph = lambda: {
+        f"{it.name} {it.version}": [f"{edge.name} {edge.version}" for edge in it.edges]
+        for it in packages
+    }
     tally.packages += sum(not package.is_member for package in packages)
     targets = active_targets(packages)
     every_target = {need.kind[1] for package in packages for need in package.needs}

@@ -13,7 +13,7 @@ from typing import Any, Dict, Iterator, List, NamedTuple, Tuple
 from semver_parser import Dialect
 
 from ..files import Entry, Unreadable, list_at, object_at, objects_at, text_at, texts_at
-from ..findings import PROJECT, Finding, Keys, Kind, Tally
+from ..findings import PROJECT, Finding, Graph, Keys, Kind, Tally
 from ..satisfaction import is_version
 from ..npm.specs import name_and_rest, reason_of, verdict_on
 
@@ -144,6 +144,22 @@ def check_version(lock: Entry) -> None:
         raise Unreadable(f"deno.lock of version {version} is not supported; 4 and 5 are")
 
 
+def graph_of(specifiers: Dict[str, str], packages: Dict[str, Entry]) -> Graph:
+    """What the specifiers and the packages of npm lead to."""
+    found = ((split(it)[1], there.partition(PEERS)[0]) for it, there in specifiers.items())
+    graph: Graph = {PROJECT: [f"{name} {version}" for name, version in found]}
+    versions = dict(map(name_and_rest, packages))
+    for key, entry in packages.items():
+        listed = (it.partition("@npm:") for it in entry.get("dependencies", []))
+        names = (name_and_rest(own or known_as) for known_as, _, own in listed)
+        found = ((name, version or versions.get(name, "")) for name, version in names)
+        called, there = name_and_rest(key)
+        graph[f"{called} {there.partition(PEERS)[0]}"] = [
+            f"{name} {version.partition(PEERS)[0]}" for name, version in found
+        ]
+    return graph
+
+
 def findings(lock: Entry, tally: Tally) -> Iterator[Finding]:
     """What there is to say of a lock file."""
     check_version(lock)
@@ -153,6 +169,7 @@ def findings(lock: Entry, tally: Tally) -> Iterator[Finding]:
     for registry, entries in packages.items():
         for key in entries:
             yield from of_version(registry, key)
+    tally.graph = lambda: graph_of(specifiers, packages[NPM])
     for requirer, specifier in requirements_of(lock, specifiers):
         if split(specifier)[0] in packages:
             tally.requirements += 1

@@ -15,12 +15,12 @@ OVERRIDES. They aren't in a lock file, but in the project's package.json. What a
 is judged by what the override asks for.
 """
 
-from typing import Iterator, List, NamedTuple, Optional
+from typing import Dict, Iterator, List, NamedTuple, Optional
 
 from semver_parser import Dialect
 
 from ..files import Entry
-from ..findings import PROJECT, Finding, Kind, Scope, Tally
+from ..findings import PROJECT, Finding, Graph, Kind, Scope, Tally
 from ..satisfaction import is_met, is_version
 from .archives import archive_at
 from .disk import check_manifest, read_links
@@ -183,6 +183,14 @@ def rules_of_manifest(manifest: Entry) -> Rule:
     return rules_of(manifest)
 
 
+def graph_of(asks: Dict[str, List[Ask]]) -> Graph:
+    """The places that what each place asks for leads to."""
+    return {
+        place or PROJECT: [it.found.place or PROJECT for it in each if it.found is not None]
+        for place, each in asks.items()
+    }
+
+
 def findings(lock: Entry, project: Project, tally: Tally) -> Iterator[Finding]:
     """What there is to say of a lock file, in its order."""
     packages = packages_of(lock, project.manifest)
@@ -194,6 +202,7 @@ def findings(lock: Entry, project: Project, tally: Tally) -> Iterator[Finding]:
     tally.packages += sum(not is_top(it) and not packages[it].get("link") for it in checked)
     found = {place: package_at(packages, place) for place in packages}
     asks = {place: list(asks_at(place, entry, found)) for place, entry in packages.items()}
+    tally.graph = lambda: graph_of(asks)
     held = where_rules_hold(found, asks, project.rules)
     pinned, ruled = pinned_in(packages), names_in(project.rules)
     for place in checked:

@@ -5,15 +5,14 @@ from typing import Iterator, Optional
 from ..closing import error_of
 from ..program import visible
 from ..reports import Results
-from ..sentences import sentence
-from .text import grouped
+from .text import grouped, told
 
 
 def lines(results: Results) -> Iterator[str]:
     """An annotation for each finding and each error."""
     for report in results.reports:
         for finding in grouped(report.listed):
-            yield annotation(report.name, report.lines.get(finding.at), sentence(finding))
+            yield annotation(*report.position(finding), "\n".join(told(report, finding)))
         error = error_of(report)
         if error is not None:
             yield annotation(error.path, None, error.why)

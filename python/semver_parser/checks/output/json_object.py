@@ -6,6 +6,7 @@ from typing import Any, Dict, Iterator
 from ..closing import error_of
 from ..findings import Finding, Kind
 from ..program import visible
+from ..repairs import command_for
 from ..reports import Report, Results
 from ..sentences import sentence
 
@@ -28,7 +29,8 @@ def of_report(report: Report) -> Object:
     return {
         "file": report.name,
         "tool": report.tool or None,
-        "error": None if error is None else str(error),
+        "error": None if error is None else error.why,
+        "repair": command_for(report),
         "packages": tally.packages,
         "checked": report.checked(),
         "not_checked": report.not_checked(),
@@ -41,6 +43,7 @@ def of_report(report: Report) -> Object:
 
 def of_finding(it: Finding, report: Report) -> Object:
     """All parts of a finding. What it hasn't is null."""
+    manifest = report.positions.get(it)
     has_range = bool(it.requirer) and it.kind != Kind.NOT_REQUIRED
     has_range = has_range or it.kind == Kind.ANOTHER_VERSION
     return {
@@ -55,5 +58,8 @@ def of_finding(it: Finding, report: Report) -> Object:
         "requirer_version": it.requirer_version or None,
         "reason": it.reason or None,
         "line": report.lines.get(it.at),
+        "manifest": None if manifest is None else manifest.path,
+        "manifest_line": None if manifest is None else manifest.line,
+        "path": None if report.paths is None else report.paths.path_to(it),
         "sentence": sentence(it),
     }

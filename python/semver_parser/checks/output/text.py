@@ -3,8 +3,8 @@
 from typing import Dict, Iterator, List
 
 from ..findings import Finding
-from ..program import visible
-from ..reports import Results
+from ..program import escaped, visible
+from ..reports import Report, Results
 from ..sentences import PACKAGE, RANGE, VERSION, Paint, plain, quoted, sentence
 
 LOOKS = {PACKAGE: "1", VERSION: "31", RANGE: "32"}
@@ -21,9 +21,17 @@ def lines(results: Results, is_colored: bool = False) -> Iterator[str]:
     for report in results.reports:
         before = report.before if results.is_several else ""
         for finding in grouped(report.listed):
-            yield before + sentence(finding, paint)
+            first, *rest = told(report, finding, paint)
+            yield from (before + first, *rest)
     for it in results.unused:
         yield f"{quoted(it.path)}: line {it.line} no longer applies: {visible(it.text)}"
+
+
+def told(report: Report, finding: Finding, paint: Paint = plain) -> Iterator[str]:
+    """The sentence of a finding, and below it the path to what requires it, if that is wanted."""
+    yield sentence(finding, paint)
+    if report.paths is not None:
+        yield f"  path: {' > '.join(map(escaped, report.paths.path_to(finding)))}"
 
 
 def grouped(findings: List[Finding]) -> Iterator[Finding]:

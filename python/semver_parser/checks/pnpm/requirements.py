@@ -19,7 +19,7 @@ from typing import Callable, Dict, Iterator, List, NamedTuple, Optional, Tuple
 from semver_parser import Dialect
 
 from ..files import Entry, WrongShape, object_at, objects_at, text_at, texts_at
-from ..findings import PROJECT, Finding, Keys, Kind, Scope, Tally
+from ..findings import PROJECT, Finding, Graph, Keys, Kind, Scope, Tally
 from ..satisfaction import is_met, is_version
 from ..manifests import (
     FOR_DEVELOPMENT,
@@ -345,6 +345,22 @@ def findings_of_all(
     yield from findings(documents[-1], top, tally, scope)
 
 
+def graph_of(lock: Entry, packages: Packages) -> Graph:
+    """The packages that the project, its workspaces and packages lead to."""
+    graph: Graph = {}
+    for folder, importer in importers_of(lock).items():
+        asks = asks_of_importer(folder, (), importer, packages, {}, lambda _: None)
+        graph[PROJECT if folder == TOP else folder] = [
+            f"{it.found.name or it.name} {it.found.version}" for it in asks if it.found is not None
+        ]
+    for key, _, depends in packages_of(lock, packages):
+        given = {**depends.get("optionalDependencies", {}), **depends.get("dependencies", {})}
+        found = ((name, found_at(text, name, packages)) for name, text in given.items())
+        names = [f"{it.name or name} {it.version}" for name, it in found]
+        graph[" ".join(called_by(key) or (key,))] = names
+    return graph
+
+
 def findings(lock: Entry, top: Optional[str], tally: Tally, scope: Scope) -> Iterator[Finding]:
     """What there is to say of a document of a lock file, in its order, beside the package.json
     files in and below a folder, if it is known."""
@@ -354,6 +370,7 @@ def findings(lock: Entry, top: Optional[str], tally: Tally, scope: Scope) -> Ite
     tally.packages += len(packages)
     for ask in catalogs:
         yield from of_ask(ask, overrides, tally)
+    tally.graph = lambda: graph_of(lock, packages)
     read = reader_of(top)
     for folder, importer in importers_of(lock).items():
         # With this sum there is a `.pnpmfile.cjs`, which may change what a package.json asks for.

@@ -19,7 +19,7 @@ from typing import Dict, Iterable, Iterator, List, NamedTuple, Optional, Set
 from semver_parser import Dialect
 
 from ..files import Entry, texts_at
-from ..findings import PROJECT, Finding, Kind, Scope, Tally
+from ..findings import PROJECT, Finding, Graph, Kind, Scope, Tally
 from ..satisfaction import is_met, is_version
 from ..manifests import KINDS_OF_BERRY, TOP, Project, name_in, version_in
 from ..manifests import needs_of as needs_of_manifest
@@ -272,6 +272,16 @@ def folder_of(package: Package) -> str:
     return spec[len(OWN) :] if spec.startswith(OWN) else ""
 
 
+def graph_of(edges: List[Edge], by_key: Dict[str, Package]) -> Graph:
+    """The packages that edges lead to, as those that require something."""
+    graph: Graph = {}
+    for edge in edges:
+        if edge.key is not None:
+            found = Ask(by_key[edge.key], "", "").finding.who
+            graph.setdefault(edge.ask.finding.who, []).append(found)
+    return graph
+
+
 def findings(
     tree: Tree, resolutions: Resolutions, project: Project, tally: Tally, scope: Scope
 ) -> Iterator[Finding]:
@@ -286,6 +296,7 @@ def findings(
 
     outside = edges_for(asks_of_folders(project, packages))
     edges = [edges_for(asks_of(package, project)) for package in packages]
+    tally.graph = lambda: graph_of([*outside, *(it for each in edges for it in each)], by_key)
     used = {edge.key for each in (outside, *edges) for edge in each}
     yield from of_edges(in_scope(outside, scope, tally), by_key, project, tally)
     # A key of berry has what a resolution put there.

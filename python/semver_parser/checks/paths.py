@@ -1,0 +1,36 @@
+"""The shortest paths from a project to what requires something, for those who ask why it is there."""
+
+from collections import deque
+from typing import Dict, List, Optional
+
+from .findings import PROJECT, Finding, Graph
+
+
+class Paths:
+    """The paths in a graph, from the project and from whatever else nothing requires."""
+
+    def __init__(self, graph: Graph) -> None:
+        required = {it for each in graph.values() for it in each}
+        tops = [PROJECT, *(it for it in graph if it not in required)]
+        self.before: Dict[str, Optional[str]] = {it: None for it in tops}
+        left = deque(tops)
+        while left:
+            here = left.popleft()
+            for it in graph.get(here, ()):
+                if it not in self.before:
+                    self.before[it] = here
+                    left.append(it)
+
+    def path_to(self, finding: Finding) -> List[str]:
+        """The path to what is required, or to a package of which there is something to say. Nothing
+        leads to what isn't in the graph."""
+        last = finding.who or finding.place
+        if last not in self.before and not finding.who:
+            last = f"{finding.package} {finding.version}"
+        path = [last]
+        at = self.before.get(last)
+        while at is not None:
+            path.append(at)
+            at = self.before.get(at)
+        path.reverse()
+        return [*path, finding.dependency] if finding.who else path

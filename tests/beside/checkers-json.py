@@ -1,0 +1,92 @@
+"""Holds the JSON of check-lock-file against the schema in its manual: of all files of python/cases,
+also of those that are refused, of a directory without any, and of known findings that no longer
+apply.
+
+checkers-json.py CASES MANUAL KNOWN DIRECTORY
+"""
+
+import json
+import os
+import re
+import sys
+
+from semver_parser.checks.check_lock_file import PROGRAM
+from semver_parser.checks.files import Refusal
+from semver_parser.checks.program import Misuse, outcome_of
+
+# A line of the schema: a key, several that have the same type, and the type.
+LINE = re.compile(r"( *)([a-z_]+) +(objects|strings?\??|numbers?\??)(?: +\S.*)?")
+SIMPLE = {"string": str, "number": int}
+
+
+def schema_of(manual):
+    """The keys of the objects in the schema, by the ways to them, each with its type."""
+    block = re.search(r"^\.SS JSON\n.*?^\.EX\n(.*?)^\.EE", manual, re.M | re.S).group(1)
+    found, left = {}, []
+    for line in block.replace("\\-", "-").splitlines():
+        match = LINE.fullmatch(line)
+        if match is None:
+            assert line.startswith(" " * 20), line
+            continue
+        depth = len(match[1]) // 2
+        left[depth:] = [match[2]]
+        found[tuple(left)] = match[3]
+    return found
+
+
+def errors_in(value, schema, way, seen):
+    """What of an object isn't as the schema has it."""
+    keys = {it[-1] for it in schema if it[:-1] == way}
+    if list(value) != [it[-1] for it in schema if it[:-1] == way]:
+        yield f"{way}: {sorted(keys.symmetric_difference(value)) or 'another order'}"
+        return
+    for key, inner in value.items():
+        at, kind = (*way, key), schema[(*way, key)]
+        if inner is None and kind.endswith("?"):
+            continue
+        seen.add(at)
+        yield from errors_of(inner, kind.rstrip("?"), schema, at, seen)
+
+
+def errors_of(value, kind, schema, way, seen):
+    """What of a value isn't of a type."""
+    if kind == "objects":
+        for it in value:
+            yield from errors_in(it, schema, way, seen)
+    elif kind == "numbers":
+        is_right = isinstance(value, dict) and all(type(it) is int for it in value.values())
+        yield from () if is_right else [f"{way}: {value}"]
+    elif kind == "strings":
+        is_right = isinstance(value, list) and all(type(it) is str for it in value)
+        yield from () if is_right else [f"{way}: {value}"]
+    elif type(value) is not SIMPLE[kind]:
+        yield f"{way}: {value}"
+
+
+def outputs(cases, known, empty):
+    """The objects that the program prints of each file, and of all with known findings."""
+    options = ["--json", "--strict", "--why"]
+    files = [os.path.join(at, name) for at, _, names in os.walk(cases) for name in names]
+    named = [it for it in sorted(files) if re.search(r"\.(json|lock|lockb|yaml)$", it)]
+    for arguments in [*([it] for it in named), ["--allow", known, cases, empty]]:
+        try:
+            yield "\n".join(outcome_of(PROGRAM, [*options, *arguments]).lines)
+        except (Misuse, Refusal) as error:
+            sys.exit(f"{arguments}: {error}")
+
+
+def main(cases, manual, known, empty):
+    with open(manual, encoding="utf-8") as file:
+        schema = schema_of(file.read())
+    seen = set()
+    for number, text in enumerate(outputs(cases, known, empty), 1):
+        errors = list(errors_in(json.loads(text), schema, (), seen))
+        if errors:
+            sys.exit(f"{errors}\n{text[:2000]}")
+    unseen = sorted(set(schema) - seen)
+    if unseen:
+        sys.exit(f"no output has {unseen}")
+    print(f"JSON of {number} files: passed")
+
+
+main(*sys.argv[1:])
