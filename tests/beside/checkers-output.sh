@@ -118,7 +118,7 @@ why 1 monorepo/package-lock.json 'the project > lodash' 'packages/b > a'
 why 1 yarn/stale/yarn.lock 'the project > num' 'the project > tool' 'packages/a > c' 'packages/a > right' 'packages/b > a'
 why 1 pnpm/stale/pnpm-lock.yaml 'the project > num' 'the project > tool' 'packages/a > right' \
     'packages/a > right 1.4.0 > missing'
-why 1 cargo-lock/root/Cargo.lock 'app 0.1.0 > numbers'
+why 1 cargo-lock/root/Cargo.lock 'app 0.1.0 > below'
 $check --quiet --json --why cases/monorepo/package-lock.json > "$work/object" || :
 grep -A 3 '"path": \[' "$work/object" | tr -d ' \n' > "$work/output"
 printf '"path":["theproject","lodash"],--"path":["packages/b","a"],' | diff -u - "$work/output"
@@ -143,8 +143,9 @@ repaired deno/wrong/deno.lock 'deno install'
 repaired cargo-lock/no-source/Cargo.lock 'cargo update --workspace'
 echo 'checked 1 requirement of 1 package in Cargo.lock (Cargo)
 to repair Cargo.lock, run cargo update --workspace' > "$work/told"
-! has_toml || same 'how to repair a file here' 1 /dev/null "$work/lines" "$work/told" sh -c '
-    cd "$1" && "$2" Cargo.lock | sed "s|.*|$3|"; exit 1' - cases/monorepo/rust "$here/$check" "$(cat "$work/lines")"
+echo 'itoa 1.0.4 does not satisfy 1.0.10, required by app 0.1.0' > "$work/lines"
+! has_toml || same 'how to repair a file here' 1 /dev/null "$work/lines" "$work/told" \
+    sh -c 'cd cases/monorepo/rust && exec "$1" Cargo.lock' - "$here/$check"
 for name in yarn/resolution/yarn.lock nothing-wrong.json; do
     ! $check cases/$name 2>&1 > /dev/null | grep '^to repair' || exit 1
 done

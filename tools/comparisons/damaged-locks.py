@@ -25,8 +25,8 @@ from semver_parser.checks.files import Refusal  # noqa: E402
 from semver_parser.checks.program import Misuse, outcome_of  # noqa: E402
 
 MANIFESTS = ("package.json", "Cargo.toml", "pnpm-workspace.yaml", ".npmrc")
-FORMATS = ("text", "tsv", "json", "github")
-MAY_GIVE = ("--strict", "--no-dev", "--no-peers", "--quiet")
+FORMATS = ("text", "tsv", "json", "github", "sarif")
+MAY_GIVE = ("--strict", "--no-dev", "--no-peers", "--quiet", "--why", "--color=always")
 VALUES = (
     None, True, False, 0, -1, 1.5, 10**400, "", " ", "text", "*", "npm:", "npm:@", "workspace:^", "catalog:", "-", "$",
     "@", "1.0.0", "^1 || x", "\0", "\ud800", "a\nb", [], [1], ["a"], [[]], {}, {"": ""}, {"a": 1}, {".": "1"}, {"a": {"b": {}}},
