@@ -66,7 +66,7 @@ for it in run["results"]:
     place = location["physicalLocation"]
     line = place["region"]["startLine"]
     at = "" if line == 1 else f",line={line}"
-    file, text = place["artifactLocation"]["uri"], it["message"]["text"]
+    file, text = place["artifactLocation"]["uri"], it["message"]["text"].replace("%", "%25")
     print(f"::error file={file}{at}::{text}")' "$work/sarif" > "$work/lines"
 sed 's/,line=1::/::/' "$work/annotations" | diff -u - "$work/lines"
 grep -q '"not-checked"' "$work/sarif" && grep -q '"refused"' "$work/sarif"
@@ -117,7 +117,7 @@ why() {
 why 1 monorepo/package-lock.json 'the project > lodash' 'packages/b > a'
 why 1 yarn/stale/yarn.lock 'the project > num' 'the project > tool' 'packages/a > c' 'packages/a > right' 'packages/b > a'
 why 1 pnpm/stale/pnpm-lock.yaml 'the project > num' 'the project > tool' 'packages/a > right' \
-    'packages/a > right 1.4.0 > missing'
+    'the project > right 1.4.0 > missing'
 why 1 cargo-lock/root/Cargo.lock 'app 0.1.0 > below'
 $check --quiet --json --why cases/monorepo/package-lock.json > "$work/object" || :
 grep -A 3 '"path": \[' "$work/object" | tr -d ' \n' > "$work/output"
@@ -146,7 +146,7 @@ to repair Cargo.lock, run cargo update --workspace' > "$work/told"
 echo 'itoa 1.0.4 does not satisfy 1.0.10, required by app 0.1.0' > "$work/lines"
 ! has_toml || same 'how to repair a file here' 1 /dev/null "$work/lines" "$work/told" \
     sh -c 'cd cases/monorepo/rust && exec "$1" Cargo.lock' - "$here/$check"
-for name in yarn/resolution/yarn.lock nothing-wrong.json; do
+for name in cargo/made.json nothing-wrong.json; do
     ! $check cases/$name 2>&1 > /dev/null | grep '^to repair' || exit 1
 done
 $check cases/monorepo cases/cut-off.json 2>&1 > /dev/null | tail -n 1 > "$work/output" || :
@@ -159,14 +159,15 @@ echo 'sums: passed'
 # in_each_form TOLD FILE: a file that is refused, in each form.
 in_each_form() {
     echo "check-lock-file: $2: $1" > "$work/told"
-    for form in text tsv json github; do
+    for form in text tsv json github sarif; do
         status=0
         $check --format $form "$2" > "$work/output" 2> "$work/errors" || status=$?
         [ "$status" = 2 ] && diff -u "$work/told" "$work/errors"
         case $form in
         text | tsv) diff -u /dev/null "$work/output" ;;
-        json) grep -qxF "      \"error\": \"$2: $1\"," "$work/output" ;;
+        json) grep -qxF "      \"error\": \"$1\"," "$work/output" ;;
         github) echo "::error file=$2::$1" | diff -u - "$work/output" ;;
+        sarif) grep -qF "\"text\": \"$1\"" "$work/output" ;;
         esac
     done
     echo "$1, in each form: passed"
@@ -185,7 +186,7 @@ mkdir "$work/controls"
 printf '{"lockfileVersion": 3, "packages": {"": {"dependencies": {"a\302\233\177": "1\342\200\256", "\\u001b[2J": "\342\200\250"}}}}' \
     > "$work/controls/a$(printf '\302\233')"
 echo "b$(printf '\342\201\246') # known" > "$work/controls/known"
-for form in text tsv json github; do
+for form in text tsv json github sarif; do
     status=0
     (cd "$work/controls" && "$here/$check" --format $form --allow known a*) > "$work/output" 2> "$work/errors" || status=$?
     [ "$status" = 1 ] || exit 1

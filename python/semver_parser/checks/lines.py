@@ -110,6 +110,7 @@ def of_objects(text: bytes, wanted: Set[Keys]) -> Offsets:
     decoder = json.JSONDecoder()
     path: List[str] = []
     at = whole.find("{") + 1
+    counted, offset = 0, 0
     while True:
         found = NEXT.match(whole, at)
         assert found is not None
@@ -122,7 +123,9 @@ def of_objects(text: bytes, wanted: Set[Keys]) -> Offsets:
         key, end = decoder.raw_decode(whole, at - 1)
         keys = (*path, key)
         if keys in wanted:
-            yield keys, len(whole[:at].encode("utf-8"))
+            offset += len(whole[counted:at].encode("utf-8"))
+            counted = at
+            yield keys, offset
         colon = COLON.match(whole, end)
         assert colon is not None
         at = colon.end()
