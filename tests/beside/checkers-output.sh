@@ -87,6 +87,13 @@ annotated() {
 for name in version-1.json aliases.json yarn/keys/yarn.lock pnpm/wrong-6.yaml cargo-lock/wrong/Cargo.lock; do
     ! may_read "$name" || annotated "$name"
 done
+if has_yaml; then
+    printf '::error file=cases/pnpm/catalogs/%s::react %s required by %s\n' \
+        pnpm-workspace.yaml,line=4 '17.0.1 does not satisfy ^18.0.0,' catalog:default \
+        pnpm-workspace.yaml,line=7 '18.0.1 does not satisfy ^17.0.0,' catalog:old \
+        package.json,line=3 '17.0.1 does not satisfy ^18.0.0,' 'the project' > "$work/lines"
+    same 'annotations of catalogs' 1 /dev/null "$work/lines" /dev/null $check --quiet --format github cases/pnpm/catalogs
+fi
 # A key whose colon is on another line, and one that is there twice, so its line isn't sure.
 printf '%s\n' '{"lockfileVersion": 3, "packages": {"": {"dependencies": {"a": "2", "b": "2"}},' '"node_modules/a"' ':' \
     '{"version": "1.0.0"},' '"node_modules/b": {},' '"node_modules/b": {"version": "1.0.0"}}}' > "$work/lock"

@@ -22,6 +22,9 @@ from .npm.lock import ASKS_OF_TOPS
 
 CATALOG = "catalog:"
 
+# The key of a workspace of yarn 2 and later: its name and its directory.
+WORKSPACE = re.compile(rb'^"((?:@[^@/"\n]+/)?[^@"\n]+)@workspace:([^",\n]+)', re.M)
+
 # A head of a table of TOML, and a key at the beginning of a line.
 HEAD = re.compile(r"\[\s*([^\[\]]+?)\s*\]")
 KEY = re.compile(r"""(["']?)([A-Za-z0-9_-]+)\1\s*[.=]""")
@@ -60,6 +63,8 @@ class Paths:
     def __init__(self, tool: str, file: Input) -> None:
         self.tool, self.file = tool, file
         self.crates: Optional[Dict[str, str]] = None
+        named = WORKSPACE.findall(file.text) if tool == YARN else []
+        self.workspaces = {name.decode(): directory.decode() for name, directory in named}
 
     def manifest_for(self, finding: Finding) -> Optional[str]:
         """The manifest of what requires something, if that is of the project."""
@@ -72,9 +77,12 @@ class Paths:
             return os.path.join(folder, "pnpm-workspace.yaml")
         if self.tool not in (NPM, YARN, PNPM, BUN) or "node_modules" in requirer.split("/"):
             return None
+        if self.tool == YARN and finding.requirer_version:
+            return None
+        requirer = self.workspaces.get(requirer, requirer)
         if requirer == PROJECT:
             return None if self.file.named == STANDARD_INPUT else manifest_path(self.file)
-        return os.path.join(folder, requirer, "package.json")
+        return os.path.normpath(os.path.join(folder, requirer, "package.json"))
 
     def crate_at(self, folder: str, name: str) -> Optional[str]:
         """The Cargo.toml of the package of a name below a directory."""
