@@ -24,6 +24,9 @@ release-filter|--as|n|npm
 release-filter||--strip|--strip-prefix
 release-filter|^1|--hi|--highest
 check-lock-file|--format|js|json
+check-lock-file|--format|sa|sarif
+check-lock-file|--color|ne|never
+check-lock-file||--w|--why
 check-lock-file||--no-d|--no-dev
 compare-requirements||--js|--json
 END

@@ -18,8 +18,21 @@ SCHEMA = "https://json.schemastore.org/sarif-2.1.0.json"
 REFUSED, NO_LONGER_APPLIES = "refused", "no-longer-applies"
 
 # The rules by their names: the kinds of findings, a file that is refused, and a known finding that
-# is there no more.
+# is there no more; and what those say whose names don't.
 RULES = [*(it.value for it in Kind), REFUSED, NO_LONGER_APPLIES]
+DESCRIPTIONS = {
+    Kind.UNSATISFIED.value: "A version does not satisfy what is required",
+    Kind.OVERRIDDEN.value: "A version does not satisfy what an override requires",
+    Kind.ANOTHER_PACKAGE.value: "There is another package than is required",
+    Kind.ANOTHER_VERSION.value: "An entry has two versions",
+    Kind.INVALID_VERSION.value: "A version is invalid",
+    Kind.INVALID_RANGE.value: "A range is invalid",
+    Kind.MISSING.value: "A required package is missing",
+    Kind.NOT_REQUIRED.value: "Nothing requires a package",
+    Kind.NOT_CHECKED.value: "A requirement is not checked",
+    REFUSED: "A file cannot be checked",
+    NO_LONGER_APPLIES: "A known finding is there no more",
+}
 
 
 def lines(results: Results) -> Iterator[str]:
@@ -42,7 +55,7 @@ def lines(results: Results) -> Iterator[str]:
 
 def rule(name: str) -> Object:
     """A rule. What there is to say of one is in the manual."""
-    text = {"text": f"{name.replace('-', ' ').capitalize()}."}
+    text = {"text": DESCRIPTIONS.get(name, name.replace("-", " ").capitalize())}
     help_text = {"text": f"See {name} in the manual check-lock-file(1)."}
     return {"id": name, "shortDescription": text, "fullDescription": text, "help": help_text}
 
@@ -52,7 +65,7 @@ def all_results(results: Results) -> Iterator[Object]:
     for report in results.reports:
         for it in grouped(report.listed):
             path, line = report.position(it)
-            level = "note" if it.kind == Kind.NOT_CHECKED else "error"
+            level = "note" if it.is_strict else "error"
             yield result(it.kind.value, level, path, line, "\n".join(told(report, it)))
         error = error_of(report)
         if error is not None:
