@@ -332,6 +332,10 @@ in_refused() {
 }
 in_refused "check-lock-file: shut: it can't be read: Permission denied" $unprivileged "$here/$check"
 in_refused "check-lock-file: shut: it can't be read: Permission denied" $unprivileged "$here/$check" shut
+mkdir -p "$work/refused/yarn/shut" && echo '{"workspaces": ["shut"]}' > "$work/refused/yarn/package.json"
+echo '# yarn lockfile v1' > "$work/refused/yarn/yarn.lock" && chmod 0 "$work/refused/yarn/shut"
+in_refused "check-lock-file: yarn/shut/package.json: it can't be read: Permission denied" $unprivileged "$here/$check" yarn/yarn.lock
+chmod 700 "$work/refused/yarn/shut" && rm -r "$work/refused/yarn"
 git init -q "$work/refused"
 in_refused "check-lock-file: shut: it can't be read: Permission denied" $unprivileged "$here/$check"
 in_refused "check-lock-file: .: git doesn't list its files: fatal: detected dubious ownership in repository at\

@@ -1,6 +1,8 @@
 """Files, what they hold, and the shapes that they have to have."""
 
+import errno
 import json
+import os
 import re
 import sys
 from contextlib import contextmanager
@@ -14,6 +16,9 @@ STANDARD_INPUT = "-"
 
 # What git writes before one side of a conflict; a file of none of the notations has it.
 CONFLICT = re.compile(rb"(?:\A|\n)<<<<<<< ")
+
+# The errors of a path at which there is nothing.
+NOWHERE = (errno.ENOENT, errno.ENOTDIR, errno.ENAMETOOLONG)
 
 BYTE_ORDER_MARK = b"\xef\xbb\xbf"
 
@@ -63,6 +68,19 @@ def unmarked(text: bytes) -> bytes:
     if UTF_16.match(text):
         raise Unreadable("it is in UTF-16, not in UTF-8")
     return text.removeprefix(BYTE_ORDER_MARK)
+
+
+def is_there(path: str) -> bool:
+    """Whether there is something at a path. What can't be known is an error."""
+    try:
+        os.stat(path)
+    except ValueError:
+        return False
+    except OSError as error:
+        if error.errno not in NOWHERE:
+            raise
+        return False
+    return True
 
 
 @contextmanager

@@ -68,8 +68,8 @@ class Scope(NamedTuple):
 @dataclass
 class Tally:
     """How much of a file was looked at: its requirements, and how many were left out by the scope,
-    its packages, and the workspaces and links that were taken from the lock file; and what makes the
-    graph of its requirements."""
+    its packages, and the workspaces and links that were taken from the lock file; and what makes
+    the graph of its requirements."""
 
     requirements: int = 0
     left_out: int = 0

@@ -3,7 +3,16 @@
 import os
 from typing import Dict, Iterator, NamedTuple, Optional, Tuple
 
-from .files import Entry, bytes_of, json_object, list_at, taking, text_at, texts_at
+from .files import (
+    Entry,
+    bytes_of,
+    is_there,
+    json_object,
+    list_at,
+    taking,
+    text_at,
+    texts_at,
+)
 from .patterns import places_at
 
 MANIFEST = "package.json"
@@ -44,9 +53,9 @@ def needs_of(manifest: Entry, kinds: Tuple[str, ...] = KINDS) -> Iterator[Need]:
 def manifest_in(folder: str) -> Optional[Entry]:
     """The package.json in a folder, whose requirements are texts, if it is there."""
     path = os.path.join(folder, MANIFEST)
-    if not os.path.isfile(path):
-        return None
     with taking(path, MANIFEST):
+        if not is_there(path):
+            return None
         manifest = json_object(bytes_of(path))
         list(needs_of(manifest))
         return manifest

@@ -1,4 +1,4 @@
-"""The shortest paths from a project to what requires something, for those who ask why it is there."""
+"""The shortest paths from a project to what requires something: why it is there."""
 
 from collections import deque
 from typing import Dict, List, Optional

@@ -18,8 +18,8 @@ OWN = {"path", "link", "workspace"}
 @dataclass
 class Report:
     """A lock file, the tool that wrote it, what there is to say of it, what of that is listed, and
-    how much is allowed, how much was looked at, the lines of its entries, those of manifests and the
-    paths from the project if they were looked for, and why it is refused, if it is."""
+    how much is allowed, how much was looked at, the lines of its entries, those of manifests and
+    the paths from the project if they were looked for, and why it is refused, if it is."""
 
     path: str
     tool: str = ""
@@ -89,7 +89,7 @@ class Results(NamedTuple):
 
 
 class Wanted(NamedTuple):
-    """What of findings is wanted: those of which requirements, lines, and paths from the project."""
+    """What is wanted of findings: of which requirements, lines, and paths from the project."""
 
     scope: Scope
     has_lines: bool = False

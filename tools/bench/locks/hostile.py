@@ -12,7 +12,7 @@ Made = Tuple[Path, int]
 
 def write_npm(folder: Path, overrides: Dict[str, str], packages: Dict[str, Any]) -> Path:
     """Writes a package-lock.json beside a package.json with overrides. Its path."""
-    own = {"name": "project", "version": "1.0.0", **packages.pop("")}
+    own: Dict[str, Any] = {"name": "project", "version": "1.0.0", **packages.pop("")}
     manifest = {**own, "overrides": overrides}
     lock = {"lockfileVersion": 3, "packages": {"": own, **packages}}
     (folder / "package.json").write_text(json.dumps(manifest))

@@ -1,7 +1,7 @@
-"""Times check-lock-file on large lock files that it makes, and prints tables: for each checkout that
-is named the seconds of the processor in the best of three runs, and the most memory of these. In the
-files of the first table nothing is wrong; in those of the second one some versions are, which each
-format lists; and those of the third are made to take long.
+"""Times check-lock-file on large lock files that it makes, and prints tables: for each checkout
+that is named the seconds of the processor in the best of three runs, and the most memory of these.
+In the files of the first table nothing is wrong; in those of the second one some versions are, which
+each format lists; and those of the third are made to take long.
 
 usage: measure.py CHECKOUT..
 """
@@ -107,7 +107,7 @@ CHANGES = {
     "Cargo.lock": ("Cargo.toml", rb'(-[0-9]+ = ")[^"]+'),
     "metadata.json": ("metadata.json", rb'("req":")[^"]+'),
 }
-FORMATS = ("text", "tsv", "json", "github")
+FORMATS = ("text", "tsv", "json", "github", "sarif")
 
 
 def change(path: Path) -> None:
@@ -117,7 +117,9 @@ def change(path: Path) -> None:
     changed.write_bytes(re.sub(pattern, rb"\g<1>0.0.1", changed.read_bytes(), count=10))
 
 
-def run(program: str, path: Path, options: Sequence[str] = (), wanted: int = 0) -> Tuple[float, float]:
+def run(
+    program: str, path: Path, options: Sequence[str] = (), wanted: int = 0
+) -> Tuple[float, float]:
     """The seconds of the processor and the megabytes that one run of a program takes, which has to
     list nothing, or something."""
     command = [program, *options, str(path)]

@@ -120,8 +120,8 @@ def names_in(rule: Rule) -> Set[str]:
 
 
 def rules_named(name: str, here: Rule, wanted: str) -> Iterator[Rule]:
-    """The rules of a name that hold where a rule does, the innermost first, and that may be for what
-    is asked for."""
+    """The rules of a name that hold where a rule does, the innermost first, and that may be for
+    what is asked for."""
     at: Optional[Rule] = here
     while at is not None:
         yield from at.perhaps_for(name, wanted)
