@@ -12,8 +12,9 @@
 # the node-semver of npm, and tools/measure-speed.sh js the JavaScript package, which needs what
 # rust/wasm/build.sh does; tools/measure-speed.sh c times functions of the C library beside the crate
 # semver, and finds how much memory they take, by cc; tools/measure-speed.sh locks [CHECKOUT].. times
-# check-lock-file on large lock files that it makes, here and as other checkouts have it, over the
-# library of this one, and needs python3 with PyYAML alone. tools/measure-speed.sh plot draws
+# check-lock-file on large lock files that it makes, by format where something is wrong, and on some
+# that are made to take long, here and as other checkouts have it, over the library of this one, and
+# needs python3 with PyYAML alone. tools/measure-speed.sh plot draws
 # docs/ratios.svg and docs/growth.svg from the tables of docs/SPEED.md, by gnuplot, and measures
 # nothing. But for locks it needs cargo and Debian's packages librust-semver-parser-dev and
 # librust-semver-dev, for growth valgrind too. It stands outside the gate.

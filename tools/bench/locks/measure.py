@@ -1,7 +1,7 @@
 """Times check-lock-file on large lock files that it makes, and prints tables: for each checkout
 that is named the seconds of the processor in the best of three runs, and the most memory of these.
-In the files of the first table nothing is wrong; in those of the second one some versions are, which
-each format lists; and those of the third are made to take long.
+In the files of the first table nothing is wrong; in those of the second one some versions are,
+which each format lists; and those of the third are made to take long.
 
 usage: measure.py CHECKOUT..
 """
@@ -13,7 +13,7 @@ import sys
 import tempfile
 from multiprocessing import Pool
 from pathlib import Path
-from typing import Callable, Iterable, List, NamedTuple, Sequence, Tuple
+from typing import Callable, Iterable, List, NamedTuple, Optional, Sequence, Tuple
 
 import files
 import hostile
@@ -119,15 +119,17 @@ def change(path: Path) -> None:
 
 def run(
     program: str, path: Path, options: Sequence[str] = (), wanted: int = 0
-) -> Tuple[float, float]:
+) -> Optional[Tuple[float, float]]:
     """The seconds of the processor and the megabytes that one run of a program takes, which has to
-    list nothing, or something."""
+    list nothing, or something; None of one that doesn't have the options."""
     command = [program, *options, str(path)]
     child = subprocess.Popen(command, stdout=subprocess.PIPE, stderr=subprocess.DEVNULL)
     assert child.stdout is not None
     listed = child.stdout.read()
     _, status, usage = os.wait4(child.pid, 0)
     seconds = usage.ru_utime + usage.ru_stime
+    if options and os.waitstatus_to_exitcode(status) == 2:
+        return None
     if os.waitstatus_to_exitcode(status) != wanted or bool(listed) != bool(wanted):
         sys.exit(f"{program} {path.name}: status {status}: {listed[:300].decode()}")
     return seconds, usage.ru_maxrss / 1000
@@ -135,7 +137,9 @@ def run(
 
 def cells_of(program: str, path: Path, options: Sequence[str] = (), wanted: int = 0) -> str:
     """The cells of a program: the seconds of its best run, and the most megabytes."""
-    runs = [run(program, path, options, wanted) for _ in range(RUNS)]
+    runs = [it for _ in range(RUNS) if (it := run(program, path, options, wanted)) is not None]
+    if not runs:
+        return " - | - |"
     seconds, megabytes = min(it[0] for it in runs), max(it[1] for it in runs)
     return f" {seconds:.1f} | {megabytes:,.0f} |"
 
