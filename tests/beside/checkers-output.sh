@@ -40,7 +40,7 @@ echo 'what else an entry has, in JSON: passed'
 
 mkdir "$work/no-lock"
 echo 'cases/empty/yarn.lock: gone # known' > "$work/known"
-PYTHONPATH=. python3 "$top/tests/beside/checkers-json.py" cases "$top/man/check-lock-file.1" "$work/known" "$work/no-lock" ||
+PYTHONPATH=. python3 "$top/tests/beside/checkers-json.py" cases "$top/docs/man/check-lock-file.1" "$work/known" "$work/no-lock" ||
     exit 1
 
 # SARIF: what GitHub requires of it, and the same findings at the same lines as annotations.
