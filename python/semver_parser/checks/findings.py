@@ -21,6 +21,7 @@ class Kind(str, Enum):
     OVERRIDDEN = "overridden"
     ANOTHER_PACKAGE = "another-package"
     ANOTHER_VERSION = "another-version"
+    ANOTHER_SOURCE = "another-source"
     INVALID_VERSION = "invalid-version"
     INVALID_RANGE = "invalid-range"
     MISSING = "missing"

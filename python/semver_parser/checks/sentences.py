@@ -44,10 +44,15 @@ def sentence(it: Finding, paint: Paint = plain) -> str:
 def of_package(it: Finding, found: str, wanted: str) -> str:
     """What there is to say of a package by itself."""
     if it.kind == Kind.MISSING:
-        return f"{found} is missing, a member of the workspace"
+        return f"{found} is missing, {it.reason or 'a member of the workspace'}"
+    if it.kind == Kind.NOT_REQUIRED:
+        return f"{found} is there, but nothing requires it"
+    if it.kind == Kind.ANOTHER_SOURCE:
+        return f"{found} comes from another source than the patch {wanted}"
     where = "" if it.package in ("", it.place) else f", in {place_of(it.place)}"
     if it.kind == Kind.ANOTHER_VERSION:
-        return f"{found} does not match {wanted} of the same entry{where}"
+        of_what = f"its {it.reason}" if it.reason else "the same entry"
+        return f"{found} does not match {wanted} of {of_what}{where}"
     return f"{found} has an invalid version{where}"
 
 
@@ -64,6 +69,8 @@ def of_requirement(it: Finding, package: str, found: str, wanted: str) -> str:
         return f"{found} does not satisfy the override {wanted}, {required}"
     if it.kind == Kind.ANOTHER_PACKAGE:
         return f"{found} is not the package of {wanted}, {required}"
+    if it.kind == Kind.ANOTHER_SOURCE:
+        return f"{found} comes from another source than {wanted}, {required}"
     if it.kind == Kind.INVALID_VERSION:
         return f"{package} has no version for {wanted}, {required}"
     if it.kind == Kind.INVALID_RANGE:

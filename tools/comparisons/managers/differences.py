@@ -3,6 +3,7 @@
 import json
 import os
 import sys
+from pathlib import Path
 from typing import Any, Dict, List, NamedTuple, Set, Tuple
 
 TOP = os.path.dirname(os.path.dirname(os.path.dirname(os.path.dirname(os.path.abspath(__file__)))))
@@ -35,6 +36,12 @@ def found_in(path: str, is_strict: bool = False) -> Found:
         elif it.kind != Kind.NOT_CHECKED:
             others.append(it)
     return Found(edges, others)
+
+
+def is_refused(path: Path) -> bool:
+    """Whether the checker refuses a lock file, or lists something."""
+    report = report_on(str(path), None, Scope(), False)
+    return report.refusal is not None or any(not it.is_strict for it in report.findings)
 
 
 class Differences:

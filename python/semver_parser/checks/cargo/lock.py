@@ -1,131 +1,146 @@
-"""The findings of a `Cargo.lock` beside its manifests.
+"""The findings of a `Cargo.lock` beside its manifests: whether Cargo would leave it as it is.
 
-WHO ASKS. The members of the workspace, whose `Cargo.toml` files are beside it. What the other
-packages ask for isn't in such a file: `cargo metadata --format-version 1` writes it.
+WHO ASKS. The members of the workspace, and the packages that they have by paths, whose `Cargo.toml`
+files are there. What the other packages ask for isn't in such a file: `cargo metadata
+--format-version 1` writes it.
 
-WHAT IS FOUND. The packages of the name that the lock file has for the member. If a member asks for
-one name by several requirements, each has to be met by one of them.
+WHAT IS FOUND. Of the packages that the lock file has for a package the first that is what is asked
+for: by its name, its version, and its source or a patch of that. What is there for nothing that is
+asked for is listed, and so is each package to which nothing leads.
 """
 
-from typing import Dict, Iterator, List, NamedTuple, Optional
+from typing import Iterator, List, Optional
 
 from semver_parser import Dialect
 
-from ..files import Entry, WrongShape, list_at, object_at, text_at
+from ..files import Entry, WrongShape
 from ..findings import Finding, Keys, Kind, Scope, Tally
-from ..satisfaction import is_met, is_version
+from ..satisfaction import is_version
 from .graph import graph_of
-from .manifests import Manifest, Need, manifests_at
+from .manifests import MANIFEST, Manifest, Need
+from .packages import Package, lock_of
+from .patches import of_package, of_patches
+from .project import Project
+from .resolution import Match, Resolution
 
 
-class Package(NamedTuple):
-    """A package of a lock file, whether it has a source, as one of a registry or of git, and the
-    names and versions that it depends on."""
-
-    name: str
-    version: str
-    has_source: bool
-    depends: List[str]
-
-
-def packages_of(lock: Entry) -> List[Package]:
-    """The packages of a lock file, in its order."""
-    found = []
-    # Cargo.lock files of before 2017 have the package itself in a table of its own.
-    own = [lock["root"]] if "root" in lock else []
-    for value in (*own, *list_at(lock.get("package", []), "package")):
-        entry = object_at(value, "package")
-        name = text_at(entry.get("name"), "package: name")
-        depends = list_at(entry.get("dependencies", []), f"{name}: dependencies")
-        found.append(
-            Package(
-                name,
-                text_at(entry.get("version"), f"{name}: version"),
-                "source" in entry,
-                [text_at(it, f"{name}: dependencies") for it in depends],
-            )
-        )
-    return found
-
-
-def versions_for(member: Package, name: str, by_name: Dict[str, List[str]]) -> List[str]:
-    """The versions of a name that a member depends on. A lock file has `NAME` if it has one package
-    of that name, and else `NAME VERSION`, and perhaps a source after that."""
-    versions = []
-    for text in member.depends:
-        parts = text.split(" ")
-        if parts[0] == name:
-            versions += [parts[1]] if len(parts) > 1 else by_name.get(name, [])
-    return versions
-
-
-def of_need(member: Package, need: Need, by_name: Dict[str, List[str]]) -> Iterator[Finding]:
-    """What there is to say of what a member asks for."""
-    at = keys_of(member.name, member.version)
-    finding = Finding(Kind.MISSING, need.requirement, "", member.name, need.name, at=at)
-    finding = finding._replace(alias=need.other_name or "", requirer_version=member.version)
-    versions = versions_for(member, need.name, by_name)
-    if not versions:
-        yield finding
-        return
-    if need.requirement == "*" and not need.has_registry:
-        return
-    verdicts = [is_met(need.requirement, version, Dialect.CARGO) for version in versions]
-    if True not in verdicts:
-        for version, met in zip(versions, verdicts):
-            kind = Kind.INVALID_RANGE if met is None else Kind.UNSATISFIED
-            at = keys_of(need.name, version)
-            yield finding._replace(kind=kind, version=version, package=need.name, at=at)
-
-
-def member_of(manifest: Manifest, packages: List[Package]) -> Optional[Package]:
-    """The package of a lock file that a manifest is of. That has no source."""
-    for package in packages:
-        is_of_path = package.name == manifest.name and not package.has_source
-        if is_of_path and manifest.version in (None, package.version):
-            return package
-    return None
-
-
-def keys_of(name: str, version: str) -> Keys:
+def keys_of(package: Package) -> Keys:
     """What leads to a package in the file."""
-    return "package", name, version
+    return "package", package.name, package.version
 
 
-def of_package(package: Package, kind: Kind) -> Finding:
-    """What there is to say of a package."""
-    name, version = package.name, package.version
-    at = keys_of(name, version)
-    return Finding(kind, "", version, package=name, place=name, at=at)
+def required(package: Package, kind: Kind, name: str) -> Finding:
+    """What there is to say of what a package depends on."""
+    finding = Finding(kind, "", "", package.name, name, at=keys_of(package))
+    return finding._replace(requirer_version=package.version)
+
+
+# ---- one package
+
+
+def of_versions(resolution: Resolution) -> Iterator[Finding]:
+    """What there is to say of the versions of the packages, by themselves."""
+    for package in (*resolution.lock.packages, *resolution.lock.unused):
+        if not is_version(package.version, Dialect.CARGO):
+            yield of_package(package, Kind.INVALID_VERSION)
+        elif package.folder and resolution.version_of(package) != package.version:
+            finding = of_package(package, Kind.ANOTHER_VERSION)
+            yield finding._replace(range=resolution.version_of(package), reason=MANIFEST)
+
+
+def of_need(need: Need, package: Package, resolution: Resolution) -> Iterator[Finding]:
+    """What there is to say of what a package asks for, for which nothing is there."""
+    finding = required(package, Kind.MISSING, need.name)
+    finding = finding._replace(range=need.requirement, alias=need.other_name or "")
+    others = [it for it in candidates(need, package, resolution) if not it.is_gone]
+    gone = [it for it in candidates(need, package, resolution) if it.is_gone]
+    if not others and not gone:
+        yield finding
+    for other in [*others, *gone]:
+        met = resolution.is_met(need, other)
+        kind = Kind.INVALID_RANGE if met is None else Kind.UNSATISFIED
+        found = finding._replace(version=other.version, package=other.name, at=keys_of(other))
+        if met:
+            kind, found = Kind.ANOTHER_SOURCE, found._replace(range=need.source.text)
+        yield found._replace(kind=kind)
+
+
+def candidates(need: Need, package: Package, resolution: Resolution) -> List[Package]:
+    """The packages of the name that a package depends on in the lock file, also one that Cargo
+    ignores."""
+    edges = [it for it in resolution.edges_of(package) if it.name == need.name]
+    ignored = [it for it in resolution.lock.packages if it.is_gone and it.name == need.name]
+    return [it.to for it in edges if it.to is not None] or (ignored if edges else [])
+
+
+def of_manifest(
+    manifest: Manifest, resolution: Resolution, tally: Tally, scope: Scope
+) -> Iterator[Finding]:
+    """What there is to say of a package whose manifest is there."""
+    package = resolution.entry_of(manifest)
+    if package is None:
+        name = manifest.name or ""
+        yield Finding(Kind.MISSING, "", manifest.version, package=name, place=name)
+        return
+    matches = list(resolution.matches_of(manifest))
+    for match in matches:
+        if not match.is_active:
+            continue
+        if match.need.is_development and not scope.has_development:
+            tally.left_out += 1
+            continue
+        tally.requirements += 1
+        if match.found is None:
+            yield from of_need(match.need, package, resolution)
+    yield from of_edges(package, matches, resolution)
+
+
+def of_edges(
+    package: Package, matches: List[Match], resolution: Resolution
+) -> Iterator[Finding]:
+    """What there is to say of what a package depends on in the lock file, and no manifest asks
+    for."""
+    used = {it.found.key for it in matches if it.found is not None}
+    unmet = {it.need.name for it in matches if it.found is None and it.is_active}
+    for edge in resolution.edges_of(package):
+        if edge.to is not None and edge.to.key not in used and edge.name not in unmet:
+            finding = required(package, Kind.NOT_REQUIRED, edge.name)
+            yield finding._replace(version=edge.to.version, package=edge.name)
+
+
+def of_lost(resolution: Resolution) -> Iterator[Finding]:
+    """What there is to say of what the packages whose manifests aren't there depend on, where that
+    isn't there."""
+    for package in resolution.lock.packages:
+        if package.folder is None and package.key in resolution.reached:
+            for edge in resolution.edges_of(package):
+                if edge.to is None:
+                    finding = required(package, Kind.MISSING, edge.name)
+                    yield finding._replace(range=edge.version or "*")
+
+
+def of_unreached(resolution: Resolution) -> Iterator[Finding]:
+    """What there is to say of the packages to which nothing leads."""
+    for package in resolution.lock.packages:
+        if package.key not in resolution.reached and not package.is_gone:
+            yield of_package(package, Kind.NOT_REQUIRED)
 
 
 def findings(
     lock: Entry, folder: Optional[str], tally: Tally, scope: Scope
 ) -> Iterator[Finding]:
     """What there is to say of a lock file beside the manifests of a folder: first of its versions,
-    and then of what each member asks for."""
+    then of what each package asks for whose manifest is there, of the patches, and of what the other
+    packages depend on. If all of that is right, a package to which nothing leads is wrong."""
     if folder is None:
         raise WrongShape(" beside a Cargo.toml: name the file")
-    packages = packages_of(lock)
+    project = Project(folder)
+    resolution = Resolution(lock_of(lock, project.place), project)
+    members = sum(resolution.entry_of(it) is not None for it in project.members)
+    tally.packages += len(resolution.lock.packages) - members
     tally.graph = lambda: graph_of(lock)
-    tally.packages += len(packages)
-    by_name: Dict[str, List[str]] = {}
-    for package in packages:
-        by_name.setdefault(package.name, []).append(package.version)
-        if not is_version(package.version, Dialect.CARGO):
-            yield of_package(package, Kind.INVALID_VERSION)
-    for manifest in manifests_at(folder):
-        if manifest.name is None:
-            continue
-        member = member_of(manifest, packages)
-        if member is None:
-            version, name = manifest.version or "", manifest.name
-            yield Finding(Kind.MISSING, "", version, package=name, place=name)
-            continue
-        tally.packages -= 1
-        for need in manifest.needs:
-            if need.is_development and not scope.has_development:
-                tally.left_out += 1
-                continue
-            tally.requirements += 1
-            yield from of_need(member, need, by_name)
+    found = [*of_versions(resolution)]
+    for manifest in resolution.manifests():
+        found += of_manifest(manifest, resolution, tally, scope)
+    found += [*of_patches(resolution), *of_lost(resolution)]
+    yield from found or of_unreached(resolution)

@@ -1,10 +1,10 @@
-"""What Cargo.toml files ask for: those of a workspace and of its members."""
+"""What a Cargo.toml asks for: a package, and what a workspace has for its members."""
 
 import os
-from glob import escape, glob
 from typing import Any, Dict, Iterator, List, NamedTuple, Optional, Tuple
 
 from ..files import Entry, WrongShape, bytes_of, list_at, object_at, taking, text_at, toml_object
+from .sources import CRATES_IO, Source, source_of
 
 KINDS = ("dependencies", "dev-dependencies", "build-dependencies")
 MANIFEST = "Cargo.toml"
@@ -14,18 +14,30 @@ INHERITED = "workspace = true"
 
 SOURCES = ("path", "git", "branch", "tag", "rev", "registry", "registry-index")
 
+# The version that Cargo takes for a package without one.
+NO_VERSION = "0.0.0"
+
 
 class Need(NamedTuple):
     """What a manifest asks for: the name of the package, the name that it is given, if another, the
     requirement, whether that is of a registry or of a path or git alone, the table that it is in,
-    and where the package is to be taken from, if told."""
+    where the package is to be taken from, as stated and as it is, whether it is optional, and which
+    features it is to have."""
 
     name: str
     other_name: Optional[str]
     requirement: str
     has_registry: bool
     table: str
-    source: str = ""
+    stated_source: str = ""
+    source: Source = CRATES_IO
+    is_optional: bool = False
+    features: Tuple[str, ...] = ()
+
+    @property
+    def key(self) -> str:
+        """The name by which the manifest knows the package."""
+        return self.other_name or self.name
 
     @property
     def is_development(self) -> bool:
@@ -34,12 +46,25 @@ class Need(NamedTuple):
 
 
 class Manifest(NamedTuple):
-    """The name and the version of a package, and what it asks for. Without a name it is that of a
-    workspace alone."""
+    """The directory, the name and the version of a package, what it asks for, and its features.
+    Without a name it is that of a workspace alone."""
 
+    folder: str
     name: Optional[str]
-    version: Optional[str]
+    version: str
     needs: List[Need]
+    features: Dict[str, List[str]]
+
+
+class Inherited(NamedTuple):
+    """What a workspace has for its members, and its directory."""
+
+    folder: str
+    dependencies: Entry
+    package: Entry
+
+
+NOTHING_INHERITED = Inherited("", {}, {})
 
 
 def tables_of(manifest: Entry) -> Iterator[Tuple[str, Entry]]:
@@ -61,25 +86,48 @@ def patches_of(manifest: Entry) -> Iterator[Tuple[str, Entry]]:
         yield "replace", object_at(manifest["replace"], "replace")
 
 
-def need_of(key: str, value: Any, table: str, inherited: Entry) -> Need:
+def need_of(
+    key: str, value: Any, table: str, inherited: Inherited = NOTHING_INHERITED, folder: str = ""
+) -> Need:
     """A dependency of a table: a requirement, or a table of its own, which may take that of the
     workspace."""
     where = f"{table}: {key}"
     if isinstance(value, str):
-        return Need(key, None, value, True, table)
+        return Need(key, None, value, True, table, features=("default",))
     entry = object_at(value, where)
     if entry.get("workspace") is True:
-        if key not in inherited:
+        if key not in inherited.dependencies:
             raise WrongShape(f": {where} isn't one of the workspace's dependencies")
-        return need_of(key, inherited[key], table, {})
+        need = need_of(key, inherited.dependencies[key], table, folder=inherited.folder)
+        features = (*need.features, *features_in(entry, where, False))
+        return need._replace(is_optional=entry.get("optional") is True, features=features)
     package = text_at(entry.get("package", key), f"{where}: package")
     requirement = text_at(entry.get("version", "*"), f"{where}: version")
     has_registry = "version" in entry or not ("path" in entry or "git" in entry)
-    source = ", ".join(
+    stated = ", ".join(
         f'{it} = "{text_at(entry[it], f"{where}: {it}")}"' for it in SOURCES if it in entry
     )
-    other_name = key if package != key else None
-    return Need(package, other_name, requirement, has_registry, table, source)
+    return Need(
+        package,
+        key if package != key else None,
+        requirement,
+        has_registry,
+        table,
+        stated,
+        source_of(entry, folder),
+        entry.get("optional") is True,
+        features_in(entry, where, True),
+    )
+
+
+def features_in(entry: Entry, where: str, has_default: bool) -> Tuple[str, ...]:
+    """The features that a dependency is to have, where that of the name `default` is one unless
+    the manifest says otherwise, or is only if the manifest says so."""
+    for spelled in ("default-features", "default_features"):
+        has_default = bool(entry.get(spelled, has_default))
+    features = list_at(entry.get("features", []), f"{where}: features")
+    own = (text_at(it, f"{where}: features") for it in features)
+    return (*own, "default") if has_default else tuple(own)
 
 
 def package_of(manifest: Entry) -> Entry:
@@ -97,126 +145,37 @@ def workspace_table(manifest: Entry) -> Entry:
     return object_at(workspace_of(manifest).get("dependencies", {}), "workspace: dependencies")
 
 
-def manifest_of(entry: Entry, inherited: Entry, of_package: Entry) -> Manifest:
+def inherited_of(manifest: Entry, folder: str) -> Inherited:
+    """What a workspace's manifest has for the members."""
+    package = object_at(workspace_of(manifest).get("package", {}), "workspace: package")
+    return Inherited(folder, workspace_table(manifest), package)
+
+
+def manifest_of(entry: Entry, inherited: Inherited, folder: str) -> Manifest:
     """A manifest, whose dependencies and version may be those of the workspace."""
     package = package_of(entry)
     version = package.get("version")
     if isinstance(version, dict) and version.get("workspace") is True:
-        version = of_package.get("version")
+        version = inherited.package.get("version")
     needs = [
-        need_of(key, value, table, inherited)
+        need_of(key, value, table, inherited, folder)
         for table, values in tables_of(entry)
         for key, value in values.items()
     ]
     name = text_at(package["name"], "package: name") if "name" in package else None
-    return Manifest(name, version if isinstance(version, str) else None, needs)
+    features = object_at(entry.get("features", {}), "features")
+    named = {
+        key: [text_at(it, f"features: {key}") for it in list_at(value, f"features: {key}")]
+        for key, value in features.items()
+    }
+    version = version if isinstance(version, str) else NO_VERSION
+    return Manifest(os.path.abspath(folder), name, version, needs, named)
 
 
 def read(path: str) -> Entry:
     """What a Cargo.toml has."""
     with taking(path, MANIFEST):
         return toml_object(bytes_of(path))
-
-
-def manifests_at(folder: str) -> Iterator[Manifest]:
-    """The manifests of the workspace or the package in a folder."""
-    top = read(os.path.join(folder, MANIFEST))
-    with taking(os.path.join(folder, MANIFEST), MANIFEST):
-        of_package = object_at(workspace_of(top).get("package", {}), "workspace: package")
-        inherited = workspace_table(top)
-        entries = entries_of(folder, top)
-    for path, entry in entries.items():
-        with taking(os.path.join(path, MANIFEST), MANIFEST):
-            yield manifest_of(entry, inherited, of_package)
-
-
-# ---- the members of a workspace
-
-
-def entries_of(folder: str, top: Entry) -> Dict[str, Entry]:
-    """The manifests of a workspace or a package by their folders. Members are the packages that a
-    workspace names, and those that a member has by a path inside the folder, or elsewhere if their
-    manifest names the workspace, but for what is excluded."""
-    root = os.path.normpath(folder or ".")
-    found = {root: top}
-    if "workspace" not in top:
-        return found
-    named = list(named_by(folder, top))
-    left = [*named, *paths_of(root, top, root, top)]
-    for path in left:
-        if path in found or is_excluded(path, folder, top):
-            continue
-        entry = read(os.path.join(path, MANIFEST))
-        with taking(os.path.join(path, MANIFEST), MANIFEST):
-            if path in named or is_inside(path, root) or names_workspace(path, entry, root):
-                found[path] = entry
-                left += paths_of(path, entry, root, top)
-    return found
-
-
-def names_workspace(path: str, entry: Entry, root: str) -> bool:
-    """Whether the manifest of a package names the workspace of a folder as its own."""
-    named = package_of(entry).get("workspace")
-    if not isinstance(named, str):
-        return False
-    return os.path.abspath(os.path.join(path, named)) == os.path.abspath(root)
-
-
-def texts_of(top: Entry, key: str) -> List[str]:
-    """A list of paths that a workspace has."""
-    where = f"workspace: {key}"
-    return [text_at(it, where) for it in list_at(workspace_of(top).get(key, []), where)]
-
-
-def named_by(folder: str, top: Entry) -> Iterator[str]:
-    """The folders that a workspace names as its members. A pattern that finds nothing names itself,
-    and one that ends in `**` finds what is below, as Cargo has it."""
-    for text in texts_of(top, "members"):
-        pattern = os.path.join(escape(folder), f"{text}/*" if text.endswith("**") else text)
-        # Python's glob refuses a zero byte, which no file has in its name.
-        found = [] if "\0" in pattern else glob(pattern, recursive=True, include_hidden=True)
-        paths = sorted(found)
-        for path in paths or [os.path.join(folder, text)]:
-            if os.path.isdir(path) or not paths:
-                yield os.path.normpath(path)
-
-
-def parts_of(folder: str, path: str) -> List[str]:
-    """The parts of a path that begins at a folder, by which Cargo compares paths: `..` is one."""
-    whole = os.path.join(os.path.abspath(folder), path)
-    return [part for part in whole.split("/") if part not in ("", ".")]
-
-
-def is_excluded(path: str, folder: str, top: Entry) -> bool:
-    """Whether a package is at or below a folder that a workspace excludes, and at or below none
-    that it names as a member without a pattern."""
-    parts = parts_of(path, "")
-
-    def is_within(key: str) -> bool:
-        outer = [parts_of(folder, text) for text in texts_of(top, key)]
-        return any(parts[: len(it)] == it for it in outer)
-
-    return is_within("exclude") and not is_within("members")
-
-
-def paths_of(folder: str, entry: Entry, root: str, top: Entry) -> Iterator[str]:
-    """The folders of the packages that a manifest has by a path, its own or the workspace's."""
-    inherited = workspace_table(top)
-    for _, values in tables_of(entry):
-        for key, value in values.items():
-            is_inherited = isinstance(value, dict) and value.get("workspace") is True
-            at, own = (root, inherited.get(key)) if is_inherited else (folder, value)
-            if isinstance(own, dict) and isinstance(own.get("path"), str):
-                yield os.path.normpath(os.path.join(at, own["path"]))
-
-
-def is_inside(path: str, folder: str) -> bool:
-    """Whether a path is inside a folder."""
-    top = os.path.abspath(folder)
-    return os.path.commonpath([top, os.path.abspath(path)]) == top
-
-
-# ---- what one manifest asks for
 
 
 def by_table(entry: Entry) -> Dict[Tuple[str, str], Need]:
@@ -226,13 +185,13 @@ def by_table(entry: Entry) -> Dict[Tuple[str, str], Need]:
     package_of(entry)
     if not {"package", "workspace", "target", "patch", "replace", *KINDS}.intersection(entry):
         raise WrongShape("")
-    inherited = workspace_table(entry)
+    inherited = inherited_of(entry, "")
     found: Dict[Tuple[str, str], Need] = {}
-    of_workspace = ("workspace.dependencies", inherited)
+    of_workspace = ("workspace.dependencies", inherited.dependencies)
     for table, values in (*tables_of(entry), of_workspace, *patches_of(entry)):
         for key, value in values.items():
             is_elsewhere = isinstance(value, dict) and value.get("workspace") is True
-            if is_elsewhere and key not in inherited:
+            if is_elsewhere and key not in inherited.dependencies:
                 found[table, key] = Need(key, None, "*", False, table, INHERITED)
             else:
                 found[table, key] = need_of(key, value, table, inherited)

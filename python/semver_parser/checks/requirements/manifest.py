@@ -85,8 +85,8 @@ def of_cargo(need: Need) -> Requirement:
     """A requirement of a Cargo.toml."""
     wanted = need.requirement if need.has_registry else None
     package = f'package = "{need.name}"' if need.other_name is not None else ""
-    text = ", ".join(filter(None, (wanted, package, need.source)))
-    return Requirement(text, need.name, need.source, wanted)
+    text = ", ".join(filter(None, (wanted, package, need.stated_source)))
+    return Requirement(text, need.name, need.stated_source, wanted)
 
 
 def of_npm(name: str, spec: str) -> Requirement:

@@ -1,0 +1,42 @@
+"""Which optional dependencies the features of a package ask for, as Cargo's lock file has them."""
+
+from typing import Dict, List, Set
+
+from .manifests import Manifest
+
+
+def features_of(manifest: Manifest) -> Dict[str, List[str]]:
+    """The features of a package: its own, and one for each optional dependency that no feature has
+    after `dep:`."""
+    optional = {need.key for need in manifest.needs if need.is_optional}
+    values = [it for each in manifest.features.values() for it in each]
+    stated = {it[len("dep:") :] for it in values if it.startswith("dep:")}
+    implied = {key: [f"dep:{key}"] for key in optional - stated - set(manifest.features)}
+    return {**manifest.features, **implied}
+
+
+def activated_by(manifest: Manifest, wanted: Set[str]) -> Dict[str, Set[str]]:
+    """The dependencies that features of a package ask for, and which features of these.
+    `NAME?/FEATURE` asks for the dependency, too: in the lock file it is there."""
+    features = features_of(manifest)
+    optional = {need.key for need in manifest.needs if need.is_optional}
+    found: Dict[str, Set[str]] = {}
+    left, seen = list(wanted), set(wanted)
+
+    def want(feature: str) -> None:
+        if feature not in seen:
+            seen.add(feature)
+            left.append(feature)
+
+    for feature in left:
+        for value in features.get(feature, []):
+            key, slash, inner = value.partition("/")
+            if slash:
+                found.setdefault(key.rstrip("?"), set()).add(inner)
+                if key in optional:
+                    want(key)
+            elif value.startswith("dep:"):
+                found.setdefault(value[len("dep:") :], set())
+            else:
+                want(value)
+    return found

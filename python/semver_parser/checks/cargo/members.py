@@ -1,0 +1,146 @@
+"""The packages of a workspace, found as Cargo finds them."""
+
+import os
+from glob import escape, glob
+from typing import Dict, Iterator, List, Optional
+
+from ..files import Entry, list_at, taking, text_at
+from .manifests import (
+    MANIFEST,
+    NOTHING_INHERITED,
+    Manifest,
+    inherited_of,
+    manifest_of,
+    package_of,
+    read,
+    tables_of,
+    workspace_of,
+    workspace_table,
+)
+
+
+def manifest_at(folder: str) -> Manifest:
+    """The manifest in a directory, with what it takes from its workspace."""
+    path = os.path.join(folder, MANIFEST)
+    entry = read(path)
+    root = root_of(folder, entry)
+    top = None if root is None else read(os.path.join(root, MANIFEST))
+    with taking(path, MANIFEST):
+        inherited = NOTHING_INHERITED if top is None else inherited_of(top, root or "")
+        return manifest_of(entry, inherited, folder)
+
+
+def members_at(folder: str) -> Iterator[Manifest]:
+    """The manifests of the workspace or the package in a directory."""
+    top = read(os.path.join(folder, MANIFEST))
+    with taking(os.path.join(folder, MANIFEST), MANIFEST):
+        inherited = inherited_of(top, folder)
+        entries = entries_of(folder, top)
+    for path, entry in entries.items():
+        with taking(os.path.join(path, MANIFEST), MANIFEST):
+            yield manifest_of(entry, inherited, path)
+
+
+def root_of(folder: str, entry: Entry) -> Optional[str]:
+    """The directory of the workspace that a directory's manifest is in, if it is in one: its own,
+    that which it names, or the nearest around it that doesn't exclude it."""
+    if "workspace" in entry:
+        return folder
+    outer, found = os.path.abspath(folder), entry
+    while True:
+        named = package_of(found).get("workspace")
+        if isinstance(named, str):
+            return os.path.normpath(os.path.join(outer, named))
+        outer, inner = os.path.dirname(outer), outer
+        if outer == inner:
+            return None
+        path = os.path.join(outer, MANIFEST)
+        found = read(path) if os.path.isfile(path) else {}
+        with taking(path, MANIFEST):
+            if "workspace" in found and not is_excluded(folder, outer, found):
+                return outer
+
+
+def entries_of(folder: str, top: Entry) -> Dict[str, Entry]:
+    """The manifests of a workspace or a package by their directories. Members are the packages that
+    a workspace names, and those that a member has by a path inside the directory, or elsewhere if
+    their manifest names the workspace, but for what is excluded."""
+    root = os.path.normpath(folder or ".")
+    found = {root: top}
+    if "workspace" not in top:
+        return found
+    named = list(named_by(folder, top))
+    left = [*named, *paths_of(root, top, root, top)]
+    for path in left:
+        if path in found or is_excluded(path, folder, top):
+            continue
+        entry = read(os.path.join(path, MANIFEST))
+        with taking(os.path.join(path, MANIFEST), MANIFEST):
+            if path in named or is_inside(path, root) or names_workspace(path, entry, root):
+                found[path] = entry
+                left += paths_of(path, entry, root, top)
+    return found
+
+
+def names_workspace(path: str, entry: Entry, root: str) -> bool:
+    """Whether the manifest of a package names the workspace of a directory as its own."""
+    named = package_of(entry).get("workspace")
+    if not isinstance(named, str):
+        return False
+    return os.path.abspath(os.path.join(path, named)) == os.path.abspath(root)
+
+
+def texts_of(top: Entry, key: str) -> List[str]:
+    """A list of paths that a workspace has."""
+    where = f"workspace: {key}"
+    return [text_at(it, where) for it in list_at(workspace_of(top).get(key, []), where)]
+
+
+def named_by(folder: str, top: Entry) -> Iterator[str]:
+    """The directories that a workspace names as its members. A pattern that finds nothing names
+    itself, and one that ends in `**` finds what is below, as Cargo has it."""
+    for text in texts_of(top, "members"):
+        pattern = os.path.join(escape(folder), f"{text}/*" if text.endswith("**") else text)
+        # Python's glob refuses a zero byte, which no file has in its name.
+        found = [] if "\0" in pattern else glob(pattern, recursive=True, include_hidden=True)
+        paths = sorted(found)
+        for path in paths or [os.path.join(folder, text)]:
+            if os.path.isdir(path) or not paths:
+                yield os.path.normpath(path)
+
+
+def parts_of(folder: str, path: str) -> List[str]:
+    """The parts of a path that begins at a directory, by which Cargo compares paths: `..` is
+    one."""
+    whole = os.path.join(os.path.abspath(folder), path)
+    return [part for part in whole.split("/") if part not in ("", ".")]
+
+
+def is_excluded(path: str, folder: str, top: Entry) -> bool:
+    """Whether a package is at or below a directory that a workspace excludes, and at or below none
+    that it names as a member without a pattern."""
+    parts = parts_of(path, "")
+
+    def is_within(key: str) -> bool:
+        outer = [parts_of(folder, text) for text in texts_of(top, key)]
+        return any(parts[: len(it)] == it for it in outer)
+
+    return is_within("exclude") and not is_within("members")
+
+
+def paths_of(folder: str, entry: Entry, root: str, top: Entry) -> Iterator[str]:
+    """The directories of the packages that a manifest has by a path, its own or the
+    workspace's."""
+    inherited = workspace_table(top)
+    for _, values in tables_of(entry):
+        for key, value in values.items():
+            is_inherited = isinstance(value, dict) and value.get("workspace") is True
+            at, own = (root, inherited.get(key)) if is_inherited else (folder, value)
+            if isinstance(own, dict) and isinstance(own.get("path"), str):
+                yield os.path.normpath(os.path.join(at, own["path"]))
+
+
+def is_inside(path: str, folder: str) -> bool:
+    """Whether a path is inside a directory."""
+    top = os.path.abspath(folder)
+    return os.path.commonpath([top, os.path.abspath(path)]) == top

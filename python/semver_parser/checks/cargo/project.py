@@ -1,0 +1,84 @@
+"""The manifests that a Cargo.lock is for: those of the members of a workspace, of the packages that
+these have by paths, and the patches of the workspace."""
+
+import os
+from typing import Dict, Iterator, List, NamedTuple, Optional
+
+from ..files import Refusal, taking
+from .manifests import MANIFEST, Manifest, Need, inherited_of, need_of, patches_of, read
+from .members import manifest_at, members_at
+from .sources import PATH, Source, patched_source
+
+OF_PATCH = "patch."
+
+
+class Patch(NamedTuple):
+    """A package that replaces those of a source."""
+
+    source: Source
+    need: Need
+
+
+class Project:
+    """The manifests of a project. Those of packages at paths are read where they are needed, by
+    their directories."""
+
+    def __init__(self, folder: str) -> None:
+        self.members = [it for it in members_at(folder) if it.name is not None]
+        self.manifests: Dict[str, Optional[Manifest]] = {it.folder: it for it in self.members}
+        self.patches = list(patches_at(folder))
+        self.folders: Dict[str, Dict[str, str]] = {}
+        self.find()
+
+    def is_member(self, manifest: Manifest) -> bool:
+        """Whether a package is a member of the workspace."""
+        return any(it.folder == manifest.folder for it in self.members)
+
+    def at(self, folder: str) -> Manifest:
+        """The manifest in a directory, which has to be there."""
+        found = self.known_at(folder)
+        return manifest_at(folder) if found is None else found
+
+    def known_at(self, folder: str) -> Optional[Manifest]:
+        """The manifest in a directory, if it is one."""
+        if folder not in self.manifests:
+            try:
+                found: Optional[Manifest] = manifest_at(os.path.relpath(folder))
+            except Refusal:
+                found = None
+            self.manifests[folder] = found
+        return self.manifests[folder]
+
+    def find(self) -> None:
+        """Finds the packages at paths, all that a manifest or a patch has."""
+        left: List[Optional[Manifest]] = list(self.members)
+        needs = [patch.need for patch in self.patches]
+        seen = set(self.manifests)
+        while left or needs:
+            manifest = left.pop() if left else None
+            if manifest is not None and manifest.name is not None:
+                self.folders.setdefault(manifest.name, {})[manifest.version] = manifest.folder
+                needs += manifest.needs
+            while needs:
+                source = needs.pop().source
+                if source.kind == PATH and source.place not in seen:
+                    seen.add(source.place)
+                    left.append(self.known_at(source.place))
+
+    def place(self, name: str, version: str) -> Optional[str]:
+        """The directory of a package of the lock file that has no source: Cargo goes by the name
+        where that is one package's alone."""
+        places = self.folders.get(name, {})
+        return next(iter(places.values())) if len(places) == 1 else places.get(version)
+
+
+def patches_at(folder: str) -> Iterator[Patch]:
+    """The patches of the workspace or the package in a directory."""
+    path = os.path.join(folder, MANIFEST)
+    top = read(path)
+    with taking(path, MANIFEST):
+        inherited = inherited_of(top, folder)
+        for table, values in patches_of(top):
+            for key, value in values.items() if table.startswith(OF_PATCH) else ():
+                need = need_of(key, value, table, inherited, folder)
+                yield Patch(patched_source(table[len(OF_PATCH) :]), need)

@@ -1,0 +1,155 @@
+"""What Cargo would take from a Cargo.lock for what the manifests of a project ask for."""
+
+from typing import Dict, Iterator, List, NamedTuple, Optional, Set, Tuple
+
+from semver_parser import Dialect, Version
+
+from ..satisfaction import is_met, is_version
+from .features import activated_by, features_of
+from .manifests import Manifest, Need
+from .packages import Edge, Lock, Package, edges_of
+from .project import Patch, Project
+from .sources import PATH, Source, is_from, is_patched
+
+PackageKey = Tuple[str, str, str]
+
+
+class Match(NamedTuple):
+    """What a package asks for, what of the lock file that is, if anything, and whether it has to be
+    there."""
+
+    need: Need
+    found: Optional[Package]
+    is_active: bool
+
+
+class Resolution:
+    """A lock file beside its project: the packages to which something leads, the features that each
+    package at a path is asked to have, and which of these a package asks for whose manifest isn't
+    there."""
+
+    def __init__(self, lock: Lock, project: Project) -> None:
+        self.lock, self.project = lock, project
+        self.edges: Dict[PackageKey, List[Edge]] = {}
+        self.entries = {it.folder: it for it in lock.packages if it.folder}
+        for it in lock.packages:
+            if it.folder and it.version == project.at(it.folder).version:
+                self.entries[it.folder] = it
+        self.asked_by_others: Set[str] = set()
+        self.reached: Set[PackageKey] = set()
+        self.reach()
+        self.features: Dict[str, Set[str]] = {}
+        self.ask()
+
+    def edges_of(self, package: Package) -> List[Edge]:
+        """What a package depends on."""
+        if package.key not in self.edges:
+            self.edges[package.key] = list(edges_of(package, self.lock.by_name))
+        return self.edges[package.key]
+
+    def entry_of(self, manifest: Manifest) -> Optional[Package]:
+        """The package of the lock file that a manifest is of."""
+        return self.entries.get(manifest.folder)
+
+    def reach(self) -> None:
+        """Finds the packages to which something leads from a member."""
+        left = [it for it in map(self.entry_of, self.project.members) if it is not None]
+        self.reached.update(it.key for it in left)
+        while left:
+            package = left.pop()
+            for edge in self.edges_of(package):
+                if edge.to is not None and edge.to.folder and package.folder is None:
+                    self.asked_by_others.add(edge.to.folder)
+                if edge.to is not None and edge.to.key not in self.reached:
+                    self.reached.add(edge.to.key)
+                    left.append(edge.to)
+
+    def ask(self) -> None:
+        """Finds the features that each package at a path is asked to have: a member has all."""
+        left = list(self.project.members)
+        for manifest in left:
+            self.features[manifest.folder] = set(features_of(manifest))
+        for manifest in left:
+            asked = activated_by(manifest, self.features[manifest.folder])
+            for match in self.matches_of(manifest):
+                folder = match.found.folder if match.found is not None else None
+                if not match.is_active or folder is None:
+                    continue
+                wanted = asked.get(match.need.key, set()).union(match.need.features)
+                if folder not in self.features or not wanted <= self.features[folder]:
+                    self.features.setdefault(folder, set()).update(wanted)
+                    left.append(self.project.at(folder))
+
+    def manifests(self) -> Iterator[Manifest]:
+        """The manifests of the members, and of the packages at paths that are asked for."""
+        yield from map(self.project.at, self.features)
+        for folder in sorted(self.asked_by_others - set(self.features)):
+            yield self.project.at(folder)
+
+    # ---- what is asked for
+
+    def needs_of(self, manifest: Manifest) -> Iterator[Tuple[Need, bool]]:
+        """What a manifest may ask for, and whether it does. What is for development a member alone
+        asks for, and an optional dependency is there if a feature asks for it: which those may be
+        isn't known if a package asks whose manifest isn't there. A package at a path has to be
+        there."""
+        asked = activated_by(manifest, self.features.get(manifest.folder, set()))
+        is_member = self.project.is_member(manifest)
+        for need in manifest.needs:
+            if need.is_development and not is_member:
+                continue
+            is_active = not need.is_optional or need.key in asked
+            if is_active and need.source.kind == PATH:
+                self.project.at(need.source.place)
+            if is_active or manifest.folder in self.asked_by_others:
+                yield need, is_active
+
+    def matches_of(self, manifest: Manifest) -> Iterator[Match]:
+        """What a manifest asks for, each with what of the lock file Cargo takes for it."""
+        entry = self.entry_of(manifest)
+        edges = [] if entry is None else self.edges_of(entry)
+        by_name: Dict[str, List[Package]] = {}
+        for edge in edges:
+            if edge.to is not None:
+                by_name.setdefault(edge.name, []).append(edge.to)
+        for need, is_active in self.needs_of(manifest):
+            found = in_order(by_name.get(need.name, []))
+            fits = (it for it in found if self.is_met(need, it) and self.is_source(need, it))
+            yield Match(need, next(fits, None), is_active)
+
+    def version_of(self, package: Package) -> str:
+        """The version of a package: one at a path has that of its manifest."""
+        return self.project.at(package.folder).version if package.folder else package.version
+
+    def is_met(self, need: Need, package: Package) -> Optional[bool]:
+        """Whether a package has a version that is asked for; None if the requirement isn't read. A
+        path or git without a requirement lets each version in."""
+        if need.requirement == "*" and not need.has_registry:
+            return True
+        return is_met(need.requirement, self.version_of(package), Dialect.CARGO)
+
+    def is_source(self, need: Need, package: Package) -> bool:
+        """Whether a package is from the source that is asked for, or from a patch of that."""
+        return is_at(need.source, package) or any(
+            is_patched(need.source, patch.source) and is_of_patch(patch, package)
+            for patch in self.project.patches
+        )
+
+
+def in_order(packages: List[Package]) -> List[Package]:
+    """Packages of one name in Cargo's order, by which the first that is asked for is taken."""
+    if len(packages) < 2 or not all(is_version(it.version, Dialect.CARGO) for it in packages):
+        return packages
+    return sorted(packages, key=lambda it: Version.parse(it.version, dialect=Dialect.CARGO))
+
+
+def is_at(source: Source, package: Package) -> bool:
+    """Whether a package is from a source."""
+    if source.kind == PATH or package.folder is not None:
+        return source == Source(PATH, package.folder or "")
+    return is_from(source, package.source)
+
+
+def is_of_patch(patch: Patch, package: Package) -> bool:
+    """Whether a package is what a patch puts in place."""
+    return package.name == patch.need.name and is_at(patch.need.source, package)

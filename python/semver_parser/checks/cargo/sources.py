@@ -1,0 +1,106 @@
+"""Where Cargo takes packages from, as manifests and lock files spell it: a directory, git, or a
+registry."""
+
+import os
+import re
+from typing import NamedTuple, Optional
+from urllib.parse import unquote
+
+from ..files import Entry
+
+PATH, GIT, REGISTRY, NAMED = "path", "git", "registry", "named"
+
+INDEX_OF_CRATES_IO = "https://github.com/rust-lang/crates.io-index"
+
+# How a lock file and a [patch] spell crates.io by its name.
+NAMES_OF_CRATES_IO = ("crates-io", "crates.io")
+
+# The source of a package in a lock file: its kind, its URL, and for git what of the repository, and
+# the commit that was taken.
+LOCKED = re.compile(r"(git|registry|sparse)\+([^?#]*)(?:\?([^#]*))?(?:#.*)?", re.S)
+
+REFERENCES = ("branch", "tag", "rev")
+
+
+class Source(NamedTuple):
+    """A source: its kind, its directory, URL or name, and the branch, tag or revision of git."""
+
+    kind: str
+    place: str
+    reference: str = ""
+
+    @property
+    def text(self) -> str:
+        """The source as a finding has it."""
+        if self == CRATES_IO:
+            return NAMES_OF_CRATES_IO[0]
+        before = "git+" if self.kind == GIT else ""
+        return f"{before}{self.place}" + (f"?{self.reference}" if self.reference else "")
+
+
+def canonical(url: str) -> str:
+    """A URL in the form in which Cargo compares it: GitHub takes no notice of upper case."""
+    bare = url.rstrip("/")
+    bare = bare.lower() if "//github.com/" in bare.lower() else bare
+    return bare[: -len(".git")] if bare.endswith(".git") else bare
+
+
+CRATES_IO = Source(REGISTRY, canonical(INDEX_OF_CRATES_IO))
+
+
+def locked_source(text: str) -> Source:
+    """The source that a lock file has."""
+    found = LOCKED.fullmatch(text)
+    if found is None:
+        return Source(NAMED, text)
+    kind, url, query = found.groups()
+    if kind == GIT:
+        return Source(GIT, canonical(url), unquote(query or ""))
+    return Source(REGISTRY, ("sparse+" if kind == "sparse" else "") + canonical(url))
+
+
+def registry_at(index: str) -> Source:
+    """The registry whose index is at a URL."""
+    return locked_source(index if index.startswith("sparse+") else f"registry+{index}")
+
+
+def registry_of(name: str) -> Source:
+    """The registry of a name. Where that is only the settings of Cargo say."""
+    return CRATES_IO if name in NAMES_OF_CRATES_IO else Source(NAMED, name)
+
+
+def source_of(entry: Entry, folder: str) -> Source:
+    """The source of a dependency in a directory's manifest, whose fields are texts."""
+    if "path" in entry:
+        return Source(PATH, directory_at(folder, entry["path"]))
+    if "git" in entry:
+        reference = next((f"{it}={entry[it]}" for it in REFERENCES if it in entry), "")
+        return Source(GIT, canonical(entry["git"]), reference)
+    if "registry-index" in entry:
+        return registry_at(entry["registry-index"])
+    return registry_of(entry["registry"]) if "registry" in entry else CRATES_IO
+
+
+def patched_source(key: str) -> Source:
+    """The source that a key of [patch] is for: a name or a URL."""
+    if "://" not in key:
+        return registry_of(key)
+    return CRATES_IO if canonical(key) == CRATES_IO.place else Source(NAMED, canonical(key))
+
+
+def directory_at(folder: str, path: str) -> str:
+    """The directory that a path names in another one, as Cargo compares directories."""
+    return os.path.abspath(os.path.join(folder, path))
+
+
+def is_patched(wanted: Source, key: Source) -> bool:
+    """Whether a key of [patch] is for a source: by its name, or by its URL."""
+    return key in (wanted, Source(NAMED, wanted.place))
+
+
+def is_from(wanted: Source, found: Optional[Source]) -> bool:
+    """Whether a package is from a source. One of a registry whose place isn't known may be from any
+    but crates.io."""
+    if wanted.kind == NAMED and found is not None:
+        return found.kind in (REGISTRY, NAMED) and found != CRATES_IO
+    return wanted == found

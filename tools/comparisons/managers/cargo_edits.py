@@ -1,0 +1,280 @@
+"""Edits of a world of Cargo: of its manifests by hand, and of its Cargo.lock by damage."""
+
+import copy
+import re
+from typing import Callable, Dict, List, Optional, Tuple
+
+from cargo_worlds import TABLES, VERSIONS, Maker, Need, World
+
+Edited = Optional[str]
+"""Where an edit is, if there was something to edit."""
+
+# ---- of manifests
+
+
+def with_needs(world: World, is_member: bool = False) -> List[str]:
+    """The packages at paths that require something."""
+    places = world.members if is_member else list(world.locals)
+    return [place for place in places if world.locals[place].needs]
+
+
+def change_need(
+    world: World, maker: Maker, change: Callable[[Need], Optional[Need]]
+) -> Edited:
+    """Changes a requirement of a package at a path."""
+    places = with_needs(world)
+    if not places:
+        return None
+    place = maker.chance.choice(places)
+    needs = world.locals[place].needs
+    index = maker.chance.randrange(len(needs))
+    changed = change(needs[index])
+    if changed is None:
+        return None
+    needs[index] = changed
+    return place
+
+
+def another_requirement(world: World, maker: Maker) -> Edited:
+    """Another requirement."""
+
+    def change(need: Need) -> Need:
+        version = world.locals[need.place].version if need.place else None
+        if version is None:
+            return need._replace(requirement=maker.requirement_for(need.name))
+        return need._replace(requirement=maker.requirement_of(version))
+
+    return change_need(world, maker, change)
+
+
+def another_table(world: World, maker: Maker) -> Edited:
+    """Another table."""
+    return change_need(
+        world, maker, lambda it: it._replace(table=maker.chance.choice(TABLES), is_optional=False)
+    )
+
+
+def optional(world: World, maker: Maker) -> Edited:
+    """What is optional isn't, or the other way round."""
+
+    def change(need: Need) -> Optional[Need]:
+        is_free = "dev-" not in need.table and not need.is_optional
+        return need._replace(is_optional=not need.is_optional) if is_free else None
+
+    return change_need(world, maker, change)
+
+
+def another_source(world: World, maker: Maker) -> Edited:
+    """A crate of a directory in place of the registry's."""
+    places = [it for it in world.locals if it.startswith("patched/")]
+
+    def change(need: Need) -> Optional[Need]:
+        found = [it for it in places if world.locals[it].name == need.name and not need.place]
+        return need._replace(place=found[0]) if found else None
+
+    return change_need(world, maker, change)
+
+
+def features(world: World, maker: Maker) -> Edited:
+    """Other features of a package at a path."""
+
+    def change(need: Need) -> Optional[Need]:
+        known = [it for it in world.locals[need.place].features if it != "default"] if need.place else []
+        chosen = tuple(it for it in known if maker.maybe(0.5))
+        return need._replace(features=chosen) if known else None
+
+    return change_need(world, maker, change)
+
+
+def added(world: World, maker: Maker) -> Edited:
+    """A requirement more."""
+    place = maker.chance.choice(list(world.locals))
+    local = world.locals[place]
+    free = [it for it in maker.names if it not in {need.name for need in local.needs}]
+    free = [it for it in free if it != local.name]
+    if not free:
+        return None
+    local.needs.append(maker.need(maker.chance.choice(free), True))
+    return place
+
+
+def removed(world: World, maker: Maker) -> Edited:
+    """A requirement less."""
+    places = with_needs(world)
+    if not places:
+        return None
+    place = maker.chance.choice(places)
+    local = world.locals[place]
+    del local.needs[maker.chance.randrange(len(local.needs))]
+    local.features = {}
+    return place
+
+
+def another_version(world: World, maker: Maker) -> Edited:
+    """Another version of a package at a path."""
+    place = maker.chance.choice(list(world.locals))
+    world.locals[place].version = maker.chance.choice(VERSIONS)
+    return place
+
+
+def member_added(world: World, maker: Maker) -> Edited:
+    """A member more, if there is a workspace."""
+    if "" in world.members:
+        return None
+    world.locals["members/more"] = maker.local("more", 1)
+    world.members.append("members/more")
+    return "members/more"
+
+
+def member_renamed(world: World, maker: Maker) -> Edited:
+    """A member of another name, which another one may require."""
+    place = maker.chance.choice(world.members)
+    world.locals[place].name = "other"
+    for local in world.locals.values():
+        local.needs = [
+            it._replace(key="other", name="other") if it.place == place else it
+            for it in local.needs
+        ]
+    return place
+
+
+def member_removed(world: World, maker: Maker) -> Edited:
+    """A member less, which another one no longer requires."""
+    if len(world.members) < 2:
+        return None
+    place = world.members.pop(maker.chance.randrange(len(world.members)))
+    del world.locals[place]
+    for local in world.locals.values():
+        local.needs = [it for it in local.needs if it.place != place]
+    return place
+
+
+def patch_added(world: World, maker: Maker) -> Edited:
+    """A patch more."""
+    if world.patches:
+        return None
+    maker.add_patch(world)
+    return world.patches[0]
+
+
+def patch_removed(world: World, maker: Maker) -> Edited:
+    """A patch less."""
+    return world.patches.pop() if world.patches else None
+
+
+MANIFEST_EDITS: Dict[str, Callable[[World, Maker], Edited]] = {
+    "a requirement changed": another_requirement,
+    "a requirement in another table": another_table,
+    "a requirement optional": optional,
+    "a requirement at a path": another_source,
+    "other features": features,
+    "a requirement added": added,
+    "a requirement removed": removed,
+    "a version of a package at a path": another_version,
+    "a member added": member_added,
+    "a member renamed": member_renamed,
+    "a member removed": member_removed,
+    "a patch added": patch_added,
+    "a patch removed": patch_removed,
+}
+
+
+def edited(world: World, maker: Maker) -> Tuple[str, World]:
+    """A copy of a world with an edit of a manifest, and which it is."""
+    while True:
+        other = copy.deepcopy(world)
+        what = maker.chance.choice(list(MANIFEST_EDITS))
+        if MANIFEST_EDITS[what](other, maker) is not None:
+            return what, other
+
+
+# ---- of the lock file
+
+ENTRY = re.compile(r"\n\n(?=\[\[)")
+AN_EDGE_MORE = "an edge more"
+NAME = re.compile(r'name = "([^"]*)"')
+
+
+def damaged(lock: str, maker: Maker) -> Tuple[str, str, bool]:
+    """A damaged copy of a lock file, what the damage is, and whether it is in an entry of the
+    registry, of which the lock file has no requirements."""
+    head, *entries = ENTRY.split(lock.rstrip("\n"))
+    kind = maker.chance.choice(list(DAMAGES))
+    index = maker.chance.randrange(len(entries)) if entries else 0
+    if not entries or kind == "another format":
+        return "another format", lock.replace("version = 4", "version = 5", 1), False
+    is_of_registry = "\nsource = " in entries[index]
+    changed = DAMAGES[kind](entries, index, maker)
+    return kind, "\n\n".join([head, *changed]) + "\n", is_of_registry
+
+
+def of_version(entries: List[str], index: int, maker: Maker) -> List[str]:
+    """Another version of an entry."""
+    found = NAME.search(entries[index])
+    assert found is not None
+    known = maker.versions_of(found.group(1)) or list(VERSIONS)
+    version = maker.chance.choice(known)
+    entry = re.sub('version = "[^"]*"', f'version = "{version}"', entries[index], count=1)
+    return [*entries[:index], entry, *entries[index + 1 :]]
+
+
+def of_removed(entries: List[str], index: int, _: Maker) -> List[str]:
+    """An entry less."""
+    return [*entries[:index], *entries[index + 1 :]]
+
+
+def of_twice(entries: List[str], index: int, _: Maker) -> List[str]:
+    """An entry twice."""
+    return [*entries[:index], entries[index], *entries[index:]]
+
+
+def of_more(entries: List[str], _: int, maker: Maker) -> List[str]:
+    """An entry to which nothing leads."""
+    name, version = maker.chance.choice(list(maker.crates))
+    source = "registry+https://github.com/rust-lang/crates.io-index"
+    entry = f'[[package]]\nname = "{name}"\nversion = "{version}"\nsource = "{source}"'
+    return entries if any(entry in it for it in entries) else [*entries, entry]
+
+
+def of_edge_removed(entries: List[str], index: int, _: Maker) -> List[str]:
+    """An entry that depends on one less."""
+    entry = re.sub(r'(dependencies = \[\n(?:.*\n)*?) ".*",\n', r"\1", entries[index], count=1)
+    return [*entries[:index], entry.replace("\ndependencies = [\n]", ""), *entries[index + 1 :]]
+
+
+def of_edge_added(entries: List[str], index: int, maker: Maker) -> List[str]:
+    """An entry that depends on one more."""
+    found = NAME.search(maker.chance.choice(entries))
+    assert found is not None
+    line = f' "{found.group(1)}",\n'
+    entry = entries[index]
+    if line in entry:
+        return entries
+    if "dependencies = [\n" in entry:
+        entry = entry.replace("dependencies = [\n", "dependencies = [\n" + line, 1)
+    else:
+        entry += f"\ndependencies = [\n{line}]"
+    return [*entries[:index], entry, *entries[index + 1 :]]
+
+
+def of_source(entries: List[str], index: int, _: Maker) -> List[str]:
+    """An entry of another source."""
+    entry = entries[index]
+    if "\nsource = " in entry:
+        entry = re.sub('\nsource = "[^"]*"', "", entry)
+    else:
+        source = "registry+https://github.com/rust-lang/crates.io-index"
+        entry = re.sub('(\nversion = "[^"]*")', rf'\1\nsource = "{source}"', entry, count=1)
+    return [*entries[:index], entry, *entries[index + 1 :]]
+
+
+DAMAGES: Dict[str, Callable[[List[str], int, Maker], List[str]]] = {
+    "another version": of_version,
+    "an entry removed": of_removed,
+    "an entry twice": of_twice,
+    "an entry more": of_more,
+    "an edge removed": of_edge_removed,
+    AN_EDGE_MORE: of_edge_added,
+    "another source": of_source,
+    "another format": lambda entries, _, __: entries,
+}
