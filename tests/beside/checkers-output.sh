@@ -22,7 +22,7 @@ for name in aliases archives names versions overrides/package-lock; do for_peopl
 for name in unread cargo/made; do for_people "$name.json" --strict; done
 for name in keys resolution; do for_people "yarn/$name/yarn.lock"; done
 for_people pnpm/wrong-9.yaml --strict
-for_people cargo-lock/no-source/Cargo.lock
+for name in no-source patches exchanged unreached; do for_people "cargo-lock/$name/Cargo.lock"; done
 
 for option in --json --format=json; do
     same "one object, by $option" 1 /dev/null cases/object.json /dev/null \

@@ -71,9 +71,20 @@ for name in no-graph no-node no-package another-format; do checked 2 "cargo/$nam
 # ---- Cargo.lock, yarn and pnpm
 
 if python3 -c 'import tomllib' 2> /dev/null; then
-    for name in right package empty; do checked 0 "cargo-lock/$name/Cargo.lock"; done
-    for name in wrong outside/workspace project root source no-source; do checked 1 "cargo-lock/$name/Cargo.lock"; done
-    for name in alone another-shape no-member zero-path zero-pattern; do checked 2 "cargo-lock/$name/Cargo.lock"; done
+    for name in right package empty removed; do checked 0 "cargo-lock/$name/Cargo.lock"; done
+    for name in wrong outside/workspace project root source no-source edges lost unreached beside patches exchanged toml-1.1; do
+        checked 1 "cargo-lock/$name/Cargo.lock"
+    done
+    for name in alone another-shape no-member zero-path zero-pattern twice newer; do checked 2 "cargo-lock/$name/Cargo.lock"; done
+    cp -R cases/cargo-lock/right "$work/right" && cp "$work/right/Cargo.lock" "$work/right/app"
+    for path in app/Cargo.lock app; do
+        echo 'app/Cargo.lock: left out, since Cargo reads Cargo.lock' > "$work/note"
+        same "a Cargo.lock in a member, by $path" 0 /dev/null /dev/null "$work/note" \
+            sh -c 'cd "$1" && exec "$2" "$3"' - "$work/right" "$PWD/$check" "$path"
+    done
+    printf 'a = {\n    b = 1, # c\n}\nd\n' > "$work/right/Cargo.toml"
+    refused "check-lock-file: $work/right/Cargo.toml: it isn't TOML: Expected '=' after a key in a key/value pair (at line 4, column 2)" \
+        /dev/null $check "$work/right/Cargo.lock"
     cp -R cases/cargo-lock/wrong "$work/[a]*"
     same 'a directory whose name is a pattern' 1 /dev/null cases/cargo-lock/wrong/Cargo.expected /dev/null \
         $fields "$work/[a]*/Cargo.lock"

@@ -3,6 +3,7 @@
 import os
 from typing import Dict, Iterator, List, NamedTuple, NoReturn, Tuple
 
+from .cargo.members import unread_beside_workspace
 from .files import STANDARD_INPUT, Refusal
 from .git import files_in_work_tree
 
@@ -58,6 +59,7 @@ def discover(named: List[str]) -> Discovery:
             found = found_in(path, notes, refusals)
         elif os.path.basename(path) in FOR and os.path.isfile(path):
             found = locks_for(path, notes)
+        found = [it for it in found if not is_of_member(it, notes)]
         for each in found:
             paths.setdefault(os.path.normpath(each), each)
     is_several = len(named) != 1 or len(paths) > 1 or bool(directories)
@@ -105,6 +107,16 @@ def read_in(directory: str, notes: List[str]) -> Iterator[str]:
             notes.append(f"{path}: left out, since {other} is beside it")
         else:
             yield path
+
+
+def is_of_member(path: str, notes: List[str]) -> bool:
+    """Whether a lock file is in a member of a workspace of Cargo, which reads that of the
+    workspace, with a note of that."""
+    folder, name = os.path.split(path)
+    other = unread_beside_workspace(folder) if name == "Cargo.lock" else None
+    if other is not None:
+        notes.append(f"{path}: left out, since Cargo reads {other}")
+    return other is not None
 
 
 def is_among(place: str, names: Tuple[str, ...]) -> bool:

@@ -8,6 +8,7 @@ import sys
 from contextlib import contextmanager
 from typing import Any, Dict, Iterator, List, NoReturn
 
+from .toml_text import of_1_0
 from .yaml_events import Unusual, documents_of
 
 Entry = Dict[str, Any]
@@ -134,12 +135,14 @@ def toml_object(text: bytes) -> Entry:
         import tomllib
     except ImportError:
         raise Unreadable("it is TOML, which Python reads from 3.11 on") from None
-    try:
-        return tomllib.loads(utf8(text))
-    except tomllib.TOMLDecodeError as error:
-        raise Unreadable(f"it isn't TOML: {error}") from None
-    except ValueError:
-        raise Unreadable("it isn't TOML") from None
+    for words in (str, of_1_0):
+        try:
+            return tomllib.loads(words(utf8(text)))
+        except tomllib.TOMLDecodeError as error:
+            why = f": {error}"
+        except ValueError:
+            why = ""
+    raise Unreadable(f"it isn't TOML{why}")
 
 
 def yaml_objects(text: bytes) -> List[Entry]:

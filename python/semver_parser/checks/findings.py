@@ -36,7 +36,8 @@ class Finding(NamedTuple):
     `range`, or what is no range, under the name `dependency`, which Cargo's code may know by an
     `alias`. The package that is there has a name, a version and a place, as far as the file has
     them. `at` leads to the package, or to the requirer if there is none. What only counts with
-    `--strict` says so, and by a `reason` why it isn't checked.
+    `--strict` says so, and by a `reason` why it isn't checked; of a package that says what it is,
+    or what has the other version.
     """
 
     kind: Kind

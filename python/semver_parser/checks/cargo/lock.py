@@ -61,7 +61,7 @@ def of_need(need: Need, package: Package, resolution: Resolution) -> Iterator[Fi
         kind = Kind.INVALID_RANGE if met is None else Kind.UNSATISFIED
         found = finding._replace(version=other.version, package=other.name, at=keys_of(other))
         if met:
-            kind, found = Kind.ANOTHER_SOURCE, found._replace(range=need.source.text)
+            kind, found = Kind.ANOTHER_SOURCE, found._replace(range=need.source.text(resolution.project.folder))
         yield found._replace(kind=kind)
 
 

@@ -4,7 +4,7 @@ import os
 from glob import escape, glob
 from typing import Dict, Iterator, List, Optional
 
-from ..files import Entry, list_at, taking, text_at
+from ..files import Entry, Refusal, list_at, taking, text_at
 from .manifests import (
     MANIFEST,
     NOTHING_INHERITED,
@@ -59,6 +59,19 @@ def root_of(folder: str, entry: Entry) -> Optional[str]:
         with taking(path, MANIFEST):
             if "workspace" in found and not is_excluded(folder, outer, found):
                 return outer
+
+
+def unread_beside_workspace(folder: str) -> Optional[str]:
+    """The lock file that Cargo reads in place of that in a directory, if this is in a workspace
+    whose directory is another one."""
+    path = os.path.join(folder, MANIFEST)
+    try:
+        root = root_of(folder, read(path)) if os.path.isfile(path) else None
+    except Refusal:
+        return None
+    if root is None or os.path.abspath(root) == os.path.abspath(folder):
+        return None
+    return os.path.normpath(os.path.join(os.path.relpath(root), "Cargo.lock"))
 
 
 def entries_of(folder: str, top: Entry) -> Dict[str, Entry]:

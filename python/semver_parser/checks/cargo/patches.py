@@ -18,11 +18,12 @@ def of_patches(resolution: Resolution) -> Iterator[Finding]:
     for patch in project.patches:
         used = [it for it in lock.packages if is_of_patch(patch, it)]
         unused = [it for it in lock.unused if is_of_patch(patch, it)]
-        if not used and not unused:
+        exchanged = list(of_exchanged(patch, resolution, unused))
+        yield from exchanged
+        if not used and not unused and not exchanged:
             version = version_of(patch, resolution) or ""
             name = patch.need.name
             yield Finding(Kind.MISSING, "", version, package=name, place=name, reason=A_PATCH)
-        yield from of_exchanged(patch, resolution, unused)
     for package in lock.unused:
         is_known = any(is_of_patch(patch, package) for patch in project.patches)
         if not package.is_gone and not is_known:
@@ -40,13 +41,14 @@ def of_exchanged(
 ) -> Iterator[Finding]:
     """The packages that a patch replaces, by their version, where the lock file has them from the
     source that is patched."""
+    project = resolution.project
     versions = {version_of(patch, resolution), *(it.version for it in unused)}
     for package in resolution.lock.by_name.get(patch.need.name, []):
         is_patched = package.source is not None and is_from(patch.source, package.source)
         is_own = is_at(patch.need.source, package)
         if is_patched and not is_own and package.version in versions:
             finding = of_package(package, Kind.ANOTHER_SOURCE)
-            yield finding._replace(range=patch.need.source.text)
+            yield finding._replace(range=patch.need.source.text(project.folder))
 
 
 def of_package(package: Package, kind: Kind) -> Finding:

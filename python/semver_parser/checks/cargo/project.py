@@ -24,6 +24,7 @@ class Project:
     their directories."""
 
     def __init__(self, folder: str) -> None:
+        self.folder = os.path.abspath(folder)
         self.members = [it for it in members_at(folder) if it.name is not None]
         self.manifests: Dict[str, Optional[Manifest]] = {it.folder: it for it in self.members}
         self.patches = list(patches_at(folder))

@@ -29,11 +29,12 @@ class Source(NamedTuple):
     place: str
     reference: str = ""
 
-    @property
-    def text(self) -> str:
-        """The source as a finding has it."""
+    def text(self, folder: str) -> str:
+        """The source as a finding has it, a directory from another one on."""
         if self == CRATES_IO:
             return NAMES_OF_CRATES_IO[0]
+        if self.kind == PATH:
+            return os.path.relpath(self.place, folder).replace(os.sep, "/")
         before = "git+" if self.kind == GIT else ""
         return f"{before}{self.place}" + (f"?{self.reference}" if self.reference else "")
 
