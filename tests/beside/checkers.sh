@@ -104,7 +104,7 @@ checked 1 yarn/classic/yarn.lock --strict
 checked 0 yarn/berry-right/yarn.lock
 checked 1 yarn/berry/yarn.lock
 checked 1 yarn/berry/yarn.lock --strict
-for name in resolution keys stale stale-berry; do checked 1 "yarn/$name/yarn.lock"; done
+for name in resolution keys stale stale-berry workspaces-berry; do checked 1 "yarn/$name/yarn.lock"; done
 checked 2 yarn/cut-off/yarn.lock
 if python3 -c 'import yaml' 2> /dev/null; then
     for version in 5 6 9; do

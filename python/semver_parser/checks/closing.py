@@ -16,6 +16,7 @@ REASONS = {
     "catalog": ("catalog", "catalogs"),
     "patch": ("patch", "patches"),
     "protocol": ("other protocol", "other protocols"),
+    "invalid range": ("invalid range", "invalid ranges"),
     "no version": ("without a version", "without a version"),
     "missing": ("missing", "missing"),
 }

@@ -32,6 +32,7 @@ from .unsupported import DENO as OF_DENO
 from .unsupported import refuse_others
 from .yarn import requirements as yarn
 from .yarn.lock import tree_of
+from .yarn.resolutions import resolutions_of
 
 Taken = TypeVar("Taken")
 
@@ -146,7 +147,7 @@ def is_empty_of_yarn(path: str, text: bytes) -> bool:
 def of_yarn(file: Input, tally: Tally) -> Iterator[Finding]:
     """What there is to say of a file of yarn."""
     at = manifest_path(file)
-    manifest, resolutions = read_manifest(at, yarn.resolutions_of)
+    manifest, resolutions = read_manifest(at, resolutions_of)
     project: Project = {} if manifest is None else project_beside(at, manifest)
     return yarn.findings(tree_of(utf8(file.text)), resolutions, project, tally, file.scope)
 

@@ -38,10 +38,16 @@ def found_in(path: str, is_strict: bool = False) -> Found:
     return Found(edges, others)
 
 
+def listed_in(path: Path) -> List[Finding]:
+    """What the checker lists of a lock file, which is nothing of one that it refuses."""
+    report = report_on(str(path), None, Scope(), False)
+    return [it for it in report.findings if not it.is_strict]
+
+
 def is_refused(path: Path) -> bool:
     """Whether the checker refuses a lock file, or lists something."""
-    report = report_on(str(path), None, Scope(), False)
-    return report.refusal is not None or any(not it.is_strict for it in report.findings)
+    refusal = report_on(str(path), None, Scope(), False).refusal
+    return refusal is not None or bool(listed_in(path))
 
 
 class Differences:

@@ -1,149 +1,118 @@
-"""The checker beside yarn 1: worlds that yarn writes lock files of, and changed copies of these."""
+"""The checker beside yarn 1: worlds that yarn writes lock files of, and edits of manifests and of
+these, which `yarn install --frozen-lockfile` takes or refuses.
+
+What yarn 1 calls frozen is the project alone: what its workspaces and packages require, and the
+file lacks, it takes from the registry. So the registry serves archives and no versions of a name,
+and yarn has to do with what is in the file.
+"""
 
 import json
-import os
-import re
+import shutil
 import subprocess
 from pathlib import Path
-from typing import Any, List, NamedTuple, Optional, Set, Tuple
+from typing import Any, Dict, List, Optional
 
-from differences import Differences
+from differences import Differences, Kind, is_refused, listed_in
 from projects import environment, write_project
 from registry import Registry
 from worlds import Maker, World
+from yarn_edits import ANOTHER_ARCHIVE, damaged, edited
 
-from semver_parser.checks.findings import Kind, Scope
-from semver_parser.checks.reports import report_on
-
-HERE = os.path.dirname(os.path.abspath(__file__))
 LOCK = "yarn.lock"
-COPIES = 6
+CHANGES = 5
 WAITING = 120
 
-Pattern = Tuple[str, str]
-"""A name, and what is required of it."""
+
+class Yarn:
+    """Yarn over a registry, in directories below one."""
+
+    def __init__(self, top: Path, registry: Registry) -> None:
+        self.top, self.registry = top, registry
+
+    def is_done(self, folder: Path, *arguments: str) -> bool:
+        """Whether yarn does something in a directory."""
+        flags = ["--non-interactive", "--no-progress", "--silent"]
+        ended = subprocess.run(
+            ["yarnpkg", *arguments, *flags], cwd=folder, env=environment(self.top),
+            timeout=WAITING, stdin=subprocess.DEVNULL, stdout=subprocess.DEVNULL,
+            stderr=subprocess.DEVNULL, check=False,
+        )  # fmt: skip
+        return ended.returncode == 0
+
+    def installs(self, folder: Path, *arguments: str) -> bool:
+        """Whether yarn installs a project."""
+        flags = ["--ignore-scripts", f"--registry={self.registry.url}"]
+        flags.append(f"--cache-folder={self.top}/cache")
+        return self.is_done(folder, "install", *flags, *arguments)
+
+    def takes(self, folder: Path) -> bool:
+        """Whether yarn takes a lock file as it is."""
+        return self.installs(folder, "--frozen-lockfile")
 
 
-class Copy(NamedTuple):
-    """A project with a lock file: its directory, what was changed in the file, that, and its
-    world."""
-
-    folder: Path
-    change: str
-    lock: str
-    world: World
+def shown_of(world: World, lock: str) -> Dict[str, Any]:
+    """A world as it is kept."""
+    return {"manifests": world.manifests, "lock": lock}
 
 
-def lock_by_yarn(folder: Path, registry: Registry, top: Path) -> Optional[str]:
+def is_by_choice(what: str, path: Path) -> bool:
+    """Whether the checker lists aliases alone, or archives of another version after that damage."""
+    listed = listed_in(path)
+    aliased = [it for it in listed if it.range.startswith("npm:")]
+    archives = [it for it in listed if it.kind == Kind.ANOTHER_VERSION]
+    known = [*aliased, *(archives if what == ANOTHER_ARCHIVE else [])]
+    return bool(known) and len(known) == len(listed)
+
+
+def compare(what: str, folder: Path, world: World, lock: str, yarn: Yarn, found: Differences) -> None:
+    """Compares whether yarn takes a project and whether the checker does."""
+    shutil.rmtree(folder, ignore_errors=True)
+    write_project(folder, world)
+    (folder / LOCK).write_text(lock)
+    taken = yarn.takes(folder)
+    found.count(f"{what}: yarn {'takes' if taken else 'refuses'} it")
+    if taken and is_by_choice(what, folder / LOCK):
+        choice = "an archive of another version" if what == ANOTHER_ARCHIVE else "an alias"
+        found.choose(f"yarn doesn't compare {choice}", shown_of(world, lock))
+    elif taken == is_refused(folder / LOCK):
+        who = "refused here, and yarn takes it" if taken else "yarn alone refuses it"
+        found.add(f"{what}: {who}", shown_of(world, lock))
+
+
+def lock_of(folder: Path, world: World, yarn: Yarn) -> Optional[str]:
     """The lock file that yarn writes; None if it refuses the project."""
-    flags = ["--ignore-scripts", "--non-interactive", "--no-progress", "--silent"]
-    flags += [f"--registry={registry.url}", f"--cache-folder={folder}/cache"]
-    ended = subprocess.run(
-        ["yarnpkg", "install", *flags], cwd=folder, env=environment(top), timeout=WAITING,
-        stdin=subprocess.DEVNULL, stdout=subprocess.DEVNULL, stderr=subprocess.DEVNULL, check=False,
-    )  # fmt: skip
+    write_project(folder, world)
+    if not yarn.installs(folder):
+        return None
     path = folder / LOCK
-    return path.read_text() if ended.returncode == 0 and path.exists() else None
-
-
-def changed(lock: str, world: World, maker: Maker) -> Tuple[str, str]:
-    """A changed copy of a lock file, and what was changed: the version or a range of an entry, or
-    whether it is there."""
-    head, *entries = re.split(r"\n\n(?=\S)", lock)
-    what = maker.chance.choice(("a version", "a range", "an entry"))
-    if what == "a range":
-        with_ranges = [it for it, entry in enumerate(entries) if "ependencies:" in entry]
-    else:
-        with_ranges = list(range(len(entries)))
-    if not with_ranges:
-        return "nothing", lock
-    index = maker.chance.choice(with_ranges)
-    entry = entries[index]
-    name = re.split("(?<=.)@", entry.lstrip().lstrip('"'))[0]
-    own = name if name in world.releases else maker.chance.choice(list(world.releases))
-    if what == "an entry":
-        del entries[index]
-    elif what == "a version":
-        version = maker.chance.choice(list(world.releases[own]))
-        entries[index] = re.sub('version "[^"]*"', f'version "{version}"', entry, count=1)
-    else:
-        lines = entry.split("\n")
-        ranges = [it for it, line in enumerate(lines) if line.startswith("    ")]
-        at = maker.chance.choice(ranges)
-        required = lines[at].split()[0]
-        bare = required.strip('"')
-        known = bare if bare in world.releases else own
-        lines[at] = f'    {required} "{maker.range_of(known)}"'
-        entries[index] = "\n".join(lines)
-    return what, "\n\n".join([head, *entries])
-
-
-# ---- the comparison
-
-
-def answers_by_yarn(copies: List[Copy]) -> List[Any]:
-    """What yarn's own parser and semver say of each."""
-    modules = subprocess.run(["npm", "root", "-g"], capture_output=True, text=True, check=True)
-    node_path = f"/usr/share/nodejs:{modules.stdout.strip()}/npm/node_modules"
-    lines = [
-        json.dumps({"lock": it.lock, "manifests": list(it.world.manifests.values())})
-        for it in copies
-    ]
-    ended = subprocess.run(
-        ["node", os.path.join(HERE, "yarn-entries.js")], capture_output=True, text=True, check=True,
-        input="\n".join(lines), timeout=WAITING,
-        env={"PATH": os.environ["PATH"], "NODE_PATH": node_path},
-    )  # fmt: skip
-    return [json.loads(line) for line in ended.stdout.splitlines()]
-
-
-def compare(it: Copy, answer: Any, found: Differences) -> None:
-    """Compares what both say of a project."""
-    report = report_on(str(it.folder / LOCK), None, Scope(), False)
-    listed = [finding for finding in report.findings if not finding.is_strict]
-    found.count(f"files with {it.change} changed" if it.change else "files as written")
-    unmet = (Kind.UNSATISFIED, Kind.OVERRIDDEN)
-    pairs = (("unmet", unmet), ("missing", (Kind.MISSING,)))
-    for what, kinds in pairs:
-        here = {(each.dependency, each.range) for each in listed if each.kind in kinds}
-        there: Set[Pattern] = {(name, spec) for name, spec in answer[what]}
-        found.counts[f"{what} by both"] = found.counts.get(f"{what} by both", 0) + len(here & there)
-        shown = {"changed": it.change, "manifests": it.world.manifests, "lock": it.lock}
-        for pattern in there - here:
-            found.add(f"{what} by yarn alone", {"pattern": pattern, **shown})
-        for pattern in here - there:
-            found.add(f"{what} here alone", {"pattern": pattern, **shown})
-    for each in listed:
-        if each.kind not in (*unmet, Kind.MISSING):
-            found.add(f"{each.kind.value} here alone", shown)
+    return path.read_text() if path.exists() else None
 
 
 def run(top: Path, count: int, seed: int) -> Differences:
     """Compares so many worlds."""
-    found, registry = Differences("yarn 1"), Registry()
-    copies: List[Copy] = []
-    made = 0
+    found, registry, made = Differences("yarn 1"), Registry(), 0
     for number in range(count * 10):
         if made == count:
             break
         maker = Maker(seed * 1000003 + number, registry.archive_at, False)
         world = maker.world()
-        registry.serve(world.releases)
         folder = top / "yarn" / str(number)
-        write_project(folder, world)
-        lock = lock_by_yarn(folder, registry, top)
+        folder.mkdir(parents=True)
+        registry.serve(world.releases)
+        yarn = Yarn(folder, registry)
+        lock = lock_of(folder / "first", world, yarn)
         if lock is None:
             found.count("worlds that yarn refuses")
             continue
         made += 1
-        copies.append(Copy(folder, "", lock, world))
-        for each in range(COPIES):
-            what, text = changed(lock, world, maker)
-            other = folder.with_name(f"{folder.name}-{each}")
-            write_project(other, world)
-            (other / LOCK).write_text(text)
-            copies.append(Copy(other, what, text, world))
+        registry.forget_names()
+        other = folder / "other"
+        compare("as written", other, world, lock, yarn, found)
+        for _ in range(CHANGES):
+            what, changed = edited(world, maker)
+            compare(what, other, changed, lock, yarn, found)
+            what, text = damaged(lock, maker)
+            compare(what, other, world, text, yarn, found)
+        shutil.rmtree(folder, ignore_errors=True)
     found.counts["worlds"] = made
-    for it, answer in zip(copies, answers_by_yarn(copies)):
-        compare(it, answer, found)
     return found

@@ -21,7 +21,7 @@ from ..files import (
 from ..satisfaction import is_met, is_range
 from ..npm.specs import alias_of, git_range_of, is_elsewhere, is_no_range, name_and_rest, range_of
 from ..pnpm.specs import parent_and_name
-from ..yarn.requirements import STEP
+from ..yarn.resolutions import STEP
 
 NAMES = ("package.json", "Cargo.toml", "pnpm-workspace.yaml")
 """The files that are manifests."""

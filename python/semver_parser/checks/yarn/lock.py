@@ -18,6 +18,8 @@ Tree = Dict[str, Union[str, "Tree"]]
 # A text in quotes, or one up to the blank, colon or comma that ends it.
 TOKEN = re.compile(r'"(?:[^"\\]|\\.)*"|[^\s,"][^\s,"]*')
 
+BLANKS = re.compile(" *")
+
 # The name of a package in its address at a registry, as https://example.org/NAME/-/FILE.
 NAME_AT = re.compile(r"/((?:@[^/]+/)?[^/]+)/-/")
 
@@ -107,7 +109,7 @@ def cut(line: str, number: int) -> Tuple[str, str, bool]:
         keys.append(unquoted(word, number))
         if not line.startswith(",", at):
             break
-        at += 1 + len(line[at + 1 :]) - len(line[at + 1 :].lstrip(" "))
+        at = BLANKS.match(line, at + 1).end()
     rest = line[at:]
     key = "\n".join(keys)
     if rest == ":":

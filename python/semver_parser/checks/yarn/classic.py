@@ -1,0 +1,155 @@
+"""The findings of a `yarn.lock` of yarn 1.
+
+WHO ASKS. The project and its workspaces, by their package.json files, and for each resolution the
+project, too; and each package that is found for something asks for its `dependencies` and
+`optionalDependencies`. What nobody asks for yarn doesn't look at. Without a package.json all packages
+count, and each key that none of them asks for the project does.
+
+WHAT IS FOUND. The package whose key has what is asked for, as `numbers@^1.0.0`, and for a name that
+a resolution is for the package of its key, whatever is asked for. A workspace is found by its name
+and version, without a key.
+"""
+
+from typing import Any, Dict, Iterable, Iterator, List, Optional
+
+from semver_parser import Dialect
+
+from ..findings import Finding, Kind, Scope, Tally
+from ..manifests import KINDS, TOP, Project, name_in, version_in
+from ..manifests import needs_of as needs_of_manifest
+from ..npm.archives import archive_at, without_build
+from ..npm.specs import alias_of, is_elsewhere, name_and_rest, verdict_on
+from ..satisfaction import is_range
+from .edges import (
+    Ask,
+    Edge,
+    in_scope,
+    key_for,
+    of_edges,
+    of_package,
+    of_version,
+    packages_by_key,
+)
+from .lock import Package, name_of, needs_of
+from .resolutions import Resolutions, specs_for
+
+TRIVIAL = ("", "*")
+
+
+class File:
+    """A lock file, and what is put in place of requirements."""
+
+    def __init__(self, packages: List[Package], resolutions: Resolutions) -> None:
+        self.packages, self.resolutions = packages, resolutions
+        self.by_key = packages_by_key(packages)
+        self.edges: Dict[str, List[Edge]] = {}
+
+    def edge_of(self, ask: Ask) -> Optional[Edge]:
+        """What is found for what is asked for; None if a resolution decides, as it doesn't of what
+        the project itself asks for."""
+        if ask.package is None and ask.folder == TOP:
+            return self.own_edge_of(ask)
+        edge = self.own_edge_of(ask)
+        return edge if self.is_met(edge) or not self.resolved_for(ask) else None
+
+    def own_edge_of(self, ask: Ask) -> Edge:
+        """What is found for what is asked for without resolutions."""
+        return Edge(ask, ask.spec, {}, key_for(ask.name, ask.spec, self.by_key), False)
+
+    def is_met(self, edge: Edge) -> bool:
+        """Whether what is found is what is asked for."""
+        return edge.key is not None and verdict_on(self.by_key[edge.key].version, edge.spec) is None
+
+    def resolved_for(self, ask: Ask) -> List[str]:
+        """What resolutions put in place of what is asked for."""
+        if ask.name not in self.resolutions:
+            return []
+        names = [ask.asker] if ask.package is None else map(name_of, ask.package.patterns)
+        return specs_for(self.resolutions, ask.name, ask.spec, names)
+
+    def edges_of(self, package: Package) -> List[Edge]:
+        """What is found for what a package asks for."""
+        if package.key not in self.edges:
+            asks = (Ask(package, need.name, need.spec) for need in needs_of(package))
+            found = (self.edge_of(ask) for ask in asks)
+            self.edges[package.key] = [it for it in found if it is not None]
+        return self.edges[package.key]
+
+    def reached(self, edges: Iterable[Edge]) -> List[Package]:
+        """The packages that are found for something, in the order of the file."""
+        found: Dict[str, Package] = {}
+        left = list(edges)
+        while left:
+            key = left.pop().key
+            package = None if key is None else self.by_key[key]
+            if package is not None and package.key not in found:
+                found[package.key] = package
+                left += self.edges_of(package)
+        return [it for it in self.packages if it.key in found]
+
+
+# ---- what the project asks for
+
+
+def asks_of_folders(project: Project) -> Iterator[Ask]:
+    """What the project and its workspaces ask for, but for each other."""
+    versions = {name_in(it): version_in(it) for it in project.values()}
+    for folder, manifest in project.items():
+        for need in needs_of_manifest(manifest):
+            version = versions.get(need.name)
+            spec = spec_of(manifest, need.name, need.spec)
+            if version is None or verdict_on(version, spec) is not None:
+                asker = "" if folder == TOP else name_in(manifest) or ""
+                yield Ask(None, need.name, spec, folder, need.is_development, asker)
+
+
+def spec_of(manifest: Dict[str, Any], name: str, spec: str) -> str:
+    """What a package.json asks for by a name: of several kinds the first that isn't `*` or
+    empty."""
+    specs = (manifest.get(kind, {}).get(name, "") for kind in (*KINDS, "peerDependencies"))
+    return next((it for it in specs if it not in TRIVIAL), spec) if spec in TRIVIAL else spec
+
+
+def asks_of_resolutions(resolutions: Resolutions) -> Iterator[Ask]:
+    """What the project asks for by resolutions. yarn warns of a tag, and ignores it."""
+    for name, groups in resolutions.items():
+        for spec in dict.fromkeys(it.spec for group in groups.values() for it in group):
+            is_any = is_range(spec, Dialect.NPM) or is_elsewhere(spec)
+            if is_any or alias_of(spec) is not None:
+                yield Ask(None, name, spec)
+
+
+def asks_of_keys(file: File) -> Iterator[Ask]:
+    """The keys of packages that no package asks for."""
+    used = {edge.key for package in file.packages for edge in file.edges_of(package)}
+    for package in file.packages:
+        for pattern in package.patterns:
+            if pattern.partition("::")[0] not in used:
+                yield Ask(None, *name_and_rest(pattern))
+
+
+# ---- the findings
+
+
+def of_archive(package: Package) -> Iterator[Finding]:
+    """What there is to say of a package whose archive at a registry is that of another version."""
+    url = str(package.fields.get("resolved", "")).partition("#")[0]
+    archive = archive_at(package.name, url) if package.name and "/-/" in url else None
+    version = without_build(package.version)
+    if archive is not None and version is not None and archive.version != version:
+        yield of_package(package, Kind.ANOTHER_VERSION)._replace(range=url)
+
+
+def findings(
+    packages: List[Package], resolutions: Resolutions, project: Project, tally: Tally, scope: Scope
+) -> Iterator[Finding]:
+    """What there is to say of a lock file. First comes what the project asks for."""
+    file = File(packages, resolutions)
+    asks = asks_of_folders(project) if project else asks_of_keys(file)
+    edges = [*map(file.edge_of, asks), *map(file.own_edge_of, asks_of_resolutions(resolutions))]
+    outside = [it for it in edges if it is not None]
+    yield from of_edges(in_scope(outside, scope, tally), file.by_key, bool(project), tally)
+    for package in file.reached(outside) if project else packages:
+        yield from of_version(package)
+        yield from of_archive(package)
+        yield from of_edges(file.edges_of(package), file.by_key, bool(project), tally)

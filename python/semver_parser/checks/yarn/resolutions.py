@@ -1,0 +1,60 @@
+"""The resolutions of a package.json of yarn: what is put in place of what packages ask for."""
+
+import re
+from typing import Dict, Iterable, List, NamedTuple, Tuple
+
+from ..files import Entry, texts_at
+from ..npm.specs import name_and_rest
+
+# A step of the path of a resolution: a name, and perhaps a range.
+STEP = re.compile(r"(?:@[^/]+/)?[^/]+")
+
+
+class Resolution(NamedTuple):
+    """A resolution of a name: its place in the file, the place that the package has that asks, if
+    one is named, and what is put there."""
+
+    number: int
+    place: str
+    spec: str
+
+
+Resolutions = Dict[str, Dict[Tuple[str, str], List[Resolution]]]
+"""Resolutions by the names at the ends of their paths: each by the name of the package that asks
+and what that asks for, each empty if it may be any."""
+
+
+def resolutions_of(manifest: Entry) -> Resolutions:
+    """The resolutions of a package.json. A step with `*` may be any package."""
+    resolutions: Resolutions = {}
+    texts = texts_at(manifest.get("resolutions", {}), "resolutions")
+    for number, (path, spec) in enumerate(texts.items()):
+        *outer, last = STEP.findall(path) or [path]
+        name, within = name_and_rest(last)
+        parent, place = name_and_rest("".join(outer[-1:]))
+        if "*" in parent:
+            parent = place = ""
+        found = resolutions.setdefault(name, {}).setdefault((parent, of_yarn(within)), [])
+        found.append(Resolution(number, of_yarn(place), spec))
+    return resolutions
+
+
+def of_yarn(spec: str) -> str:
+    """What is asked for without the `npm:` that berry writes before a range."""
+    return spec[4:] if spec.startswith("npm:") and "@" not in spec[5:] else spec
+
+
+def specs_for(
+    resolutions: Resolutions, name: str, spec: str, parents: Iterable[str], place: str = ""
+) -> List[str]:
+    """What is put in place of what a package asks for, of one of these names and perhaps at a
+    place, in the order of the file."""
+    groups = resolutions.get(name)
+    if groups is None:
+        return []
+    found: List[Resolution] = []
+    for parent in ("", *dict.fromkeys(parents)):
+        for within in dict.fromkeys(("", of_yarn(spec))):
+            found += groups.get((parent, within), ())
+    fitting = (it for it in sorted(found) if not it.place or not place or it.place == place)
+    return list(dict.fromkeys(it.spec for it in fitting))
