@@ -135,9 +135,10 @@ def toml_object(text: bytes) -> Entry:
         import tomllib
     except ImportError:
         raise Unreadable("it is TOML, which Python reads from 3.11 on") from None
-    for words in (str, of_1_0):
+    whole, why = utf8(text), ""
+    for is_1_1 in (False, True):
         try:
-            return tomllib.loads(words(utf8(text)))
+            return tomllib.loads(of_1_0(whole) if is_1_1 else whole)
         except tomllib.TOMLDecodeError as error:
             why = f": {error}"
         except ValueError:

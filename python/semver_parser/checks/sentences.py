@@ -33,7 +33,8 @@ def sentence(it: Finding, paint: Paint = plain) -> str:
     """What there is to say of a requirement or of a package, the requirer last."""
     name = it.package or it.dependency
     package = paint(quoted(name) if name else place_of(it.place), PACKAGE)
-    version = paint(quoted(it.version), VERSION) if it.version or it.kind == Kind.INVALID_VERSION else ""
+    has_version = bool(it.version) or it.kind == Kind.INVALID_VERSION and not it.requirer
+    version = paint(quoted(it.version), VERSION) if has_version else ""
     found = f"{package} {version}" if version else package
     wanted = paint(quoted(it.range), RANGE)
     if not it.requirer:

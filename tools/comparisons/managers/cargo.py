@@ -1,5 +1,6 @@
 """The checker beside Cargo: workspaces over crates of a directory, whose Cargo.lock Cargo writes,
-and edits of manifests, of that and of the graph, which `cargo metadata --locked` takes or refuses."""
+and edits of manifests, of that and of the graph, which `cargo metadata --locked` takes or
+refuses."""
 
 import json
 from pathlib import Path

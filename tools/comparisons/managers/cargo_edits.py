@@ -79,7 +79,8 @@ def features(world: World, maker: Maker) -> Edited:
     """Other features of a package at a path."""
 
     def change(need: Need) -> Optional[Need]:
-        known = [it for it in world.locals[need.place].features if it != "default"] if need.place else []
+        own = world.locals[need.place].features if need.place else {}
+        known = [it for it in own if it != "default"]
         chosen = tuple(it for it in known if maker.maybe(0.5))
         return need._replace(features=chosen) if known else None
 

@@ -6,17 +6,18 @@ file lacks, it takes from the registry. So the registry serves archives and no v
 and yarn has to do with what is in the file.
 """
 
-import json
 import shutil
 import subprocess
 from pathlib import Path
-from typing import Any, Dict, List, Optional
+from typing import Any, Dict, Optional
 
-from differences import Differences, Kind, is_refused, listed_in
+from differences import Differences, is_refused, listed_in
 from projects import environment, write_project
 from registry import Registry
 from worlds import Maker, World
 from yarn_edits import ANOTHER_ARCHIVE, damaged, edited
+
+from semver_parser.checks.findings import Kind
 
 LOCK = "yarn.lock"
 CHANGES = 5
@@ -64,7 +65,9 @@ def is_by_choice(what: str, path: Path) -> bool:
     return bool(known) and len(known) == len(listed)
 
 
-def compare(what: str, folder: Path, world: World, lock: str, yarn: Yarn, found: Differences) -> None:
+def compare(
+    what: str, folder: Path, world: World, lock: str, yarn: Yarn, found: Differences
+) -> None:
     """Compares whether yarn takes a project and whether the checker does."""
     shutil.rmtree(folder, ignore_errors=True)
     write_project(folder, world)

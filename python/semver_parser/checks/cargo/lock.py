@@ -61,7 +61,8 @@ def of_need(need: Need, package: Package, resolution: Resolution) -> Iterator[Fi
         kind = Kind.INVALID_RANGE if met is None else Kind.UNSATISFIED
         found = finding._replace(version=other.version, package=other.name, at=keys_of(other))
         if met:
-            kind, found = Kind.ANOTHER_SOURCE, found._replace(range=need.source.text(resolution.project.folder))
+            source = need.source.text(resolution.project.folder)
+            kind, found = Kind.ANOTHER_SOURCE, found._replace(range=source)
         yield found._replace(kind=kind)
 
 
@@ -130,8 +131,9 @@ def findings(
     lock: Entry, folder: Optional[str], tally: Tally, scope: Scope
 ) -> Iterator[Finding]:
     """What there is to say of a lock file beside the manifests of a folder: first of its versions,
-    then of what each package asks for whose manifest is there, of the patches, and of what the other
-    packages depend on. If all of that is right, a package to which nothing leads is wrong."""
+    then of what each package asks for whose manifest is there, of the patches, and of what the
+    other packages depend on. If all of that is right, a package to which nothing leads is
+    wrong."""
     if folder is None:
         raise WrongShape(" beside a Cargo.toml: name the file")
     project = Project(folder)

@@ -24,10 +24,27 @@ def of_patches(resolution: Resolution) -> Iterator[Finding]:
             version = version_of(patch, resolution) or ""
             name = patch.need.name
             yield Finding(Kind.MISSING, "", version, package=name, place=name, reason=A_PATCH)
+    yield from of_replacements(resolution)
     for package in lock.unused:
         is_known = any(is_of_patch(patch, package) for patch in project.patches)
         if not package.is_gone and not is_known:
             yield of_package(package, Kind.NOT_REQUIRED)
+
+
+def of_replacements(resolution: Resolution) -> Iterator[Finding]:
+    """The packages that [replace] has another one for, at a path and of the same version, which
+    the lock file doesn't have in their place."""
+    project = resolution.project
+    for need in project.replacements:
+        if need.source.kind != PATH:
+            continue
+        manifest = project.at(need.source.place)
+        for package in resolution.lock.by_name.get(manifest.name or "", []):
+            is_meant = package.source is not None and package.version == manifest.version
+            to = [it.to.folder for it in resolution.edges_of(package) if it.to is not None]
+            if is_meant and need.source.place not in to:
+                finding = of_package(package, Kind.ANOTHER_SOURCE)
+                yield finding._replace(range=need.source.text(project.folder))
 
 
 def version_of(patch: Patch, resolution: Resolution) -> Optional[str]:

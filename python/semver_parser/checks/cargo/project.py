@@ -9,11 +9,11 @@ from .manifests import MANIFEST, Manifest, Need, inherited_of, need_of, patches_
 from .members import manifest_at, members_at
 from .sources import PATH, Source, patched_source
 
-OF_PATCH = "patch."
+OF_PATCH, REPLACE = "patch.", "replace"
 
 
 class Patch(NamedTuple):
-    """A package that replaces those of a source."""
+    """A package that replaces those of a source, or one of [replace], of which the key has that."""
 
     source: Source
     need: Need
@@ -27,7 +27,9 @@ class Project:
         self.folder = os.path.abspath(folder)
         self.members = [it for it in members_at(folder) if it.name is not None]
         self.manifests: Dict[str, Optional[Manifest]] = {it.folder: it for it in self.members}
-        self.patches = list(patches_at(folder))
+        replacing = list(patches_at(folder))
+        self.patches = [it for it in replacing if it.need.table != REPLACE]
+        self.replacements = [it.need for it in replacing if it.need.table == REPLACE]
         self.folders: Dict[str, Dict[str, str]] = {}
         self.find()
 
@@ -53,7 +55,7 @@ class Project:
     def find(self) -> None:
         """Finds the packages at paths, all that a manifest or a patch has."""
         left: List[Optional[Manifest]] = list(self.members)
-        needs = [patch.need for patch in self.patches]
+        needs = [*(patch.need for patch in self.patches), *self.replacements]
         seen = set(self.manifests)
         while left or needs:
             manifest = left.pop() if left else None
@@ -74,12 +76,12 @@ class Project:
 
 
 def patches_at(folder: str) -> Iterator[Patch]:
-    """The patches of the workspace or the package in a directory."""
+    """The patches and replacements of the workspace or the package in a directory."""
     path = os.path.join(folder, MANIFEST)
     top = read(path)
     with taking(path, MANIFEST):
         inherited = inherited_of(top, folder)
         for table, values in patches_of(top):
-            for key, value in values.items() if table.startswith(OF_PATCH) else ():
-                need = need_of(key, value, table, inherited, folder)
-                yield Patch(patched_source(table[len(OF_PATCH) :]), need)
+            source = patched_source(table[len(OF_PATCH) :] if table != REPLACE else "")
+            for key, value in values.items():
+                yield Patch(source, need_of(key, value, table, inherited, folder))

@@ -61,15 +61,25 @@ def asks_of_project(package: Package, used: Set[Optional[str]]) -> Iterator[Ask]
 
 
 def edge_of(ask: Ask, by_key: ByKey, resolutions: Resolutions) -> Edge:
-    """What is found for what is asked for: that by a resolution first."""
+    """What is found for what is asked for: that by a resolution that has a key first."""
     resolved: List[str] = []
     if ask.package is not None and ask.name in resolutions:
         name, place = name_and_rest(ask.package.resolution)
         resolved = specs_for(resolutions, ask.name, ask.spec, [name], of_yarn(place))
-    keys = ((spec, key_for(ask.name, spec, by_key)) for spec in (*resolved, ask.spec))
-    spec, key = next((it for it in keys if it[1] is not None), (ask.spec, None))
-    written = {wanted_of(ask.name, spec): spec} if spec in resolved else {}
-    return Edge(ask, spec, written, key, True)
+    spec = (*resolved, ask.spec)[0]
+    written = {wanted_of(ask.name, spec): spec} if resolved else {}
+    return Edge(ask, spec, written, key_for(ask.name, spec, by_key), True)
+
+
+def with_keys(resolutions: Resolutions, by_key: ByKey) -> Resolutions:
+    """The resolutions that have a key in the file."""
+    return {
+        name: {
+            group: [it for it in found if key_for(name, it.spec, by_key) is not None]
+            for group, found in groups.items()
+        }
+        for name, groups in resolutions.items()
+    }
 
 
 def of_workspaces(packages: List[Package], project: Project) -> Iterator[Finding]:
@@ -95,8 +105,9 @@ def findings(
 ) -> Iterator[Finding]:
     """What there is to say of a lock file, in its order, after its workspaces."""
     by_key = packages_by_key(packages)
+    known = with_keys(resolutions, by_key)
     edges = [
-        [edge_of(ask, by_key, resolutions) for ask in asks_of(package, project)]
+        [edge_of(ask, by_key, known) for ask in asks_of(package, project)]
         for package in packages
     ]
     used = {edge.key for each in edges for edge in each}
@@ -105,4 +116,5 @@ def findings(
         yield from of_version(package)
         # A key has what a resolution put there.
         own = [edge_of(it, by_key, {}) for it in asks_of_project(package, used)]
-        yield from of_edges([*own, *in_scope(its_edges, scope, tally)], by_key, bool(project), tally)
+        all_edges = [*own, *in_scope(its_edges, scope, tally)]
+        yield from of_edges(all_edges, by_key, bool(project), tally)

@@ -2,8 +2,8 @@
 
 WHO ASKS. The project and its workspaces, by their package.json files, and for each resolution the
 project, too; and each package that is found for something asks for its `dependencies` and
-`optionalDependencies`. What nobody asks for yarn doesn't look at. Without a package.json all packages
-count, and each key that none of them asks for the project does.
+`optionalDependencies`. What nobody asks for yarn doesn't look at. Without a package.json all
+packages count, and each key that none of them asks for the project does.
 
 WHAT IS FOUND. The package whose key has what is asked for, as `numbers@^1.0.0`, and for a name that
 a resolution is for the package of its key, whatever is asked for. A workspace is found by its name

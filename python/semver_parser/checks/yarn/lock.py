@@ -109,7 +109,7 @@ def cut(line: str, number: int) -> Tuple[str, str, bool]:
         keys.append(unquoted(word, number))
         if not line.startswith(",", at):
             break
-        at = BLANKS.match(line, at + 1).end()
+        at = after_blanks(line, at + 1)
     rest = line[at:]
     key = "\n".join(keys)
     if rest == ":":
@@ -118,6 +118,13 @@ def cut(line: str, number: int) -> Tuple[str, str, bool]:
     if not value:
         raise Unreadable(f"it isn't a yarn.lock: line {number}")
     return key, unquoted(value, number), False
+
+
+def after_blanks(line: str, at: int) -> int:
+    """Where the blanks of a line end that may begin at a place."""
+    found = BLANKS.match(line, at)
+    assert found is not None
+    return found.end()
 
 
 def unquoted(word: str, number: int) -> str:

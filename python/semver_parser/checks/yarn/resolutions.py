@@ -11,17 +11,15 @@ STEP = re.compile(r"(?:@[^/]+/)?[^/]+")
 
 
 class Resolution(NamedTuple):
-    """A resolution of a name: its place in the file, the place that the package has that asks, if
-    one is named, and what is put there."""
+    """A resolution of a name: its place in the file, and what is put there."""
 
     number: int
-    place: str
     spec: str
 
 
-Resolutions = Dict[str, Dict[Tuple[str, str], List[Resolution]]]
-"""Resolutions by the names at the ends of their paths: each by the name of the package that asks
-and what that asks for, each empty if it may be any."""
+Resolutions = Dict[str, Dict[Tuple[str, str, str], List[Resolution]]]
+"""Resolutions by the names at the ends of their paths: each by the name of the package that asks,
+the place that this has, and what it asks for, each empty if it may be any."""
 
 
 def resolutions_of(manifest: Entry) -> Resolutions:
@@ -34,8 +32,9 @@ def resolutions_of(manifest: Entry) -> Resolutions:
         parent, place = name_and_rest("".join(outer[-1:]))
         if "*" in parent:
             parent = place = ""
-        found = resolutions.setdefault(name, {}).setdefault((parent, of_yarn(within)), [])
-        found.append(Resolution(number, of_yarn(place), spec))
+        group = (parent, of_yarn(place), of_yarn(within))
+        found = resolutions.setdefault(name, {}).setdefault(group, [])
+        found.append(Resolution(number, spec))
     return resolutions
 
 
@@ -48,13 +47,12 @@ def specs_for(
     resolutions: Resolutions, name: str, spec: str, parents: Iterable[str], place: str = ""
 ) -> List[str]:
     """What is put in place of what a package asks for, of one of these names and perhaps at a
-    place, in the order of the file."""
+    place, in the order of the file: the first of those that are for the same."""
     groups = resolutions.get(name)
     if groups is None:
         return []
-    found: List[Resolution] = []
-    for parent in ("", *dict.fromkeys(parents)):
-        for within in dict.fromkeys(("", of_yarn(spec))):
-            found += groups.get((parent, within), ())
-    fitting = (it for it in sorted(found) if not it.place or not place or it.place == place)
-    return list(dict.fromkeys(it.spec for it in fitting))
+    wanted = [("", "", "")]
+    wanted += [(parent, at, "") for parent in dict.fromkeys(parents) for at in {"", place}]
+    wanted += [(parent, at, of_yarn(spec)) for parent, at, _ in wanted]
+    found = {it for group in wanted for it in groups.get(group, ())[:1]}
+    return list(dict.fromkeys(it.spec for it in sorted(found)))
