@@ -85,6 +85,9 @@ if python3 -c 'import tomllib' 2> /dev/null; then
     printf 'a = {\n    b = 1, # c\n}\nd\n' > "$work/right/Cargo.toml"
     refused "check-lock-file: $work/right/Cargo.toml: it isn't TOML: Expected '=' after a key in a key/value pair (at line 4, column 2)" \
         /dev/null $check "$work/right/Cargo.lock"
+    printf '[package]\nname = "a"\n[features]\nx = ["dep:y"]\n' > "$work/right/Cargo.toml"
+    refused "check-lock-file: $work/right/Cargo.toml: it is no Cargo.toml: features: x: dep:y isn't there" \
+        /dev/null $check "$work/right/Cargo.lock"
     cp -R cases/cargo-lock/wrong "$work/[a]*"
     same 'a directory whose name is a pattern' 1 /dev/null cases/cargo-lock/wrong/Cargo.expected /dev/null \
         $fields "$work/[a]*/Cargo.lock"

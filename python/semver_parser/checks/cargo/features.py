@@ -2,6 +2,7 @@
 
 from typing import Dict, List, Set
 
+from ..files import WrongShape
 from .manifests import Manifest
 
 
@@ -13,6 +14,19 @@ def features_of(manifest: Manifest) -> Dict[str, List[str]]:
     stated = {it[len("dep:") :] for it in values if it.startswith("dep:")}
     implied = {key: [f"dep:{key}"] for key in optional - stated - set(manifest.features)}
     return {**manifest.features, **implied}
+
+
+def checked(manifest: Manifest) -> Manifest:
+    """A manifest, whose features ask for others and for optional dependencies alone."""
+    features = features_of(manifest)
+    optional = {need.key for need in manifest.needs if need.is_optional}
+    for feature, values in manifest.features.items():
+        for value in values:
+            key = value[len("dep:") :] if value.startswith("dep:") else value
+            known = optional if key != value else features
+            if "/" not in value and key not in known:
+                raise WrongShape(f": features: {feature}: {value} isn't there")
+    return manifest
 
 
 def activated_by(manifest: Manifest, wanted: Set[str]) -> Dict[str, Set[str]]:

@@ -5,6 +5,7 @@ from glob import escape, glob
 from typing import Dict, Iterator, List, Optional
 
 from ..files import Entry, Refusal, list_at, taking, text_at
+from .features import checked
 from .manifests import (
     MANIFEST,
     NOTHING_INHERITED,
@@ -27,7 +28,7 @@ def manifest_at(folder: str) -> Manifest:
     top = None if root is None else read(os.path.join(root, MANIFEST))
     with taking(path, MANIFEST):
         inherited = NOTHING_INHERITED if top is None else inherited_of(top, root or "")
-        return manifest_of(entry, inherited, folder)
+        return checked(manifest_of(entry, inherited, folder))
 
 
 def members_at(folder: str) -> Iterator[Manifest]:
@@ -38,7 +39,7 @@ def members_at(folder: str) -> Iterator[Manifest]:
         entries = entries_of(folder, top)
     for path, entry in entries.items():
         with taking(os.path.join(path, MANIFEST), MANIFEST):
-            yield manifest_of(entry, inherited, path)
+            yield checked(manifest_of(entry, inherited, path))
 
 
 def root_of(folder: str, entry: Entry) -> Optional[str]:

@@ -69,6 +69,15 @@ def package_of(value: object, where: str, place: Place) -> Package:
     return Package(name, version, source, source_text, folder, tuple(depends))
 
 
+def refuse_twice(packages: List[Package]) -> None:
+    """Refuses a package that is there twice."""
+    known = set()
+    for package in packages:
+        if package.key in known:
+            raise WrongShape(f": {package.name} {package.version} is there twice")
+        known.add(package.key)
+
+
 def lock_of(lock: Entry, place: Place) -> Lock:
     """What a lock file has."""
     version = lock.get("version", NEWEST)
@@ -84,11 +93,9 @@ def lock_of(lock: Entry, place: Place) -> Lock:
         for it in list_at(patch.get("unused", []), "patch: unused")
     ]
     by_name: Dict[str, List[Package]] = {}
-    known = set()
+    for several in (packages, unused):
+        refuse_twice(several)
     for package in packages:
-        if package.key in known:
-            raise WrongShape(f": {package.name} {package.version} is there twice")
-        known.add(package.key)
         if not package.is_gone:
             by_name.setdefault(package.name, []).append(package)
     return Lock(packages, unused, by_name)
