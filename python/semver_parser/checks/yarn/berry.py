@@ -21,6 +21,7 @@ from .edges import (
     ByKey,
     Edge,
     bare,
+    graph_of,
     in_scope,
     key_for,
     of_edges,
@@ -111,10 +112,11 @@ def findings(
         for package in packages
     ]
     used = {edge.key for each in edges for edge in each}
+    # A key has what a resolution put there.
+    own = [[edge_of(it, by_key, {}) for it in asks_of_project(each, used)] for each in packages]
+    tally.graph = lambda: graph_of((it for each in (*own, *edges) for it in each), by_key)
     yield from of_workspaces(packages, project)
-    for package, its_edges in zip(packages, edges):
+    for package, of_keys, its_edges in zip(packages, own, edges):
         yield from of_version(package)
-        # A key has what a resolution put there.
-        own = [edge_of(it, by_key, {}) for it in asks_of_project(package, used)]
-        all_edges = [*own, *in_scope(its_edges, scope, tally)]
+        all_edges = [*of_keys, *in_scope(its_edges, scope, tally)]
         yield from of_edges(all_edges, by_key, bool(project), tally)

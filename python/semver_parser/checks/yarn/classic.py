@@ -23,6 +23,7 @@ from ..satisfaction import is_range
 from .edges import (
     Ask,
     Edge,
+    graph_of,
     in_scope,
     key_for,
     of_edges,
@@ -148,8 +149,11 @@ def findings(
     asks = asks_of_folders(project) if project else asks_of_keys(file)
     edges = [*map(file.edge_of, asks), *map(file.own_edge_of, asks_of_resolutions(resolutions))]
     outside = [it for it in edges if it is not None]
+    reached = file.reached(outside) if project else packages
+    inner = (edge for package in reached for edge in file.edges_of(package))
+    tally.graph = lambda: graph_of([*outside, *inner], file.by_key)
     yield from of_edges(in_scope(outside, scope, tally), file.by_key, bool(project), tally)
-    for package in file.reached(outside) if project else packages:
+    for package in reached:
         yield from of_version(package)
         yield from of_archive(package)
         yield from of_edges(file.edges_of(package), file.by_key, bool(project), tally)

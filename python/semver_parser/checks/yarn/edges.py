@@ -1,11 +1,11 @@
 """What is asked for in a project of yarn, what of the file is for that, and what there is to say of
 it."""
 
-from typing import Dict, Iterator, List, NamedTuple, Optional
+from typing import Dict, Iterable, Iterator, List, NamedTuple, Optional
 
 from semver_parser import Dialect
 
-from ..findings import PROJECT, Finding, Kind, Scope, Tally
+from ..findings import PROJECT, Finding, Graph, Kind, Scope, Tally
 from ..manifests import TOP
 from ..npm.specs import (
     CATALOG,
@@ -100,6 +100,16 @@ def key_for(name: str, spec: str, by_key: ByKey) -> Optional[str]:
 def packages_by_key(packages: List[Package]) -> ByKey:
     """The packages of a file by what each is for."""
     return {bare(pattern): package for package in packages for pattern in package.patterns}
+
+
+def graph_of(edges: Iterable[Edge], by_key: ByKey) -> Graph:
+    """The packages that edges lead to, as those that require something."""
+    graph: Graph = {}
+    for edge in edges:
+        if edge.key is not None:
+            found = Ask(by_key[edge.key], "", "").finding.who
+            graph.setdefault(edge.ask.finding.who, []).append(found)
+    return graph
 
 
 # ---- the findings
