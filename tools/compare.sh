@@ -33,9 +33,9 @@
 #   npm, and of what cargo metadata writes, of which it lists nothing (npm, and the library, installed
 #   or named by SEMVER_PARSER_LIBRARY);
 # - managers: npm, Debian's yarn 1 and Cargo themselves, what check-lock-file lists of lock files that
-#   they write for COUNT random projects, and of changed copies: of yarn and Cargo whether the install
-#   of projects with edited manifests and damaged lock files is refused (npm, yarnpkg, cargo, python3,
-#   and the library as for locks);
+#   they write for COUNT random projects, and of projects with edited manifests and damaged lock files,
+#   beside whether the tool's own frozen install takes these (npm, yarnpkg, cargo, python3, and the
+#   library as for locks);
 # - damaged-locks: check-lock-file and compare-requirements, which end with status 0, 1 or 2 on COUNT
 #   damaged copies of the files of python/cases (python3 with PyYAML, and the library as for locks);
 # - real-locks [NAME..]: npm, of what check-lock-file lists of the lock files in Debian's source packages

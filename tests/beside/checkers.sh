@@ -40,11 +40,11 @@ refused() {
 
 # ---- npm
 
-for name in package-lock version-1 version-2 links missing peers kinds accepted any archives archives-1 names ranges aliases aliases-1 versions overrides/package-lock canaries \
-    unread stale/package-lock workspaces/package-lock workspaces-1/package-lock legacy-peers/package-lock overrides-turn/package-lock; do
+for name in package-lock version-1 version-2 links missing peers kinds accepted any archives archives-1 names ranges aliases aliases-1 versions overrides/package-lock canaries tags \
+    unread from-npm/package-lock stale/package-lock workspaces/package-lock workspaces-1/package-lock legacy-peers/package-lock overrides-turn/package-lock workspaces-stale/package-lock overrides-conflict/package-lock overrides-linked/package-lock peers-conflict/package-lock peers-strict/package-lock; do
     checked 1 "$name.json"
 done
-for name in nothing-wrong canaries-right overrides-linked/package-lock hidden/node_modules/.package-lock; do
+for name in nothing-wrong canaries-right left-alone/package-lock hidden/node_modules/.package-lock; do
     checked 0 "$name.json"
 done
 cp -R cases/hidden "$work" && sed -i -f cases/hidden/broken.sed "$work/hidden/node_modules/.package-lock.json"
@@ -52,7 +52,7 @@ same 'a lock file in node_modules' 1 /dev/null cases/hidden/broken.expected /dev
     $fields "$work/hidden/node_modules/.package-lock.json"
 same 'a lock file in the current node_modules' 1 /dev/null cases/hidden/broken.expected /dev/null \
     sh -c 'cd "$1" && shift && exec "$@"' - "$work/hidden/node_modules" "$PWD/$check" --quiet --format tsv .package-lock.json
-for name in missing version-1 overrides-1/package-lock from-npm/package-lock canaries unread stale/package-lock; do
+for name in missing version-1 archives-1 left-alone/package-lock peers-conflict/package-lock overrides-1/package-lock from-npm/package-lock canaries tags unread stale/package-lock; do
     checked 1 "$name.json" --strict
 done
 for name in nothing-wrong canaries-right; do checked 0 "$name.json" --strict; done
@@ -152,7 +152,7 @@ same 'overrides of a named package.json' 1 "$work/lock" cases/from-npm/broken.ex
 same 'overrides of a named package.json, after =' 1 "$work/lock" cases/from-npm/broken.expected /dev/null \
     $fields --package-json=cases/from-npm/package.json -
 printf '%s\n' '>1.2	1.0.0	node_modules/runner requires numbers' '^1.0.0	2.0.0	node_modules/runner requires router' |
-    cat cases/from-npm/package-lock.strict.expected - > "$work/lines"
+    cat cases/from-npm/package-lock.expected - > "$work/lines"
 same 'no overrides beside standard input' 1 cases/from-npm/package-lock.json "$work/lines" /dev/null \
     sh -c 'cd "$1" && shift && exec "$@" -' - cases/from-npm "$PWD/"$fields
 same 'a package.json that was changed, named' 1 cases/stale/package-lock.json cases/stale/package-lock.expected \

@@ -17,6 +17,9 @@ REASONS = {
     "patch": ("patch", "patches"),
     "protocol": ("other protocol", "other protocols"),
     "invalid range": ("invalid range", "invalid ranges"),
+    "bundled": ("bundled", "bundled"),
+    "outside": ("outside of the project", "outside of the project"),
+    "conflicting peer": ("conflicting peer", "conflicting peers"),
     "no version": ("without a version", "without a version"),
     "missing": ("missing", "missing"),
 }

@@ -19,6 +19,7 @@ class Kind(str, Enum):
 
     UNSATISFIED = "unsatisfied"
     OVERRIDDEN = "overridden"
+    CONFLICT = "conflict"
     ANOTHER_PACKAGE = "another-package"
     ANOTHER_VERSION = "another-version"
     ANOTHER_SOURCE = "another-source"

@@ -19,7 +19,13 @@ COMMANDS = {
 }
 
 # What no such command changes: what a manifest requires, and entries that were changed by hand.
-OTHERS = (Kind.INVALID_RANGE, Kind.INVALID_VERSION, Kind.ANOTHER_VERSION, Kind.NOT_CHECKED)
+OTHERS = (
+    Kind.CONFLICT,
+    Kind.INVALID_RANGE,
+    Kind.INVALID_VERSION,
+    Kind.ANOTHER_VERSION,
+    Kind.NOT_CHECKED,
+)
 
 
 def command_for(report: Report) -> Optional[str]:

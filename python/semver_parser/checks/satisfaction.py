@@ -2,7 +2,7 @@
 file has most of them again and again."""
 
 from functools import lru_cache
-from typing import Optional
+from typing import Literal, Optional
 
 from semver_parser import Dialect, Range, RangeError, Version, VersionError, satisfies
 
@@ -18,10 +18,12 @@ def is_version(text: str, dialect: Dialect) -> bool:
 
 
 @lru_cache(maxsize=None)
-def range_in(text: str, dialect: Dialect) -> Optional[Range]:
+def range_in(
+    text: str, dialect: Dialect, pre_releases: Literal["default", "included"] = "default"
+) -> Optional[Range]:
     """The range that a text is to a tool; None if it is none."""
     try:
-        return Range(text, dialect=dialect)
+        return Range(text, dialect=dialect, pre_releases=pre_releases)
     except RangeError:
         return None
 

@@ -44,14 +44,16 @@ def sentence(it: Finding, paint: Paint = plain) -> str:
 
 def of_package(it: Finding, found: str, wanted: str) -> str:
     """What there is to say of a package by itself."""
+    if it.kind == Kind.MISSING and it.range:
+        return f"{wanted} is missing, the target of the link {place_of(it.place)}"
+    where = "" if it.package in ("", it.place) else f", in {place_of(it.place)}"
     if it.kind == Kind.MISSING:
-        return f"{found} is missing, {it.reason or 'a member of the workspace'}"
+        return f"{found} is missing, {it.reason or 'a member of the workspace'}{where}"
     if it.kind == Kind.NOT_REQUIRED:
         return f"{found} is there, but nothing requires it"
     if it.kind == Kind.ANOTHER_SOURCE:
         return f"{found} comes from another source than the patch {wanted}"
-    where = "" if it.package in ("", it.place) else f", in {place_of(it.place)}"
-    if it.kind == Kind.ANOTHER_VERSION:
+    if it.kind in (Kind.ANOTHER_VERSION, Kind.ANOTHER_PACKAGE):
         of_what = f"its {it.reason}" if it.reason else "the same entry"
         return f"{found} does not match {wanted} of {of_what}{where}"
     return f"{found} has an invalid version{where}"
@@ -66,6 +68,8 @@ def of_requirement(it: Finding, package: str, found: str, wanted: str) -> str:
     is_renamed = bool(it.package and it.package != it.dependency) or bool(it.alias)
     known_as = f" as {quoted(name)}" if is_renamed else ""
     required = f"required{known_as} by {requirer}"
+    if it.kind == Kind.CONFLICT:
+        return f"the override {wanted} of {package} conflicts with {quoted(it.version)}, {required}"
     if it.kind == Kind.OVERRIDDEN:
         return f"{found} does not satisfy the override {wanted}, {required}"
     if it.kind == Kind.ANOTHER_PACKAGE:

@@ -39,15 +39,16 @@ def found_in(path: str, is_strict: bool = False) -> Found:
 
 
 def listed_in(path: Path) -> List[Finding]:
-    """What the checker lists of a lock file, which is nothing of one that it refuses."""
+    """What the checker lists of a lock file by default, or that it refuses it."""
     report = report_on(str(path), None, Scope(), False)
+    if report.refusal is not None:
+        return [Finding(Kind.INVALID_RANGE, str(report.refusal))]
     return [it for it in report.findings if not it.is_strict]
 
 
 def is_refused(path: Path) -> bool:
     """Whether the checker refuses a lock file, or lists something."""
-    refusal = report_on(str(path), None, Scope(), False).refusal
-    return refusal is not None or bool(listed_in(path))
+    return bool(listed_in(path))
 
 
 class Differences:

@@ -81,6 +81,12 @@ class Registry(ThreadingHTTPServer):
         """The URL of the archive of a release."""
         return f"{self.url}/{name}/-/{name.rpartition('/')[2]}-{version}.tgz"
 
+    def integrity_of(self, name: str, version: str) -> str:
+        """The sum of the archive of a release that is served."""
+        url = self.archive_at(name, version)
+        sums: str = self.sums_of(self.files[url[len(self.url) :]], url)["integrity"]
+        return sums
+
     def serve(self, releases: Releases) -> None:
         """Serves these packages in place of those before."""
         self.files = {}

@@ -81,6 +81,9 @@ class Maker:
             self.add_workspaces(manifests, names)
         if self.maybe(0.35):
             self.add_overrides(project, names)
+        if self.is_npm and self.maybe(0.2):
+            manifests["linked"] = self.package("linked", "1.0.0", names, 2)
+            project.setdefault("dependencies", {})["linked"] = "file:linked"
         return World(self.releases, manifests)
 
     def add_workspaces(self, manifests: Dict[str, Json], names: List[str]) -> None:

@@ -1,4 +1,5 @@
-"""The name and the version in the name of a package's archive, as npm's `versionFromTgz` has it."""
+"""The name and the version in the name of an archive of a registry, as npm's `versionFromTgz` has
+it."""
 
 import re
 from functools import lru_cache
@@ -17,17 +18,13 @@ class Archive(NamedTuple):
     version: str
 
 
-def archive_at(name: str, address: str) -> Optional[Archive]:
-    """The archive at an address, of the package that a registry's address names, and else of that
-    of a name. None if the name of the archive isn't made of that and a version."""
-    file = address.rstrip("/").rpartition("/")[2]
-    if not file.endswith(".tgz"):
+def archive_at(address: str) -> Optional[Archive]:
+    """The archive at an address of a registry, `.../NAME/-/FILE`. None if it is elsewhere, or if
+    the name of the file isn't made of that of the package and a version."""
+    if not address.startswith(("http:/", "https:/")):
         return None
-    if address.startswith(("http:/", "https:/")):
-        package, _, last = address.split("/", 3)[-1].rpartition("/-/")
-        if package and last == file:
-            return archive_of(package, file)
-    return archive_of(name, file)
+    package, mark, file = address.split("/", 3)[-1].rpartition("/-/")
+    return archive_of(package, file) if mark and file.endswith(".tgz") else None
 
 
 def archive_of(path: str, file: str) -> Optional[Archive]:

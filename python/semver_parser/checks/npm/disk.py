@@ -1,12 +1,12 @@
 """The package.json of workspaces and linked directories, which npm reads in place of what the lock
-file has of them."""
+file has of them, and which directories are workspaces."""
 
 import os
-from typing import Optional
+from typing import Dict, Iterator, List, Optional, Set, Tuple
 
 from ..files import Entry, bytes_of, json_object, objects_at, taking, text_at, texts_at
-from ..findings import Tally
 from .lock import ACCEPTED, ASKS_OF_TOPS, Packages, is_top, with_manifest
+from .workspaces import by_name, is_workspace, patterns_of, places_in
 
 
 def check_manifest(manifest: Entry) -> None:
@@ -29,18 +29,37 @@ def manifest_in(folder: str) -> Optional[Entry]:
         return manifest
 
 
-def read_links(packages: Packages, project: Optional[str], tally: Tally) -> None:
-    """Takes what links lead to from the folders below the project's, and counts what isn't there.
-    What lies in a `node_modules` is as the lock file has it, as for npm."""
+def read_links(packages: Packages, project: Optional[str]) -> Set[str]:
+    """Takes what links lead to from the folders below the project's. Where there is nothing: that
+    is as the lock file has it, as what lies in a `node_modules` is for npm."""
     targets = {
         text_at(entry.get("resolved"), f"{place}: resolved")
         for place, entry in packages.items()
         if entry.get("link")
     }
-    for place in packages:
-        if place and place in targets and is_top(place):
-            manifest = None if project is None else manifest_in(os.path.join(project, place))
-            if manifest is None:
-                tally.from_lock += 1
-            else:
-                packages[place] = with_manifest(packages[place], manifest)
+    from_lock = set()
+    for place in [it for it in packages if it and it in targets and is_top(it)]:
+        manifest = None if project is None else manifest_in(os.path.join(project, place))
+        if manifest is None:
+            from_lock.add(place)
+        else:
+            packages[place] = with_manifest(packages[place], manifest)
+    return from_lock
+
+
+def workspaces_of(packages: Packages, folder: Optional[str], is_there: bool) -> Dict[str, str]:
+    """The places of the project's workspaces by their names: what is in its folder, if its
+    package.json is there, and else what the lock file has of them."""
+    patterns = patterns_of(packages.get("", {}))
+    if folder is not None and is_there:
+        with taking(os.path.join(folder, "package.json"), "package.json"):
+            return by_name(list(manifests_at(folder, places_in(patterns, folder))))
+    return by_name((it, packages[it]) for it in packages if is_workspace(patterns, it))
+
+
+def manifests_at(folder: str, places: List[str]) -> Iterator[Tuple[str, Entry]]:
+    """The package.json files in places below a folder, each with its place."""
+    for place in places:
+        manifest = manifest_in(os.path.join(folder, place))
+        if manifest is not None:
+            yield place, manifest

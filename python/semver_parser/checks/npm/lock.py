@@ -11,7 +11,7 @@ from typing import Dict, Iterator, List, NamedTuple, Optional, Set, Tuple
 from ..files import Entry, WrongShape, objects_at, text_at, texts_at
 from ..findings import Keys, Scope, Tally
 from .archives import archive_at
-from .specs import alias_of, range_of
+from .specs import alias_of
 
 Packages = Dict[str, Entry]
 
@@ -20,32 +20,38 @@ PEERS = "peerDependencies"
 ASKS_OF_EACH = (PEERS, "dependencies", "optionalDependencies")
 ASKS_OF_TOPS = (*ASKS_OF_EACH, "devDependencies")
 ACCEPTED = "acceptDependencies"
+OPTIONAL = "optionalDependencies"
+WORKSPACES = "workspaces"
 OF_MANIFEST = ("name", "version", "workspaces", *ASKS_OF_TOPS, "peerDependenciesMeta", ACCEPTED)
 
 
 class Package(NamedTuple):
-    """What is found: its place, with its links followed, and its name and its version, where it has
-    them. A link that leads nowhere has neither."""
+    """What is found: its place, with its links followed, and its name, its version and where it is
+    from, where it has them. A link that leads nowhere has none of these."""
 
     place: str
     name: Optional[str]
     version: Optional[str]
+    resolved: Optional[str] = None
 
 
 class Ask(NamedTuple):
-    """Who asks for what, whether that has to be there, what is found, and what else would do."""
+    """Who asks for what, of which kind, whether that has to be there, what is found, what else
+    would do, and what an override puts in place."""
 
     place: str
     name: str
     spec: str
+    kind: str
     is_required: bool
     found: Optional[Package]
-    accepted: Optional[str]
+    accepted: Optional[str] = None
+    override: Optional[str] = None
 
     @property
-    def range(self) -> str:
-        """The range that is asked for, if what is asked for is one."""
-        return range_of(self.spec)
+    def wanted(self) -> str:
+        """What is asked for with the override."""
+        return self.spec if self.override is None else self.override
 
 
 # ---- places
@@ -170,8 +176,8 @@ def target_of(old: Entry) -> Optional[str]:
 
 
 def of_this_day(old: Entry, place: str) -> Entry:
-    """A package of lockfileVersion 1 as lockfileVersion 2 and 3 have it. One from an archive has
-    the version in the name of that."""
+    """A package of lockfileVersion 1 as lockfileVersion 2 and 3 have it. One from an archive of a
+    registry has the version in the name of that."""
     entry: Entry = {"inBundle": old.get("bundled", False), "dev": old.get("dev", False)}
     requires = old.get("requires", {})
     if not isinstance(requires, bool):
@@ -183,9 +189,10 @@ def of_this_day(old: Entry, place: str) -> Entry:
     if ":" not in version and "/" not in version:
         entry["version"] = version
         entry["resolved"] = old.get("resolved")
-    elif version.startswith(("http:", "https:", "file:")):
-        archive = archive_at(name_by_place(place), version)
+    elif version != ":" and target_of(old) is None:
+        archive = archive_at(version)
         entry.update({} if archive is None else archive._asdict())
+        entry["resolved"] = version
     return entry
 
 
@@ -207,7 +214,9 @@ def package_at(packages: Packages, place: str) -> Package:
         return Package(place, None, None)
     entry = packages[end]
     name = text_at(entry["name"], f"{end}: name") if "name" in entry else name_by_place(end)
-    return Package(end, name, version_at(entry, place))
+    resolved = entry.get("resolved")
+    known = resolved if isinstance(resolved, str) else None
+    return Package(end, name, version_at(entry, place), known)
 
 
 def version_at(entry: Entry, where: str) -> Optional[str]:
@@ -218,10 +227,15 @@ def version_at(entry: Entry, where: str) -> Optional[str]:
     return version if "version" in entry else None
 
 
+def locked_in(packages: Packages) -> Set[str]:
+    """The places of the packages that have their own lock file."""
+    return {place for place, entry in packages.items() if place and entry.get("hasShrinkwrap")}
+
+
 def pinned_in(packages: Packages) -> Set[str]:
     """The places of the packages that were put there by one that brings them along, or that has its
     own lock file."""
-    locked = {place for place, entry in packages.items() if place and entry.get("hasShrinkwrap")}
+    locked = locked_in(packages)
     return {
         place
         for place, entry in packages.items()
@@ -232,11 +246,15 @@ def pinned_in(packages: Packages) -> Set[str]:
 # ---- what is asked for
 
 
-def asks_at(place: str, entry: Entry, found: Dict[str, Package]) -> Iterator[Ask]:
+def asks_at(
+    place: str, entry: Entry, found: Dict[str, Package], workspaces: Dict[str, str]
+) -> Iterator[Ask]:
     """What the package at a place asks for, in the order of the file, beside what is found at each
-    place."""
+    place, and the workspaces of the project, which it has under their names whatever else it asks
+    for."""
     asked = [] if entry.get("link") else asked_at(place, entry)
-    if not asked:
+    own = {} if place or entry.get("link") else workspaces
+    if not asked and not own:
         return
     accepted: Dict[str, str] = {}
     if ACCEPTED in entry:
@@ -245,9 +263,19 @@ def asks_at(place: str, entry: Entry, found: Dict[str, Package]) -> Iterator[Ask
     around = around_of(place)
     of_peers = around_of(folder_round(place)) if is_apart else around
     for kind, name, spec in asked:
-        package = nearest(name, of_peers if kind == PEERS else around, found)
-        is_required = package is None and has_to_be_there(place, entry, kind, name)
-        yield Ask(place, name, spec, is_required, package, accepted.get(name))
+        if name not in own:
+            package = nearest(name, of_peers if kind == PEERS else around, found)
+            is_required = package is None and has_to_be_there(place, entry, kind, name)
+            yield Ask(place, name, spec, kind, is_required, package, accepted.get(name))
+    for name, directory in own.items():
+        if is_linked(name, directory, found):
+            yield Ask(place, name, f"file:{directory}", WORKSPACES, True, found[inside("", name)])
+
+
+def is_linked(name: str, directory: str, found: Dict[str, Package]) -> bool:
+    """Whether the project's `node_modules` has a link to a directory under a name."""
+    package = found.get(inside("", name))
+    return package is not None and package.place == directory
 
 
 def around_of(place: str) -> Tuple[str, ...]:
@@ -290,13 +318,25 @@ def asked_at(place: str, entry: Entry) -> List[Tuple[str, str, str]]:
     ]
 
 
+def is_of_what_is_there(lock: Entry) -> bool:
+    """Whether a file is that in node_modules, which has what is there and no project: what is
+    optional may be for another platform."""
+    packages = lock.get("packages")
+    return isinstance(packages, dict) and "" not in packages
+
+
+def without_optional(asks: List[Ask]) -> List[Ask]:
+    """What a package asks for, of which what is optional doesn't have to be there."""
+    return [it._replace(is_required=False) if it.kind == OPTIONAL else it for it in asks]
+
+
 def has_to_be_there(place: str, entry: Entry, kind: str, name: str) -> bool:
-    """Whether what a package asks for in a way has to be in the file. What an optional one asks for
-    hasn't: it may be for another platform."""
-    if is_outside(place) or entry.get("optional") or kind == "optionalDependencies":
+    """Whether what a package asks for in a way has to be in the file. Of what is optional only that
+    of the project, its workspaces and linked directories has to: npm adds that."""
+    if is_outside(place):
         return False
     if kind != PEERS:
-        return True
+        return kind != OPTIONAL or is_top(place)
     where = f"{place or 'the project'}: peerDependenciesMeta"
     meta = objects_at(entry.get("peerDependenciesMeta", {}), where)
     return not meta.get(name, {}).get("optional")

@@ -1,21 +1,36 @@
-"""The overrides of a project of npm, and where each of them holds.
+"""The overrides of a project of npm, and which of them is for what is asked for.
 
-A rule is a key of the overrides with what stands there. It holds for packages of its name, and of
-its range of versions, and what it has inside holds for all that these ask for, directly and through
-others. Where several rules are of one name the innermost goes first.
+A rule is a key of the overrides with what is there. It is for packages of its name, and of its
+range of versions, and what it has inside for all that these ask for, directly and through others.
+Of one name the innermost goes first.
+
+Each package has one rule, whose inner ones and those round it are for what it asks for. As npm
+reads a lock file in its order, that is the rule of who asked for the package last, as far as these
+were read with one, or else it comes from the folder that the package is in. The project has the
+outermost rule; its workspaces and linked folders have none.
 """
 
 import re
-from collections import deque
 from dataclasses import dataclass, field
+from functools import cached_property
 from typing import Dict, Iterator, List, Optional, Set, Tuple
 
 from semver_parser import Dialect
 
 from ..files import Entry, WrongShape, object_at, text_at
 from ..satisfaction import is_met, is_range
-from .lock import Ask, Package, is_top
-from .specs import may_overlap, name_and_rest, range_of
+from .lock import (
+    Ask,
+    Package,
+    Packages,
+    folder_round,
+    folders,
+    inside,
+    is_top,
+    name_by_place,
+    pinned_in,
+)
+from .specs import alias_of, git_range_of, may_overlap, name_and_rest, range_of, reason_of
 
 ANY = "*"
 
@@ -30,36 +45,56 @@ def is_release(text: str) -> bool:
 
 @dataclass(eq=False)
 class Rule:
-    """An override: the name and the range of its key, what it puts in place of what is asked for,
-    where it puts something there, and the rules inside it, by their names. The outermost has no
-    name. Those inside have numbers in their order, and are also by their ranges if these are
-    releases, of which a file may have thousands, or else apart."""
+    """An override: the name and the range of its key, what is there, what that puts in place of
+    what is asked for, if it does, the key, and the rule that it is in. The outermost has none."""
 
     name: str = ""
     within: str = ANY
+    own: str = ANY
     spec: Optional[str] = None
     outer: Optional["Rule"] = None
-    inner: Dict[str, List["Rule"]] = field(default_factory=dict)
-    of_releases: Dict[Tuple[str, str], List["Rule"]] = field(default_factory=dict)
-    of_others: Dict[str, List["Rule"]] = field(default_factory=dict)
-    number: int = 0
+    key: str = ""
+    inner: List["Rule"] = field(default_factory=list)
 
-    def add(self, rule: "Rule") -> None:
-        """Puts a rule inside."""
-        rules = self.inner.setdefault(rule.name, [])
-        rule.number = len(rules)
-        rules.append(rule)
-        if is_release(rule.within):
-            self.of_releases.setdefault((rule.name, rule.within), []).append(rule)
-        else:
-            self.of_others.setdefault(rule.name, []).append(rule)
+    @cached_property
+    def by_release(self) -> Dict[Tuple[str, str], List[Tuple[int, "Rule"]]]:
+        """The rules inside by their names, and by their ranges if these are releases, of which a
+        file may have thousands; each with its number in their order."""
+        found: Dict[Tuple[str, str], List[Tuple[int, Rule]]] = {}
+        for numbered in enumerate(self.inner):
+            within = numbered[1].within
+            key = (numbered[1].name, within if is_release(within) else "")
+            found.setdefault(key, []).append(numbered)
+        return found
 
-    def perhaps_for(self, name: str, wanted: str) -> List["Rule"]:
-        """The rules of a name inside that may be for what is asked for, in their order."""
+    @cached_property
+    def by_name(self) -> Dict[str, List["Rule"]]:
+        """The rules inside by their names."""
+        found: Dict[str, List[Rule]] = {}
+        for rule in self.inner:
+            found.setdefault(rule.name, []).append(rule)
+        return found
+
+    def inside(self, name: str, wanted: str) -> List["Rule"]:
+        """The rules inside of a name that may be for what is asked for, in their order."""
         if not is_release(wanted):
-            return self.inner.get(name, [])
-        others, exact = self.of_others.get(name, []), self.of_releases.get((name, wanted), [])
-        return sorted([*others, *exact], key=lambda it: it.number) if exact else others
+            return self.by_name.get(name, [])
+        of_others = self.by_release.get((name, ""), [])
+        numbered = sorted([*of_others, *self.by_release.get((name, wanted), [])])
+        return [rule for _, rule in numbered]
+
+    def of_name(self, name: str, wanted: str = "") -> Iterator["Rule"]:
+        """The rules of a name that are for what a package with this one asks for, the innermost
+        first. Of one key the innermost counts."""
+        seen: Set[str] = set()
+        at: Optional[Rule] = self
+        while at is not None:
+            own = [at] if at.name == name else []
+            for rule in [*at.inside(name, wanted), *own]:
+                if rule.key not in seen:
+                    seen.add(rule.key)
+                    yield rule
+            at = at.outer
 
 
 # ---- what package.json has
@@ -79,10 +114,10 @@ def add_rules(outer: Rule, overrides: Entry, where: str, manifest: Entry) -> Non
         if key != ".":
             its_place = f"{where}: {key}"
             name, within = name_and_range(key, its_place)
-            own = value if isinstance(value, str) else object_at(value, its_place).get(".", "")
-            spec = replacement(text_at(own, f"{its_place}: ."), manifest)
-            rule = Rule(name, within, spec, outer)
-            outer.add(rule)
+            own = value if isinstance(value, str) else object_at(value, its_place).get(".", within)
+            text = text_at(own, f"{its_place}: .") or ANY
+            rule = Rule(name, within, text, replacement(text, manifest), outer, key)
+            outer.inner.append(rule)
             add_rules(rule, {} if isinstance(value, str) else value, its_place, manifest)
 
 
@@ -98,10 +133,10 @@ def name_and_range(key: str, where: str) -> Tuple[str, str]:
 
 
 def replacement(spec: str, manifest: Entry) -> Optional[str]:
-    """What an override puts in place of what is asked for. `*` and the empty text put nothing
-    there, as npm has it, and `$NAME` puts what the project itself asks for of that name."""
+    """What an override puts in place of what is asked for. `*` puts nothing there, as npm has it,
+    and `$NAME` what the project itself asks for of that name."""
     if not spec.startswith("$"):
-        return None if spec in ("", ANY) else spec
+        return None if spec == ANY else spec
     kinds = ("devDependencies", "optionalDependencies", "dependencies", "peerDependencies")
     for kind in kinds:
         asked = object_at(manifest.get(kind, {}), kind)
@@ -113,88 +148,135 @@ def replacement(spec: str, manifest: Entry) -> Optional[str]:
 # ---- which rule is for what
 
 
-def names_in(rule: Rule) -> Set[str]:
-    """The names that the rules inside a rule are for."""
-    inner = (names_in(it) for rules in rule.inner.values() for it in rules)
-    return set(rule.inner).union(*inner)
+def rule_for(here: Rule, name: str, spec: str) -> Rule:
+    """The rule for what a package with a rule asks for, and that one if there is no other."""
+    rules = here.of_name(name, range_of(spec))
+    return next((rule for rule in rules if is_concerned(rule, spec)), here)
 
 
-def rules_named(name: str, here: Rule, wanted: str) -> Iterator[Rule]:
-    """The rules of a name that hold where a rule does, the innermost first, and that may be for
-    what is asked for."""
-    at: Optional[Rule] = here
-    while at is not None:
-        yield from at.perhaps_for(name, wanted)
-        at = at.outer
-
-
-def rule_for(here: Rule, name: str, spec: str, version: Optional[str]) -> Optional[Rule]:
-    """The rule for what is asked for where a rule holds, and for the version that is found."""
-    is_right = version is not None and is_met(spec, version, Dialect.NPM)
-    rules = rules_named(name, here, version if version is not None and is_right else spec)
-    return next((rule for rule in rules if is_concerned(rule, spec, version)), None)
-
-
-def rules_in_turn(here: Rule, ask: Ask) -> List[Rule]:
-    """The rule for what is asked for, and those that npm 10.8.2 may take in its place: it compares
-    the range of a key also with what another rule has already put there."""
-    rule = rule_for(here, ask.name, ask.range, None if ask.found is None else ask.found.version)
-    found: Dict[Rule, None] = {}
-    while rule is not None and rule.spec is not None and rule not in found:
-        found[rule] = None
-        rule = rule_for(here, ask.name, range_of(rule.spec), None)
-    return list(found)
-
-
-def is_concerned(rule: Rule, spec: str, version: Optional[str]) -> bool:
-    """Whether a rule of the name is for what is asked for. Where its range has some of the versions
-    that are asked for, it isn't for the others; of what is no range nothing can be told apart."""
+def is_concerned(rule: Rule, spec: str) -> bool:
+    """Whether a rule of the name is for what is asked for: with a range it is if both have versions
+    in common. Of what has no range that can't be told, and git without one is for none."""
     if rule.within == ANY:
         return True
-    is_other = (
-        version is not None
-        and is_met(spec, version, Dialect.NPM)
-        and not is_met(rule.within, version, Dialect.NPM)
-    )
-    return not is_other and may_overlap(spec, rule.within)
+    if git_range_of(spec) is None and alias_of(spec) is None and reason_of(spec) == "git":
+        return False
+    return may_overlap(range_of(spec), rule.within, "included")
 
 
-# ---- where rules hold
-
-Held = Dict[str, List[Rule]]
-
-
-def where_rules_hold(
-    found: Dict[str, Package], asks: Dict[str, List[Ask]], outermost: Rule
-) -> Held:
-    """The rules that hold at each place, one for each way in which it is reached from the project
-    and its workspaces. Where nothing leads to, they are those of the project."""
-    if not outermost.inner:
-        return {place: [outermost] for place in found}
-    held: Dict[str, Dict[Rule, None]] = {place: {} for place in found}
-    left = deque(rules_of_tops(found, outermost))
-    while left:
-        place, here = left.popleft()
-        if here not in held[place]:
-            held[place][here] = None
-            for ask in asks[place]:
-                if ask.found is not None:
-                    rule = rule_for(here, ask.name, ask.range, ask.found.version)
-                    left.append((ask.found.place, here if rule is None else holder_of(rule)))
-    return {place: list(rules) or [outermost] for place, rules in held.items()}
+def rule_within(here: Rule, name: str, version: str) -> Rule:
+    """The rule of a package in a folder whose package has a rule: the first of the name whose key
+    or replacement has the version, and that one if there is none."""
+    for rule in here.of_name(name):
+        if any(is_met(it, version, Dialect.NPM) for it in (rule.within, rule.own)):
+            return rule
+    return here
 
 
-def holder_of(rule: Rule) -> Rule:
-    """The rule that is as good as another one where that holds: the nearest that has rules inside,
-    itself or round it."""
-    while not rule.inner and rule.outer is not None:
-        rule = rule.outer
-    return rule
+def put_in_place(rule: Optional[Rule], ask: Ask) -> str:
+    """What is asked for, or what a rule puts in its place."""
+    if rule is None or rule.name != ask.name or rule.spec is None:
+        return ask.spec
+    return rule.spec
 
 
-def rules_of_tops(found: Dict[str, Package], outermost: Rule) -> Iterator[Tuple[str, Rule]]:
-    """The project and its workspaces, each with the rule that holds there."""
-    for place, (_, name, version) in found.items():
-        if is_top(place):
-            rule = rule_for(outermost, name or "", version or ANY, version) if place else None
-            yield place, outermost if rule is None else holder_of(rule)
+def refused(asks: List[Ask], outermost: Rule) -> Iterator[Tuple[Ask, str]]:
+    """What the project itself asks for, where an override would put something else in its place:
+    npm refuses that, also if a version satisfies both."""
+    for ask in asks:
+        spec = put_in_place(rule_for(outermost, ask.name, ask.spec), ask)
+        if spec != ask.spec:
+            yield ask, spec
+
+
+# ---- the rules of packages
+
+
+@dataclass(eq=False)
+class Edge:
+    """What a package asks for, the rule for that, if it has one, and the place that it leads to."""
+
+    ask: Ask
+    rule: Optional[Rule] = None
+    target: str = ""
+
+
+class Reading:
+    """What npm has read of a lock file: the rule of each package, and the edges between packages by
+    the names of what is asked for."""
+
+    def __init__(self, found: Dict[str, Package], outermost: Rule) -> None:
+        self.found, self.named = found, names_in(outermost)
+        self.rules: Dict[str, Rule] = {"": outermost}
+        self.edges: Dict[str, List[Edge]] = {}
+        self.read: Set[str] = set()
+
+    def add(self, place: str, asks: List[Ask]) -> None:
+        """Reads the package at a place: edges that were read may lead there now, and its own begin
+        there."""
+        self.read.add(place)
+        if not is_top(place):
+            self.attach(place, name_by_place(place), folder_round(place))
+        around = [inside(folder, "") for folder in folders(place)]
+        for ask in asks:
+            edge = Edge(ask)
+            self.edges.setdefault(ask.name, []).append(edge)
+            self.choose(edge)
+            nearest = (it + ask.name for it in around if it + ask.name in self.read)
+            self.lead(edge, next(nearest, ""))
+
+    def attach(self, place: str, name: str, folder: str) -> None:
+        """Leads edges to a package in a folder, which has its rule from the last of them, or else
+        from the folder."""
+        for edge in self.edges.get(name, ()):
+            if len(edge.target) < len(place) and is_inside(edge.ask.place, folder):
+                self.lead(edge, place)
+        if place not in self.rules and folder in self.rules:
+            rule, version = self.rules[folder], self.found[place].version or ""
+            self.rules[place] = rule_within(rule, name, version) if name in self.named else rule
+
+    def choose(self, edge: Edge) -> None:
+        """Chooses the rule for an edge, by what the rule before puts in place."""
+        rule = self.rules.get(edge.ask.place)
+        if rule is not None and edge.ask.name in self.named:
+            rule = rule_for(rule, edge.ask.name, put_in_place(edge.rule, edge.ask))
+        edge.rule = rule
+
+    def lead(self, edge: Edge, target: str) -> None:
+        """Leads an edge to a package, which has its rule then, or nowhere."""
+        self.choose(edge)
+        if target and target != edge.target:
+            edge.target = target
+            if edge.rule is not None:
+                self.rules[target] = edge.rule
+
+
+def is_inside(place: str, folder: str) -> bool:
+    """Whether a place is a folder or inside it."""
+    return not folder or place == folder or place.startswith(f"{folder}/")
+
+
+def names_in(rule: Rule) -> Set[str]:
+    """The names that the rules inside a rule are for."""
+    return {it.name for it in rule.inner}.union(*(names_in(it) for it in rule.inner))
+
+
+def put_overrides(
+    packages: Packages, found: Dict[str, Package], asks: Dict[str, List[Ask]], outermost: Rule
+) -> None:
+    """Puts overrides in place of what packages ask for, but for the project itself, and for what
+    was put where it is by another package. npm reads links after all packages."""
+    reading = Reading(found, outermost)
+    pinned = pinned_in(packages) if outermost.inner else set()
+    for is_link in (False, True) if outermost.inner else ():
+        for place, entry in packages.items():
+            if bool(entry.get("link")) == is_link:
+                reading.add(place, asks[place])
+    replaced: Dict[str, Dict[str, str]] = {}
+    for edge in (it for name in reading.named for it in reading.edges.get(name, ())):
+        ask, spec = edge.ask, put_in_place(edge.rule, edge.ask)
+        is_pinned = ask.found is not None and ask.found.place in pinned
+        if ask.place and spec != ask.spec and not is_pinned:
+            replaced.setdefault(ask.place, {})[ask.name] = spec
+    for place, specs in replaced.items():
+        asks[place] = [it._replace(override=specs.get(it.name)) for it in asks[place]]

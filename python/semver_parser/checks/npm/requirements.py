@@ -9,42 +9,55 @@ is in their package.json, and in the lock file too from lockfileVersion 2 on, wh
 WHAT IS FOUND. The nearest package of the name: in the package's own `node_modules`, or else in
 that of a folder round it. A peer is looked for from the folder round the package on; those of the
 project and its workspaces, round which there is none, are in their own. A link is followed. What
-isn't found has no version.
+isn't found has no version. The project has each workspace by a link under its name.
+
+WHAT COUNTS. What nothing leads to from the project and its workspaces isn't looked at, and what npm
+leaves as it is counts by `--strict` alone.
 
 OVERRIDES. They aren't in a lock file, but in the project's package.json. What an override replaces
 is judged by what the override asks for.
 """
 
-from typing import Dict, Iterator, List, NamedTuple, Optional
+from typing import Dict, Iterable, Iterator, List, NamedTuple, Optional, Set
 
 from semver_parser import Dialect
 
-from ..files import Entry
+from ..files import Entry, text_at
 from ..findings import PROJECT, Finding, Graph, Kind, Scope, Tally
 from ..satisfaction import is_met, is_version
 from .archives import archive_at
-from .disk import check_manifest, read_links
+from .disk import check_manifest, read_links, workspaces_of
 from .lock import (
+    OPTIONAL,
+    WORKSPACES,
     Ask,
     Package,
     Packages,
     asks_at,
     is_left_out,
+    is_linked,
+    is_of_what_is_there,
+    is_outside,
     is_top,
     keys_of,
     package_at,
     packages_of,
-    pinned_in,
-    version_at,
     within,
+    without_optional,
 )
-from .overrides import Rule, names_in, rules_in_turn, rules_of, where_rules_hold
-from .specs import has_name, is_any, reason_of, verdict_on
-from .workspaces import is_workspace
-
-# The verdicts on a version, the worst first. None is that it satisfies what is required.
-VERDICTS = (Kind.UNSATISFIED, Kind.INVALID_VERSION, Kind.INVALID_RANGE, Kind.NOT_CHECKED, None)
-
+from .overrides import Rule, put_overrides, refused, rules_of
+from .leaving import Leaving
+from .peers import Peers
+from .settings import STRICT_PEERS, is_set
+from .specs import (
+    directory_at,
+    has_name,
+    is_any,
+    is_archive,
+    is_no_range,
+    reason_of,
+    verdict_on,
+)
 
 class Judgement(NamedTuple):
     """How what is asked for was judged: by which text, whether that is an override, whether the
@@ -73,69 +86,71 @@ def judged_by(spec: str, is_overridden: bool, ask: Ask) -> Judgement:
     """The judgement of what is found by a text."""
     name = None if ask.found is None else ask.found.name
     is_named = name is None or has_name(name, spec)
-    verdict = verdict_by_npm(spec, ask.found)
-    if ask.accepted is not None and verdict_by_npm(ask.accepted, ask.found) is None:
+    requirer = "" if is_overridden else ask.place
+    verdict = verdict_by_npm(spec, ask.found, requirer)
+    if ask.accepted is not None and verdict_by_npm(ask.accepted, ask.found, requirer) is None:
         verdict = None
     return Judgement(spec, is_overridden, is_named, verdict)
 
 
-def verdict_by_npm(spec: str, found: Optional[Package]) -> Optional[Kind]:
-    """The verdict on what is found: npm takes each package for `*`."""
-    if found is not None and found.name is not None and is_any(spec):
-        return None
+def verdict_by_npm(spec: str, found: Optional[Package], requirer: str) -> Optional[Kind]:
+    """The verdict on what is found: npm takes each package for `*`, that from just the URL that is
+    required, and a link to just the directory. An archive or a repository of an old file has no
+    version there."""
+    if found is not None and found.name is not None:
+        if is_any(spec):
+            return None
+        if found.version is None and found.resolved is not None:
+            return Kind.NOT_CHECKED
+        if is_top(found.place):
+            directory = directory_at(spec, requirer)
+            if directory is not None:
+                return None if directory == found.place else Kind.UNSATISFIED
+        elif is_archive(spec) and found.resolved is not None:
+            return None if spec == found.resolved else Kind.UNSATISFIED
     return verdict_on(None if found is None else found.version, spec)
 
 
 def is_plainly_met(ask: Ask) -> bool:
     """Whether a range is required, and the version is in it: no more is to be said then."""
     version = None if ask.found is None else ask.found.version
-    if version is None or ":" in ask.spec:
+    if version is None or ask.override is not None or ":" in ask.spec:
         return False
     return is_met(ask.spec, version, Dialect.NPM) is True
 
 
-def is_beside_overrides(packages: Packages, place: str) -> bool:
-    """Whether overrides leave alone what a package asks for: npm refuses one that differs from what
-    the project itself asks for, and has none for a linked folder that is no workspace."""
-    return is_top(place) and not (place and is_workspace(packages.get("", {}), place))
+def judged(ask: Ask) -> Judgement:
+    """The judgement of what is found."""
+    return judged_by(ask.wanted, ask.override is not None, ask)
 
 
-def judged(ask: Ask, rules: List[Rule]) -> Judgement:
-    """The judgement of what is found: of the ways in which who asks is reached, the one by which
-    the most is right."""
-    return max(
-        (judged_under(ask, rule) for rule in rules),
-        key=lambda it: (it.has_name, VERDICTS.index(it.verdict)),
-    )
-
-
-def judged_under(ask: Ask, here: Rule) -> Judgement:
-    """The judgement of what is found where a rule holds, by the first text by which it is right."""
-    rules = rules_in_turn(here, ask)
-    specs = [rule.spec for rule in rules if rule.spec is not None] or [ask.spec]
-    found = [judged_by(spec, spec != ask.spec, ask) for spec in specs]
-    return next((it for it in found if it.has_name and it.verdict is None), found[0])
+def fits(ask: Ask) -> bool:
+    """Whether npm takes what is found."""
+    return ask.found is not None and judged(ask).verdict in (None, Kind.NOT_CHECKED)
 
 
 # ---- the findings
 
 
 def of_missing(ask: Ask, spec: str, is_old: bool) -> Finding:
-    """What there is to say of what is required and isn't there. It counts by `--strict` only in an
-    old file, of lockfileVersion 1, which doesn't say what is optional."""
-    who, at, reason = ask.place or PROJECT, keys_of(ask.place, is_old), "may be optional"
-    missing = Finding(Kind.MISSING, spec, "", who, ask.name, at=at)
-    return missing._replace(is_strict=True, reason=reason) if is_old else missing
+    """What there is to say of what is required and isn't there. It counts by `--strict` only if it
+    may be optional: in an old file, of lockfileVersion 1, which doesn't say what is."""
+    missing = Finding(
+        Kind.MISSING, spec, "", ask.place or PROJECT, ask.name, at=keys_of(ask.place, is_old)
+    )
+    is_known = ask.is_required and (is_top(ask.place) or not is_old)
+    return missing if is_known else missing._replace(is_strict=True, reason="may be optional")
 
 
 def of_ask(ask: Ask, judgement: Judgement, is_old: bool, tally: Tally) -> Iterator[Finding]:
     """What there is to say of what is required."""
     spec, verdict, found = judgement.spec, judgement.verdict, ask.found
-    tally.requirements += found is not None or ask.is_required
     if found is None:
-        if ask.is_required:
+        if ask.is_required or (ask.kind == OPTIONAL and not is_outside(ask.place)):
+            tally.requirements += 1
             yield of_missing(ask, spec, is_old)
         return
+    tally.requirements += 1
     if judgement.has_name and verdict is None:
         return
     who = ask.place or PROJECT
@@ -147,34 +162,52 @@ def of_ask(ask: Ask, judgement: Judgement, is_old: bool, tally: Tally) -> Iterat
     if not judgement.has_name:
         yield finding
     if kind == Kind.NOT_CHECKED:
-        yield finding._replace(kind=kind, is_strict=True, reason=reason_of(spec))
+        reason = reason_of(spec) if found.version is not None or is_no_range(spec) else "no version"
+        yield finding._replace(kind=kind, is_strict=True, reason=reason)
     elif kind is not None:
         yield finding._replace(kind=kind)
 
 
+def of_conflict(ask: Ask, override: str, is_old: bool) -> Finding:
+    """What there is to say of an override of what the project itself asks for."""
+    at = keys_of("", is_old)
+    return Finding(Kind.CONFLICT, override, ask.spec, PROJECT, ask.name, at=at)
+
+
+def of_link(place: str, entry: Entry, found: Package, is_old: bool) -> Iterator[Finding]:
+    """What there is to say of a link that leads nowhere: npm reads no such file."""
+    if entry.get("link") and found.name is None:
+        target = text_at(entry.get("resolved"), f"{place}: resolved")
+        yield Finding(Kind.MISSING, target, place=place, at=keys_of(place, is_old))
+
+
 def of_version(package: Package, entry: Entry, is_old: bool) -> Iterator[Finding]:
     """What there is to say of a package with a version that npm wouldn't take, or another one than
-    the archive that npm installs."""
-    place, name, version = package
+    the archive that npm installs, or the archive of another package."""
+    place, name, version, _ = package
     resolved, where = entry.get("resolved"), place or PROJECT
     if entry.get("link") or version is None:
         return
-    if not is_version(version, Dialect.NPM):
-        kind, wanted = Kind.INVALID_VERSION, ""
-    elif isinstance(resolved, str) and is_another(name or "", version, resolved):
-        kind, wanted = Kind.ANOTHER_VERSION, resolved
-    else:
-        return
     at = keys_of(place, is_old)
-    yield Finding(kind, wanted, version, package=name or "", place=where, at=at)
+    finding = Finding(Kind.INVALID_VERSION, "", version, package=name or "", place=where, at=at)
+    if not is_version(version, Dialect.NPM):
+        yield finding
+    elif isinstance(resolved, str):
+        kind = of_archive(name or "", version, resolved)
+        if kind is not None:
+            yield finding._replace(kind=kind, range=resolved)
 
 
-def is_another(name: str, version: str, resolved: str) -> bool:
-    """Whether the archive of a package has another version. Nearly all are named by their own."""
+def of_archive(name: str, version: str, resolved: str) -> Optional[Kind]:
+    """What there is to say of the archive of a package. Nearly all are named by their own."""
     if resolved.endswith(f"/{name}/-/{name.rpartition('/')[2]}-{version}.tgz"):
-        return False
-    archive = archive_at(name, resolved)
-    return archive is not None and not is_met(archive.version, version, Dialect.NPM)
+        return None
+    archive = archive_at(resolved)
+    if archive is None:
+        return None
+    if archive.name != name:
+        return Kind.ANOTHER_PACKAGE
+    return None if is_met(archive.version, version, Dialect.NPM) else Kind.ANOTHER_VERSION
 
 
 def rules_of_manifest(manifest: Entry) -> Rule:
@@ -184,35 +217,72 @@ def rules_of_manifest(manifest: Entry) -> Rule:
 
 
 def graph_of(asks: Dict[str, List[Ask]]) -> Graph:
-    """The places that what each place asks for leads to."""
+    """The places that what each place asks for leads to. A workspace is where a path begins."""
     return {
-        place or PROJECT: [it.found.place or PROJECT for it in each if it.found is not None]
+        place or PROJECT: [
+            it.found.place or PROJECT
+            for it in each
+            if it.found is not None and it.kind != WORKSPACES
+        ]
         for place, each in asks.items()
     }
+
+
+def reached(asks: Dict[str, List[Ask]], tops: Iterable[str]) -> Set[str]:
+    """The places that are reached from some of them: npm removes the others."""
+    found: Set[str] = set()
+    left = list(tops)
+    while left:
+        place = left.pop()
+        if place not in found:
+            found.add(place)
+            left += [it.found.place for it in asks.get(place, ()) if it.found is not None]
+    return found
+
+
+def of_project(
+    packages: Packages, found: Dict[str, Package], workspaces: Dict[str, str], is_old: bool
+) -> Iterator[Finding]:
+    """What there is to say of links, and of workspaces that have none."""
+    for place, entry in packages.items():
+        yield from of_link(place, entry, found[place], is_old)
+    for name, directory in workspaces.items():
+        if not is_linked(name, directory, found):
+            at = keys_of("", is_old)
+            yield Finding(Kind.MISSING, package=name, place=directory, at=at)
 
 
 def findings(lock: Entry, project: Project, tally: Tally) -> Iterator[Finding]:
     """What there is to say of a lock file, in its order."""
     packages = packages_of(lock, project.manifest)
     is_old = lock["lockfileVersion"] == 1
-    read_links(packages, project.folder, tally)
+    from_lock = read_links(packages, project.folder)
+    workspaces = workspaces_of(packages, project.folder, project.manifest is not None)
     if project.scope != Scope():
         packages = within(packages, project.scope, tally)
-    checked = [it for it in packages if not is_left_out(packages[it], project.scope)]
-    tally.packages += sum(not is_top(it) and not packages[it].get("link") for it in checked)
     found = {place: package_at(packages, place) for place in packages}
-    asks = {place: list(asks_at(place, entry, found)) for place, entry in packages.items()}
+    asks = {place: list(asks_at(place, it, found, workspaces)) for place, it in packages.items()}
     tally.graph = lambda: graph_of(asks)
-    held = where_rules_hold(found, asks, project.rules)
-    pinned, ruled = pinned_in(packages), names_in(project.rules)
+    if is_of_what_is_there(lock):
+        asks = {place: without_optional(each) for place, each in asks.items()}
+    yield from of_project(packages, found, workspaces, is_old)
+    for ask, override in refused(asks.get("", []), project.rules):
+        yield of_conflict(ask, override, is_old)
+    checked = [it for it in packages if not is_left_out(packages[it], project.scope)]
+    if project.manifest is not None:
+        there = reached(asks, ["", *workspaces.values()])
+        checked = [it for it in checked if it in there]
+    tally.from_lock = len(from_lock.intersection(checked))
+    tally.packages += sum(not is_top(it) and not packages[it].get("link") for it in checked)
+    put_overrides(packages, found, asks, project.rules)
+    is_strict = is_set(project.folder, STRICT_PEERS)
+    peers = None if is_strict else Peers(asks, fits, workspaces.values())
+    leaving = Leaving(packages, peers)
     for place in checked:
         yield from of_version(found[place], packages[place], is_old)
-        is_beside = is_beside_overrides(packages, place)
         for ask in asks[place]:
-            is_pinned = ask.found is not None and ask.found.place in pinned
-            is_plain = is_beside or is_pinned or ask.name not in ruled
-            if is_plain and is_plainly_met(ask):
+            if is_plainly_met(ask):
                 tally.requirements += 1
-                continue
-            judgement = judged_by(ask.spec, False, ask) if is_plain else judged(ask, held[place])
-            yield from of_ask(ask, judgement, is_old, tally)
+            elif ask.kind != WORKSPACES:
+                for finding in of_ask(ask, judged(ask), is_old, tally):
+                    yield leaving.as_npm(finding, ask)

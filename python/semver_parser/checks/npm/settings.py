@@ -9,16 +9,22 @@ from ..files import bytes_of, taking
 LINE_ENDS = re.compile("[\r\n]+")
 COMMENT = re.compile("[;#].*")
 LEGACY_PEERS = "legacy-peer-deps"
+STRICT_PEERS = "strict-peer-deps"
 OFF = ("false", "null", "0")
 
 
 def has_legacy_peers(project: Optional[str]) -> bool:
     """Whether the .npmrc in a project's folder has npm leave peers alone."""
+    return is_set(project, LEGACY_PEERS)
+
+
+def is_set(project: Optional[str], name: str) -> bool:
+    """Whether the .npmrc in a project's folder turns on a setting."""
     path = os.path.join(project or "", ".npmrc")
     if project is None or not os.path.exists(path):
         return False
     with taking(path, ".npmrc"):
-        return is_on(bytes_of(path).decode("utf-8", "replace"), LEGACY_PEERS)
+        return is_on(bytes_of(path).decode("utf-8", "replace"), name)
 
 
 def is_on(settings: str, name: str) -> bool:

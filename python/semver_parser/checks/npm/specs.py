@@ -1,8 +1,9 @@
 """What npm, yarn and pnpm ask for: a range, or a tag, an address or a path."""
 
+import posixpath
 import re
 from functools import lru_cache
-from typing import List, NamedTuple, Optional, Tuple
+from typing import List, Literal, NamedTuple, Optional, Tuple
 from urllib.parse import unquote
 
 from semver_parser import Dialect
@@ -10,13 +11,21 @@ from semver_parser import Dialect
 from ..findings import Kind
 from ..satisfaction import is_met, range_in
 
-# What npm takes for an address or a path, and for a tag. A tag begins with a letter here, and not
-# as a version does: so a range that isn't read is never taken for one.
+# What npm takes for an address or a path.
 ELSEWHERE = re.compile(r"(?!npm:)(?:git\+)?[a-z]+:|\.|.*/|.*\.(?:tgz|tar|tar\.gz)\Z", re.I | re.S)
-TAG = re.compile(r"(?!v[0-9]|v?x\.)[a-z_][0-9a-z_.!~*'()-]*", re.I | re.A)
+
+# A tag to npm is what is no range and has only characters that a URL has as they are. npm reads
+# some of these loosely as a version or a range, as `01.2.3` and `1.2.3beta`.
+TAG = re.compile(r"[\w.!~*'()-]+", re.A)
+PART = r"(?:\d+|[xX*])"
+PRE = r"-?[\dA-Za-z-]+(?:\.[\dA-Za-z-]+)*"
+LOOSE = re.compile(rf"~?v*{PART}(?:\.{PART}(?:\.{PART}(?:{PRE})?)?)?", re.A)
 
 # An address of git, and the range that it has.
 GIT_RANGE = re.compile(r"(?!file:|[./~])([^#]*[/:][^#]*)#(?:.*::)?semver:([^:]*)(?:::.*)?", re.S)
+
+# The path of a directory, from where it is required.
+DIRECTORY = re.compile(r"(?:file:(?!/|~/)|(?=\.))(.*)", re.S)
 
 # What is asked for by the range of a catalog begins so, of which npm has none.
 CATALOG = "catalog:"
@@ -84,6 +93,21 @@ def range_of(spec: str) -> str:
     return spec if named is None else named[1]
 
 
+def is_archive(spec: str) -> bool:
+    """Whether what is asked for is an archive at a URL."""
+    return spec.startswith(("http:", "https:")) and spec.endswith((".tgz", ".tar", ".tar.gz"))
+
+
+def directory_at(spec: str, place: str) -> Optional[str]:
+    """The place of the directory that is asked for from another place; None if it is none, or if
+    its path begins at the root or at the user's home."""
+    found = DIRECTORY.fullmatch(spec)
+    if found is None or spec.endswith((".tgz", ".tar", ".tar.gz")):
+        return None
+    path = posixpath.normpath(posixpath.join(place, unquote(found.group(1))))
+    return "" if path == "." else path
+
+
 def is_elsewhere(spec: str) -> bool:
     """Whether npm takes what is asked for for an address or a path. An alias is none."""
     return alias_of(spec) is None and ELSEWHERE.match(spec) is not None
@@ -94,7 +118,9 @@ def is_no_range(spec: str) -> bool:
     an address or a path. An alias has a range or a tag, and an address of git may have a range."""
     if git_range_of(spec) is not None:
         return False
-    return is_elsewhere(spec) or TAG.fullmatch(range_of(spec).strip()) is not None
+    wanted = range_of(spec).strip()
+    is_tag = TAG.fullmatch(wanted) is not None and LOOSE.fullmatch(wanted) is None
+    return is_tag or is_elsewhere(spec)
 
 
 def reason_of(spec: str) -> str:
@@ -103,10 +129,12 @@ def reason_of(spec: str) -> str:
 
 
 @lru_cache(maxsize=None)
-def may_overlap(spec: str, within: str) -> bool:
+def may_overlap(
+    spec: str, within: str, pre_releases: Literal["default", "included"] = "default"
+) -> bool:
     """Whether two ranges have a version in common, or may have one, since one of them isn't
     read."""
-    one, other = range_in(spec, Dialect.NPM), range_in(within, Dialect.NPM)
+    one, other = (range_in(it, Dialect.NPM, pre_releases) for it in (spec, within))
     return one is None or other is None or not one.isdisjoint(other)
 
 

@@ -23,8 +23,10 @@ RULES = [*(it.value for it in Kind), REFUSED, NO_LONGER_APPLIES]
 DESCRIPTIONS = {
     Kind.UNSATISFIED.value: "A version does not satisfy what is required",
     Kind.OVERRIDDEN.value: "A version does not satisfy what an override requires",
+    Kind.CONFLICT.value: "An override is not what the project requires",
     Kind.ANOTHER_PACKAGE.value: "There is another package than is required",
     Kind.ANOTHER_VERSION.value: "An entry has two versions",
+    Kind.ANOTHER_SOURCE.value: "A package comes from another source than is required",
     Kind.INVALID_VERSION.value: "A version is invalid",
     Kind.INVALID_RANGE.value: "A range is invalid",
     Kind.MISSING.value: "A required package is missing",

@@ -135,7 +135,7 @@ def asks_of_keys(file: File) -> Iterator[Ask]:
 def of_archive(package: Package) -> Iterator[Finding]:
     """What there is to say of a package whose archive at a registry is that of another version."""
     url = str(package.fields.get("resolved", "")).partition("#")[0]
-    archive = archive_at(package.name, url) if package.name and "/-/" in url else None
+    archive = archive_at(url) if package.name else None
     version = without_build(package.version)
     if archive is not None and version is not None and archive.version != version:
         yield of_package(package, Kind.ANOTHER_VERSION)._replace(range=url)

@@ -1,0 +1,98 @@
+"""Which peers that don't fit `npm ci` leaves as they are.
+
+npm looks for a place for a peer in the folders round who requires it, beginning with the first
+whose package has no such peer itself. No other version has a place there if that package needs the
+one that is there, or brings along who has that for a peer. Then npm only warns, unless the project
+or a workspace brought along who requires the peer.
+"""
+
+from functools import cached_property
+from typing import Callable, Dict, Iterable, Iterator, List, Set
+
+from .lock import PEERS, Ask, folder_round, folders, inside, is_top
+from .specs import is_elsewhere, is_no_range, may_overlap, range_of
+
+
+class Peers:
+    """What the packages of a lock file ask for, which of that fits, and who asks for each."""
+
+    def __init__(
+        self, asks: Dict[str, List[Ask]], fits: Callable[[Ask], bool], tops: Iterable[str]
+    ) -> None:
+        self.asks, self.fits, self.tops = asks, fits, {"", *tops}
+        self.known: Dict[str, List[Ask]] = {}
+
+    @cached_property
+    def into(self) -> Dict[str, List[Ask]]:
+        """What asks for the package at each place."""
+        found: Dict[str, List[Ask]] = {}
+        for each in self.asks.values():
+            for ask in each:
+                if ask.found is not None:
+                    found.setdefault(ask.found.place, []).append(ask)
+        return found
+
+    def fitting(self, place: str) -> List[Ask]:
+        """What asks for the package at a place and is for it."""
+        if place not in self.known:
+            self.known[place] = [it for it in self.into.get(place, ()) if self.fits(it)]
+        return self.known[place]
+
+    def is_left(self, ask: Ask) -> bool:
+        """Whether npm leaves a peer that doesn't fit as it is: no version is for that and for
+        others that need what is there."""
+        if ask.kind != PEERS or ask.found is None or is_top(ask.place) or is_elsewhere(ask.wanted):
+            return False
+        others = self.others(self.first_folder(ask), ask, ask.found.place)
+        is_needed = any(is_apart(it.wanted, ask.wanted) for it in others)
+        return is_needed and not self.is_of_project(ask.place)
+
+    def first_folder(self, ask: Ask) -> str:
+        """The first folder round who asks for a peer whose package has no such peer itself."""
+        around = (it for it in folders(folder_round(ask.place)) if it in self.asks)
+        return next((it for it in around if not it or not self.has_peer(it, ask.name)), "")
+
+    def has_peer(self, place: str, name: str) -> bool:
+        """Whether a package has a peer of a name."""
+        return any(it.kind == PEERS and it.name == name for it in self.asks[place])
+
+    def is_of_project(self, place: str) -> bool:
+        """Whether the project or a workspace asks for a package, or for who has it for a peer."""
+        own = (it.place in self.tops and it.kind != PEERS for it in self.into.get(place, ()))
+        return any(own) or any(it.place in self.tops for it in self.entries(place))
+
+    def entries(self, place: str) -> Iterator[Ask]:
+        """What fits and leads to a package, or by peers alone to who has it for a peer, but is no
+        peer of these itself."""
+        for each in self.having(place):
+            for ask in self.fitting(each):
+                if ask.kind != PEERS or ask.place in self.tops:
+                    yield ask
+
+    def having(self, place: str) -> Set[str]:
+        """A package and those that have it for a peer, directly or by others."""
+        found: Set[str] = set()
+        left = [place]
+        while left:
+            at = left.pop()
+            if at not in found:
+                found.add(at)
+                left += [it.place for it in self.fitting(at) if it.kind == PEERS]
+        return found
+
+    def others(self, folder: str, peer: Ask, there: str) -> List[Ask]:
+        """What keeps a peer from a place in a folder, if no version is for both: what else leads to
+        what is there, from the folder on if that is further up, and else if the package of the
+        folder is among it or brings along who has it for a peer."""
+        into = self.fitting(there)
+        if there != inside(folder, peer.name):
+            return [it for it in into if folder in folders(it.place)]
+        own = [it.found for it in self.entries(there) if it.place == folder]
+        return [it for it in into if peer.found in own or it.kind == PEERS] if own else []
+
+
+def is_apart(spec: str, other: str) -> bool:
+    """Whether no version is for both of what is asked for. One at a URL or a path is for that."""
+    if is_elsewhere(spec):
+        return True
+    return not is_no_range(spec) and not may_overlap(range_of(spec), range_of(other))
