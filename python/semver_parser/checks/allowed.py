@@ -54,7 +54,8 @@ def allow(path: str, reports: List[Report]) -> List[Unused]:
     for report in reports:
         before = texts_before(report)
         for finding in report.findings:
-            used += [known[it] for it in (text + sentence(finding) for text in before) if it in known]
+            texts = (text + sentence(finding) for text in before)
+            used += [known[it] for it in texts if it in known]
         kept = [it for it in report.listed if not is_known(sentence(it), before, known)]
         report.allowed, report.listed = len(report.listed) - len(kept), kept
     checked = [short(report.name) for report in reports if report.refusal is None]
