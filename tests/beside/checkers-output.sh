@@ -259,7 +259,7 @@ unchecked() {
     same "nothing is checked in $file $*" 2 /dev/null /dev/null "$work/told" $check "$@" "cases/unchecked/$file"
 }
 unchecked '2 requirements and 2 packages (npm); 2 not checked: 1 git, 1 tag' package-lock.json
-echo "checked 0 requirements of 0 packages in cases/unchecked/paths/package-lock.json (npm); 1 not checked: 1 path" > "$work/told"
+echo "checked 1 requirement of 0 packages in cases/unchecked/paths/package-lock.json (npm)" > "$work/told"
 same 'only paths' 0 /dev/null /dev/null "$work/told" $check cases/unchecked/paths/package-lock.json
 unchecked '2 requirements and 2 packages (npm); 2 not checked: 1 git, 1 tag' package-lock.json --quiet
 unchecked '0 requirements and 1 package (npm)' npm-shrinkwrap.json
