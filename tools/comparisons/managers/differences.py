@@ -9,7 +9,7 @@ from typing import Any, Dict, List, NamedTuple, Set, Tuple
 TOP = os.path.dirname(os.path.dirname(os.path.dirname(os.path.dirname(os.path.abspath(__file__)))))
 sys.path.insert(0, os.path.join(TOP, "python"))
 from semver_parser.checks.findings import PROJECT, Finding, Kind, Scope  # noqa: E402
-from semver_parser.checks.reports import report_on  # noqa: E402
+from semver_parser.checks.reports import Wanted, report_on  # noqa: E402
 
 Edge = Tuple[str, str]
 """Who requires which name. The project is empty."""
@@ -24,7 +24,7 @@ class Found(NamedTuple):
 
 def found_in(path: str, is_strict: bool = False) -> Found:
     """What the checker lists of a lock file."""
-    report = report_on(path, None, Scope(), False)
+    report = report_on(path, None, Wanted(Scope()))
     if report.refusal is not None:
         sys.exit(f"{path}: {report.refusal}")
     listed = [it for it in report.findings if is_strict or not it.is_strict]
@@ -40,7 +40,7 @@ def found_in(path: str, is_strict: bool = False) -> Found:
 
 def listed_in(path: Path) -> List[Finding]:
     """What the checker lists of a lock file by default, or that it refuses it."""
-    report = report_on(str(path), None, Scope(), False)
+    report = report_on(str(path), None, Wanted(Scope()))
     if report.refusal is not None:
         return [Finding(Kind.INVALID_RANGE, str(report.refusal))]
     return [it for it in report.findings if not it.is_strict]
