@@ -22,6 +22,8 @@ for name in aliases archives names versions overrides/package-lock; do for_peopl
 for name in unread cargo/made; do for_people "$name.json" --strict; done
 for name in keys resolution; do for_people "yarn/$name/yarn.lock"; done
 for_people pnpm/wrong-9.yaml --strict
+for name in settings projects entries; do for_people "pnpm/$name/pnpm-lock.yaml"; done
+for_people bun/beside/bun.lock
 for name in no-source patches exchanged unreached; do for_people "cargo-lock/$name/Cargo.lock"; done
 
 for option in --json --format=json; do
@@ -42,6 +44,17 @@ mkdir "$work/no-lock"
 echo 'cases/empty/yarn.lock: gone # known' > "$work/known"
 PYTHONPATH=. python3 "$top/tests/beside/checkers-json.py" cases "$top/docs/man/check-lock-file.1" "$work/known" "$work/no-lock" ||
     exit 1
+
+# What --duplicates lists of files is in cases/duplicates/expected.
+duplicated='cases/duplicates/npm/package-lock.json cases/duplicates/yarn/yarn.lock cases/bun/right/bun.lock
+    cases/deno/right-4/deno.lock cases/pnpm/right-9.yaml'
+if has_yaml; then
+    same 'duplicates' 0 /dev/null cases/duplicates/expected /dev/null $check --quiet --duplicates $duplicated
+fi
+same 'duplicates, only on demand' 0 /dev/null /dev/null /dev/null $check --quiet ${duplicated% *}
+at=cases/duplicates/npm/package-lock.json
+sed -n "s|^$at: |$at::|p" cases/duplicates/expected | sed '1s/json::/json,line=12::/; s/^/::notice file=/' > "$work/lines"
+same 'notices of duplicates' 0 /dev/null "$work/lines" /dev/null $check --quiet --duplicates --format github $at
 
 # SARIF: what GitHub requires of it, and the same findings at the same lines as annotations.
 status=0
@@ -124,7 +137,7 @@ why() {
 why 1 monorepo/package-lock.json 'the project > lodash' 'packages/b > a'
 why 1 yarn/stale/yarn.lock 'the project > perhaps' 'the project > linked' 'the project > num' 'the project > replaced' 'the project > tool' \
     'packages/a > c' 'packages/a > right' 'packages/b > a' 'the project > right 1.4.0 > system'
-why 1 pnpm/stale/pnpm-lock.yaml 'the project > num' 'the project > tool' 'packages/a > right' \
+why 1 pnpm/stale/pnpm-lock.yaml 'the project > num' 'the project > perhaps' 'the project > git' 'the project > tool' 'packages/a > right' \
     'the project > right 1.4.0 > missing'
 why 1 cargo-lock/root/Cargo.lock 'app 0.1.0 > below'
 $check --quiet --json --why cases/monorepo/package-lock.json > "$work/object" || :

@@ -114,19 +114,23 @@ if python3 -c 'import yaml' 2> /dev/null; then
         checked 0 "pnpm/right-$version.yaml"
         checked 1 "pnpm/wrong-$version.yaml"
     done
-    for name in stale workspaces; do checked 1 "pnpm/$name/pnpm-lock.yaml"; done
-    checked 1 pnpm/peers.yaml
-    checked 0 pnpm/hooks/pnpm-lock.yaml
+    for name in stale workspaces settings projects entries; do checked 1 "pnpm/$name/pnpm-lock.yaml"; done
+    for name in peers entries-6 conflict; do checked 1 "pnpm/$name.yaml"; done
+    checked 1 pnpm/conflict.yaml --strict
+    for name in hooks settings-same; do checked 0 "pnpm/$name/pnpm-lock.yaml"; done
+    checked 2 pnpm/repeated.yaml
+    { cat cases/pnpm/repeated.yaml && printf 'x: &anchor {}\ny: *anchor\n'; } > "$work/lock"
+    refused "check-lock-file: standard input: line 10: the key numbers is there twice" "$work/lock" $check -
     checked 1 pnpm/wrong-9.yaml --strict
     checked 1 pnpm/documents/pnpm-lock.yaml
     checked 2 pnpm/another-version.yaml
 else
     echo 'pnpm: skipped, since PyYAML is not there'
 fi
-checked 0 bun/right/bun.lock
-for name in wrong stale; do checked 1 "bun/$name/bun.lock"; done
-for version in 4 5; do checked 0 "deno/right-$version/deno.lock"; done
-checked 1 deno/wrong/deno.lock
+for name in right beside-same; do checked 0 "bun/$name/bun.lock"; done
+for name in wrong stale beside; do checked 1 "bun/$name/bun.lock"; done
+for name in right-4 right-5 beside-same; do checked 0 "deno/$name/deno.lock"; done
+for name in wrong beside; do checked 1 "deno/$name/deno.lock"; done
 for name in bun.lockb composer.lock deno.lock Gemfile.lock pdm.lock Pipfile.lock poetry.lock pylock.toml uv.lock; do
     refused "$(grep "^check-lock-file: cases/others/$name: " cases/others/told)" /dev/null $check "cases/others/$name"
 done

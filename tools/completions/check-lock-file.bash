@@ -10,7 +10,7 @@ _check_lock_file() {
     --allow | --package-json) COMPREPLY=($(compgen -f -- "$word")); return ;;
     esac
     case $word in
-    -*) COMPREPLY=($(compgen -W '--format --json --allow --no-dev --no-peers --package-json --strict --why --color --quiet --version -h --help' -- "$word")) ;;
+    -*) COMPREPLY=($(compgen -W '--format --json --allow --no-dev --no-peers --package-json --strict --why --duplicates --color --quiet --version -h --help' -- "$word")) ;;
     *) COMPREPLY=($(compgen -f -- "$word")) ;;
     esac
 }

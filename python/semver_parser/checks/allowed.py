@@ -53,7 +53,7 @@ def allow(path: str, reports: List[Report]) -> List[Unused]:
     used: List[Line] = []
     for report in reports:
         before = texts_before(report)
-        for finding in report.findings:
+        for finding in [*report.findings, *report.duplicates]:
             texts = (text + sentence(finding) for text in before)
             used += [known[it] for it in texts if it in known]
         kept = [it for it in report.listed if not is_known(sentence(it), before, known)]

@@ -42,6 +42,8 @@ a file shows which tool wrote it:
                          of npm or yarn
     --strict             also list what is not checked, as tags and URLs
     --why                print the path from the project below each finding
+    --duplicates         also list packages in several versions, and ranges that
+                         differ between workspaces; the status is as without it
     --color WHEN         color sentences always, never, or auto: at a terminal
     --quiet              only print findings and errors
     --version            print the version
@@ -73,6 +75,7 @@ PROGRAM = Program(
         "--package-json": True,
         "--strict": False,
         "--why": False,
+        "--duplicates": False,
         "--color": True,
         "--quiet": False,
     },

@@ -8,7 +8,7 @@ from .allowed import allow
 from .closing import closing_line, error_of, total_line
 from .discovery import Discovery, discover
 from .files import STANDARD_INPUT
-from .findings import Scope
+from .findings import NOTES, Scope
 from .output import github, json_object, sarif, text, tsv
 from .program import Misuse, Options, Outcome, escaped
 from .progress import Progress
@@ -66,14 +66,16 @@ def is_colored(options: Options) -> bool:
 def reports_on(paths: List[str], options: Options, form: str) -> Iterator[Report]:
     """What a check of each lock file reports."""
     scope = Scope("--no-peers" not in options.given, "--no-dev" not in options.given)
-    wanted = Wanted(scope, form in WITH_LINES, "--why" in options.given)
+    asked = ("--why" in options.given, "--duplicates" in options.given)
+    wanted = Wanted(scope, form in WITH_LINES, *asked)
     progress = Progress(len(paths))
     try:
         for number, path in enumerate(paths, 1):
             progress.at(number, path)
             report = report_on(path, options.given.get("--package-json"), wanted)
             is_strict = "--strict" in options.given
-            report.listed = [it for it in report.findings if is_strict or not it.is_strict]
+            found = (it for it in report.findings if is_strict or not it.is_strict)
+            report.listed = [*found, *report.duplicates]
             yield report
     finally:
         progress.end()
@@ -101,7 +103,8 @@ def status_of(results: Results) -> int:
     """The status: the worst of all files."""
     if results.refusals or any(error_of(it) is not None for it in results.reports):
         return 2
-    return int(bool(results.unused) or any(it.listed for it in results.reports))
+    listed = (finding for it in results.reports for finding in it.listed)
+    return int(bool(results.unused) or any(it.kind not in NOTES for it in listed))
 
 
 def check(options: Options) -> Outcome:

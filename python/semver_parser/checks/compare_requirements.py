@@ -13,11 +13,11 @@ usage: compare-requirements [--json] OLD NEW
        compare-requirements [--json] --git REV REV PATH
 
 Prints what changed between two package.json, pnpm-workspace.yaml or Cargo.toml
-files, or between all of them below two directories: each requirement, override
-and patch that was added, removed, moved or changed, and of a changed one the
-versions that it loses, gains and shares, as compare-ranges prints them. Ranges
-are read as npm or Cargo reads them. Cargo.toml needs Python 3.11, and
-pnpm-workspace.yaml PyYAML.
+files, or between all of them below two directories: each requirement, override,
+patch, engine and feature that was added, removed, moved or changed, and of a
+changed one the versions that it loses, gains and shares, as compare-ranges
+prints them. Ranges are read as npm or Cargo reads them. Cargo.toml needs Python
+3.11, and pnpm-workspace.yaml PyYAML.
 
 - is standard input.
 

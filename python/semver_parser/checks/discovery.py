@@ -26,7 +26,7 @@ UNREAD_BESIDE = {"package-lock.json": "npm-shrinkwrap.json"}
 OF_NPM = ("package-lock.json", "npm-shrinkwrap.json")
 FOR = {
     "package.json": (*OF_NPM, "yarn.lock", "pnpm-lock.yaml", "bun.lock", "deno.lock"),
-    ".npmrc": OF_NPM,
+    ".npmrc": (*OF_NPM, "pnpm-lock.yaml"),
     "pnpm-workspace.yaml": ("pnpm-lock.yaml",),
     "deno.json": ("deno.lock",),
     "deno.jsonc": ("deno.lock",),

@@ -9,7 +9,7 @@ from contextlib import contextmanager
 from typing import Any, Dict, Iterator, List, NoReturn
 
 from .toml_text import of_1_0
-from .yaml_events import Unusual, documents_of
+from .yaml_events import Repeated, Unusual, documents_by_nodes, documents_of
 
 Entry = Dict[str, Any]
 
@@ -153,15 +153,18 @@ def yaml_objects(text: bytes) -> List[Entry]:
         import yaml
     except ImportError:
         raise Unreadable("it is YAML: install PyYAML (Debian: python3-yaml)") from None
+    whole = utf8(text)
     try:
-        documents = documents_of(utf8(text))
-    except Unusual:
         try:
-            documents = list(yaml.load_all(utf8(text), Loader=yaml.BaseLoader))
-        except yaml.YAMLError as error:
-            raise Unreadable(f"it isn't YAML: {' '.join(str(error).split())}") from None
-        except (ValueError, OverflowError):
-            raise Unreadable("it isn't YAML") from None
+            documents = documents_of(whole)
+        except Unusual:
+            documents = documents_by_nodes(whole)
+    except Repeated as error:
+        raise Unreadable(f"line {error.line}: the key {error.key} is there twice") from None
+    except yaml.YAMLError as error:
+        raise Unreadable(f"it isn't YAML: {' '.join(str(error).split())}") from None
+    except (ValueError, OverflowError):
+        raise Unreadable("it isn't YAML") from None
     return [object_at(document, "the file") for document in documents or [None]]
 
 

@@ -27,7 +27,14 @@ class Kind(str, Enum):
     INVALID_RANGE = "invalid-range"
     MISSING = "missing"
     NOT_REQUIRED = "not-required"
+    STALE = "stale"
     NOT_CHECKED = "not-checked"
+    DUPLICATE = "duplicate"
+    DIFFERENT_RANGE = "different-range"
+
+
+# What is listed on demand, and isn't wrong.
+NOTES = (Kind.DUPLICATE, Kind.DIFFERENT_RANGE)
 
 
 class Finding(NamedTuple):
@@ -38,7 +45,8 @@ class Finding(NamedTuple):
     `alias`. The package that is there has a name, a version and a place, as far as the file has
     them. `at` leads to the package, or to the requirer if there is none. What only counts with
     `--strict` says so, and by a `reason` why it isn't checked; of a package that says what it is,
-    or what has the other version.
+    or what has the other version. What is stale has what the manifest has as its `range`, and what
+    the lock file was written for as its `version`.
     """
 
     kind: Kind

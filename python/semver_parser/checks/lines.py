@@ -150,7 +150,8 @@ def of_yaml(text: bytes, wanted: Set[Keys]) -> Offsets:
         name = key_of_yaml(top.group(1))
         if name in deepest:
             yield (name,), top.start()
-            yield from inside_yaml(text, top.end(), end, name, deepest[name])
+            if deepest[name] > 1:
+                yield from inside_yaml(text, top.end(), end, name, deepest[name])
 
 
 def inside_yaml(text: bytes, start: int, end: int, name: str, deepest: int) -> Offsets:

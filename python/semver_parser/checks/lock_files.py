@@ -124,7 +124,7 @@ def findings(file: Input, tally: Tally) -> Tuple[str, Iterator[Finding]]:
         return BUN, bun.findings(tree_of_bun(text), file.folder, tally, scope)
     if OF_DENO.match(text):
         refuse_manifest(file)
-        return DENO, deno.findings(json_object(text), tally)
+        return DENO, deno.findings(json_object(text), file.folder, tally)
     if text.lstrip()[:1] == b"{":
         return of_json(file, lock_at(path, text), tally)
     if OF_YARN.search(text) or is_empty_of_yarn(path, text):

@@ -4,7 +4,7 @@ import os
 from typing import Optional
 
 from .files import STANDARD_INPUT
-from .findings import Kind
+from .findings import NOTES, Kind
 from .lock_files import BUN, CARGO, DENO, NPM, PNPM, YARN
 from .reports import Report
 from .sentences import quoted
@@ -20,6 +20,7 @@ COMMANDS = {
 
 # What no such command changes: what a manifest requires, and entries that were changed by hand.
 OTHERS = (
+    *NOTES,
     Kind.CONFLICT,
     Kind.INVALID_RANGE,
     Kind.INVALID_VERSION,

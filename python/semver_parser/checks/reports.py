@@ -3,6 +3,7 @@
 from dataclasses import dataclass, field
 from typing import Dict, List, NamedTuple, Optional, Tuple
 
+from .duplicates import duplicates_in
 from .files import STANDARD_INPUT, Refusal, bytes_of, name_of, taking
 from .findings import Finding, Keys, Kind, Scope, Tally
 from .lines import lines_at
@@ -17,14 +18,16 @@ OWN = {"path", "link", "workspace"}
 
 @dataclass
 class Report:
-    """A lock file, the tool that wrote it, what there is to say of it, what of that is listed, and
-    how much is allowed, how much was looked at, the lines of its entries, those of manifests and
-    the paths from the project if they were looked for, and why it is refused, if it is."""
+    """A lock file, the tool that wrote it, what there is to say of it, what of that is listed, what
+    is listed on demand and isn't wrong, how much is allowed, how much was looked at, the lines of
+    its entries, those of manifests and the paths from the project if they were looked for, and why
+    it is refused, if it is."""
 
     path: str
     tool: str = ""
     findings: List[Finding] = field(default_factory=list)
     listed: List[Finding] = field(default_factory=list)
+    duplicates: List[Finding] = field(default_factory=list)
     allowed: int = 0
     tally: Tally = field(default_factory=Tally)
     lines: Dict[Keys, int] = field(default_factory=dict)
@@ -89,11 +92,13 @@ class Results(NamedTuple):
 
 
 class Wanted(NamedTuple):
-    """What is wanted of findings: of which requirements, lines, and paths from the project."""
+    """What is wanted of findings: of which requirements, lines, paths from the project, and what is
+    there several times."""
 
     scope: Scope
     has_lines: bool = False
     has_paths: bool = False
+    has_duplicates: bool = False
 
 
 def report_on(path: str, named: Optional[str], wanted: Wanted) -> Report:
@@ -105,11 +110,14 @@ def report_on(path: str, named: Optional[str], wanted: Wanted) -> Report:
             file = Input(path, text, named, wanted.scope)
             report.tool, found = findings(file, report.tally)
             report.findings = list(found)
+            if wanted.has_duplicates:
+                report.duplicates = duplicates_in(report.tool, file)
             if wanted.has_paths:
                 report.paths = Paths(report.tally.graph())
             if wanted.has_lines:
-                report.lines = lines_at(report.tool, text, {it.at for it in report.findings})
-                report.positions = positions_of(report.tool, file, report.findings)
+                listed = [*report.findings, *report.duplicates]
+                report.lines = lines_at(report.tool, text, {it.at for it in listed})
+                report.positions = positions_of(report.tool, file, listed)
     except Refusal as error:
         report.refusal = error
     return report

@@ -42,13 +42,23 @@ def sentence(it: Finding, paint: Paint = plain) -> str:
     return of_requirement(it, package, found, wanted)
 
 
+def of_stale(it: Finding, name: str, required: str = "") -> str:
+    """What there is to say of what a lock file wasn't written for."""
+    wanted, locked = (quoted(text) if text else "missing" for text in (it.range, it.version))
+    return f"{name} is {wanted} in {it.reason}, and {locked} in the lock file{required}"
+
+
 def of_package(it: Finding, found: str, wanted: str) -> str:
     """What there is to say of a package by itself."""
+    if it.kind == Kind.STALE:
+        return of_stale(it, quoted(it.place))
+    if it.kind == Kind.DUPLICATE:
+        return f"{quoted(it.package)} is there in several versions: {escaped(it.version)}"
     if it.kind == Kind.MISSING and it.range:
         return f"{wanted} is missing, the target of the link {place_of(it.place)}"
     where = "" if it.package in ("", it.place) else f", in {place_of(it.place)}"
     if it.kind == Kind.MISSING:
-        return f"{found} is missing, {it.reason or 'a member of the workspace'}{where}"
+        return f"{found} is missing, {it.reason or f'a member of the workspace{where}'}"
     if it.kind == Kind.NOT_REQUIRED:
         return f"{found} is there, but nothing requires it"
     if it.kind == Kind.ANOTHER_SOURCE:
@@ -70,6 +80,11 @@ def of_requirement(it: Finding, package: str, found: str, wanted: str) -> str:
     required = f"required{known_as} by {requirer}"
     if it.kind == Kind.CONFLICT:
         return f"the override {wanted} of {package} conflicts with {quoted(it.version)}, {required}"
+    if it.kind == Kind.STALE:
+        return of_stale(it, package, f", {required}")
+    if it.kind == Kind.DIFFERENT_RANGE:
+        other = f"{quoted(it.version)} of {place_of(it.reason)}"
+        return f"{package} {wanted} differs from {other}, {required}"
     if it.kind == Kind.OVERRIDDEN:
         return f"{found} does not satisfy the override {wanted}, {required}"
     if it.kind == Kind.ANOTHER_PACKAGE:

@@ -14,6 +14,14 @@ class Unusual(Exception):
     is no text, or nested deep."""
 
 
+class Repeated(Exception):
+    """A key that a mapping has twice, and its line, if it is known."""
+
+    def __init__(self, key: str, line: int = 0) -> None:
+        super().__init__(key, line)
+        self.key, self.line = key, line
+
+
 class Open:
     """A mapping or a list that more follows of, and the key of a mapping that has no value yet."""
 
@@ -29,6 +37,8 @@ class Open:
             self.container[self.key] = value
             self.key = None
         elif isinstance(value, str):
+            if value in self.container:
+                raise Repeated(value)
             self.key = value
         else:
             raise Unusual
@@ -57,6 +67,29 @@ def documents_of(text: str) -> List[Any]:
                 left[-1].add(container)
             elif kind is yaml.AliasEvent:
                 raise Unusual
+    except Repeated as error:
+        raise Repeated(error.key, event.start_mark.line + 1) from None
     except (yaml.YAMLError, ValueError, OverflowError):
         raise Unusual from None
     return list(top.container)
+
+
+def documents_by_nodes(text: str) -> List[Any]:
+    """The documents of a text by PyYAML's own reader, whose scalars are texts."""
+    import yaml
+
+    class Reader(yaml.BaseLoader):
+        """PyYAML's own reader, which takes no key twice."""
+
+        def construct_mapping(self, node: Any, deep: bool = False) -> Any:
+            """A mapping, each of whose keys is there once."""
+            seen = set()
+            for key, _ in node.value:
+                if not isinstance(key, yaml.ScalarNode):
+                    continue
+                if key.value in seen:
+                    raise Repeated(key.value, key.start_mark.line + 1)
+                seen.add(key.value)
+            return super().construct_mapping(node, deep)
+
+    return list(yaml.load_all(text, Loader=Reader))

@@ -21,13 +21,9 @@ from ..satisfaction import is_version
 from ..manifests import manifest_in
 from ..npm.specs import CATALOG, has_name, is_no_range, reason_of, verdict_by, verdict_on
 from ..pnpm.specs import of_workspace
+from .beside import FOR_DEVELOPMENT, KINDS_OF_EACH, KINDS_OF_WORKSPACES, OPTIONAL, PEERS
+from .beside import manifests_below, of_manifest, of_replacements, of_unreached, of_workspaces
 from .lock import Package, nearest, packages_of, path_of, workspaces_of
-
-PEERS, OPTIONAL, FOR_DEVELOPMENT = "peerDependencies", "optionalDependencies", "devDependencies"
-
-# The kinds of requirements. Of one name in several of them the first counts.
-KINDS_OF_EACH = (OPTIONAL, "dependencies", PEERS)
-KINDS_OF_WORKSPACES = (FOR_DEVELOPMENT, *KINDS_OF_EACH)
 
 
 class Requirer(NamedTuple):
@@ -171,6 +167,26 @@ def graph_of(requirers: List[Requirer], by_key: Dict[str, Package]) -> Graph:
     return graph
 
 
+def of_requirer(
+    it: Requirer,
+    by_key: Dict[str, Package],
+    replacements: Replacements,
+    tally: Tally,
+    scope: Scope,
+) -> Iterator[Finding]:
+    """What there is to say of all that something requires."""
+    for need in needs_of(it, scope, tally):
+        found = nearest(it.path, need.name, by_key)
+        tally.requirements += found is not None or need.is_required
+        spec = by_catalog(need.spec, need.name, replacements)
+        finding = Finding(Kind.MISSING, spec, "", it.who, need.name, at=it.at)
+        finding = finding._replace(requirer_version=it.version)
+        if found is not None:
+            yield from of_need(need, found, replacements, finding)
+        elif need.is_required:
+            yield finding
+
+
 def findings(lock: Entry, top: Optional[str], tally: Tally, scope: Scope) -> Iterator[Finding]:
     """What there is to say of a lock file, in its order, beside the package.json files in and below
     a directory, if that is known."""
@@ -183,14 +199,14 @@ def findings(lock: Entry, top: Optional[str], tally: Tally, scope: Scope) -> Ite
         yield from of_version(package)
     requirers = list(requirers_of(workspaces, manifests, packages))
     tally.graph = lambda: graph_of(requirers, by_key)
+    beside = manifests_below(top)
+    yield from of_workspaces(workspaces, beside)
+    yield from of_replacements(lock, beside[""]) if beside else ()
     for it in requirers:
-        for need in needs_of(it, scope, tally):
-            found = nearest(it.path, need.name, by_key)
-            tally.requirements += found is not None or need.is_required
-            spec = by_catalog(need.spec, need.name, replacements)
-            finding = Finding(Kind.MISSING, spec, "", it.who, need.name, at=it.at)
-            finding = finding._replace(requirer_version=it.version)
-            if found is not None:
-                yield from of_need(need, found, replacements, finding)
-            elif need.is_required:
-                yield finding
+        listed = list(of_requirer(it, by_key, replacements, tally, scope))
+        yield from listed
+        folder = it.at[1]
+        if it.at[0] == "workspaces" and folder in beside:
+            wrong = {each.dependency for each in listed if not each.is_strict}
+            yield from of_manifest(folder, workspaces[folder], beside[folder], scope, wrong)
+    yield from of_unreached(workspaces, beside, by_key)

@@ -8,7 +8,7 @@ WHAT IS FOUND. The version that a specifier has, and the package of it. The pack
 exact versions: only that these are there is checked.
 """
 
-from typing import Any, Dict, Iterator, List, NamedTuple, Tuple
+from typing import Any, Dict, Iterator, List, NamedTuple, Optional, Tuple
 
 from semver_parser import Dialect
 
@@ -16,6 +16,7 @@ from ..files import Entry, Unreadable, list_at, object_at, objects_at, text_at, 
 from ..findings import PROJECT, Finding, Graph, Keys, Kind, Tally
 from ..satisfaction import is_version
 from ..npm.specs import name_and_rest, reason_of, verdict_on
+from . import beside
 
 VERSIONS = ("4", "5")
 JSR, NPM = "jsr", "npm"
@@ -160,8 +161,9 @@ def graph_of(specifiers: Dict[str, str], packages: Dict[str, Entry]) -> Graph:
     return graph
 
 
-def findings(lock: Entry, tally: Tally) -> Iterator[Finding]:
-    """What there is to say of a lock file."""
+def findings(lock: Entry, top: Optional[str], tally: Tally) -> Iterator[Finding]:
+    """What there is to say of a lock file, beside the deno.json and package.json files in and below
+    a directory, if that is known."""
     check_version(lock)
     specifiers = texts_at(lock.get("specifiers", {}), "specifiers")
     packages = {it: objects_at(lock.get(it, {}), it) for it in (JSR, NPM)}
@@ -170,6 +172,7 @@ def findings(lock: Entry, tally: Tally) -> Iterator[Finding]:
         for key in entries:
             yield from of_version(registry, key)
     tally.graph = lambda: graph_of(specifiers, packages[NPM])
+    yield from beside.findings(lock, top)
     for requirer, specifier in requirements_of(lock, specifiers):
         if split(specifier)[0] in packages:
             tally.requirements += 1

@@ -3,6 +3,7 @@
 from typing import Iterator, Optional
 
 from ..closing import error_of
+from ..findings import NOTES
 from ..program import visible
 from ..reports import Results
 from .text import grouped, told
@@ -12,7 +13,9 @@ def lines(results: Results) -> Iterator[str]:
     """An annotation for each finding and each error."""
     for report in results.reports:
         for finding in grouped(report.listed):
-            yield annotation(*report.position(finding), "\n".join(told(report, finding)))
+            level = "notice" if finding.kind in NOTES else "error"
+            message = "\n".join(told(report, finding))
+            yield annotation(*report.position(finding), message, level)
         error = error_of(report)
         if error is not None:
             yield annotation(error.path, None, error.why)
@@ -22,10 +25,10 @@ def lines(results: Results) -> Iterator[str]:
         yield annotation(it.path, it.line, f"no longer applies: {it.text}")
 
 
-def annotation(file: str, line: Optional[int], message: str) -> str:
+def annotation(file: str, line: Optional[int], message: str, level: str = "error") -> str:
     """The line of an annotation."""
     where = f",line={line}" if line is not None else ""
-    return f"::error file={in_property(file)}{where}::{in_message(message)}"
+    return f"::{level} file={in_property(file)}{where}::{in_message(message)}"
 
 
 def in_message(text: str) -> str:

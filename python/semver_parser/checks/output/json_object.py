@@ -45,11 +45,11 @@ def of_finding(it: Finding, report: Report) -> Object:
     """All parts of a finding. What it hasn't is null."""
     manifest = report.positions.get(it)
     has_range = bool(it.requirer or it.range) and it.kind != Kind.NOT_REQUIRED
-    has_version = it.version or not (it.requirer or it.kind == Kind.MISSING)
+    is_named = bool(it.requirer) or it.kind in (Kind.STALE, Kind.MISSING, Kind.NOT_REQUIRED)
     return {
         "kind": it.kind.value,
         "package": it.package or None,
-        "version": it.version if has_version else None,
+        "version": it.version if it.version or not is_named else None,
         "place": it.place or None,
         "range": it.range if has_range else None,
         "dependency": it.dependency or None,

@@ -7,7 +7,7 @@ from urllib.parse import quote
 
 from ... import __version__
 from ..closing import error_of
-from ..findings import Kind
+from ..findings import NOTES, Kind
 from ..program import visible
 from ..reports import Results
 from .text import grouped, told
@@ -31,7 +31,10 @@ DESCRIPTIONS = {
     Kind.INVALID_RANGE.value: "A range is invalid",
     Kind.MISSING.value: "A required package is missing",
     Kind.NOT_REQUIRED.value: "Nothing requires a package",
+    Kind.STALE.value: "The lock file was written for something else",
     Kind.NOT_CHECKED.value: "A requirement is not checked",
+    Kind.DUPLICATE.value: "A package is there in several versions",
+    Kind.DIFFERENT_RANGE.value: "Workspaces require a package by different ranges",
     REFUSED: "A file cannot be checked",
     NO_LONGER_APPLIES: "A known finding is there no more",
 }
@@ -67,7 +70,7 @@ def all_results(results: Results) -> Iterator[Object]:
     for report in results.reports:
         for it in grouped(report.listed):
             path, line = report.position(it)
-            level = "note" if it.is_strict else "error"
+            level = "note" if it.is_strict or it.kind in NOTES else "error"
             yield result(it.kind.value, level, path, line, "\n".join(told(report, it)))
         error = error_of(report)
         if error is not None:

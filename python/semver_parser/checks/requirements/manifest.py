@@ -22,6 +22,7 @@ from ..satisfaction import is_met, is_range
 from ..npm.specs import alias_of, git_range_of, is_elsewhere, is_no_range, name_and_rest, range_of
 from ..pnpm.specs import parent_and_name
 from ..yarn.resolutions import STEP
+from .cargo import beside_requirements
 
 NAMES = ("package.json", "Cargo.toml", "pnpm-workspace.yaml")
 """The files that are manifests."""
@@ -69,8 +70,7 @@ def manifest_of(text: bytes) -> Manifest:
         return Manifest(dict(of_package_json(json_object(text))), Dialect.NPM)
     if OF_PNPM.search(text):
         return Manifest(dict(of_pnpm_workspace(yaml_object(text))), Dialect.NPM)
-    needs = by_table(toml_object(text))
-    return Manifest({key: of_cargo(need) for key, need in needs.items()}, Dialect.CARGO)
+    return Manifest(dict(of_cargo_toml(toml_object(text))), Dialect.CARGO)
 
 
 def is_kind(table: str) -> bool:
@@ -123,6 +123,14 @@ def of_object(value: Any) -> Requirement:
     return Requirement(json.dumps(value, ensure_ascii=False, sort_keys=True))
 
 
+def of_cargo_toml(entry: Entry) -> Iterator[Tuple[Key, Requirement]]:
+    """The requirements of a Cargo.toml, and what is beside them."""
+    for key, need in by_table(entry).items():
+        yield key, of_cargo(need)
+    for it in beside_requirements(entry):
+        yield (it.table, it.key), Requirement(it.text, range=it.range or None)
+
+
 # ---- the tables of npm, yarn, pnpm and Bun
 
 
@@ -133,6 +141,9 @@ def of_package_json(entry: Entry) -> Iterator[Tuple[Key, Requirement]]:
             raise WrongShape(f": it has {key}")
     for table in (*KINDS_OF_NPM, *ALSO_OF_NPM):
         yield from of_table(entry, table, table)
+    # npm had a list of engines once, which it ignores.
+    if isinstance(entry.get("engines"), dict):
+        yield from of_table(entry, "engines", "engines")
     for table in METAS:
         for name, meta in objects_at(entry.get(table, {}), table).items():
             yield (table, name), of_object(meta)

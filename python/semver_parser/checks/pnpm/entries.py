@@ -1,0 +1,98 @@
+"""The entries of a `pnpm-lock.yaml` that packages have: which one a version leads to, and which of
+them are missing. pnpm refuses a file in which what it installs has none."""
+
+import re
+from typing import Dict, Iterator, List, NamedTuple, Optional, Tuple
+
+from semver_parser import Dialect
+
+from ..files import Entry, objects_at, text_at, texts_at
+from ..findings import Finding, Kind
+from ..satisfaction import is_version
+
+LINK = "link:"
+"""What the version of a workspace or another directory has before its path."""
+
+
+# What a package is called: NAME@VERSION, or /NAME/VERSION or /NAME@VERSION, before which its
+# registry may be, and what follows of peers.
+CALLED = re.compile(
+    r"(?P<registry>[^/@]*/)?(?P<name>(?:@[^/@]+/)?[^/@]+)(?(registry)[/@]|@)"
+    r"(?P<version>[^/(_]+)(?:[(_].*)?",
+    re.S,
+)
+
+
+class Entries(NamedTuple):
+    """What packages have in a file: their fields, what they depend on, which is apart from these
+    (`snapshots`) from lockfileVersion 9 on, and the first number of lockfileVersion."""
+
+    packages: Dict[str, Entry]
+    snapshots: Dict[str, Entry]
+    form: str
+
+    def key_of(self, text: str, name: str) -> str:
+        """The key of the entry to which a version of a name leads."""
+        before = text.partition("(")[0]
+        if self.form == "9":
+            at, colon = before.find("@"), before.find(":")
+            is_whole = at == 0 or 0 < at and (colon < 0 or at < colon)
+            return text if is_whole else f"{name}@{text}"
+        if text.startswith("file:") or "/" in before:
+            return text
+        return f"/{name}@{text}" if self.form == "6" else f"/{name}/{text}"
+
+    def has(self, text: str, name: str) -> bool:
+        """Whether a version of a name has an entry."""
+        return self.key_of(text, name) in self.snapshots
+
+
+def called_by(text: str) -> Optional[Tuple[str, str]]:
+    """The name and the version in what a package is called. One that is at an address or a path has
+    none, as `github.com/user/numbers/0123` and `example.org/numbers/0123`."""
+    called = CALLED.fullmatch(text)
+    if called is None or ":" in text[: called.end("version")]:
+        return None
+    registry, name, version = called.groups()
+    if registry not in (None, "/") and not is_version(version, Dialect.NPM):
+        return None
+    return name, version
+
+
+def entries_of(lock: Entry) -> Entries:
+    """What packages have in a file."""
+    form = text_at(lock.get("lockfileVersion"), "lockfileVersion").partition(".")[0]
+    packages = objects_at(lock.get("packages") or {}, "packages")
+    if form != "9":
+        return Entries(packages, packages, form)
+    return Entries(packages, objects_at(lock.get("snapshots") or {}, "snapshots"), form)
+
+
+def depends_of(key: str, entry: Entry) -> Dict[str, str]:
+    """What a package depends on: names, each with its version."""
+    kinds = ("optionalDependencies", "dependencies")
+    each = (texts_at(entry.get(kind) or {}, f"{key}: {kind}") for kind in kinds)
+    return {name: text for them in each for name, text in them.items()}
+
+
+def without_entry(entries: Entries, tops: List[str]) -> Iterator[Finding]:
+    """What there is to say of packages that have no entry, or only one of its two halves, of those
+    to which some keys lead."""
+    seen, left = set(tops), list(tops)
+    for key in left:
+        own = key.partition("(")[0]
+        name, version = called_by(key) or (own, "")
+        if own not in entries.packages and key not in entries.packages:
+            reason = "of which the file has only a snapshot"
+            finding = Finding(Kind.MISSING, "", version, package=name, place=key)
+            yield finding._replace(at=("snapshots", key), reason=reason)
+        for dependency, text in depends_of(key, entries.snapshots[key]).items():
+            inner = entries.key_of(text, dependency)
+            if text.startswith(LINK) or inner in seen:
+                continue
+            if inner in entries.snapshots:
+                seen.add(inner)
+                left.append(inner)
+                continue
+            finding = Finding(Kind.MISSING, text, "", name, dependency, requirer_version=version)
+            yield finding._replace(at=("snapshots" if entries.form == "9" else "packages", key))

@@ -1,0 +1,211 @@
+"""The settings of a project of pnpm: those of its pnpm-workspace.yaml, of `pnpm` in its
+package.json and of its .npmrc, beside what the lock file was written with.
+`pnpm install --frozen-lockfile` refuses one that differs: ERR_PNPM_LOCKFILE_CONFIG_MISMATCH."""
+
+import os
+from typing import Any, Dict, Iterator, NamedTuple, Optional, Tuple
+
+from ..files import (
+    Entry,
+    bytes_of,
+    is_there,
+    list_at,
+    object_at,
+    objects_at,
+    taking,
+    text_at,
+    texts_at,
+    yaml_object,
+)
+from ..findings import Finding, Kind
+from ..npm.settings import COMMENT, LINE_ENDS, unquoted
+from ..npm.specs import CATALOG, name_and_rest
+from .specs import parent_and_name
+
+WORKSPACE_FILE, MANIFEST, NPMRC = "pnpm-workspace.yaml", "package.json", ".npmrc"
+
+# The settings that a lock file has, each with its name in .npmrc and what it is by default.
+SWITCHES = {
+    "autoInstallPeers": ("auto-install-peers", "true"),
+    "excludeLinksFromLockfile": ("exclude-links-from-lockfile", "false"),
+    "injectWorkspacePackages": ("inject-workspace-packages", "false"),
+}
+
+# What the lock file has only if it is on.
+IF_ON = "injectWorkspacePackages"
+
+IGNORED = "ignoredOptionalDependencies"
+EXTENSIONS = "packageExtensions"
+
+# The kinds of what `$NAME` in an override is for, the last of which counts.
+KINDS = ("devDependencies", "dependencies", "optionalDependencies")
+
+Place = Tuple[str, Dict[str, str]]
+"""Texts by names, after the file that has them."""
+
+
+class Settings(NamedTuple):
+    """The settings of a project: its pnpm-workspace.yaml, the `pnpm` of its package.json, and what
+    its .npmrc has."""
+
+    workspace: Entry
+    manifest: Entry
+    npmrc: Dict[str, str]
+
+    def table(self, name: str) -> Tuple[str, Any]:
+        """What a setting has, after the file that has it: pnpm-workspace.yaml comes first."""
+        if name in self.workspace:
+            return WORKSPACE_FILE, self.workspace[name]
+        own = object_at(self.manifest.get("pnpm") or {}, "pnpm").get(name)
+        resolutions = self.manifest.get("resolutions") if name == "overrides" else None
+        if resolutions:
+            own = {**texts_at(resolutions, "resolutions"), **texts_at(own or {}, "overrides")}
+        return MANIFEST, own
+
+    def switch(self, name: str) -> Tuple[str, str]:
+        """Whether a setting is on, after the file that says so."""
+        other_name, by_default = SWITCHES[name]
+        if name in self.workspace:
+            return WORKSPACE_FILE, str(self.workspace[name])
+        if other_name in self.npmrc:
+            return NPMRC, self.npmrc[other_name]
+        return "pnpm's defaults", by_default
+
+
+def workspace_file(top: str) -> Optional[Entry]:
+    """The pnpm-workspace.yaml of a project, if it is there."""
+    path = os.path.join(top, WORKSPACE_FILE)
+    with taking(path, WORKSPACE_FILE):
+        if not is_there(path):
+            return None
+        text = bytes_of(path)
+        return yaml_object(text) if text.strip() else {}
+
+
+def npmrc_of(top: str) -> Dict[str, str]:
+    """What the .npmrc of a project has."""
+    path = os.path.join(top, NPMRC)
+    with taking(path, NPMRC):
+        text = bytes_of(path).decode("utf-8", "replace") if is_there(path) else ""
+    pairs = (COMMENT.sub("", line).partition("=") for line in LINE_ENDS.split(text))
+    return {unquoted(key): unquoted(value) for key, _, value in pairs}
+
+
+def settings_of(top: str, manifest: Entry) -> Settings:
+    """The settings of a project, beside its package.json."""
+    return Settings(workspace_file(top) or {}, manifest, npmrc_of(top))
+
+
+def catalogs_of(workspace: Entry) -> Dict[str, Dict[str, str]]:
+    """The catalogs of a pnpm-workspace.yaml by their names."""
+    named = objects_at(workspace.get("catalogs") or {}, "catalogs")
+    found = {name: texts_at(it, f"catalogs: {name}") for name, it in named.items()}
+    if workspace.get("catalog"):
+        found["default"] = texts_at(workspace["catalog"], "catalog")
+    return found
+
+
+def overrides_of(settings: Settings) -> Place:
+    """The overrides of a project as a lock file has them: `$NAME` is what the project requires, and
+    `catalog:` the range of that."""
+    file, found = settings.table("overrides")
+    manifest, catalogs = settings.manifest, catalogs_of(settings.workspace)
+    required = {
+        name: spec
+        for kind in KINDS
+        for name, spec in texts_at(manifest.get(kind) or {}, kind).items()
+    }
+    texts = texts_at(found or {}, "overrides")
+    overrides = {}
+    for key, spec in texts.items():
+        if spec.startswith("$"):
+            spec = required.get(spec[1:], spec)
+        if spec.startswith(CATALOG):
+            catalog = catalogs.get(spec[len(CATALOG) :] or "default", {})
+            spec = catalog.get(name_and_rest(parent_and_name(key)[1])[0], spec)
+        overrides[key] = spec
+    return file, overrides
+
+
+def patches_of(value: Any) -> Dict[str, str]:
+    """The files of patches by what they are for. A lock file has their sums, too, or these alone,
+    which count as no file."""
+    found = {}
+    for key, it in object_at(value or {}, "patchedDependencies").items():
+        path = it.get("path", "") if isinstance(it, dict) else it
+        found[key] = os.path.normpath(path) if isinstance(path, str) else ""
+    return found
+
+
+# ---- what differs
+
+
+def of_texts(name: str, locked: Dict[str, str], place: Place) -> Iterator[Finding]:
+    """What there is to say of texts that a lock file and a file of settings have."""
+    file, texts = place
+    for key in {**locked, **texts}:
+        if locked.get(key) != texts.get(key):
+            finding = Finding(Kind.STALE, texts.get(key, ""), locked.get(key, ""), reason=file)
+            yield finding._replace(place=f"{name}.{key}", at=(name, key))
+
+
+def of_catalogs(lock: Entry, settings: Settings) -> Iterator[Finding]:
+    """What there is to say of ranges that the lock file has of catalogs. It has those alone that
+    something takes."""
+    catalogs = catalogs_of(settings.workspace)
+    for catalog, entries in objects_at(lock.get("catalogs") or {}, "catalogs").items():
+        for name, entry in objects_at(entries, f"catalogs: {catalog}").items():
+            locked, now = str(entry.get("specifier")), catalogs.get(catalog, {}).get(name, "")
+            if locked != now:
+                finding = Finding(Kind.STALE, now, locked, reason=WORKSPACE_FILE)
+                at = ("catalogs", catalog, name)
+                yield finding._replace(place=f"catalogs.{catalog}.{name}", at=at)
+
+
+def of_patches(lock: Entry, settings: Settings) -> Iterator[Finding]:
+    """What there is to say of patches. A lock file of pnpm 11 has no paths."""
+    name = "patchedDependencies"
+    locked = lock.get(name) or {}
+    file, found = settings.table(name)
+    patches = patches_of(found)
+    is_of_paths = any(isinstance(it, dict) for it in object_at(locked, name).values())
+    if locked and not is_of_paths:
+        locked, patches = dict.fromkeys(locked, "patch"), dict.fromkeys(patches, "patch")
+    yield from of_texts(name, patches_of(locked), (file, patches))
+
+
+def of_switches(lock: Entry, settings: Settings) -> Iterator[Finding]:
+    """What there is to say of settings that are on or off."""
+    locked = object_at(lock.get("settings") or {}, "settings")
+    for name in SWITCHES:
+        file, now = settings.switch(name)
+        there = locked.get(name, "false" if name == IF_ON else now)
+        if there != now:
+            finding = Finding(Kind.STALE, now, str(there), reason=file)
+            yield finding._replace(place=f"settings.{name}", at=("settings", name))
+
+
+def ignored_in(lists: Any) -> Dict[str, str]:
+    """The patterns of the optional dependencies that pnpm leaves out."""
+    return {text_at(it, IGNORED): "ignored" for it in list_at(lists or [], IGNORED)}
+
+
+def of_extensions(lock: Entry, settings: Settings) -> Iterator[Finding]:
+    """What there is to say of what is put into packages, of which a lock file has the sum."""
+    file, own = settings.table(EXTENSIONS)
+    locked = str(lock.get(f"{EXTENSIONS}Checksum") or "")
+    if bool(own) != bool(locked):
+        finding = Finding(Kind.STALE, "set" if own else "", locked, reason=file)
+        yield finding._replace(place=EXTENSIONS, at=(f"{EXTENSIONS}Checksum",))
+
+
+def findings(lock: Entry, settings: Settings) -> Iterator[Finding]:
+    """What there is to say of settings that aren't those of the lock file."""
+    yield from of_catalogs(lock, settings)
+    locked = texts_at(lock.get("overrides") or {}, "overrides")
+    yield from of_texts("overrides", locked, overrides_of(settings))
+    file, ignored = settings.table(IGNORED)
+    yield from of_texts(IGNORED, ignored_in(lock.get(IGNORED)), (file, ignored_in(ignored)))
+    yield from of_extensions(lock, settings)
+    yield from of_patches(lock, settings)
+    yield from of_switches(lock, settings)

@@ -1,0 +1,59 @@
+"""What a Cargo.toml has beside its requirements: the Rust that it needs, its features, and those
+that it requires of others."""
+
+import json
+from typing import Any, Dict, Iterator, NamedTuple, Tuple
+
+from ..cargo.manifests import tables_of, workspace_table
+from ..files import Entry, object_at
+
+RUST = "rust-version"
+OF_FEATURES = ("features", "default-features")
+
+
+class Beside(NamedTuple):
+    """What is there beside requirements: its table and key, its text, and the range that it is for,
+    if it is one."""
+
+    table: str
+    key: str
+    text: str
+    range: str = ""
+
+
+def text_of(value: Any) -> str:
+    """What is no requirement, as a text."""
+    return json.dumps(value, ensure_ascii=False, sort_keys=True, default=str)
+
+
+def of_rust(entry: Entry, table: str) -> Iterator[Beside]:
+    """The Rust that a package needs, or that its workspace has for its members: that one or a later
+    one."""
+    if RUST in entry:
+        needed = entry[RUST]
+        is_own = isinstance(needed, str)
+        yield Beside(table, RUST, needed if is_own else text_of(needed), f">={needed}" * is_own)
+
+
+def of_features(table: str, values: Dict[str, Any]) -> Iterator[Beside]:
+    """The features that a table of dependencies asks for."""
+    for name, value in values.items():
+        for key in OF_FEATURES:
+            if isinstance(value, dict) and key in value:
+                yield Beside(f"{table}.{name}", key, text_of(value[key]))
+
+
+def beside_requirements(entry: Entry) -> Iterator[Beside]:
+    """What a Cargo.toml has beside its requirements."""
+    yield from of_rust(object_at(entry.get("package", {}), "package"), "package")
+    workspace = object_at(entry.get("workspace", {}), "workspace")
+    shared = object_at(workspace.get("package", {}), "workspace: package")
+    yield from of_rust(shared, "workspace.package")
+    for name, value in object_at(entry.get("features", {}), "features").items():
+        yield Beside("features", name, text_of(value))
+    tables: Tuple[Tuple[str, Dict[str, Any]], ...] = (
+        *tables_of(entry),
+        ("workspace.dependencies", workspace_table(entry)),
+    )
+    for table, values in tables:
+        yield from of_features(table, values)
