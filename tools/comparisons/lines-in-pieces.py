@@ -119,7 +119,7 @@ def told(text, holds, prefixes, dialect, options):
             invalid.append((at + 1, spelled))
             if "--strict" in options:
                 written = b"" if is_late else b"".join(line for _, line in kept)
-                return written, f"release-filter: -:{at + 1}: not a version: {shown(spelled)}\n".encode(), 2
+                return written, f"release-filter: -:{at + 1}: invalid version: {shown(spelled)}\n".encode(), 2
         empty += not spelled and not version
     if "--greatest" in options:
         chosen = [max(kept, key=lambda it: it[0])] if kept else []
@@ -134,11 +134,11 @@ def told(text, holds, prefixes, dialect, options):
     report = b""
     if invalid and not kept:
         number, first = invalid[0]
-        are = "is" if len(invalid) == 1 else "are"
+        kind = "is an invalid version" if len(invalid) == 1 else "are invalid versions"
         of = f"{len(lines) - empty} {'line' if len(lines) - empty == 1 else 'lines'}"
         has_v = not prefixes and first.startswith(b"v") and version_of(first[1:81], [b""], dialect)[0]
         hint = "; --prefix v takes it" if has_v else ""
-        report = f"release-filter: {len(invalid)} of {of} {are} no version; the first, line {number}: {shown(first)}{hint}\n".encode()
+        report = f"release-filter: {len(invalid)} of {of} {kind}; the first, line {number}: {shown(first)}{hint}\n".encode()
     return written, report, 0 if kept else 1
 
 

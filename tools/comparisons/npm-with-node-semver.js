@@ -79,7 +79,7 @@ function compareBy (program, { call, options, isKnown, sides }, what, all, versi
         if (!kind) differ(of, 'not read', answer)
         return refusals.set(kind[0], (refusals.get(kind[0]) || 0) + 1)
       }
-      const reading = isKnown(of) ? rangeOf(plain(of), options) : range
+      const reading = (isKnown(of) && rangeOf(plain(of), options)) || range
       const met = versions.filter((version) => reading.test(version))
       if (answer !== ['means', ...met].join(' ')) differ(of, `means ${met.join(' ')}`, answer)
       counts.read++
