@@ -49,9 +49,11 @@ def of_npm(folder: Path) -> Lock:
 
 
 def of_overrides(folder: Path) -> Lock:
-    """A package-lock.json beside a package.json with 50 overrides."""
+    """A package-lock.json beside a package.json with 50 overrides, none of which is of what the
+    project requires itself."""
     world = world_of(2000, SEED, Shape((10, 20), 0.0, (0.1,)))
-    overrides = {name: world.releases[name][0].version for name in list(world.releases)[-50:]}
+    names = [name for name in world.releases if name not in world.needs][-50:]
+    overrides = {name: world.releases[name][0].version for name in names}
     packages = files.write_npm(folder, world, {"overrides": overrides})
     return Lock("package-lock.json, 50 overrides", folder / "package-lock.json", packages)
 
