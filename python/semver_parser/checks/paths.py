@@ -26,7 +26,7 @@ class Paths:
         leads to what isn't in the graph."""
         last = finding.who or finding.place
         if last not in self.before and not finding.who:
-            last = f"{finding.package} {finding.version}"
+            last = f"{finding.package} {finding.version}".rstrip()
         path = [last]
         at = self.before.get(last)
         while at is not None:
