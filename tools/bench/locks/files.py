@@ -154,13 +154,19 @@ def yarn_4_needs(ranges: Dict[str, str]) -> Iterator[str]:
 # ---- pnpm
 
 
+def pnpm_version(world: World, release: Release) -> str:
+    """A version as pnpm has it where it is found: with the peers that it is beside."""
+    beside = ((name, world.releases[name][0].version) for name in release.peers)
+    return release.version + "".join(f"({name}@{version})" for name, version in beside)
+
+
 def pnpm_lines(world: World) -> Iterator[str]:
     """The lines of a pnpm-lock.yaml of pnpm 9."""
     yield "lockfileVersion: '9.0'\n\nsettings:\n  autoInstallPeers: true\n"
     yield "\nimporters:\n\n  .:\n    dependencies:\n"
     for name, (wanted, it) in world.needs.items():
         yield f"      {pnpm_text(name)}:\n"
-        yield f"        specifier: {wanted}\n        version: {it.version}\n"
+        yield f"        specifier: {wanted}\n        version: {pnpm_version(world, it)}\n"
     yield "\npackages:\n"
     for release in world.all_releases():
         yield f"\n  {pnpm_text(f'{release.name}@{release.version}')}:\n"
@@ -170,10 +176,10 @@ def pnpm_lines(world: World) -> Iterator[str]:
             yield from (f"      {pnpm_text(name)}: '{ANY_PEER}'\n" for name in release.peers)
     yield "\nsnapshots:\n"
     for release in world.all_releases():
-        peers = {name: world.releases[name][0].version for name in release.peers}
-        found = {**{name: it.version for name, (_, it) in release.needs.items()}, **peers}
-        marks = "".join(f"({name}@{version})" for name, version in peers.items())
-        key = pnpm_text(f"{release.name}@{release.version}{marks}")
+        needs = [it for _, it in release.needs.values()]
+        both = (*needs, *(world.releases[name][0] for name in release.peers))
+        found = {it.name: pnpm_version(world, it) for it in both}
+        key = pnpm_text(f"{release.name}@{pnpm_version(world, release)}")
         yield f"\n  {key}:{'' if found else ' {}'}\n"
         if found:
             yield "    dependencies:\n"

@@ -17,7 +17,7 @@ from typing import Callable, Iterable, List, NamedTuple, Optional, Sequence, Tup
 
 import files
 import hostile
-from world import Shape, World, world_of
+from world import Shape, World, rooted, world_of
 
 SEED = 1
 RUNS = 3
@@ -85,8 +85,8 @@ def of_pnpm(folder: Path) -> Lock:
 
 
 def of_cargo(folder: Path) -> Lock:
-    """A large Cargo.lock."""
-    world = world_of(20000, SEED)
+    """A large Cargo.lock. Cargo drops what nothing requires."""
+    world = rooted(world_of(20000, SEED))
     write_lines(folder / "Cargo.toml", files.cargo_manifest_lines(world))
     path = write_lines(folder / "Cargo.lock", files.cargo_lock_lines(world))
     return Lock("Cargo.lock", path, count_of(world))

@@ -1,7 +1,7 @@
 """A world of packages that a seed makes: releases, and what each requires, all of which is met."""
 
 import random
-from typing import Dict, Iterator, List, NamedTuple, Tuple
+from typing import Dict, Iterator, List, NamedTuple, Set, Tuple
 
 Need = Tuple[str, "Release"]
 """A range, and the release that is chosen for it."""
@@ -79,3 +79,25 @@ def world_of(count: int, seed: int, shape: Shape = Shape()) -> World:
         ]
         names.append(name)
     return World(releases, needs_of(60, names, releases, shape._replace(older=0.0), chance))
+
+
+def rooted(world: World) -> World:
+    """A world of which the project requires the newest release of each name that nothing else
+    requires, without the older ones that nothing requires."""
+    all_needs = (it for each in world.all_releases() for _, it in each.needs.values())
+    required = {(it.name, it.version) for it in all_needs}
+    newest = (each[0] for each in world.releases.values())
+    tops = [it for it in newest if (it.name, it.version) not in required]
+    found: Set[Tuple[str, str]] = set()
+    left = [*tops, *(it for _, it in world.needs.values())]
+    while left:
+        here = left.pop()
+        if (here.name, here.version) not in found:
+            found.add((here.name, here.version))
+            left += [it for _, it in here.needs.values()]
+    kept = {
+        name: [it for it in each if (name, it.version) in found]
+        for name, each in world.releases.items()
+    }
+    needs = {**world.needs, **{it.name: (f"^{it.version}", it) for it in tops}}
+    return World({name: each for name, each in kept.items() if each}, needs)
