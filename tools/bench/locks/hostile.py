@@ -24,19 +24,20 @@ def of_overrides(folder: Path) -> Made:
     """Thousands of overrides of one name, each for what one package requires."""
     names = [f"package-{number}" for number in range(COUNT)]
     packages: Dict[str, Any] = {"": {"dependencies": {name: "1.0.0" for name in names}}}
-    packages["node_modules/part"] = {"version": "2.0.0"}
     for number, name in enumerate(names):
         needs = {"part": f"1.0.{number}"}
         packages[f"node_modules/{name}"] = {"version": "1.0.0", "dependencies": needs}
+    packages["node_modules/part"] = {"version": "2.0.0"}
     overrides = {f"part@1.0.{number}": "2.0.0" for number in range(COUNT)}
     return write_npm(folder, overrides, packages), 0
 
 
 def of_chain(folder: Path) -> Made:
-    """Thousands of overrides of one name, each of which puts there what the next one is for."""
+    """Thousands of overrides of one name, each of which puts there what the next one is for. npm
+    10.8.2 follows three of them."""
     packages: Dict[str, Any] = {"": {"dependencies": {"whole": "1.0.0"}}}
     packages["node_modules/whole"] = {"version": "1.0.0", "dependencies": {"part": "1.0.0"}}
-    packages["node_modules/part"] = {"version": f"1.0.{COUNT}"}
+    packages["node_modules/part"] = {"version": "1.0.3"}
     overrides = {f"part@1.0.{number}": f"1.0.{number + 1}" for number in range(COUNT)}
     return write_npm(folder, overrides, packages), 0
 
