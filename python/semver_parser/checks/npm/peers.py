@@ -24,7 +24,7 @@ class Peers:
 
     @cached_property
     def into(self) -> Dict[str, List[Ask]]:
-        """What asks for the package at each place."""
+        """What requires the package at each place."""
         found: Dict[str, List[Ask]] = {}
         for each in self.asks.values():
             for ask in each:
@@ -33,7 +33,7 @@ class Peers:
         return found
 
     def fitting(self, place: str) -> List[Ask]:
-        """What asks for the package at a place and is for it."""
+        """What requires the package at a place and is for it."""
         if place not in self.known:
             self.known[place] = [it for it in self.into.get(place, ()) if self.fits(it)]
         return self.known[place]
@@ -57,7 +57,7 @@ class Peers:
         return any(it.kind == PEERS and it.name == name for it in self.asks[place])
 
     def is_of_project(self, place: str) -> bool:
-        """Whether the project or a workspace asks for a package, or for who has it for a peer."""
+        """Whether the project or a workspace requires a package, or who has it for a peer."""
         own = (it.place in self.tops and it.kind != PEERS for it in self.into.get(place, ()))
         return any(own) or any(it.place in self.tops for it in self.entries(place))
 
