@@ -10,7 +10,7 @@ use std::fs::{self, File};
 use std::path::{Path, PathBuf};
 use std::process::{Command, Stdio};
 
-/// The program that cargo built, from the folder `bench`.
+/// The program that cargo built, from the directory `bench`.
 const BY_CARGO: &str = "target/crate/release/release-filter";
 
 /// The one that the kit built, if it did.
@@ -24,17 +24,17 @@ const MAKES: [(&str, Make); 2] =
     [("plain versions", Make::Plain), ("versions, plain and with identifiers", Make::Mixed)];
 
 /// The arguments here, options and a range, and those of the program over the crate `semver`,
-/// options and a requirement. Each stands twice here: in the port's Cargo mode, and below as Cargo
+/// options and a requirement. Each is here twice: in the port's Cargo mode, and below as Cargo
 /// itself reads it.
 const ARGUMENTS: [(&[&str], &str, &[&str], &str); 8] = [
-    (&["--as", "crate-cargo"], "^1.2", &[], "^1.2"),
+    (&["--dialect", "crate-cargo"], "^1.2", &[], "^1.2"),
     (&[], "^1.2", &[], "^1.2"),
-    (&["--as", "crate-cargo"], ">=1.0.0 <3.0.0", &[], ">=1.0.0, <3.0.0"),
+    (&["--dialect", "crate-cargo"], ">=1.0.0 <3.0.0", &[], ">=1.0.0, <3.0.0"),
     (&[], ">=1.0.0, <3.0.0", &[], ">=1.0.0, <3.0.0"),
-    (&["--as", "crate-cargo", "--pre-stated"], "^1.2.3-a", &["--pre-stated"], "^1.2.3-a"),
+    (&["--dialect", "crate-cargo", "--pre-stated"], "^1.2.3-a", &["--pre-stated"], "^1.2.3-a"),
     (&[], "^1.2.3-a", &["--pre-stated"], "^1.2.3-a"),
-    (&["--as", "crate-cargo", "--greatest"], "^1.2", &["--greatest"], "^1.2"),
-    (&["--greatest"], "^1.2", &["--greatest"], "^1.2"),
+    (&["--dialect", "crate-cargo", "--highest"], "^1.2", &["--highest"], "^1.2"),
+    (&["--highest"], "^1.2", &["--highest"], "^1.2"),
 ];
 
 /// The programs with an argument that means the same to each.
@@ -72,19 +72,19 @@ pub fn print_table(seed: u64) -> Result<(), String> {
         }
         write(&lines, &tags(&versions))?;
         for sides in &sides[..2] {
-            print_row(&format!("{title}, with a `v` in front"), sides, &lines, false)?;
+            print_row(&format!("{title}, with a `v` before"), sides, &lines, false)?;
         }
     }
     fs::remove_file(&lines).map_err(|error| format!("{}: {error}", lines.display()))
 }
 
-/// The folder of this program, where the other one stands, too.
+/// The directory of this program, in which the other one is, too.
 fn folder() -> Result<PathBuf, String> {
     let program = env::current_exe().map_err(|error| error.to_string())?;
-    program.parent().map(Path::to_path_buf).ok_or("this program has no folder".to_string())
+    program.parent().map(Path::to_path_buf).ok_or("this program has no directory".to_string())
 }
 
-/// Lines with a `v` in front of each, which spell no version.
+/// Lines Lines with a `v` before each, which spell no version.
 fn tags(versions: &str) -> String {
     versions.lines().flat_map(|line| ["v", line, "\n"]).collect()
 }

@@ -1,9 +1,9 @@
 //! What `release-filter` is timed beside: the same filter over the crate `semver`.
 //!
-//! `filter-by-semver [--pre-stated] [--greatest] REQUIREMENT` copies those lines of standard input
-//! to standard output, as they stand, that spell a release which the requirement takes; with
-//! `--pre-stated` pre-releases too, by the rule of the crate; with `--greatest` the one of the
-//! greatest version alone. Its status is 0 where a line was written, 1 where none was, and 2 after
+//! `filter-by-semver [--pre-stated] [--highest] REQUIREMENT` copies those lines of standard input
+//! to standard output, as they are, whose version is a release that satisfies the requirement; with
+//! `--pre-stated` pre-releases too, by the rule of the crate; with `--highest` the one of the
+//! highest version alone. Its status is 0 where a line was written, 1 where none was, and 2 after
 //! an error.
 
 use semver::{Prerelease, Version, VersionReq};
@@ -15,11 +15,11 @@ use std::process::ExitCode;
 struct Wanted {
     requirement: VersionReq,
     has_pre_releases: bool,
-    is_greatest: bool,
+    is_highest: bool,
 }
 
 fn main() -> ExitCode {
-    match wanted().and_then(|wanted| if wanted.is_greatest { find(&wanted) } else { copy(&wanted) })
+    match wanted().and_then(|wanted| if wanted.is_highest { find(&wanted) } else { copy(&wanted) })
     {
         Ok(true) => ExitCode::SUCCESS,
         Ok(false) => ExitCode::from(1),
@@ -37,7 +37,7 @@ fn wanted() -> Result<Wanted, Box<dyn Error>> {
     Ok(Wanted {
         requirement: VersionReq::parse(requirement)?,
         has_pre_releases: has("--pre-stated"),
-        is_greatest: has("--greatest"),
+        is_highest: has("--highest"),
     })
 }
 
@@ -58,24 +58,24 @@ fn copy(wanted: &Wanted) -> Result<bool, Box<dyn Error>> {
     Ok(has_copied)
 }
 
-/// Writes the line of the greatest version, the first among equals, and tells whether there was
+/// Writes the line of the highest version, the first among equals, and tells whether there was
 /// one.
 fn find(wanted: &Wanted) -> Result<bool, Box<dyn Error>> {
     let mut input = io::stdin().lock();
     let mut line = Vec::new();
-    let mut greatest: Option<(Version, Vec<u8>)> = None;
+    let mut highest: Option<(Version, Vec<u8>)> = None;
     while input.read_until(b'\n', &mut line)? > 0 {
         if let Some(version) = kept(wanted, &line) {
-            let is_above = greatest
+            let is_above = highest
                 .as_ref()
                 .map_or(true, |(other, _)| precedence(&version) > precedence(other));
             if is_above {
-                greatest = Some((version, line.clone()));
+                highest = Some((version, line.clone()));
             }
         }
         line.clear();
     }
-    match greatest {
+    match highest {
         Some((_, line)) => io::stdout().write_all(&line).map(|()| true).map_err(Into::into),
         None => Ok(false),
     }
