@@ -21,10 +21,9 @@
  *
  * ERRORS. A function returns SEMVER_PARSER_OK or the status of an error. After an error its outputs
  * are as they were, and `error`, which may be null, says more; after OK it is as it was, too.
- * INVALID_ARGUMENT comes first, then
- * the errors of the arguments from left to right. OUT_OF_MEMORY comes only of a function that
- * allocates: one that makes or prints something, combines ranges, or fills `error` after another
- * error, in place of that. The others don't allocate.
+ * INVALID_ARGUMENT comes first, then the errors of the arguments from left to right. OUT_OF_MEMORY
+ * comes only from a function that allocates: one that makes or prints something, combines ranges, or
+ * fills `error` after another error, in place of that. The others don't allocate.
  *
  * THE CALLER MUST pass valid pointers, not null except where it is said, and not change what they
  * point to during a call. Threads may call concurrently, and read one range or list at once. Not in
@@ -89,8 +88,8 @@ typedef int32_t semver_parser_dialect;
 enum {
     /* `1.2` is `>=1.2.0 <2.0.0`. Versions are those of SemVer 2.0.0. */
     SEMVER_PARSER_DIALECT_CARGO = 0,
-    /* `1.2` is `>=1.2.0 <1.3.0`. A version may have a `v` and white space around it. Numbers go up
-     * to 2^53 - 1, and versions have at most 256 characters. */
+    /* `1.2` is `>=1.2.0 <1.3.0`. A version may have a `v` before it, and white space around it.
+     * Numbers go up to 2^53 - 1, and versions have at most 256 characters. */
     SEMVER_PARSER_DIALECT_NPM = 1,
     /* The Rust crate in its Cargo mode, which isn't Cargo's dialect: `1.2` is `>=1.2.0 <1.3.0`. */
     SEMVER_PARSER_DIALECT_CRATE_CARGO = 2,
@@ -204,8 +203,8 @@ typedef struct {
 /* Makes an English sentence of an error: `invalid range "1 || 2", at byte 2: Cargo takes no ||;
  * npm does`. `string` is the string of the call that `error->index` names. With `caret` it has
  * two lines more, indented by four spaces: the string, shortened if it is long and with U+FFFD
- * for control characters, and a caret under the character. An error that isn't about a string, as
- * OUT_OF_MEMORY, is its semver_parser_status_text alone. semver_parser_free frees the sentence. */
+ * for control characters, and a caret under the character. An error that isn't about a string, such
+ * as OUT_OF_MEMORY, is its semver_parser_status_text alone. semver_parser_free frees the sentence. */
 SEMVER_PARSER_CHECKED(1, 4)
 semver_parser_status semver_parser_error_message(
     const semver_parser_error *error, semver_parser_string string, bool caret, char **message);
@@ -340,9 +339,10 @@ semver_parser_status semver_parser_range_lowest_version(
     const semver_parser_range *range, char **version);
 
 /* Makes a string of the releases of a range, or of its pre-releases: `>=1.2.0 <2.0.0`, `*` for all,
- * `<0.0.0-0` for none. Its syntax is npm's in each dialect. By SEMVER_PARSER_DIALECT_CRATE_NPM that
- * of releases reads back with PRE_RELEASES_EXCLUDED; of that of pre-releases, read with
- * PRE_RELEASES_INCLUDED, only the pre-releases count. semver_parser_free frees it. */
+ * `<0.0.0-0` for none. Its syntax is npm's in each dialect. In SEMVER_PARSER_DIALECT_CRATE_NPM that
+ * of releases reads back with PRE_RELEASES_EXCLUDED, and that of pre-releases with
+ * PRE_RELEASES_INCLUDED, where only the pre-releases count; but `*`, all of them, begins with 0.0.0
+ * there. semver_parser_free frees it. */
 SEMVER_PARSER_CHECKED(1, 3)
 semver_parser_status semver_parser_range_to_string(
     const semver_parser_range *range, bool pre_releases, char **string);
@@ -371,10 +371,10 @@ typedef struct {
     semver_parser_string pre;
 } semver_parser_comparator;
 
-/* Rewrites a range to plain comparators: `^1.2` gives `>=` 1.2.0 and `<` 2.0.0-0. By the crate's
- * dialects a raised bound is such only if `exact`, and else `<2.0.0`. They say which releases
- * satisfy the range; for pre-releases use semver_parser_range. semver_parser_comparators_free frees
- * them. INVALID_RANGE, NUMBER_TOO_LARGE. */
+/* Rewrites a range to plain comparators: `^1.2` gives `>=` 1.2.0 and `<` 2.0.0-0. In the crate's
+ * dialects the second is `<` 2.0.0, unless `exact`. They say which releases satisfy the range; for
+ * pre-releases use semver_parser_range. semver_parser_comparators_free frees them. INVALID_RANGE,
+ * NUMBER_TOO_LARGE. */
 SEMVER_PARSER_CHECKED(4)
 semver_parser_status semver_parser_comparators_of_range(
     semver_parser_string range, semver_parser_dialect dialect, bool exact,

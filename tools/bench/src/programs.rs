@@ -84,7 +84,7 @@ fn folder() -> Result<PathBuf, String> {
     program.parent().map(Path::to_path_buf).ok_or("this program has no directory".to_string())
 }
 
-/// Lines Lines with a `v` before each, which spell no version.
+/// Lines with a `v` before each, which are not versions to Cargo.
 fn tags(versions: &str) -> String {
     versions.lines().flat_map(|line| ["v", line, "\n"]).collect()
 }
