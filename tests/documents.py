@@ -153,6 +153,16 @@ def errors_of_links():
                 yield f'{page}: {path} has no heading {anchor}'
 
 
+def errors_of_files():
+    """A file that a page names from the top of the repository is there; those of other repositories are named elsewise."""
+    folders = '|'.join(entry for entry in os.listdir(TOP) if os.path.isdir(os.path.join(TOP, entry)) and entry[0] != '.')
+    named = re.compile(rf'(?<![\w./*-])(?:{folders})/[\w./-]*\.(?:rt|antt|rs|py|sh|md|h|toml|cjs|mjs|js|txt|svg)(?![\w*])')
+    for page in documents():
+        for path in named.findall(read(page)):
+            if 'NAME' not in path and not any(os.path.exists(os.path.join(TOP, top, path)) for top in ('', os.path.dirname(page))):
+                yield f'{page}: there is no {path}'
+
+
 def clauses(text):
     """The names of the clauses of a source."""
     return set(re.findall(r'\b(?:ensures|requires|invariant) ([a-z_]+) \{', text))
@@ -492,7 +502,7 @@ def errors_of_licences():
 
 def errors():
     for check in (
-        errors_of_links, errors_of_promises, errors_of_proofs, errors_of_answers,
+        errors_of_links, errors_of_files, errors_of_promises, errors_of_proofs, errors_of_answers,
         errors_of_the_example, errors_of_words, errors_of_words_in_prose, errors_of_paths, errors_of_telling, errors_of_length, errors_of_the_readme, errors_of_ranges, errors_of_crates,
         errors_of_lemmas, errors_of_citations, errors_of_licences,
     ):
@@ -507,6 +517,7 @@ EDITS = [
     ('README.md', 'Licence: ', 'Licence: ' + 'or ' * 400),
     ('README.md', '("1.9.0", "^1.2"', '("1.9.0", "^1.3"'),
     ('docs/MEANING.md', '## Terms', '## Words'),
+    ('docs/ERASURE.md', 'tests/erased.py', 'tests/erases.py'),
     ('docs/RANGES.md', '| =1.2 |', '| =1.3 |'),
     ('docs/COMING_FROM.md', '3.x', '4.x'),
     ('crates/semver_texts/proofs/Joins.antt', '-- serves: ', '-- helps: '),
