@@ -206,7 +206,7 @@ crate:
 release:
 	$(begin)
 	may_write "$$OUT"
-	for tool in npm=npm dpkg-buildpackage=dpkg-dev dh=debhelper git=git; do
+	for tool in npm=npm dpkg-buildpackage=dpkg-dev dh=debhelper dh_python3=dh-python git=git; do
 		command -v "$${tool%=*}" > /dev/null ||
 			refuse "needs the command $${tool%=*} (Debian: apt-get install $${tool#*=})"
 	done
@@ -215,7 +215,7 @@ release:
 	out=$$OUT made=$$work/made
 	export OUT="$$made"
 	mkdir "$$made" "$$work/source"
-	for goal in crate wheel js archive; do again $$goal; done
+	for goal in crate wheel js archive; do again $$goal > "$$work/said"; done
 	git ls-files -z | tar --null -T - --mtime="@$$SOURCE_DATE_EPOCH" -cf - |
 		tar -C "$$work/source" -xf -
 	cd "$$work/source"

@@ -327,7 +327,7 @@ where_no_tool_is() {
     mkdir "$work/tools"
     for tool in sh dirname readlink id find sed tr date nproc uname make env mktemp rm; do ln -s "$(command -v "$tool")" "$work/tools/$tool"; done
     [ "$(id -u)" != 0 ] || chown 0 "$small" "$checkout"
-    refuses "make: needs the command cargo (Debian: apt-get install cargo)" env PATH="$work/tools" make -s out/cargo/release/semver-parser
+    refuses "make: needs the command cargo, 1.79 or later (rustup, or from Debian 13 on: apt-get install cargo)" env PATH="$work/tools" make -s out/cargo/release/semver-parser
     refuses "semver-parser: semver-parser isn't built, and cannot be: there is no command rt (README names the kit that has it)" \
         env PATH="$work/tools" "$small/semver-parser" 1.2.3
 }

@@ -57,7 +57,7 @@ build() {
 }
 
 may_cargo() {
-    command -v cargo > /dev/null || refuse 'needs the command cargo (Debian: apt-get install cargo)'
+    command -v cargo > /dev/null || refuse 'needs the command cargo, 1.79 or later (rustup, or from Debian 13 on: apt-get install cargo)'
 }
 
 # may_ask: whether cargo may write to the repository. If not, what isn't built is refused.

@@ -589,7 +589,7 @@ def erase():
 
 
 if __name__ == '__main__':
-    if len(sys.argv) > 2:
+    if len(sys.argv) > 2 or sys.argv[1:] and sys.argv[1].startswith('-'):
         sys.exit('usage: tools/erase.py [OUT]')
     out = sys.argv[1] if len(sys.argv) > 1 else f'{TOP}/rust/src/proved'
     made = dict(erase())
