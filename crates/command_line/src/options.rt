@@ -116,23 +116,23 @@ impl MeaningOptions {
     {
         if self.wants_name {
             self.wants_name = false;
-            self.ask_by_name(alloc, argument)?;
+            self.set_dialect_by_name(alloc, argument)?;
             return Ok(true);
         }
         if let Some(name) = argument.strip_prefix("--dialect=") {
-            self.ask_by_name(alloc, name)?;
+            self.set_dialect_by_name(alloc, name)?;
             return Ok(true);
         }
         if let Some(name) = argument.strip_prefix("--as=") {
-            self.ask_by_name(alloc, name)?;
+            self.set_dialect_by_name(alloc, name)?;
             return Ok(true);
         }
         match argument {
             "--dialect" | "--as" => self.wants_name = true,
-            "--npm" => self.ask(Dialect::Npm, "--npm")?,
-            "--releases-only" | "--releases" => self.count(PreReleases::Excluded)?,
-            "--include-prerelease" | "--pre" => self.count(PreReleases::Included)?,
-            "--pre-stated" => self.count(PreReleases::Default)?,
+            "--npm" => self.set_dialect(Dialect::Npm, "--npm")?,
+            "--releases-only" | "--releases" => self.set_pre_releases(PreReleases::Excluded)?,
+            "--include-prerelease" | "--pre" => self.set_pre_releases(PreReleases::Included)?,
+            "--pre-stated" => self.set_pre_releases(PreReleases::Default)?,
             _ => return Ok(false),
         }
         Ok(true)
@@ -166,7 +166,7 @@ impl MeaningOptions {
     }
 
     /// Takes the dialect of a name.
-    fn ask_by_name(&mut self, alloc: Global, name: &str) -> Result<(), ArgumentError>
+    fn set_dialect_by_name(&mut self, alloc: Global, name: &str) -> Result<(), ArgumentError>
         ensures known { (dialect : Dialect) → name.now ≡ name_of dialect
             → self.old.dialect ≡ None → IfErr result (λ _. ⊥) }
         ensures asked { (dialect : Dialect) → name.now ≡ name_of dialect
@@ -183,16 +183,16 @@ impl MeaningOptions {
         ensures error { IfErr result (λ _. self.new ≡ self.old) }
     {
         match name {
-            "cargo" => self.ask(Dialect::Cargo, "--dialect cargo"),
-            "npm" => self.ask(Dialect::Npm, "--dialect npm"),
-            "crate-cargo" => self.ask(Dialect::CrateCargo, "--dialect crate-cargo"),
-            "crate-npm" => self.ask(Dialect::CrateNpm, "--dialect crate-npm"),
+            "cargo" => self.set_dialect(Dialect::Cargo, "--dialect cargo"),
+            "npm" => self.set_dialect(Dialect::Npm, "--dialect npm"),
+            "crate-cargo" => self.set_dialect(Dialect::CrateCargo, "--dialect crate-cargo"),
+            "crate-npm" => self.set_dialect(Dialect::CrateNpm, "--dialect crate-npm"),
             _ => Err(ArgumentError::UnknownDialect(name.to_string(alloc)?)),
         }
     }
 
     /// Takes the dialect that an option names; an earlier one may have asked for it, too.
-    fn ask(&mut self, dialect: Dialect, option: &'static str) -> Result<(), ArgumentError>
+    fn set_dialect(&mut self, dialect: Dialect, option: &'static str) -> Result<(), ArgumentError>
         ensures first { self.old.dialect ≡ None → IfErr result (λ _. ⊥) }
         ensures asked { self.old.dialect ≡ None → IfOk result (λ _. self.new
             ≡ record self.old { dialect = Some (dialect, option.now) }) }
@@ -215,7 +215,7 @@ impl MeaningOptions {
     }
 
     /// Takes the rule for pre-releases that an option names.
-    fn count(&mut self, rule: PreReleases) -> Result<(), ArgumentError>
+    fn set_pre_releases(&mut self, rule: PreReleases) -> Result<(), ArgumentError>
         ensures first { self.old.rule ≡ None → IfErr result (λ _. ⊥) }
         ensures asked { IfOk result (λ _. self.new ≡ record self.old { rule = Some rule }) }
         ensures twice { self.old.rule ≡ Some rule → Fails (TellsTwice (option_of rule)) result }

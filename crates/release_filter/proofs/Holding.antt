@@ -11,7 +11,7 @@ use Rattle.std.specs.declared.cmp.Ordering.{Ordering}
 use Rattle.semver_texts.specs.Precedence.{precedence}
 use Rattle.semver_texts.specs.Texts.{Text}
 use Rattle.semver_texts.specs.Versions.{PlainVersion}
-use Rattle.release_filter.specs.Verdicts.{JudgedLine}
+use Rattle.release_filter.specs.Verdicts.{LineCheck}
 use Rattle.release_filter.specs.Selections.{HeldValue, Holds, HoldsBy, IsBest, IsFirstHighest, SelectedValue}
 use Rattle.release_filter.specs.Selections.{selected_as, selected_of, order_of}
 use Rattle.release_filter.specs.declared.selection.Selection.{Selection}
@@ -21,11 +21,11 @@ use Rattle.std.proofs.lemmas.Grind.{common_steps}
 
 -- ---- the kept ones of lines
 
-pub kept_append : (xs ys : List JudgedLine) → selected_of (xs ++ ys) ≡ selected_of xs ++ selected_of ys
+pub kept_append : (xs ys : List LineCheck) → selected_of (xs ++ ys) ≡ selected_of xs ++ selected_of ys
 kept_append [] ys = refl
 kept_append (x ∷ xs) ys = grind (arith, selected_of, kept_append xs ys)
 
-pub kept_one : (j : JudgedLine) → selected_of (j ∷ []) ≡ selected_as j.verdict
+pub kept_one : (j : LineCheck) → selected_of (j ∷ []) ≡ selected_as j.verdict
 kept_one j = append-nil _
 
 -- ---- the highest by an order

@@ -92,8 +92,8 @@ same_length xs places ys same = grind (arith, common_steps)
 
 -- ---- some at a time
 
--- the versions before the rest have been judged, and those that pass are kept
-pub record IsJudgedUpTo {X B : Type 0} (p : X → Bool) (f : B → X) (xs rest : List X) (kept : List B) : Type 0 where
+-- the versions before the rest have been checked, and those that pass are kept
+pub record IsCheckedUpTo {X B : Type 0} (p : X → Bool) (f : B → X) (xs rest : List X) (kept : List B) : Type 0 where
   pub front : List X
   pub whole : xs ≡ front ++ rest
   pub keeps : map f kept ≡ filter p front
@@ -103,10 +103,10 @@ pub cut_at : {X : Type 0} (rest some others : List X) (n : ℕ) → some ≡ tak
 cut_at rest some others n front back = grind (arith, common_steps)
 
 module _ {X B : Type 0} (p : X → Bool) (f : B → X) (xs : List X) where
-  -- some more are judged
-  pub judged_more : (rest some others : List X) (kept more : List B) → rest ≡ some ++ others → map f more ≡ map f kept ++ filter p some
-      → IsJudgedUpTo p f xs rest kept → IsJudgedUpTo p f xs others more
-  judged_more rest some others kept more cut e before = record {
+  -- some more are checked
+  pub checked_more : (rest some others : List X) (kept more : List B) → rest ≡ some ++ others → map f more ≡ map f kept ++ filter p some
+      → IsCheckedUpTo p f xs rest kept → IsCheckedUpTo p f xs others more
+  checked_more rest some others kept more cut e before = record {
     front = before.front ++ some;
     whole = before.whole ∙ ap (λ l. before.front ++ l) cut ∙ sym (append_assoc before.front some others);
     keeps = e ∙ ap (λ l. l ++ filter p some) before.keeps ∙ sym (filter-append p before.front some);
@@ -137,8 +137,8 @@ keeps_next f xs places ys old kept i d b inside same is before =
     ∙ sym (take_more ys i (f b) (rw (← same_length xs places ys same) inside)))
 
 -- the answer on a version is whether it is a member
-pub judged_at : (set : SetValue) (versions : List Version) (answers : List Bool) (i : ℕ) (d : Bool)
+pub checked_at : (set : SetValue) (versions : List Version) (answers : List Bool) (i : ℕ) (d : Bool)
     → answers ≡ map (λ v. contains set (version_value v).plain) versions
     → AllByRecursion (λ v. Fits (version_value v).plain) versions
     → i < length versions → (e : Version) → get_or answers i d ≡ is_member set (get_or versions i e)
-judged_at set versions answers i d told fit inside e = grind (arith, common_steps)
+checked_at set versions answers i d told fit inside e = grind (arith, common_steps)

@@ -3,7 +3,7 @@ pub mod Matching
 mod KeptVersions
 mod NumberedLines
 mod Prefixes
-mod JudgedLines
+mod LineChecks
 mod Holding
 mod HeldLines
 mod OneOrder

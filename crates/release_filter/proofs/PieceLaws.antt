@@ -28,10 +28,10 @@ use Rattle.release_filter.specs.Skipping.{IsLeft}
 use Rattle.release_filter.specs.declared.lines.LinesError.{LinesError}
 use Rattle.release_filter.specs.declared.lines.LinesError.TheVariants.{OutOfMemory, NoVersion}
 use Rattle.release_filter.specs.declared.lines.Stopped.{Stopped}
-use Rattle.release_filter.specs.Verdicts.{AreJudged, JudgedLine, LineRule, has_invalid, invalid, is_invalid}
+use Rattle.release_filter.specs.Verdicts.{AreChecked, LineCheck, LineRule, has_invalid, invalid, is_invalid}
 use Rattle.release_filter.specs.Selections.{Answers, Holds, emptied, selected_of}
 use Rattle.release_filter.proofs.Holding.{holds_more, kept_append, one_holding, same_wanted}
-use Rattle.release_filter.proofs.JudgedLines.{OneVersion, one_judging}
+use Rattle.release_filter.proofs.LineChecks.{OneVersion, one_checks}
 use Rattle.release_filter.proofs.Matching.{not_both}
 use Rattle.release_filter.proofs.Sorting.{one_answer}
 use Rattle.release_filter.proofs.SkippedLines.{same_left}
@@ -70,7 +70,7 @@ more_lines end (x ∷ xs) (y ∷ ys) m b f g n e =
       later.2,
     )
 
--- ---- judged lines
+-- ---- checked lines
 
 append_nil_of : (xs ys : Text) → ys ≡ [] → xs ++ ys ≡ xs
 append_nil_of xs ys none = search rules
@@ -79,13 +79,13 @@ no_marked : (front : Bool) (lines : List Text) → marked_off front lines ≡ []
 no_marked front [] e = refl
 no_marked front (line ∷ lines) e = cc
 
-split_judged : (rule : LineRule) (xs ys : List Text) (ks : List JudgedLine)
-    → AreJudged rule (xs ++ ys) ks
-    → (js : List JudgedLine) × (zs : List JudgedLine) × (ks ≡ js ++ zs) × AreJudged rule xs js × AreJudged rule ys zs
-split_judged rule [] ys ks a = search rules
-split_judged rule (x ∷ xs) ys [] a = cc
-split_judged rule (x ∷ xs) ys (k ∷ ks) a =
-    let rest = split_judged rule xs ys ks (record { all = cc; each = a.each.1 }) in
+split_checked : (rule : LineRule) (xs ys : List Text) (ks : List LineCheck)
+    → AreChecked rule (xs ++ ys) ks
+    → (js : List LineCheck) × (zs : List LineCheck) × (ks ≡ js ++ zs) × AreChecked rule xs js × AreChecked rule ys zs
+split_checked rule [] ys ks a = search rules
+split_checked rule (x ∷ xs) ys [] a = cc
+split_checked rule (x ∷ xs) ys (k ∷ ks) a =
+    let rest = split_checked rule xs ys ks (record { all = cc; each = a.each.1 }) in
     let first : k.line ≡ x = cc in (
       k ∷ rest.0,
       rest.1,
@@ -94,18 +94,18 @@ split_judged rule (x ∷ xs) ys (k ∷ ks) a =
       rest.4,
     )
 
-has_front : (js zs : List JudgedLine) (x : JudgedLine) → x.verdict ≡ invalid → has_invalid ((js ++ x ∷ []) ++ zs) ≡ true
+has_front : (js zs : List LineCheck) (x : LineCheck) → x.verdict ≡ invalid → has_invalid ((js ++ x ∷ []) ++ zs) ≡ true
 has_front [] zs x is = cc
 has_front (j ∷ js) zs x is = grind (arith, common_steps)
 
 -- before the last of some lines none is invalid, so an invalid one is the last
-in_front : (js ks zs : List JudgedLine) (x y : JudgedLine) → (js ++ x ∷ []) ++ zs ≡ ks ++ y ∷ [] → x.verdict ≡ invalid
+in_front : (js ks zs : List LineCheck) (x y : LineCheck) → (js ++ x ∷ []) ++ zs ≡ ks ++ y ∷ [] → x.verdict ≡ invalid
     → has_invalid ks ≡ false → zs ≡ []
 in_front [] [] zs x y e is valid = cc
 in_front [] (k ∷ ks) zs x y e is valid = cc
 in_front (j ∷ js) [] zs x y e is valid = absurd (some js (cc))
   where
-    some : (js : List JudgedLine) → ¬ ((js ++ x ∷ []) ++ zs ≡ [])
+    some : (js : List LineCheck) → ¬ ((js ++ x ∷ []) ++ zs ≡ [])
     some [] e = cc
     some _ e = cc
 in_front (j ∷ js) (k ∷ ks) zs x y e is valid = grind (arith, common_steps, is_invalid, has_invalid, in_front js ks zs x y (cc) is)
@@ -114,29 +114,29 @@ in_front (j ∷ js) (k ∷ ks) zs x y e is valid = grind (arith, common_steps, i
 
 module _ (same : OneVersion) (total : IsTotalOrder precedence) where
   -- what a piece does is fixed
-  pub one_taking : (s t u : LinesValue) (piece : Text) (js ks : List JudgedLine) (old new other : Text) → TakesAll s piece js t old new
+  pub one_taking : (s t u : LinesValue) (piece : Text) (js ks : List LineCheck) (old new other : Text) → TakesAll s piece js t old new
       → TakesAll s piece ks u old other → (js ≡ ks) × (t ≡ u) × (new ≡ other)
   one_taking s t u piece js ks old new other a b =
       let cut = same_lines (end_byte s.rule.ending) a.lines b.lines t.unended u.unended a.cut.each b.cut.each a.cut.no_end b.cut.no_end
       (sym a.cut.whole ∙ b.cut.whole) in
-      let judged = one_judging s.rule same (marked_off s.at_front a.lines) js ks a.judges
-      (subst (λ l. AreJudged s.rule (marked_off s.at_front l) ks) (sym cut.0) b.judges) in
+      let checked = one_checks s.rule same (marked_off s.at_front a.lines) js ks a.checks
+      (subst (λ l. AreChecked s.rule (marked_off s.at_front l) ks) (sym cut.0) b.checks) in
       let held = one_holding total s.held t.held u.held (selected_of js) a.added b.added a.holds
-      (subst (λ l. Holds s.held (selected_of l) u.held b.added) (sym judged) b.holds) in (
-        judged,
+      (subst (λ l. Holds s.held (selected_of l) u.held b.added) (sym checked) b.holds) in (
+        checked,
         a.state
             ∙ (λ i. record s {
               at_front = s.at_front && is_empty (cut.0 i);
               unended = cut.1 i;
               held = held.0 i;
-              counts = counted s.rule.ending s.counts (judged i);
+              counts = counted s.rule.ending s.counts (checked i);
             })
             ∙ sym b.state,
         a.appended ∙ ap (λ l. old ++ l) held.1 ∙ sym b.appended,
       )
 
   -- so it is where of the line that it does not end is left what may be needed
-  pub one_piece : (s t u : LinesValue) (piece : Text) (js ks : List JudgedLine) (old new other : Text) → Takes s piece js t old new
+  pub one_piece : (s t u : LinesValue) (piece : Text) (js ks : List LineCheck) (old new other : Text) → Takes s piece js t old new
       → Takes s piece ks u old other → (js ≡ ks) × (t ≡ u) × (new ≡ other)
   one_piece s t u piece js ks old new other a b =
       let t' : LinesValue = record t { unended = a.unended } in
@@ -150,21 +150,21 @@ module _ (same : OneVersion) (total : IsTotalOrder precedence) where
       (one.0, λ i. record (one.1 i) { unended = left i }, one.2)
 
   -- what the end of a text does is fixed
-  pub one_completion : (s t u : LinesValue) (text : Text) (js ks : List JudgedLine) (old new other : Text) → Completes s text js t old new
+  pub one_completion : (s t u : LinesValue) (text : Text) (js ks : List LineCheck) (old new other : Text) → Completes s text js t old new
       → Completes s text ks u old other → (js ≡ ks) × (t ≡ u) × (new ≡ other)
   one_completion s t u text js ks old new other a b =
-      let judged = one_judging s.rule same (lines_of (end_byte s.rule.ending) text) js ks a.judges b.judges in
+      let checked = one_checks s.rule same (lines_of (end_byte s.rule.ending) text) js ks a.checks b.checks in
       let held = one_holding total s.held a.held b.held (selected_of js) a.added b.added a.holds
-      (subst (λ l. Holds s.held (selected_of l) b.held b.added) (sym judged) b.holds) in
+      (subst (λ l. Holds s.held (selected_of l) b.held b.added) (sym checked) b.holds) in
       let rest = one_answer total (end_byte s.rule.ending) a.held a.rest b.rest a.answers (subst (λ h. Answers (end_byte s.rule.ending) h b.rest) (sym held.0) b.answers) in (
-        judged,
-        a.state ∙ ap (λ l. record s { at_front = true; unended = []; held = emptied s.held; counts = counted s.rule.ending s.counts l }) judged
+        checked,
+        a.state ∙ ap (λ l. record s { at_front = true; unended = []; held = emptied s.held; counts = counted s.rule.ending s.counts l }) checked
             ∙ sym b.state,
         a.appended ∙ ap₂ (λ l m. old ++ (l ++ m)) held.1 rest ∙ sym b.appended,
       )
 
   -- what the end of a file does is fixed
-  pub one_file_end : (s t u : LinesValue) (js ks : List JudgedLine) (old new other : Text) → EndsFile s js t old new
+  pub one_file_end : (s t u : LinesValue) (js ks : List LineCheck) (old new other : Text) → EndsFile s js t old new
       → EndsFile s ks u old other → (js ≡ ks) × (t ≡ u) × (new ≡ other)
   one_file_end s t u js ks old new other a b = by_left (is_empty (after_mark s.at_front s.unended)) a b
     where
@@ -178,26 +178,26 @@ module _ (same : OneVersion) (total : IsTotalOrder precedence) where
   -- ---- the first invalid line
 
   -- of a piece and what follows it the first lines are those of the piece, if it ends with a line
-  front_judged : (s t u : LinesValue) (p q : Text) (js ks : List JudgedLine) (old mid other new : Text) → TakesAll s p js t old mid
+  front_checked : (s t u : LinesValue) (p q : Text) (js ks : List LineCheck) (old mid other new : Text) → TakesAll s p js t old mid
       → t.unended ≡ [] → TakesAll s (p ++ q) ks u other new
-      → (zs : List JudgedLine) × (ks ≡ js ++ zs) × (zs ≡ [] → u.unended ≡ [] → q ≡ [])
-  front_judged s t u p q js ks old mid other new a none b =
+      → (zs : List LineCheck) × (ks ≡ js ++ zs) × (zs ≡ [] → u.unended ≡ [] → q ≡ [])
+  front_checked s t u p q js ks old mid other new a none b =
       let whole = sym (append_nil_of (concat a.lines) t.unended none) ∙ sym a.cut.whole in
       let cut = more_lines (end_byte s.rule.ending) a.lines b.lines q u.unended a.cut.each b.cut.each b.cut.no_end
       (ap (λ l. l ++ q) whole ∙ append_assoc s.unended p q ∙ b.cut.whole) in
       let marks = ap (marked_off s.at_front) cut.1 ∙ marked_append s.at_front a.lines cut.0 in
-      let parts = split_judged s.rule (marked_off s.at_front a.lines) (marked_off (s.at_front && is_empty a.lines) cut.0) ks
-      (subst (λ l. AreJudged s.rule l ks) marks b.judges) in
-      let first = one_judging s.rule same (marked_off s.at_front a.lines) parts.0 js parts.3 a.judges in (
+      let parts = split_checked s.rule (marked_off s.at_front a.lines) (marked_off (s.at_front && is_empty a.lines) cut.0) ks
+      (subst (λ l. AreChecked s.rule l ks) marks b.checks) in
+      let first = one_checks s.rule same (marked_off s.at_front a.lines) parts.0 js parts.3 a.checks in (
         parts.1,
         parts.2 ∙ ap (λ l. l ++ parts.1) first,
         λ nothing ended.
-            let no_marks = sym parts.4.all ∙ ap (map (λ (j : JudgedLine). j.line)) nothing in
+            let no_marks = sym parts.4.all ∙ ap (map (λ (j : LineCheck). j.line)) nothing in
             let no_lines = no_marked (s.at_front && is_empty a.lines) cut.0 no_marks in
             cut.2 ∙ ap₂ (λ l m. concat l ++ m) no_lines ended,
       )
 
-  module _ (s t u : LinesValue) (piece : Text) (js ks : List JudgedLine) (x y : JudgedLine) (old mid other new : Text) (a b : ℕ)
+  module _ (s t u : LinesValue) (piece : Text) (js ks : List LineCheck) (x y : LineCheck) (old mid other new : Text) (a b : ℕ)
       (first : TakesAll s (take a piece) (js ++ x ∷ []) t old mid) (is : x.verdict ≡ invalid) (ended : t.unended ≡ []) where
     -- where a piece stops at its first invalid line, it stops at one place
     pub not_later : a ≤ b → b ≤ length piece → TakesAll s (take b piece) (ks ++ y ∷ []) u other new → has_invalid ks ≡ false
@@ -207,7 +207,7 @@ module _ (same : OneVersion) (total : IsTotalOrder precedence) where
         let more = take (b - a) (drop a piece) in
         let cut = ap (λ n. take n piece) (omega arith)
         ∙ take-add a (b - a) piece in
-        let parts = front_judged s t u (take a piece) more _ (ks ++ y ∷ []) old mid other new first ended
+        let parts = front_checked s t u (take a piece) more _ (ks ++ y ∷ []) old mid other new first ended
         (rw (← cut) second) in
         omega (
           arith,
@@ -219,7 +219,7 @@ module _ (same : OneVersion) (total : IsTotalOrder precedence) where
     -- and isn't taken whole
     pub not_whole : TakesAll s piece ks u other new → has_invalid ks ≡ false → ⊥
     not_whole second valid =
-        let parts = front_judged s t u _ (drop a piece) _ ks old mid other new first ended
+        let parts = front_checked s t u _ (drop a piece) _ ks old mid other new first ended
         (rw (take-append-drop a piece) second) in
         not_both (ap has_invalid parts.1 ∙ has_front js parts.0 x is) valid
 
@@ -304,20 +304,20 @@ marked_lines ending (line ∷ lines) rest each =
     ∙ ap (λ l. without_mark line ∷ l) (cut_lines (end_byte ending) lines rest each.1)
 
 -- all of a text was taken, and its end
-pub took_text : IsTotalOrder precedence → (s t u : LinesValue) (text : Text) (js ks : List JudgedLine) (old mid new : Text)
+pub took_text : IsTotalOrder precedence → (s t u : LinesValue) (text : Text) (js ks : List LineCheck) (old mid new : Text)
     → TakesAll (begun s) text js t old mid → Finishes t ks u mid new → Completes (begun s) (without_mark text) (js ++ ks) u old new
 took_text total s t u text js ks old mid new a b =
     let end = end_byte s.rule.ending in
     let rule = ap (λ (v : LinesValue). v.rule) a.state in
     let front = ap (λ (v : LinesValue). v.at_front) a.state in
     let last = lines_of end (after_mark (is_empty a.lines) t.unended) in
-    let ended = subst (λ (r : LineRule). AreJudged s.rule (lines_of (end_byte r.ending) (after_mark t.at_front t.unended)) ks) rule
-    (as_chosen s t _ ks rule b.judges) in
+    let ended = subst (λ (r : LineRule). AreChecked s.rule (lines_of (end_byte r.ending) (after_mark t.at_front t.unended)) ks) rule
+    (as_chosen s t _ ks rule b.checks) in
     let later = rw front at ended in
     let lines = ap (λ l. lines_of end (without_mark l)) a.cut.whole ∙ marked_lines s.rule.ending a.lines t.unended a.cut.each in
     let selection = same_wanted (begun s).held.selection (begun s).held t.held (selected_of js) a.added a.holds in
     record {
-      judges = grind (arith, common_steps);
+      checks = grind (arith, common_steps);
       held = b.held;
       added = a.added ++ b.added;
       rest = b.rest;
@@ -360,10 +360,10 @@ abbrev pub Stops : LinesValue → LinesValue → Text → Text → Text → Stop
 Stops s t piece old new e = (e.taken ≤ length piece) × StopsAs e.error s (take e.taken piece) t old new
 
 abbrev pub Took : LinesValue → LinesValue → Text → Text → Text → Type 0
-Took s t piece old new = (judged : List JudgedLine) × Takes s piece judged t old new × (IsTrue s.is_strict → has_invalid judged ≡ false)
+Took s t piece old new = (checked : List LineCheck) × Takes s piece checked t old new × (IsTrue s.is_strict → has_invalid checked ≡ false)
 
 stopped_taking : (e : LinesError) (s t : LinesValue) (piece old new : Text) → StopsAs e s piece t old new
-    → (judged : List JudgedLine) × TakesAll s piece judged t old new
+    → (checked : List LineCheck) × TakesAll s piece checked t old new
 stopped_taking OutOfMemory s t piece old new stops = (stops.0, stops.1)
 stopped_taking (NoVersion n) s t piece old new stops = search rules
 
@@ -412,7 +412,7 @@ module _ (same : OneVersion) (total : IsTotalOrder precedence) (s r t u : LinesV
 
 -- what a call of `finish` gave
 abbrev pub Ends : LinesValue → LinesValue → Text → Text → Type 0
-Ends s t old new = (judged : List JudgedLine) × Finishes s judged t old new × (IsTrue s.is_strict → has_invalid judged ≡ false)
+Ends s t old new = (checked : List LineCheck) × Finishes s checked t old new × (IsTrue s.is_strict → has_invalid checked ≡ false)
 
 module _ (same : OneVersion) (total : IsTotalOrder precedence) (s r t u : LinesValue) (states : s ≡ r) where
   pub two_finished : (old before new other : Text) → old ≡ before → Ends s t old new → Ends r u before other → (t ≡ u) × (new ≡ other)
@@ -433,12 +433,12 @@ module _ (same : OneVersion) (total : IsTotalOrder precedence) (s r t u : LinesV
   pub no_bad_end : (old new : Text) (f : LinesError) → Ends s t old new → RefusesEnd r f → (n : ℕ) → ¬ (f ≡ NoVersion n)
   no_bad_end old new f (js, a, valid) b n is =
       let bad = subst (λ x. RefusesEnd s x) is (subst (λ (x : LinesValue). RefusesEnd x f) (sym states) b) in
-      let those = one_judging s.rule same (lines_of (end_byte s.rule.ending) (after_mark s.at_front s.unended)) js bad.1.0 a.judges bad.1.1 in
+      let those = one_checks s.rule same (lines_of (end_byte s.rule.ending) (after_mark s.at_front s.unended)) js bad.1.0 a.checks bad.1.1 in
       not_both (ap has_invalid those ∙ bad.1.2) (valid bad.0)
 
 -- what a call of `end_file` gave
 abbrev pub EndedFile : LinesValue → LinesValue → Text → Text → Type 0
-EndedFile s t old new = (judged : List JudgedLine) × EndsFile s judged t old new × (IsTrue s.is_strict → has_invalid judged ≡ false)
+EndedFile s t old new = (checked : List LineCheck) × EndsFile s checked t old new × (IsTrue s.is_strict → has_invalid checked ≡ false)
 
 module _ (same : OneVersion) (total : IsTotalOrder precedence) (s r t u : LinesValue) (old before new other : Text) (states : s ≡ r)
     (bytes : old ≡ before) where

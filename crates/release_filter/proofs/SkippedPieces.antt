@@ -14,8 +14,8 @@ use Rattle.release_filter.specs.Counting.{counted, counted_as}
 use Rattle.release_filter.specs.LineTexts.{IsWholeLine, after_mark, end_byte, lines_of, marked_off, without_mark}
 use Rattle.release_filter.specs.Pieces.{AreAlike, Completes, Finishes, LinesValue, Takes, TakesAll, begun}
 use Rattle.release_filter.specs.Skipping.{IsLeft, ShowsNone}
-use Rattle.release_filter.specs.Verdicts.{IsVerdictOn, JudgedLine, LineRule, Verdict, invalid}
-use Rattle.release_filter.proofs.JudgedLines.{judged_one}
+use Rattle.release_filter.specs.Verdicts.{IsVerdictOn, LineCheck, LineRule, Verdict, invalid}
+use Rattle.release_filter.proofs.LineChecks.{checked_one}
 use Rattle.release_filter.proofs.PieceLaws.{took_text, whole_tail}
 use Rattle.release_filter.proofs.Looks.{looked_least}
 use Rattle.release_filter.proofs.NumberedLines.{whole_after}
@@ -23,7 +23,7 @@ use Rattle.release_filter.proofs.SkippedLines.{counted_alike, is_skipped, marked
 use Rattle.release_filter.proofs.TakenPieces.{NoEnd, end_in, no_end_marked, only_line, took_both}
 use Rattle.std.proofs.lemmas.Grind.{common_steps}
 
-alike : (js : List JudgedLine) → AreAlike js js
+alike : (js : List LineCheck) → AreAlike js js
 alike [] = tt
 alike (j ∷ js) = (inl refl, alike js)
 
@@ -64,7 +64,7 @@ module _ (t : LinesValue) (front dropped : Text) (none : NoEnd (end_in t) front)
     whole_one = record t { unended = front ++ dropped }
 
     -- the bytes that were left of it and those that it has, with what follows
-    abbrev line_as : Text → JudgedLine
+    abbrev line_as : Text → LineCheck
     line_as end = record { line = after_mark t.at_front ((front ++ dropped) ++ end); verdict = invalid }
 
     must_be : (end : Text) (v : Verdict) → IsVerdictOn t.rule (after_mark t.at_front (front ++ end)) v → v ≡ invalid
@@ -74,12 +74,12 @@ module _ (t : LinesValue) (front dropped : Text) (none : NoEnd (end_in t) front)
     is_one end =
         rw (append_assoc front dropped end) (is_skipped t.rule t.at_front front none shows (dropped ++ end))
 
-    same_counts : (k : JudgedLine) (ks : List JudgedLine) (end : Text) → k.verdict ≡ invalid
+    same_counts : (k : LineCheck) (ks : List LineCheck) (end : Text) → k.verdict ≡ invalid
         → k.line ≡ after_mark t.at_front (front ++ end) → counted t.rule.ending t.counts (k ∷ ks) ≡ counted t.rule.ending t.counts (line_as end ∷ ks)
     same_counts k ks end is so = grind (arith, common_steps, counted_as, after_mark, counted_alike)
 
     -- it does not end in the piece
-    took_on : (u : LinesValue) (q : Text) (ks : List JudgedLine) (old new : Text) (b : TakesAll cut_off q ks u old new) → b.lines ≡ []
+    took_on : (u : LinesValue) (q : Text) (ks : List LineCheck) (old new : Text) (b : TakesAll cut_off q ks u old new) → b.lines ≡ []
         → TakesAll whole_one q ks (record u { unended = (front ++ dropped) ++ q }) old new × (u.unended ≡ front ++ q)
         × (u.at_front ≡ t.at_front)
     took_on u q ks old new b nothing =
@@ -93,7 +93,7 @@ module _ (t : LinesValue) (front dropped : Text) (none : NoEnd (end_in t) front)
               no_end = All-append (λ x. x ≢ end_in t) (front ++ dropped) q (All-append (λ x. x ≢ end_in t) front dropped none none_dropped) more;
               whole = refl;
             };
-            judges = search rules;
+            checks = search rules;
             added = b.added;
             holds = b.holds;
             appended = b.appended;
@@ -104,16 +104,16 @@ module _ (t : LinesValue) (front dropped : Text) (none : NoEnd (end_in t) front)
         )
 
     -- it does
-    took_end : (u : LinesValue) (q y : Text) (ys : List Text) (ks : List JudgedLine) (old new : Text) (b : TakesAll cut_off q ks u old new)
-        → b.lines ≡ y ∷ ys → (ls : List JudgedLine) × AreAlike ks ls × TakesAll whole_one q ls u old new
+    took_end : (u : LinesValue) (q y : Text) (ys : List Text) (ks : List LineCheck) (old new : Text) (b : TakesAll cut_off q ks u old new)
+        → b.lines ≡ y ∷ ys → (ls : List LineCheck) × AreAlike ks ls × TakesAll whole_one q ls u old new
     took_end u q y ys [] old new b some = cc
     took_end u q y ys (k ∷ ks) old new b some =
         let each = rw some at b.cut.each in
         let whole = b.cut.whole ∙ ap (λ l. concat l ++ u.unended) some ∙ append_assoc y (concat ys) u.unended in
         let end = line_after (end_in t) front y q (concat ys ++ u.unended) none each.0 whole in
-        let all = b.judges.all ∙ ap (marked_off t.at_front) some in
+        let all = b.checks.all ∙ ap (marked_off t.at_front) some in
         let line : k.line ≡ after_mark t.at_front (front ++ end.0) = cc in
-        let verdict = must_be end.0 k.verdict (rw (← line) b.judges.each.0) in (
+        let verdict = must_be end.0 k.verdict (rw (← line) b.checks.each.0) in (
           line_as end.0 ∷ ks,
           (inr (verdict, refl), alike ks),
           record {
@@ -123,9 +123,9 @@ module _ (t : LinesValue) (front dropped : Text) (none : NoEnd (end_in t) front)
               no_end = b.cut.no_end;
               whole = grind (arith, common_steps);
             };
-            judges = record {
+            checks = record {
               all = cc;
-              each = (is_one end.0, b.judges.each.1);
+              each = (is_one end.0, b.checks.each.1);
             };
             added = b.added;
             holds = search rules;
@@ -147,27 +147,27 @@ module _ (t : LinesValue) (front dropped : Text) (none : NoEnd (end_in t) front)
         only_line (end_in t) _
         (λ e. absurd (omega (arith, ap length e, marked_length t.at_front bytes))) (no_end_marked (end_in t) t.at_front bytes whole)
 
-    took_last : (u : LinesValue) (ks : List JudgedLine) (old new : Text) → Finishes cut_off ks u old new
-        → (ls : List JudgedLine) × AreAlike ks ls × Finishes whole_one ls u old new
-    took_last u ks old new b = by_lines ks b (b.judges.all ∙ marked_lines front none (omega (arith, long)))
+    took_last : (u : LinesValue) (ks : List LineCheck) (old new : Text) → Finishes cut_off ks u old new
+        → (ls : List LineCheck) × AreAlike ks ls × Finishes whole_one ls u old new
+    took_last u ks old new b = by_lines ks b (b.checks.all ∙ marked_lines front none (omega (arith, long)))
       where
-        by_lines : (ks : List JudgedLine) → Finishes cut_off ks u old new
-            → map (λ (j : JudgedLine). j.line) ks ≡ after_mark t.at_front front ∷ []
-            → (ls : List JudgedLine) × AreAlike ks ls × Finishes whole_one ls u old new
+        by_lines : (ks : List LineCheck) → Finishes cut_off ks u old new
+            → map (λ (j : LineCheck). j.line) ks ≡ after_mark t.at_front front ∷ []
+            → (ls : List LineCheck) × AreAlike ks ls × Finishes whole_one ls u old new
         by_lines [] b all = absurd (cc)
         by_lines (k ∷ j ∷ ks) b all = absurd (cc)
         by_lines (k ∷ []) b all =
             let here : k.line ≡ after_mark t.at_front front = cc in
             let line = here ∙ ap (after_mark t.at_front) (sym (append-nil front)) in
-            let verdict = must_be [] k.verdict (rw (← line) b.judges.each.0) in
+            let verdict = must_be [] k.verdict (rw (← line) b.checks.each.0) in
             let whole = ap (after_mark t.at_front) (append-nil (front ++ dropped)) in
             let lines = marked_lines _ (All-append (λ x. x ≢ end_in t) front dropped none none_dropped)
             (omega (arith, long, length-append front dropped)) in (
               line_as [] ∷ [],
               (inr (verdict, refl), tt),
               record {
-                judges =
-                    rw (← ap (λ l. l ∷ []) whole ∙ sym lines) (judged_one t.rule (after_mark t.at_front ((front ++ dropped) ++
+                checks =
+                    rw (← ap (λ l. l ∷ []) whole ∙ sym lines) (checked_one t.rule (after_mark t.at_front ((front ++ dropped) ++
                     [])) invalid (is_one []));
                 held = b.held;
                 added = b.added;
@@ -181,9 +181,9 @@ module _ (t : LinesValue) (front dropped : Text) (none : NoEnd (end_in t) front)
 
 -- ---- one piece after another
 
-module _ (t u : LinesValue) (whole q : Text) (ks : List JudgedLine) (mid new : Text) (none : NoEnd (end_in t) whole) where
+module _ (t u : LinesValue) (whole q : Text) (ks : List LineCheck) (mid new : Text) (none : NoEnd (end_in t) whole) where
   abbrev Next : LinesValue → Type 0
-  Next t' = (ls : List JudgedLine) × AreAlike ks ls × Takes t' q ls u mid new
+  Next t' = (ls : List LineCheck) × AreAlike ks ls × Takes t' q ls u mid new
 
   same_next : t.unended ≡ whole → Takes t q ks u mid new → Next (record t { unended = whole })
   same_next is b = (ks, alike ks, subst (λ r. Takes (record t { unended = r }) q ks u mid new) is b)
@@ -227,8 +227,8 @@ module _ (t u : LinesValue) (whole q : Text) (ks : List JudgedLine) (mid new : T
 
 module _ (total : IsTotalOrder precedence) where
   -- what is left suffices: pieces that are taken one after another do what they do as one
-  pub took_pieces : (s t u : LinesValue) (p q : Text) (js ks : List JudgedLine) (old mid new : Text) → Takes s p js t old mid
-      → Takes t q ks u mid new → (ls : List JudgedLine) × AreAlike ks ls × Takes s (p ++ q) (js ++ ls) u old new
+  pub took_pieces : (s t u : LinesValue) (p q : Text) (js ks : List LineCheck) (old mid new : Text) → Takes s p js t old mid
+      → Takes t q ks u mid new → (ls : List LineCheck) × AreAlike ks ls × Takes s (p ++ q) (js ++ ls) u old new
   took_pieces s t u p q js ks old mid new a b =
       let rule = ap (λ (v : LinesValue). v.rule) a.all.state in
       let left = subst (λ (r : LineRule). IsLeft (versions_grammar r.filter) r.prefixes t.at_front a.unended t.unended) (sym rule) a.left in
@@ -245,7 +245,7 @@ module _ (total : IsTotalOrder precedence) where
       )
 
   -- what is left of a piece goes on where the taking stopped
-  pub took_rest : (s t u : LinesValue) (p q : Text) (js ks : List JudgedLine) (old mid new : Text) → TakesAll s p js t old mid
+  pub took_rest : (s t u : LinesValue) (p q : Text) (js ks : List LineCheck) (old mid new : Text) → TakesAll s p js t old mid
       → Takes t q ks u mid new → Takes s (p ++ q) (js ++ ks) u old new
   took_rest s t u p q js ks old mid new a b =
       let rule = ap (λ (v : LinesValue). v.rule) a.state in
@@ -256,9 +256,9 @@ module _ (total : IsTotalOrder precedence) where
       }
 
   -- and the end of the text does what the whole text does
-  pub took_whole : (s t u : LinesValue) (text : Text) (js ks : List JudgedLine) (old mid new : Text) → Takes (begun s) text js t old mid
+  pub took_whole : (s t u : LinesValue) (text : Text) (js ks : List LineCheck) (old mid new : Text) → Takes (begun s) text js t old mid
       → Finishes t ks u mid new
-      → (ls : List JudgedLine) × AreAlike ks ls × Completes (begun s) (without_mark text) (js ++ ls) u old new
+      → (ls : List LineCheck) × AreAlike ks ls × Completes (begun s) (without_mark text) (js ++ ls) u old new
   took_whole s t u text js ks old mid new a b = ends (by_left left)
     where
       whole : LinesValue
@@ -271,9 +271,9 @@ module _ (total : IsTotalOrder precedence) where
       left = subst (λ (r : LineRule). IsLeft (versions_grammar r.filter) r.prefixes t.at_front a.unended t.unended) (sym rule) a.left
 
       Last : LinesValue → Type 0
-      Last t' = (ls : List JudgedLine) × AreAlike ks ls × Finishes t' ls u mid new
+      Last t' = (ls : List LineCheck) × AreAlike ks ls × Finishes t' ls u mid new
 
-      ends : Last whole → (ls : List JudgedLine) × AreAlike ks ls × Completes (begun s) (without_mark text) (js ++ ls) u old new
+      ends : Last whole → (ls : List LineCheck) × AreAlike ks ls × Completes (begun s) (without_mark text) (js ++ ls) u old new
       ends (ls, same, c) = (ls, same, took_text total s whole u text js ls old mid new a.all c)
 
       same_last : t.unended ≡ a.unended → Last whole

@@ -20,10 +20,10 @@ use Rattle.release_filter.specs.declared.line_texts.LineEnd.{LineEnd}
 use Rattle.release_filter.specs.Pieces.{LinesValue, Takes, TakesAll}
 use Rattle.release_filter.specs.Skipping.{IsLeft}
 use Rattle.release_filter.specs.Steps.Taking.{TakesLine, TakesRest}
-use Rattle.release_filter.specs.Verdicts.{AreJudged, IsVerdictOn, JudgedLine, LineRule, Verdict}
+use Rattle.release_filter.specs.Verdicts.{AreChecked, IsVerdictOn, LineCheck, LineRule, Verdict}
 use Rattle.release_filter.specs.Selections.{HeldValue, Holds, selected_of}
 use Rattle.release_filter.proofs.Holding.{holds_more, holds_none, kept_append}
-use Rattle.release_filter.proofs.JudgedLines.{judged_more, judged_none}
+use Rattle.release_filter.proofs.LineChecks.{checked_more, checked_none}
 use Rattle.release_filter.proofs.NumberedLines.{whole_after}
 
 abbrev pub NoEnd : ℕ → Text → Type 0
@@ -69,14 +69,14 @@ all_given true front n bytes line given is so long =
 abbrev pub line_with : LinesValue → Text → Text
 line_with s end = after_mark s.at_front (s.unended ++ end)
 
-abbrev pub judged_as : LinesValue → Text → Verdict → JudgedLine
-judged_as s end verdict = record { line = line_with s end; verdict = verdict }
+abbrev pub checked_as : LinesValue → Text → Verdict → LineCheck
+checked_as s end verdict = record { line = line_with s end; verdict = verdict }
 
 -- the end of a line was taken
 pub took_line : (s : LinesValue) (end left : Text) (verdict : Verdict) (g : HeldValue) (d : CountsValue) (old new : Text) → IsWholeLine (end_in s) end
     → NoEnd (end_in s) s.unended → IsVerdictOn s.rule (line_with s end) verdict
     → TakesLine s.rule.ending s.held s.counts (line_with s end) verdict g d old new → left ≡ []
-    → TakesAll s end (judged_as s end verdict ∷ []) (record s { at_front = false; unended = left; held = g; counts = d }) old new
+    → TakesAll s end (checked_as s end verdict ∷ []) (record s { at_front = false; unended = left; held = g; counts = d }) old new
 took_line s end left verdict g d old new whole none is takes none_left =
     let line = s.unended ++ end in
     record {
@@ -86,7 +86,7 @@ took_line s end left verdict g d old new whole none is takes none_left =
         no_end = search rules;
         whole = search rules;
       };
-      judges = search rules;
+      checks = search rules;
       added = takes.added;
       holds = search rules;
       appended = takes.appended;
@@ -100,7 +100,7 @@ took_rest s rest left old none more is =
     record {
       lines = [];
       cut = grind (arith, common_steps);
-      judges = judged_none s.rule;
+      checks = checked_none s.rule;
       added = [];
       holds = holds_none s.held;
       appended = sym (append-nil old);
@@ -111,9 +111,9 @@ pub took_nothing : (s : LinesValue) (old : Text) → NoEnd (end_in s) s.unended 
 took_nothing s old none = took_rest s [] s.unended old none (omega arith) (sym (append-nil s.unended))
 
 -- a value with private fields is seen as this
-pub seen : (inside s t : LinesValue) (piece : Text) (judged : List JudgedLine) (old new : Text) → inside ≡ s
-    → TakesAll inside piece judged t old new → TakesAll s piece judged t old new
-seen inside s t piece judged old new is takes = search rules
+pub seen : (inside s t : LinesValue) (piece : Text) (checked : List LineCheck) (old new : Text) → inside ≡ s
+    → TakesAll inside piece checked t old new → TakesAll s piece checked t old new
+seen inside s t piece checked old new is takes = search rules
 
 -- ---- what is left at the end
 
@@ -175,31 +175,31 @@ line_within : (piece line : Text) (taken : ℕ) → taken ≤ length piece → S
 line_within piece line taken within begins = grind (arith, common_steps)
 
 -- what one state says of lines, another does that has its rule
-pub as_chosen : (s t : LinesValue) (lines : List Text) (judged : List JudgedLine) → t.rule ≡ s.rule → AreJudged t.rule lines judged
-    → AreJudged s.rule lines judged
-as_chosen s t lines judged rule those = subst (λ r. AreJudged r lines judged) rule those
+pub as_chosen : (s t : LinesValue) (lines : List Text) (checked : List LineCheck) → t.rule ≡ s.rule → AreChecked t.rule lines checked
+    → AreChecked s.rule lines checked
+as_chosen s t lines checked rule those = subst (λ r. AreChecked r lines checked) rule those
 
-pub counted_append : (ending : LineEnd) (c : CountsValue) (js ks : List JudgedLine)
+pub counted_append : (ending : LineEnd) (c : CountsValue) (js ks : List LineCheck)
     → counted ending c (js ++ ks) ≡ counted ending (counted ending c js) ks
 counted_append ending c [] ks = refl
 counted_append ending c (j ∷ js) ks = counted_append ending (counted_as ending j.verdict c j.line) js ks
 
 module _ (total : IsTotalOrder precedence) where
   -- pieces that are taken one after another do what they do as one
-  pub took_both : (s t u : LinesValue) (p q : Text) (js ks : List JudgedLine) (old mid new : Text) → TakesAll s p js t old mid
+  pub took_both : (s t u : LinesValue) (p q : Text) (js ks : List LineCheck) (old mid new : Text) → TakesAll s p js t old mid
       → TakesAll t q ks u mid new → TakesAll s (p ++ q) (js ++ ks) u old new
   took_both s t u p q js ks old mid new a b =
       let rule = ap (λ (v : LinesValue). v.rule) a.state in
       let front = ap (λ (v : LinesValue). v.at_front) a.state in
-      let later = subst (λ f. AreJudged s.rule (marked_off f b.lines) ks) front
-      (as_chosen s t (marked_off t.at_front b.lines) ks rule b.judges) in
+      let later = subst (λ f. AreChecked s.rule (marked_off f b.lines) ks) front
+      (as_chosen s t (marked_off t.at_front b.lines) ks rule b.checks) in
       let cut = subst (λ (r : LineRule). AreCut (end_byte r.ending) (t.unended ++ q) b.lines u.unended) rule b.cut in
       record {
         lines = a.lines ++ b.lines;
         cut = cut_append (end_in s) s.unended t.unended u.unended p q a.lines b.lines a.cut cut;
-        judges = subst (λ l. AreJudged s.rule l (js ++ ks)) (sym (marked_append s.at_front a.lines b.lines))
-            (judged_more s.rule (marked_off s.at_front a.lines) (marked_off (s.at_front && is_empty a.lines) b.lines) js ks
-            a.judges later);
+        checks = subst (λ l. AreChecked s.rule l (js ++ ks)) (sym (marked_append s.at_front a.lines b.lines))
+            (checked_more s.rule (marked_off s.at_front a.lines) (marked_off (s.at_front && is_empty a.lines) b.lines) js ks
+            a.checks later);
         added = a.added ++ b.added;
         holds = subst (λ l. Holds s.held l u.held (a.added ++ b.added)) (sym (kept_append js ks))
             (holds_more total s.held t.held u.held (selected_of js) (selected_of ks) a.added b.added a.holds b.holds);
@@ -222,7 +222,7 @@ module _ (total : IsTotalOrder precedence) where
   -- ---- line after line in a piece
 
   -- a line was taken after those before it
-  pub took_next : (s t u : LinesValue) (piece line : Text) (js ks : List JudgedLine) (old mid new : Text) (taken : ℕ) → taken ≤ length piece
+  pub took_next : (s t u : LinesValue) (piece line : Text) (js ks : List LineCheck) (old mid new : Text) (taken : ℕ) → taken ≤ length piece
       → StartsWith (left_of piece taken) line → TakesAll s (take taken piece) js t old mid → TakesAll t line ks u mid new
       → (taken + length line ≤ length piece) × TakesAll s (take (taken + length line) piece) (js ++ ks) u old new
   took_next s t u piece line js ks old mid new taken within begins a b =
@@ -233,7 +233,7 @@ module _ (total : IsTotalOrder precedence) where
       )
 
   -- and what is left of the piece
-  pub took_all : (s t u : LinesValue) (piece : Text) (js : List JudgedLine) (old mid new : Text) (taken : ℕ)
+  pub took_all : (s t u : LinesValue) (piece : Text) (js : List LineCheck) (old mid new : Text) (taken : ℕ)
       → TakesAll s (take taken piece) js t old mid
       → TakesAll t (left_of piece taken) [] u mid new → TakesAll s piece js u old new
   took_all s t u piece js old mid new taken a b =
@@ -243,7 +243,7 @@ module _ (total : IsTotalOrder precedence) where
       (took_both s t u (take taken piece) (left_of piece taken) js [] old mid new a b))
 
   -- a piece of which what ends no line was taken last
-  pub took_piece : (s m n t : LinesValue) (piece : Text) (js : List JudgedLine) (old mid new : Text) (taken : ℕ)
+  pub took_piece : (s m n t : LinesValue) (piece : Text) (js : List LineCheck) (old mid new : Text) (taken : ℕ)
       → TakesAll s (take taken piece) js m old mid → n ≡ m → NoEnd (end_in m) (left_of piece taken) → TakesRest n (left_of piece taken) t → new ≡ mid
       → Takes s piece js t old new
   took_piece s m n t piece js old mid new taken a same none rest kept =

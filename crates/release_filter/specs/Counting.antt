@@ -4,7 +4,7 @@ use Rattle.std.specs.Prelude.{◌≡◌, ℕ, ◌+◌, ◌-◌, ◌^◌, min, Li
 use Rattle.std.specs.Option.{option_map}
 use Rattle.semver_texts.specs.Texts.{Text}
 use Rattle.release_filter.specs.LineTexts.{line_text}
-use Rattle.release_filter.specs.Verdicts.{JudgedLine, Verdict, kept, dropped, invalid, empty}
+use Rattle.release_filter.specs.Verdicts.{LineCheck, Verdict, kept, dropped, invalid, empty}
 use Rattle.release_filter.specs.declared.line_statistics.Counts.{Counts}
 use Rattle.release_filter.specs.declared.line_statistics.InvalidLine.{InvalidLine}
 use Rattle.release_filter.specs.declared.line_texts.LineEnd.{LineEnd}
@@ -59,7 +59,7 @@ counted_as ending invalid c line = record c {
 }
 
 -- the counts after some more lines
-abbrev pub counted : LineEnd → CountsValue → List JudgedLine → CountsValue
+abbrev pub counted : LineEnd → CountsValue → List LineCheck → CountsValue
 counted ending c [] = c
 counted ending c (j ∷ js) = counted ending (counted_as ending j.verdict c j.line) js
 

@@ -1,6 +1,6 @@
 pub mod KeptReleases
 pub mod Matching
-pub mod Judging
+pub mod Checking
 pub mod LineTexts
 pub mod Verdicts
 pub mod Skipping

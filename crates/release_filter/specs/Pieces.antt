@@ -9,7 +9,7 @@ use Rattle.release_filter.specs.Counting.{CountsValue, LineAllocates, counted, o
 use Rattle.release_filter.specs.LineTexts.{AreCut, IsWholeLine, after_mark, end_byte, lines_of}
 use Rattle.release_filter.specs.LineTexts.{marked_off}
 use Rattle.release_filter.specs.Skipping.{IsLeft}
-use Rattle.release_filter.specs.Verdicts.{AreJudged, IsVerdictOn, JudgedLine, LineRule, Verdict}
+use Rattle.release_filter.specs.Verdicts.{AreChecked, IsVerdictOn, LineCheck, LineRule, Verdict}
 use Rattle.release_filter.specs.Verdicts.{has_invalid, invalid}
 use Rattle.release_filter.specs.Selections.{AnswerAllocates, Answers, HeldValue, Holds, emptied}
 use Rattle.release_filter.specs.Selections.{selected_of}
@@ -27,58 +27,58 @@ pub record LinesValue : Type 0 where
   pub held : HeldValue
   pub counts : CountsValue
 
--- a piece was taken. These are the lines that it ends, each judged; what is wanted of the kept ones
--- was appended, and the line that it does not end is left whole
-pub record TakesAll (s : LinesValue) (piece : Text) (judged : List JudgedLine) (t : LinesValue)
+-- a piece was taken. These are the lines that it ends, each checked; what is selected of the kept
+-- ones was appended, and the line that it does not end is left whole
+pub record TakesAll (s : LinesValue) (piece : Text) (checked : List LineCheck) (t : LinesValue)
     (old new : Text) : Type 0 where
   pub lines : List Text
   pub cut : AreCut (end_byte s.rule.ending) (s.unended ++ piece) lines t.unended
-  pub judges : AreJudged s.rule (marked_off s.at_front lines) judged
+  pub checks : AreChecked s.rule (marked_off s.at_front lines) checked
   pub added : Text
-  pub holds : Holds s.held (selected_of judged) t.held added
+  pub holds : Holds s.held (selected_of checked) t.held added
   pub appended : new ≡ old ++ added
   pub state : t ≡ record s {
     at_front = s.at_front && is_empty lines;
     unended = t.unended;
     held = t.held;
-    counts = counted s.rule.ending s.counts judged;
+    counts = counted s.rule.ending s.counts checked;
   }
 
 -- a piece was taken, and of the line that it does not end is left what may be needed
-pub record Takes (s : LinesValue) (piece : Text) (judged : List JudgedLine) (t : LinesValue)
+pub record Takes (s : LinesValue) (piece : Text) (checked : List LineCheck) (t : LinesValue)
     (old new : Text) : Type 0 where
   pub unended : Text
-  pub all : TakesAll s piece judged (record t { unended = unended }) old new
+  pub all : TakesAll s piece checked (record t { unended = unended }) old new
   pub left : IsLeft (versions_grammar s.rule.filter) s.rule.prefixes t.at_front unended t.unended
 
 -- all lines of a text were taken, and the rest of the answer was appended. Then no byte of a text
 -- was taken and nothing is held; the counts stay
-pub record Completes (s : LinesValue) (text : Text) (judged : List JudgedLine) (t : LinesValue)
+pub record Completes (s : LinesValue) (text : Text) (checked : List LineCheck) (t : LinesValue)
     (old new : Text) : Type 0 where
-  pub judges : AreJudged s.rule (lines_of (end_byte s.rule.ending) text) judged
+  pub checks : AreChecked s.rule (lines_of (end_byte s.rule.ending) text) checked
   pub held : HeldValue
   pub added : Text
   pub rest : Text
-  pub holds : Holds s.held (selected_of judged) held added
+  pub holds : Holds s.held (selected_of checked) held added
   pub answers : Answers (end_byte s.rule.ending) held rest
   pub appended : new ≡ old ++ (added ++ rest)
   pub state : t ≡ record s {
     at_front = true;
     unended = [];
     held = emptied s.held;
-    counts = counted s.rule.ending s.counts judged;
+    counts = counted s.rule.ending s.counts checked;
   }
 
 -- the lines are the same, but for the bytes of invalid ones
-abbrev pub IsAlike : JudgedLine → JudgedLine → Type 0
+abbrev pub IsAlike : LineCheck → LineCheck → Type 0
 IsAlike j k = (j ≡ k) ⊎ ((j.verdict ≡ invalid) × (k.verdict ≡ invalid))
 
-abbrev pub AreAlike : List JudgedLine → List JudgedLine → Type 0
+abbrev pub AreAlike : List LineCheck → List LineCheck → Type 0
 AreAlike js ks = AllZip IsAlike js ks
 
 -- the end of the text was taken, with the line that no line feed ends
-abbrev pub Finishes : LinesValue → List JudgedLine → LinesValue → Text → Text → Type 0
-Finishes s judged t old new = Completes s (after_mark s.at_front s.unended) judged t old new
+abbrev pub Finishes : LinesValue → List LineCheck → LinesValue → Text → Text → Type 0
+Finishes s checked t old new = Completes s (after_mark s.at_front s.unended) checked t old new
 
 -- the state before the first byte of a text
 abbrev pub begun : LinesValue → LinesValue
@@ -90,31 +90,31 @@ begun_file s = record s { at_front = true; unended = [] }
 
 -- the end of a file was taken that another one follows: nothing is left of a line that had no end;
 -- or something is, and it got an end
-abbrev pub EndsFileBy : Bool → LinesValue → List JudgedLine → LinesValue → Text → Text → Type 0
-EndsFileBy true s judged t old new = (judged ≡ []) × (t ≡ begun_file s) × (new ≡ old)
-EndsFileBy false s judged t old new = (m : LinesValue)
-    × TakesAll s (end_byte s.rule.ending ∷ []) judged m old new × (t ≡ begun_file m)
+abbrev pub EndsFileBy : Bool → LinesValue → List LineCheck → LinesValue → Text → Text → Type 0
+EndsFileBy true s checked t old new = (checked ≡ []) × (t ≡ begun_file s) × (new ≡ old)
+EndsFileBy false s checked t old new = (m : LinesValue)
+    × TakesAll s (end_byte s.rule.ending ∷ []) checked m old new × (t ≡ begun_file m)
 
-abbrev pub EndsFile : LinesValue → List JudgedLine → LinesValue → Text → Text → Type 0
-EndsFile s judged t old new =
-    EndsFileBy (is_empty (after_mark s.at_front s.unended)) s judged t old new
+abbrev pub EndsFile : LinesValue → List LineCheck → LinesValue → Text → Text → Type 0
+EndsFile s checked t old new =
+    EndsFileBy (is_empty (after_mark s.at_front s.unended)) s checked t old new
 
 -- it was not taken, as memory ran out; or it was, and the line has a text and no version
 abbrev pub RefusesFile : LinesError → LinesValue → LinesValue → Text → Text → Type 0
 RefusesFile OutOfMemory s t old new = (t ≡ s) × (new ≡ old)
 RefusesFile (NoVersion number) s t old new =
-    IsTrue s.is_strict × (judged : List JudgedLine) × EndsFile s judged t old new
-    × (has_invalid judged ≡ true) × (number ≡ t.counts.lines)
+    IsTrue s.is_strict × (checked : List LineCheck) × EndsFile s checked t old new
+    × (has_invalid checked ≡ true) × (number ≡ t.counts.lines)
 
 -- a piece was taken up to an error. The memory ran out; or the last line that was taken is the
 -- first one that has a text and no version, and this is its number
 abbrev pub StopsAs : LinesError → LinesValue → Text → LinesValue → Text → Text → Type 0
 StopsAs OutOfMemory s piece t old new =
-    (judged : List JudgedLine) × TakesAll s piece judged t old new
-    × (IsTrue s.is_strict → has_invalid judged ≡ false)
+    (checked : List LineCheck) × TakesAll s piece checked t old new
+    × (IsTrue s.is_strict → has_invalid checked ≡ false)
 StopsAs (NoVersion number) s piece t old new =
-    IsTrue s.is_strict × (judged : List JudgedLine) × (last : JudgedLine)
-    × TakesAll s piece (judged ++ last ∷ []) t old new × (has_invalid judged ≡ false)
+    IsTrue s.is_strict × (checked : List LineCheck) × (last : LineCheck)
+    × TakesAll s piece (checked ++ last ∷ []) t old new × (has_invalid checked ≡ false)
     × (last.verdict ≡ invalid) × (t.unended ≡ []) × (number ≡ t.counts.lines)
 
 -- what taking these next bytes allocates for: bytes that end no line; a line that began before them
@@ -128,17 +128,17 @@ NextAllocates s bytes = All (λ byte. byte ≢ end_byte s.rule.ending) bytes ⊎
 
 -- the line that no line feed ends has a text and no version
 abbrev pub EndsInvalid : LinesValue → Type 0
-EndsInvalid s = (judged : List JudgedLine)
-    × AreJudged s.rule (lines_of (end_byte s.rule.ending) (after_mark s.at_front s.unended)) judged
-    × (has_invalid judged ≡ true)
+EndsInvalid s = (lines : List LineCheck)
+    × AreChecked s.rule (lines_of (end_byte s.rule.ending) (after_mark s.at_front s.unended)) lines
+    × (has_invalid lines ≡ true)
 
 -- what the end of the text allocates for: the line that no line feed ends, if it is the first
 -- invalid one; or the rest of the answer
 abbrev pub EndAllocates : LinesValue → Text → Type 0
-EndAllocates s old = (judged : List JudgedLine)
-    × AreJudged s.rule (lines_of (end_byte s.rule.ending) (after_mark s.at_front s.unended)) judged
-    × ((IsTrue (has_invalid judged) × (s.counts.first_invalid ≡ None))
-    ⊎ AnswerAllocates s.held (selected_of judged) old)
+EndAllocates s old = (lines : List LineCheck)
+    × AreChecked s.rule (lines_of (end_byte s.rule.ending) (after_mark s.at_front s.unended)) lines
+    × ((IsTrue (has_invalid lines) × (s.counts.first_invalid ≡ None))
+    ⊎ AnswerAllocates s.held (selected_of lines) old)
 
 -- the end of the text was not taken
 abbrev pub RefusesEnd : LinesValue → LinesError → Type 0

@@ -11,7 +11,7 @@ use Rattle.std.specs.declared.cmp.Ordering.TheVariants.{Less, Greater}
 use Rattle.semver_texts.specs.Precedence.{precedence}
 use Rattle.semver_texts.specs.Texts.{Text}
 use Rattle.semver_texts.specs.Versions.{PlainVersion}
-use Rattle.release_filter.specs.Verdicts.{JudgedLine, Verdict, kept, dropped, invalid, empty}
+use Rattle.release_filter.specs.Verdicts.{LineCheck, Verdict, kept, dropped, invalid, empty}
 use Rattle.release_filter.specs.declared.selection.Selection.{Selection}
 use Rattle.release_filter.specs.declared.selection.Selection.TheVariants.{Each, Highest, Lowest}
 use Rattle.release_filter.specs.declared.selection.Selection.TheVariants.{Sorted}
@@ -38,7 +38,7 @@ selected_as dropped = []
 selected_as invalid = []
 selected_as empty = []
 
-abbrev pub selected_of : List JudgedLine → List SelectedValue
+abbrev pub selected_of : List LineCheck → List SelectedValue
 selected_of [] = []
 selected_of (j ∷ js) = selected_as j.verdict ++ selected_of js
 

@@ -51,13 +51,13 @@ is_invalid invalid = true
 is_invalid empty = false
 
 -- a line, and what it is
-pub record JudgedLine : Type 0 where
+pub record LineCheck : Type 0 where
   pub line : Text
   pub verdict : Verdict
 
 -- some line has a text and no version
-abbrev pub has_invalid : List JudgedLine → Bool
-has_invalid judged = list_any (λ j. is_invalid j.verdict) judged
+abbrev pub has_invalid : List LineCheck → Bool
+has_invalid checked = list_any (λ j. is_invalid j.verdict) checked
 
 module _ (rule : LineRule) where
   -- the line has this version after this prefix
@@ -84,6 +84,6 @@ module _ (rule : LineRule) where
   IsVerdictOn line empty = HasNoVersion line × (is_empty (line_text rule.ending line) ≡ true)
 
   -- these are the lines, each with what it is
-  pub record AreJudged (lines : List Text) (judged : List JudgedLine) : Type 0 where
-    pub all : map (λ j. j.line) judged ≡ lines
-    pub each : AllByRecursion (λ j. IsVerdictOn j.line j.verdict) judged
+  pub record AreChecked (lines : List Text) (checked : List LineCheck) : Type 0 where
+    pub all : map (λ j. j.line) checked ≡ lines
+    pub each : AllByRecursion (λ j. IsVerdictOn j.line j.verdict) checked

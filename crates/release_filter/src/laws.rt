@@ -6,7 +6,7 @@ ghost use Rattle.semver_texts.specs.Texts.{Text};
 ghost use Rattle.release_filter.specs.LineTexts.{without_mark};
 ghost use Rattle.release_filter.specs.Pieces.{AreAlike, Completes, Finishes, LinesValue, Takes};
 ghost use Rattle.release_filter.specs.Pieces.{TakesAll, begun};
-ghost use Rattle.release_filter.specs.Verdicts.{JudgedLine};
+ghost use Rattle.release_filter.specs.Verdicts.{LineCheck};
 ghost use Rattle.release_filter.specs.declared.lines.LinesError.TheVariants.{NoVersion};
 
 use crate::lines::{Lines, LinesError, Stopped};
@@ -16,31 +16,31 @@ use std::alloc::Global;
 pub fn pieces_do_not_matter()
     // Pieces that are taken one after another do what they do as one piece. The lines are the same
     // too, but for the bytes that are not left of a line that is skipped.
-    ensures composed { (s t u : LinesValue) (piece next : Text) (judged more : List JudgedLine)
-        (old mid new : Text) → Takes s piece judged t old mid → Takes t next more u mid new
-        → (lines : List JudgedLine) × AreAlike more lines
-        × Takes s (piece ++ next) (judged ++ lines) u old new }
+    ensures composed { (s t u : LinesValue) (piece next : Text) (checked more : List LineCheck)
+        (old mid new : Text) → Takes s piece checked t old mid → Takes t next more u mid new
+        → (lines : List LineCheck) × AreAlike more lines
+        × Takes s (piece ++ next) (checked ++ lines) u old new }
     // After an error, pushing the rest of the piece goes on as if there had been none.
-    ensures rest { (s t u : LinesValue) (piece next : Text) (judged more : List JudgedLine)
-        (old mid new : Text) → TakesAll s piece judged t old mid → Takes t next more u mid new
-        → Takes s (piece ++ next) (judged ++ more) u old new }
+    ensures rest { (s t u : LinesValue) (piece next : Text) (checked more : List LineCheck)
+        (old mid new : Text) → TakesAll s piece checked t old mid → Takes t next more u mid new
+        → Takes s (piece ++ next) (checked ++ more) u old new }
     // And the end of the text does what the whole text does.
-    ensures whole { (s t u : LinesValue) (text : Text) (judged more : List JudgedLine)
-        (old mid new : Text) → Takes (begun s) text judged t old mid → Finishes t more u mid new
-        → (lines : List JudgedLine) × AreAlike more lines
-        × Completes (begun s) (without_mark text) (judged ++ lines) u old new }
+    ensures whole { (s t u : LinesValue) (text : Text) (checked more : List LineCheck)
+        (old mid new : Text) → Takes (begun s) text checked t old mid → Finishes t more u mid new
+        → (lines : List LineCheck) × AreAlike more lines
+        × Completes (begun s) (without_mark text) (checked ++ lines) u old new }
 {
     semver_texts::laws::precedence_is_total();
 }
 
 /// One state comes of a piece and of the end of a text, and one text is appended. It does nothing.
 pub fn one_outcome()
-    ensures taking { (s t u : LinesValue) (piece : Text) (judged others : List JudgedLine)
-        (old new other : Text) → Takes s piece judged t old new → Takes s piece others u old other
-        → (judged ≡ others) × (t ≡ u) × (new ≡ other) }
-    ensures completion { (s t u : LinesValue) (text : Text) (judged others : List JudgedLine)
-        (old new other : Text) → Completes s text judged t old new
-        → Completes s text others u old other → (judged ≡ others) × (t ≡ u) × (new ≡ other) }
+    ensures taking { (s t u : LinesValue) (piece : Text) (checked others : List LineCheck)
+        (old new other : Text) → Takes s piece checked t old new → Takes s piece others u old other
+        → (checked ≡ others) × (t ≡ u) × (new ≡ other) }
+    ensures completion { (s t u : LinesValue) (text : Text) (checked others : List LineCheck)
+        (old new other : Text) → Completes s text checked t old new
+        → Completes s text others u old other → (checked ≡ others) × (t ≡ u) × (new ≡ other) }
 {
     semver_texts::laws::precedence_is_total();
     semver_versions::laws::one_version_in();

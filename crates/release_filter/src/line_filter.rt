@@ -4,12 +4,12 @@ ghost use Rattle.std.specs.Prelude.{◌≡◌, ◌≢◌, None, All, IfSome};
 ghost use Rattle.std.specs.Io.{StartsWith};
 ghost use Rattle.tool_ranges.specs.VersionRanges.{versions_grammar};
 ghost use Rattle.release_filter.specs.LineTexts.{IsWholeLine, end_byte, line_text};
-ghost use Rattle.release_filter.specs.Steps.Outlined.{IsOutlined, JudgesAfter, JudgesBy};
-ghost use Rattle.release_filter.specs.Steps.Taking.{JudgesLine, rule_of, texts};
+ghost use Rattle.release_filter.specs.Steps.Outlined.{IsOutlined, ChecksAfter, ChecksBy};
+ghost use Rattle.release_filter.specs.Steps.Taking.{ChecksLine, rule_of, texts};
 ghost use Rattle.release_filter.specs.Verdicts.{HasVersion, SpellsAfter, given_after};
 
 use crate::line_texts::{LineEnd, text_after, text_of, whole_line};
-use crate::verdict::{Judged, judge, judge_outline};
+use crate::verdict::{Checked, check, check_outline};
 use semver_texts::decimals::numbers;
 use semver_versions::laws;
 use semver_versions::version::{Grammar, Outline, outline_in, outline_of_numbers};
@@ -29,16 +29,16 @@ impl LineFilter {
     /// many bytes it has a version. For speed, where nothing is before a version its numbers are
     /// read first.
     #[inline(always)]
-    pub(crate) fn first_judged<'l>(
+    pub(crate) fn first_checked<'l>(
         &self,
         bytes: &'l [u8],
         count: &mut usize,
-    ) -> Option<(&'l [u8], Judged<'l>)>
+    ) -> Option<(&'l [u8], Checked<'l>)>
         ensures none { result ≡ None → All (λ byte. byte ≢ end_byte self.now.ending) bytes.now }
         ensures front { IfSome result (λ found. StartsWith bytes.now found.0.now) }
         ensures whole { IfSome result (λ found.
             IsWholeLine (end_byte self.now.ending) found.0.now) }
-        ensures judged { IfSome result (λ found. JudgesLine (rule_of self.now) found.0.now
+        ensures checked { IfSome result (λ found. ChecksLine (rule_of self.now) found.0.now
             (given_after (rule_of self.now) count.new found.0.now) found.1) }
     {
         laws::one_outlined_version();
@@ -49,17 +49,17 @@ impl LineFilter {
                 self.filter.meaning().dialect.grammar(),
             )?;
             *count = 0;
-            return Some((line, judge_outline(&self.filter, outline)));
+            return Some((line, check_outline(&self.filter, outline)));
         }
         let line = whole_line(bytes, self.ending)?;
-        Some((line, self.judge_line(line, count)))
+        Some((line, self.check_line(line, count)))
     }
 
     /// What the filter says of a line, after the first prefix after which it spells a version, and
     /// how many bytes that has.
     #[inline(always)]
-    pub(crate) fn judge_line<'l>(&self, line: &'l [u8], count: &mut usize) -> Judged<'l>
-        ensures { JudgesLine (rule_of self.now) line.now
+    pub(crate) fn check_line<'l>(&self, line: &'l [u8], count: &mut usize) -> Checked<'l>
+        ensures { ChecksLine (rule_of self.now) line.now
             (given_after (rule_of self.now) count.new line.now) result }
     {
         laws::one_outlined_version();
@@ -67,9 +67,9 @@ impl LineFilter {
         match self.prefixes.as_slice() {
             [] => {
                 *count = 0;
-                judge(&self.filter, text)
+                check(&self.filter, text)
             }
-            prefixes => judge_after_each(&self.filter, prefixes, text, count),
+            prefixes => check_after_each(&self.filter, prefixes, text, count),
         }
     }
 
@@ -88,25 +88,25 @@ impl LineFilter {
 
 /// What a filter says of a text after the first of the prefixes after which it spells a version,
 /// and how many bytes that prefix has.
-fn judge_after_each<'l>(
+fn check_after_each<'l>(
     filter: &VersionRange,
     prefixes: &[String],
     text: &'l [u8],
     count: &mut usize,
-) -> Judged<'l>
-    ensures { JudgesAfter (HasVersion (versions_grammar filter.now) (texts prefixes.now) text.now)
+) -> Checked<'l>
+    ensures { ChecksAfter (HasVersion (versions_grammar filter.now) (texts prefixes.now) text.now)
         filter.now count.new result }
 {
     match prefixes {
         [] => {
             *count = 0;
-            Judged::NoVersion
+            Checked::NoVersion
         }
-        [prefix, prefixes @ ..] => match judge_after(filter, prefix.as_str(), text) {
-            Judged::NoVersion => judge_after_each(filter, prefixes, text, count),
-            judged => {
+        [prefix, prefixes @ ..] => match check_after(filter, prefix.as_str(), text) {
+            Checked::NoVersion => check_after_each(filter, prefixes, text, count),
+            checked => {
                 *count = prefix.len();
-                judged
+                checked
             }
         },
     }
@@ -114,14 +114,14 @@ fn judge_after_each<'l>(
 
 /// What a filter says of a text after a prefix.
 #[inline(always)]
-fn judge_after<'l>(filter: &VersionRange, prefix: &str, text: &'l [u8]) -> Judged<'l>
-    ensures { JudgesBy (SpellsAfter (versions_grammar filter.now) prefix.now text.now) filter.now
+fn check_after<'l>(filter: &VersionRange, prefix: &str, text: &'l [u8]) -> Checked<'l>
+    ensures { ChecksBy (SpellsAfter (versions_grammar filter.now) prefix.now text.now) filter.now
         result }
 {
     laws::one_outlined_version();
     match text_after(prefix, text) {
-        Some(rest) => judge(filter, rest),
-        None => Judged::NoVersion,
+        Some(rest) => check(filter, rest),
+        None => Checked::NoVersion,
     }
 }
 

@@ -9,7 +9,7 @@ ghost use Rattle.release_filter.specs.Steps.Taking.{verdict_of, without_version}
 ghost use Rattle.release_filter.specs.Verdicts.{is_invalid};
 
 use crate::line_texts::{LineEnd, text_of};
-use crate::verdict::Judged;
+use crate::verdict::Checked;
 use std::alloc::{AllocError, Global};
 
 /// So many bytes of the first line that is invalid are kept.
@@ -100,20 +100,20 @@ impl Counts {
         alloc: Global,
         ending: LineEnd,
         line: &[u8],
-        judged: &Judged<'_>,
+        checked: &Checked<'_>,
     ) -> Result<Noted, AllocError>
         ensures counted { (plain : PlainVersion) → IfOk result (λ noted.
             added (counts_value self.now) noted ≡ counted_as ending
-            (verdict_of ending judged.now plain line.now) (counts_value self.now) line.now) }
+            (verdict_of ending checked.now plain line.now) (counts_value self.now) line.now) }
         // Memory runs out only for the first invalid line.
         ensures out_of_memory { (plain : PlainVersion) → IfErr result (λ _.
-            IsTrue (is_invalid (verdict_of ending judged.now plain line.now))
+            IsTrue (is_invalid (verdict_of ending checked.now plain line.now))
             × ((counts_value self.now).first_invalid ≡ None)) }
     {
-        match judged {
-            Judged::NoVersion => self.noted_without_version(alloc, ending, line),
-            Judged::DoesNotMatch => Ok(Noted::Dropped),
-            Judged::Matches(_) => Ok(Noted::Kept),
+        match checked {
+            Checked::NoVersion => self.noted_without_version(alloc, ending, line),
+            Checked::DoesNotMatch => Ok(Noted::Dropped),
+            Checked::Matches(_) => Ok(Noted::Kept),
         }
     }
 
@@ -164,9 +164,9 @@ impl Counts {
 
 /// Whether a line of which a filter says this is not empty, and has no version.
 #[inline(always)]
-pub(crate) fn is_invalid(ending: LineEnd, line: &[u8], judged: &Judged<'_>) -> bool
+pub(crate) fn is_invalid(ending: LineEnd, line: &[u8], checked: &Checked<'_>) -> bool
     ensures { (plain : PlainVersion)
-        → result ≡ is_invalid (verdict_of ending judged.now plain line.now) }
+        → result ≡ is_invalid (verdict_of ending checked.now plain line.now) }
 {
-    matches!(judged, Judged::NoVersion) && !text_of(line, ending).is_empty()
+    matches!(checked, Checked::NoVersion) && !text_of(line, ending).is_empty()
 }

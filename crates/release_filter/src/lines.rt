@@ -11,16 +11,16 @@ ghost use Rattle.release_filter.specs.LineTexts.{IsWholeLine, after_mark, end_by
 ghost use Rattle.release_filter.specs.Pieces.{EndAllocates, EndsFile, Finishes, NextAllocates};
 ghost use Rattle.release_filter.specs.Pieces.{RefusesEnd, RefusesFile, StopsAs, Takes, begun};
 ghost use Rattle.release_filter.specs.Pieces.{begun_file};
-ghost use Rattle.release_filter.specs.Steps.Taking.{MatchesAs, TakesJudged, TakesLine, TakesRest};
+ghost use Rattle.release_filter.specs.Steps.Taking.{MatchesAs, TakesChecked, TakesLine, TakesRest};
 ghost use Rattle.release_filter.specs.Steps.Taking.{TakesWhole, held_value, rule_of, verdict_of};
-ghost use Rattle.release_filter.specs.Verdicts.{JudgedLine, has_invalid, is_invalid};
+ghost use Rattle.release_filter.specs.Verdicts.{LineCheck, has_invalid, is_invalid};
 
 use crate::line_filter::LineFilter;
 use crate::line_options::LineOptions;
 use crate::line_statistics::{Counts, Noted, is_invalid};
 use crate::line_texts::{LineEnd, after_mark, whole_line};
 use crate::selection::{Held, Selection};
-use crate::verdict::Judged;
+use crate::verdict::Checked;
 use semver_versions::read_version::ReadVersion;
 use std::alloc::{AllocError, Global};
 use std::marker::Model;
@@ -221,9 +221,9 @@ impl Lines {
     /// # Ok::<(), semver_parser::RangeError>(())
     /// ```
     pub fn push(&mut self, alloc: Global, piece: &[u8], kept: &mut Vec<u8>) -> Result<(), Stopped>
-        ensures takes { IfOk result (λ _. (judged : List JudgedLine) × Takes self.old piece.now
-            judged self.new kept.old.items kept.new.items
-            × (IsTrue self.old.is_strict → has_invalid judged ≡ false)) }
+        ensures takes { IfOk result (λ _. (checked : List LineCheck) × Takes self.old piece.now
+            checked self.new kept.old.items kept.new.items
+            × (IsTrue self.old.is_strict → has_invalid checked ≡ false)) }
         ensures stops { IfErr result (λ stopped. (stopped.taken ≤ length piece.now)
             × StopsAs stopped.error self.old (take stopped.taken piece.now) self.new
             kept.old.items kept.new.items) }
@@ -288,9 +288,9 @@ impl Lines {
     /// # Ok::<(), semver_parser::RangeError>(())
     /// ```
     pub fn finish(&mut self, alloc: Global, kept: &mut Vec<u8>) -> Result<(), LinesError>
-        ensures finishes { IfOk result (λ _. (judged : List JudgedLine) × Finishes self.old judged
+        ensures finishes { IfOk result (λ _. (checked : List LineCheck) × Finishes self.old checked
             self.new kept.old.items kept.new.items
-            × (IsTrue self.old.is_strict → has_invalid judged ≡ false)) }
+            × (IsTrue self.old.is_strict → has_invalid checked ≡ false)) }
         ensures same_state { IfErr result (λ _. self.new ≡ self.old) }
         ensures same_kept { IfErr result (λ _. kept.new.items ≡ kept.old.items) }
         ensures refuses { IfErr result (RefusesEnd self.old) }
@@ -302,7 +302,7 @@ impl Lines {
         let ending = self.chosen.ending;
         let line = after_mark(self.at_front, self.unended.as_slice());
         if line.is_empty() {
-            let none = Judged::NoVersion;
+            let none = Checked::NoVersion;
             let Ok(_) = self.held.finish(alloc, ending, line, &none, kept) else {
                 return Err(LinesError::OutOfMemory);
             };
@@ -310,16 +310,16 @@ impl Lines {
             return Ok(());
         }
         let mut count = 0;
-        let judged = self.chosen.judge_line(line, &mut count);
+        let checked = self.chosen.check_line(line, &mut count);
         let given = self.chosen.given(line, count);
-        let is_bad = is_invalid(ending, given, &judged);
+        let is_bad = is_invalid(ending, given, &checked);
         if self.is_strict && is_bad {
             return Err(LinesError::NoVersion(self.counts.lines.saturating_add(1)));
         }
-        let Ok(noted) = self.counts.noted(alloc, ending, given, &judged) else {
+        let Ok(noted) = self.counts.noted(alloc, ending, given, &checked) else {
             return Err(LinesError::OutOfMemory);
         };
-        let Ok(_) = self.held.finish(alloc, ending, given, &judged, kept) else {
+        let Ok(_) = self.held.finish(alloc, ending, given, &checked, kept) else {
             return Err(LinesError::OutOfMemory);
         };
         self.counts.add(noted);
@@ -352,9 +352,9 @@ impl Lines {
     /// # Ok::<(), semver_parser::RangeError>(())
     /// ```
     pub fn end_file(&mut self, alloc: Global, kept: &mut Vec<u8>) -> Result<(), LinesError>
-        ensures ends { IfOk result (λ _. (judged : List JudgedLine) × EndsFile self.old judged
+        ensures ends { IfOk result (λ _. (checked : List LineCheck) × EndsFile self.old checked
             self.new kept.old.items kept.new.items
-            × (IsTrue self.old.is_strict → has_invalid judged ≡ false)) }
+            × (IsTrue self.old.is_strict → has_invalid checked ≡ false)) }
         ensures refuses { IfErr result (λ error. RefusesFile error self.old self.new
             kept.old.items kept.new.items) }
         // Memory runs out only for a line that has no end of its own.
@@ -442,7 +442,7 @@ impl Lines {
             return Ok(Some((end, is_valid)));
         }
         let mut count = 0;
-        let Some((line, judged)) = self.chosen.first_judged(bytes, &mut count) else {
+        let Some((line, checked)) = self.chosen.first_checked(bytes, &mut count) else {
             return Ok(None);
         };
         let given = self.chosen.given(line, count);
@@ -450,7 +450,7 @@ impl Lines {
             alloc,
             self.chosen.ending,
             given,
-            &judged,
+            &checked,
             &mut self.held,
             &mut self.counts,
             kept,
@@ -531,7 +531,7 @@ fn take_ended(
     counts: &mut Counts,
     kept: &mut Vec<u8>,
 ) -> Result<bool, AllocError>
-    ensures takes { IfOk result (λ is_valid. TakesJudged (rule_of chosen.now)
+    ensures takes { IfOk result (λ is_valid. TakesChecked (rule_of chosen.now)
         (held_value held.old) (counts_value counts.old) (after_mark at_front bytes.old.items)
         (held_value held.new) (counts_value counts.new) kept.old.items kept.new.items is_valid) }
     ensures unchanged { IfErr result (λ _. (bytes.new.items ≡ bytes.old.items)
@@ -542,11 +542,11 @@ fn take_ended(
     let marked = bytes.as_slice();
     let line = after_mark(at_front, marked);
     let mut count = 0;
-    let judged = chosen.judge_line(line, &mut count);
+    let checked = chosen.check_line(line, &mut count);
     let given = chosen.given(line, count);
     let may_hand_over = may_hand_over(held.selection, given, marked, kept.as_slice());
     let may_hold = may_hold(held.selection, given, marked);
-    if let Judged::Matches(outline) = &judged {
+    if let Checked::Matches(outline) = &checked {
         if may_hand_over {
             counts.add(Noted::Kept);
             mem::swap(kept, bytes);
@@ -559,7 +559,7 @@ fn take_ended(
             return Ok(true);
         }
     }
-    take(alloc, chosen.ending, given, &judged, held, counts, kept)
+    take(alloc, chosen.ending, given, &checked, held, counts, kept)
 }
 
 /// Whether a kept line may take the place of what was appended, since it is all that is: all of it
@@ -593,28 +593,28 @@ fn take(
     alloc: Global,
     ending: LineEnd,
     given: &[u8],
-    judged: &Judged<'_>,
+    checked: &Checked<'_>,
     held: &mut Held,
     counts: &mut Counts,
     kept: &mut Vec<u8>,
 ) -> Result<bool, AllocError>
-    ensures takes { (plain : PlainVersion) → MatchesAs judged.now plain → IfOk result (λ is_valid.
+    ensures takes { (plain : PlainVersion) → MatchesAs checked.now plain → IfOk result (λ is_valid.
         TakesLine ending (held_value held.old) (counts_value counts.old) given.now
-        (verdict_of ending judged.now plain given.now) (held_value held.new)
+        (verdict_of ending checked.now plain given.now) (held_value held.new)
         (counts_value counts.new) kept.old.items kept.new.items
-        × (is_valid ≡ not (is_invalid (verdict_of ending judged.now plain given.now)))) }
+        × (is_valid ≡ not (is_invalid (verdict_of ending checked.now plain given.now)))) }
     ensures unchanged { IfErr result (λ _. (held_value held.new ≡ held_value held.old)
         × (counts_value counts.new ≡ counts_value counts.old)
         × (kept.new.items ≡ kept.old.items)) }
     ensures out_of_memory { (plain : PlainVersion) → IfErr result (λ _.
-        LineAllocates (counts_value counts.old) (verdict_of ending judged.now plain given.now)) }
+        LineAllocates (counts_value counts.old) (verdict_of ending checked.now plain given.now)) }
 {
-    let noted = counts.noted(alloc, ending, given, judged)?;
-    if let Judged::Matches(outline) = judged {
+    let noted = counts.noted(alloc, ending, given, checked)?;
+    if let Checked::Matches(outline) = checked {
         held.keep(alloc, outline, given, kept)?;
     }
     counts.add(noted);
-    Ok(!is_invalid(ending, given, judged))
+    Ok(!is_invalid(ending, given, checked))
 }
 
 /// The memory ran out after so many bytes of a piece.

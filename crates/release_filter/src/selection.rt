@@ -19,7 +19,7 @@ ghost use Rattle.release_filter.specs.Selections.{order_of, text_of};
 ghost use Rattle.release_filter.specs.declared.line_texts.LineEnd.{LineEnd};
 
 use crate::line_texts::{LineEnd, without_last};
-use crate::verdict::Judged;
+use crate::verdict::Checked;
 use semver_texts::laws;
 use semver_versions::read_version::ReadVersion;
 use semver_versions::version::Outline;
@@ -191,35 +191,35 @@ impl Held {
         alloc: Global,
         ending: LineEnd,
         line: &[u8],
-        judged: &Judged<'_>,
+        checked: &Checked<'_>,
         kept: &mut Vec<u8>,
     ) -> Result<(), AllocError>
-        ensures answers { (plain : PlainVersion) → MatchesAs judged.now plain → IfOk result (λ _.
+        ensures answers { (plain : PlainVersion) → MatchesAs checked.now plain → IfOk result (λ _.
             Concludes (end_byte ending) (held_value self.old)
-            (selected_as (verdict_of ending judged.now plain line.now))
+            (selected_as (verdict_of ending checked.now plain line.now))
             kept.old.items kept.new.items) }
         ensures selection { IfOk result (λ _. self.new.selection ≡ self.old.selection) }
         ensures unchanged { IfErr result (λ _. (held_value self.new ≡ held_value self.old)
             × (kept.new.items ≡ kept.old.items)) }
         ensures out_of_memory { (plain : PlainVersion) → IfErr result (λ _.
             AnswerAllocates (held_value self.old)
-            (selected_as (verdict_of ending judged.now plain line.now)) kept.old.items) }
+            (selected_as (verdict_of ending checked.now plain line.now)) kept.old.items) }
     {
         match self.selection {
-            Selection::Each => match judged {
-                Judged::Matches(_) => {
+            Selection::Each => match checked {
+                Checked::Matches(_) => {
                     kept.extend_from_slice(line)?;
                     Ok(())
                 }
-                Judged::NoVersion | Judged::DoesNotMatch => Ok(()),
+                Checked::NoVersion | Checked::DoesNotMatch => Ok(()),
             },
             Selection::Highest | Selection::Lowest => {
-                let last = last_line(alloc, line, judged)?;
+                let last = last_line(alloc, line, checked)?;
                 self.append_best(&last, kept)?;
                 Ok(())
             }
             Selection::Sorted => {
-                let last = last_line(alloc, line, judged)?;
+                let last = last_line(alloc, line, checked)?;
                 self.append_sorted(alloc, ending, &last, kept)?;
                 Ok(())
             }
@@ -337,17 +337,17 @@ fn better_of<'k>(
 fn last_line(
     alloc: Global,
     line: &[u8],
-    judged: &Judged<'_>,
+    checked: &Checked<'_>,
 ) -> Result<Option<SelectedLine>, AllocError>
-    ensures kept { (plain : PlainVersion) (ending : LineEnd) → MatchesAs judged.now plain
+    ensures kept { (plain : PlainVersion) (ending : LineEnd) → MatchesAs checked.now plain
         → IfOk result (λ last. option_to_list (option_map selected_value last)
-        ≡ selected_as (verdict_of ending judged.now plain line.now)) }
+        ≡ selected_as (verdict_of ending checked.now plain line.now)) }
     ensures out_of_memory { (plain : PlainVersion) (ending : LineEnd) → IfErr result (λ _.
-        0 < length (selected_as (verdict_of ending judged.now plain line.now))) }
+        0 < length (selected_as (verdict_of ending checked.now plain line.now))) }
 {
-    match judged {
-        Judged::Matches(outline) => Ok(Some(selected_line(alloc, outline, line)?)),
-        Judged::NoVersion | Judged::DoesNotMatch => Ok(None),
+    match checked {
+        Checked::Matches(outline) => Ok(Some(selected_line(alloc, outline, line)?)),
+        Checked::NoVersion | Checked::DoesNotMatch => Ok(None),
     }
 }
 

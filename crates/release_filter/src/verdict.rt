@@ -4,7 +4,7 @@ ghost use Rattle.std.specs.Prelude.{◌≡◌, None};
 ghost use Rattle.semver_texts.specs.Texts.{Text};
 ghost use Rattle.tool_ranges.specs.VersionRanges.{versions_grammar};
 ghost use Rattle.release_filter.specs.Matching.{matches};
-ghost use Rattle.release_filter.specs.Judging.{IsJudged};
+ghost use Rattle.release_filter.specs.Checking.{IsChecked};
 ghost use Rattle.release_filter.specs.Steps.Outlined.{IsOutlined};
 
 use semver_versions::laws;
@@ -13,7 +13,7 @@ use tool_ranges::version_range::VersionRange;
 
 /// What a range says of a text.
 #[derive(Drop)]
-pub(crate) enum Judged<'t> {
+pub(crate) enum Checked<'t> {
     /// The text is no version.
     NoVersion,
     /// It is a version that the range doesn't contain.
@@ -24,26 +24,26 @@ pub(crate) enum Judged<'t> {
 
 /// What a range says of a text, which is read in its dialect.
 #[inline(always)]
-pub(crate) fn judge<'t>(range: &VersionRange, text: &'t [u8]) -> Judged<'t>
-    ensures { IsJudged (versions_grammar range.now) (matches range.now) text.now result }
+pub(crate) fn check<'t>(range: &VersionRange, text: &'t [u8]) -> Checked<'t>
+    ensures { IsChecked (versions_grammar range.now) (matches range.now) text.now result }
 {
-    judge_outline(range, outline_in(text, range.meaning().dialect.grammar()))
+    check_outline(range, outline_in(text, range.meaning().dialect.grammar()))
 }
 
 /// What a range says of a text that has this outline, or that is no version.
 #[inline(always)]
-pub(crate) fn judge_outline<'t>(range: &VersionRange, outline: Option<Outline<'t>>) -> Judged<'t>
-    ensures judged { (text : Text) → IsOutlined (versions_grammar range.now) text outline.entry
-        → IsJudged (versions_grammar range.now) (matches range.now) text result }
-    ensures none { outline.entry ≡ None → result ≡ Judged.NoVersion }
+pub(crate) fn check_outline<'t>(range: &VersionRange, outline: Option<Outline<'t>>) -> Checked<'t>
+    ensures checked { (text : Text) → IsOutlined (versions_grammar range.now) text outline.entry
+        → IsChecked (versions_grammar range.now) (matches range.now) text result }
+    ensures none { outline.entry ≡ None → result ≡ Checked.NoVersion }
 {
     laws::one_outlined_version();
     let Some(outline) = outline else {
-        return Judged::NoVersion;
+        return Checked::NoVersion;
     };
     if range.contains_outline(&outline) {
-        Judged::Matches(outline)
+        Checked::Matches(outline)
     } else {
-        Judged::DoesNotMatch
+        Checked::DoesNotMatch
     }
 }

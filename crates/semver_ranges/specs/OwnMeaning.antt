@@ -39,14 +39,14 @@ meets_tilde s z v = is_ge (precedence v z) && agrees 2 s v
 -- list, aren't greater
 abbrev pub meets_at_most : List ℕ → PlainVersion → PlainVersion → Bool
 meets_at_most s z v =
-    if length s == 3 then is_le (precedence v z) else is_le
-    (slice_cmp nat_cmp (take (length s) (numbers v)) s)
+    if length s == 3 then is_le (precedence v z)
+    else is_le (slice_cmp nat_cmp (take (length s) (numbers v)) s)
 
 -- `=`: with three stated equal in precedence; with fewer agreement on all of them, and not below z
 abbrev pub meets_equal : List ℕ → PlainVersion → PlainVersion → Bool
 meets_equal s z v =
-    if length s == 3 then is_eq (precedence v z) else is_ge (precedence v z)
-    && agrees (length s) s v
+    if length s == 3 then is_eq (precedence v z)
+    else is_ge (precedence v z) && agrees (length s) s v
 
 -- bare: as `=`; in Cargo mode with three stated as `^`
 abbrev pub meets_bare : Compat → List ℕ → PlainVersion → PlainVersion → Bool

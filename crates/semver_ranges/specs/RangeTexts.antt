@@ -22,8 +22,7 @@ abbrev pub IsTooLarge : Compat → Text → Type 0
 IsTooLarge mode t = (tree : SetTree) × Spells tree t × (fits mode tree ≡ false)
 
 -- what a call that reads a text by some grammar refuses: what is no text of it, and one whose
--- numbers are too large, both exactly. Memory runs out only in place of an answer, which a text has
--- that fits
+-- numbers are too large, both exactly. `OutOfMemory` comes only for a text that fits
 pub record Refuses {A : Type 0} (IsText HasLargeNumber Fits : Type 0) (r : Result A RangeError)
     : Type 0 where
   pub accepted : IfOk r (λ _. Fits)

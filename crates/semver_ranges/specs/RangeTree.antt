@@ -1,7 +1,8 @@
--- A range set as a tree, and the texts that spell it in two dialects. The crate's is node-semver's
--- published range grammar, and beside it `~>` for `~`, tabs, repeated blanks, and blanks after an
--- operator and round the whole set. What npm itself reads differs in its blanks, in a `v` before a
--- partial, in leading zeros of a pre-release, and in what is too long.
+-- A range set as a tree, and the texts that spell it in three grammars. The crate's is that of
+-- node-semver's page, and beside it `~>` for `~`, tabs, repeated blanks, and blanks after an
+-- operator and around the whole set. What npm itself reads differs in its blanks, in a `v` before a
+-- partial, in leading zeros of a pre-release, and in what is too long. Of Cargo's only partials are
+-- here.
 use Prim.Native.Char.{code}
 use Rattle.std.specs.Prelude.{◌≡◌, ℕ, Bool, true, false, ◌&&◌, ◌||◌, not, ◌==◌, ◌⊎◌, List, []}
 use Rattle.std.specs.Prelude.{◌∷◌, ◌++◌, codes, IsTrue, length, if◌then◌else◌}

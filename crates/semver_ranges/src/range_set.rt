@@ -88,19 +88,19 @@ impl RangeSet {
     /// one comparator. The mode decides how a bare version of three numbers is read, and nothing
     /// else. Builds are dropped.
     ///
-    /// A version satisfies the comparators where the text means it, or where it is a pre-release of
-    /// a raised bound: `2.0.0-alpha` is below the `<2.0.0` of `^1.2.3`. `RangeSet::parse_exact` has
-    /// no such exception.
+    /// A version satisfies the comparators exactly if some range of the text has, for each term:
+    /// the version satisfies it, or is a pre-release of its raised bound. `2.0.0-alpha` is below
+    /// the `<2.0.0` of `^1.2.3`; `RangeSet::parse_exact` has no such exception.
     ///
     /// # Errors
     ///
-    /// - `NotARange` exactly where the text isn't in the grammar, as `1.2.3 -4`, `>=1.0.0, <2.0.0`
-    ///   or `v1.2.3`.
-    /// - `NumberTooLarge` exactly where it is, and a number before the first wildcard of its
-    ///   partial, or an upper bound that is raised by one, is above 2^64 - 1, as
+    /// - `NotARange` exactly if the text isn't in the grammar, such as `1.2.3 -4`,
+    ///   `>=1.0.0, <2.0.0` or `v1.2.3`.
+    /// - `NumberTooLarge` exactly if it is, and a number before the first wildcard of its
+    ///   partial, or an upper bound that is raised by one, is above 2^64 - 1, such as
     ///   `<=18446744073709551615`.
-    /// - `OutOfMemory` if an allocation failed. The first two answers do not allocate, so this
-    ///   one comes only in place of a set.
+    /// - `OutOfMemory` if an allocation failed. The first two do not allocate, so this one comes
+    ///   only in place of a set.
     ///
     /// ```
     /// use semver_parser::{Compat, RangeSet};
@@ -119,13 +119,13 @@ impl RangeSet {
         ensures as_rewritten { IfOk result (λ set. (tree : SetTree) → Spells tree input.now
             → set_of set ≡ rewritten compat tree) }
 
-        // A version satisfies the answer exactly if some range of the text has each term satisfied,
-        // or the version is a pre-release of that term's raised bound.
+        // A version satisfies the result exactly if some range of the text has, for each term: the
+        // version satisfies it, or is a pre-release of its raised bound.
         ensures meaning { IfOk result (λ set. (tree : SetTree) (v : PlainVersion)
             → Spells tree input.now →
             meets_set v (set_of set) ≡ meets_tree_or_bounds compat tree v) }
-        // So a release satisfies it exactly if it satisfies the text, and what satisfies
-        // that always satisfies the answer.
+        // So a release satisfies it exactly if it satisfies the text, and what satisfies the text
+        // always satisfies the result.
         ensures releases { IfOk result (λ set. (tree : SetTree) (v : PlainVersion)
             → Spells tree input.now → v.pre ≡ [] →
             meets_set v (set_of set) ≡ meets_tree compat tree v) }

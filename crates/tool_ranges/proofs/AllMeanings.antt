@@ -36,8 +36,8 @@ use Rattle.tool_ranges.specs.AllPreReleases.{meets_range_with_all, meets_npm_wit
 use Rattle.tool_ranges.specs.CargoGrammar.{is_of_cargo, SpellsComparators}
 use Rattle.tool_ranges.specs.CargoMeaning.{against, as_read}
 use Rattle.tool_ranges.specs.ToolTable.{is_greater, states_some, ends_at}
-use Rattle.tool_ranges.specs.declared.cargo.checking.JudgedVersions.TheVariants.{All}
-use Rattle.tool_ranges.specs.Steps.CargoPreReleases.{judging, judging_one}
+use Rattle.tool_ranges.specs.declared.cargo.checking.VersionKind.TheVariants.{All}
+use Rattle.tool_ranges.specs.Steps.CargoPreReleases.{checks, checks_one}
 use Rattle.tool_ranges.specs.Steps.LowerBounds.{begins_lowest, begun, lower_where, range_begun, set_begun, written_for}
 use Rattle.tool_ranges.proofs.NpmMeanings.{past_minor, past_major, lowest_ge, minor_ge, major_ge, below_none}
 use Rattle.tool_ranges.proofs.ReadMeanings.{step, after, not_less, is_less, is_caret, is_above, is_above_after, every_equal, all_meet}
@@ -214,12 +214,12 @@ module _ (v : PlainVersion) where
 
   -- ---- Cargo
   one_meets : (s : Simple) → is_of_cargo s ≡ true
-      → list_all (meets_comparator v) (map comparator_any (judging_one All s)) ≡ meets_one Cargo (as_read s) v
+      → list_all (meets_comparator v) (map comparator_any (checks_one All s)) ≡ meets_one Cargo (as_read s) v
   one_meets s e = ap (list_all (meets_comparator v)) (written_for_any Cargo (as_read s))
       ∙ any_row Cargo (as_read s).form (stated_shape s.partial) (pre_any s.partial) (λ n. rw n refl)
       (λ none. rw (every_equal s e none) row_every)
 
   pub cargo_meant : (tree : List Simple) (t : Text) → SpellsComparators tree t
-      → meets_set v (set_any (judging All tree)) ≡ meets_requirement_with_all tree v
-  cargo_meant tree t h = or-false _ ∙ ap (list_all (meets_comparator v)) (one_range_any (judging_one All) tree)
-      ∙ all_meet v (λ s. map comparator_any (judging_one All s)) (λ s. meets_one Cargo (as_read s) v) one_meets tree t h
+      → meets_set v (set_any (checks All tree)) ≡ meets_requirement_with_all tree v
+  cargo_meant tree t h = or-false _ ∙ ap (list_all (meets_comparator v)) (one_range_any (checks_one All) tree)
+      ∙ all_meet v (λ s. map comparator_any (checks_one All s)) (λ s. meets_one Cargo (as_read s) v) one_meets tree t h

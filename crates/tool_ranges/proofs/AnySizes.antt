@@ -35,7 +35,7 @@ use Rattle.version_sets.proofs.DigitLaws.{by_empty, released}
 use Rattle.tool_ranges.specs.AnySize.{comparator_any, range_any, set_any}
 use Rattle.tool_ranges.specs.NpmMeaning.{asks_nothing_by, is_zero}
 use Rattle.tool_ranges.specs.ToolTable.{begins_above, ends_below, written_in}
-use Rattle.tool_ranges.specs.Steps.CargoPreReleases.{counting, counting_beside, counting_one, judged_by_count, some_judged}
+use Rattle.tool_ranges.specs.Steps.CargoPreReleases.{counting, counting_beside, counting_one, checked_by_count, some_checked}
 use Rattle.tool_ranges.specs.Steps.LowerBounds.{begins_lowest, begun, lower_of, lower_where, lowered, written_for}
 use Rattle.tool_ranges.specs.Steps.NpmReading.{has_no_other, is_from_zero, others_in, others_of}
 
@@ -210,27 +210,27 @@ written_for_any mode s =
 
 -- ---- Cargo's pre-releases
 
-some_judged_any : (form : Form) (s : List ℕ) (z : PlainVersion)
-    → map comparator_any (some_judged form s z) ≡ some_judged form s (plain_by AnySize z)
-some_judged_any less s z = refl
-some_judged_any at_most s z = refl
-some_judged_any greater [] z = refl
-some_judged_any greater (a ∷ []) z = refl
-some_judged_any greater (a ∷ b ∷ s) z = refl
-some_judged_any at_least [] z = refl
-some_judged_any at_least (a ∷ []) z = refl
-some_judged_any at_least (a ∷ b ∷ s) z = refl
-some_judged_any caret s z = refl
-some_judged_any bare s z = refl
-some_judged_any equal s z = refl
-some_judged_any tilde s z = refl
+some_checked_any : (form : Form) (s : List ℕ) (z : PlainVersion)
+    → map comparator_any (some_checked form s z) ≡ some_checked form s (plain_by AnySize z)
+some_checked_any less s z = refl
+some_checked_any at_most s z = refl
+some_checked_any greater [] z = refl
+some_checked_any greater (a ∷ []) z = refl
+some_checked_any greater (a ∷ b ∷ s) z = refl
+some_checked_any at_least [] z = refl
+some_checked_any at_least (a ∷ []) z = refl
+some_checked_any at_least (a ∷ b ∷ s) z = refl
+some_checked_any caret s z = refl
+some_checked_any bare s z = refl
+some_checked_any equal s z = refl
+some_checked_any tilde s z = refl
 
-pub judged_any : (form : Form) (s : List ℕ) (z : PlainVersion)
-    → map comparator_any (judged_by_count form s z) ≡ judged_by_count form s (plain_by AnySize z)
-judged_any form [] z = refl
-judged_any form (a ∷ []) z = some_judged_any form (a ∷ []) z
-judged_any form (a ∷ b ∷ []) z = some_judged_any form (a ∷ b ∷ []) z
-judged_any form (a ∷ b ∷ c ∷ s) z = cell_any (cell Cargo form (a ∷ b ∷ c ∷ s)) (a ∷ b ∷ c ∷ s) z
+pub checked_any : (form : Form) (s : List ℕ) (z : PlainVersion)
+    → map comparator_any (checked_by_count form s z) ≡ checked_by_count form s (plain_by AnySize z)
+checked_any form [] z = refl
+checked_any form (a ∷ []) z = some_checked_any form (a ∷ []) z
+checked_any form (a ∷ b ∷ []) z = some_checked_any form (a ∷ b ∷ []) z
+checked_any form (a ∷ b ∷ c ∷ s) z = cell_any (cell Cargo form (a ∷ b ∷ c ∷ s)) (a ∷ b ∷ c ∷ s) z
 
 counting_ranges : (tree : List Simple) → map range_any (flat_map counting_one tree) ≡ flat_map counting_one tree
 counting_ranges [] = refl

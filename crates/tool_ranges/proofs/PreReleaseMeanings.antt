@@ -1,5 +1,5 @@
 -- serves: answer_laws::sets::satisfies_as_the_set
--- On pre-releases the comparators that judge them mean what the requirement means, and the ranges of those that count are met by these.
+-- On pre-releases the comparators that check them mean what the requirement means, and the ranges of those that count are met by these.
 use Rattle.std.proofs.Common.{◌≡◌, ℕ, ◌^◌, ◌<◌, ◌≤◌, Bool, true, false, not, ◌&&◌, ◌||◌, ◌==◌, nat_eq, if◌then◌else◌}
 use Rattle.std.proofs.Common.{List, [], ◌∷◌, length, map, refl, sym, ap, ◌∙◌, inl, inr, arith}
 use Rattle.std.proofs.Math.Bool.{and-true, and-false, or-false}
@@ -25,10 +25,10 @@ use Rattle.semver_ranges.proofs.SetMeanings.{stated_shape}
 use Rattle.semver_texts.proofs.Lists.{by_test}
 use Rattle.version_sets.specs.VersionSets.{Fits}
 use Rattle.tool_ranges.specs.AnySize.{comparator_any, set_any}
-use Rattle.tool_ranges.proofs.AnySizes.{counting_any, judged_any, one_range_any, pre_any}
+use Rattle.tool_ranges.proofs.AnySizes.{counting_any, checked_any, one_range_any, pre_any}
 use Rattle.tool_ranges.specs.CargoMeaning.{has_wildcard, as_read, meets_by_count, meets_one}
-use Rattle.tool_ranges.specs.declared.cargo.checking.JudgedVersions.TheVariants.{PreReleases}
-use Rattle.tool_ranges.specs.Steps.CargoPreReleases.{below_all, counting, counting_one, greatest, judged_by_count, judging, judging_one}
+use Rattle.tool_ranges.specs.declared.cargo.checking.VersionKind.TheVariants.{PreReleases}
+use Rattle.tool_ranges.specs.Steps.CargoPreReleases.{below_all, counting, counting_one, greatest, checked_by_count, checks, checks_one}
 use Rattle.tool_ranges.specs.Steps.CargoPreReleases.{pre_releases_of}
 use Rattle.tool_ranges.proofs.ReadMeanings.{step, after, not_less, no_lower, is_less, is_caret, never_bare}
 
@@ -107,54 +107,54 @@ module _ (v : PlainVersion) (small : Fits v) (pre : is_empty v.pre ≡ false) wh
   none_below : list_all (meets_comparator v) below_all ≡ false
   none_below = and-true _ ∙ no_lower _ (not_less v.major past_major major_ge)
 
-  abbrev RowJudges : Form → List ℕ → List IdentifierValue → Type 0
-  RowJudges form s p = list_all (meets_comparator v) (judged_by_count form s (filled s p)) ≡ meets_by_count form s (filled s p) v
+  abbrev RowChecks : Form → List ℕ → List IdentifierValue → Type 0
+  RowChecks form s p = list_all (meets_comparator v) (checked_by_count form s (filled s p)) ≡ meets_by_count form s (filled s p) v
 
-  judges_one : (form : Form) (x : ℕ) (p : List IdentifierValue) → is_bare form ≡ false → RowJudges form (x ∷ []) p
-  judges_one bare x p named = cc
-  judges_one equal x p named = none_below ∙ sym (no_release _)
-  judges_one less x p named = and-true _ ∙ is_less (step v.major x) past_major major_ge
-  judges_one at_most x p named = and-true _ ∙ is_less (step v.major x) past_major major_ge ∙ sym (or_release _ _)
-  judges_one greater x p named = and-true _ ∙ is_over (step v.major x) last_major major_gt
-  judges_one at_least x p named = and-true _ ∙ is_over (step v.major x) last_major major_gt ∙ sym (or_release _ _)
-  judges_one tilde x p named = none_below ∙ sym (no_release _)
-  judges_one caret x p named = exact_row v Cargo caret (Shape.one x) lowest_pre_release ∙ is_caret (step v.major x) past_major major_ge _
+  check_one : (form : Form) (x : ℕ) (p : List IdentifierValue) → is_bare form ≡ false → RowChecks form (x ∷ []) p
+  check_one bare x p named = cc
+  check_one equal x p named = none_below ∙ sym (no_release _)
+  check_one less x p named = and-true _ ∙ is_less (step v.major x) past_major major_ge
+  check_one at_most x p named = and-true _ ∙ is_less (step v.major x) past_major major_ge ∙ sym (or_release _ _)
+  check_one greater x p named = and-true _ ∙ is_over (step v.major x) last_major major_gt
+  check_one at_least x p named = and-true _ ∙ is_over (step v.major x) last_major major_gt ∙ sym (or_release _ _)
+  check_one tilde x p named = none_below ∙ sym (no_release _)
+  check_one caret x p named = exact_row v Cargo caret (Shape.one x) lowest_pre_release ∙ is_caret (step v.major x) past_major major_ge _
 
-  judges_two : (form : Form) (x y : ℕ) (p : List IdentifierValue) → is_bare form ≡ false → RowJudges form (x ∷ y ∷ []) p
-  judges_two bare x y p named = cc
-  judges_two equal x y p named = none_below ∙ sym (no_release _)
-  judges_two less x y p named = and-true _ ∙ is_less (after (step v.major x) (step v.minor y)) past_minor minor_ge
-  judges_two at_most x y p named =
+  check_two : (form : Form) (x y : ℕ) (p : List IdentifierValue) → is_bare form ≡ false → RowChecks form (x ∷ y ∷ []) p
+  check_two bare x y p named = cc
+  check_two equal x y p named = none_below ∙ sym (no_release _)
+  check_two less x y p named = and-true _ ∙ is_less (after (step v.major x) (step v.minor y)) past_minor minor_ge
+  check_two at_most x y p named =
       and-true _ ∙ is_less (after (step v.major x) (step v.minor y)) past_minor minor_ge ∙ sym (or_release _ _)
-  judges_two greater x y p named = and-true _ ∙ is_over (after (step v.major x) (step v.minor y)) last_minor minor_gt
-  judges_two at_least x y p named =
+  check_two greater x y p named = and-true _ ∙ is_over (after (step v.major x) (step v.minor y)) last_minor minor_gt
+  check_two at_least x y p named =
       and-true _ ∙ is_over (after (step v.major x) (step v.minor y)) last_minor minor_gt ∙ sym (or_release _ _)
-  judges_two tilde x y p named = none_below ∙ sym (no_release _)
-  judges_two caret x y p named = exact_row v Cargo caret (Shape.two x y) lowest_pre_release
+  check_two tilde x y p named = none_below ∙ sym (no_release _)
+  check_two caret x y p named = exact_row v Cargo caret (Shape.two x y) lowest_pre_release
       ∙ is_caret (after (step v.major x) (step v.minor y)) past_minor minor_ge _
 
-  any_judges : (form : Form) {s : List ℕ} → Shape s → (p : List IdentifierValue) → is_bare form ≡ false → RowJudges form s p
-  any_judges form Shape.none p named = none_below ∙ sym pre
-  any_judges form (Shape.one x) p named = judges_one form x p named
-  any_judges form (Shape.two x y) p named = judges_two form x y p named
-  any_judges form (Shape.three x y w) p named = exact_row v Cargo form (Shape.three x y w) p
+  any_checks : (form : Form) {s : List ℕ} → Shape s → (p : List IdentifierValue) → is_bare form ≡ false → RowChecks form s p
+  any_checks form Shape.none p named = none_below ∙ sym pre
+  any_checks form (Shape.one x) p named = check_one form x p named
+  any_checks form (Shape.two x y) p named = check_two form x y p named
+  any_checks form (Shape.three x y w) p named = exact_row v Cargo form (Shape.three x y w) p
 
-  one_judges : (s : Simple) → list_all (meets_comparator v) (map comparator_any (judging_one PreReleases s)) ≡ meets_one s v
-  one_judges s =
-      ap (list_all (meets_comparator v)) (judged_any (as_read s).form (stated s.partial) (zero_filled s.partial))
-      ∙ any_judges (as_read s).form (stated_shape s.partial) (pre_any s.partial) (never_bare (has_wildcard s.partial) s.form)
+  one_checks : (s : Simple) → list_all (meets_comparator v) (map comparator_any (checks_one PreReleases s)) ≡ meets_one s v
+  one_checks s =
+      ap (list_all (meets_comparator v)) (checked_any (as_read s).form (stated s.partial) (zero_filled s.partial))
+      ∙ any_checks (as_read s).form (stated_shape s.partial) (pre_any s.partial) (never_bare (has_wildcard s.partial) s.form)
 
-  all_judge : (tree : List Simple)
-      → list_all (meets_comparator v) (flat_map (λ s. map comparator_any (judging_one PreReleases s)) tree)
+  all_check : (tree : List Simple)
+      → list_all (meets_comparator v) (flat_map (λ s. map comparator_any (checks_one PreReleases s)) tree)
       ≡ list_all (λ s. meets_one s v) tree
-  all_judge [] = refl
-  all_judge (s ∷ others) = list_all-append (meets_comparator v) (map comparator_any (judging_one PreReleases s))
-      (flat_map (λ s. map comparator_any (judging_one PreReleases s)) others)
-      ∙ (λ i. one_judges s i && all_judge others i)
+  all_check [] = refl
+  all_check (s ∷ others) = list_all-append (meets_comparator v) (map comparator_any (checks_one PreReleases s))
+      (flat_map (λ s. map comparator_any (checks_one PreReleases s)) others)
+      ∙ (λ i. one_checks s i && all_check others i)
 
-  pub judged : (tree : List Simple) → meets_set v (set_any (judging PreReleases tree)) ≡ list_all (λ s. meets_one s v) tree
-  judged tree =
-      or-false _ ∙ ap (list_all (meets_comparator v)) (one_range_any (judging_one PreReleases) tree) ∙ all_judge tree
+  pub checked : (tree : List Simple) → meets_set v (set_any (checks PreReleases tree)) ≡ list_all (λ s. meets_one s v) tree
+  checked tree =
+      or-false _ ∙ ap (list_all (meets_comparator v)) (one_range_any (checks_one PreReleases) tree) ∙ all_check tree
 
 -- ---- the pre-releases that count
 

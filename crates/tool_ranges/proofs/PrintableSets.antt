@@ -1,5 +1,5 @@
 -- serves: tool_ranges::cargo::rewrite
--- What a tool's texts are rewritten to has printable identifiers, also where pre-releases are judged.
+-- What a tool's texts are rewritten to has printable identifiers, also where pre-releases are checked.
 use Rattle.std.proofs.Common.{arith, ◌≡◌, ℕ, Bool, true, false, not, ◌&&◌, List, [], ◌∷◌, ◌++◌, map, refl, sym, ap, ◌∙◌}
 use Rattle.std.proofs.lemmas.Bool.{and_parts, and_from}
 use Rattle.std.proofs.lemmas.List.Folds.{list_all-append}
@@ -29,15 +29,15 @@ use Rattle.semver_ranges.proofs.ReadingPieces.{word_parts}
 use Rattle.semver_ranges.proofs.SetMeanings.{stated_shape}
 use Rattle.version_sets.specs.Printable.{are_printable, HasPrintableRanges}
 use Rattle.version_sets.specs.SetRanges.{is_at_least}
-use Rattle.tool_ranges.specs.declared.cargo.checking.JudgedVersions.{JudgedVersions}
-use Rattle.tool_ranges.specs.declared.cargo.checking.JudgedVersions.TheVariants.{Releases, PreReleases, All}
+use Rattle.tool_ranges.specs.declared.cargo.checking.VersionKind.{VersionKind}
+use Rattle.tool_ranges.specs.declared.cargo.checking.VersionKind.TheVariants.{Releases, PreReleases, All}
 use Rattle.tool_ranges.specs.CargoGrammar.{SpellsComparators}
 use Rattle.tool_ranges.specs.CargoMeaning.{as_read}
 use Rattle.tool_ranges.specs.CargoTable.{requirement_fits}
 use Rattle.tool_ranges.specs.NpmTable.{is_safe_simple, npm_fits}
 use Rattle.tool_ranges.specs.ToolTable.{begins_above, fits_in, is_greater, states_some, written_in}
-use Rattle.tool_ranges.specs.Steps.CargoPreReleases.{counting, counting_one, judged_by_count, judging, judging_one}
-use Rattle.tool_ranges.specs.Steps.CargoPreReleases.{judging_read, some_judged}
+use Rattle.tool_ranges.specs.Steps.CargoPreReleases.{counting, counting_one, checked_by_count, checks, checks_one}
+use Rattle.tool_ranges.specs.Steps.CargoPreReleases.{checks_read, some_checked}
 use Rattle.tool_ranges.specs.Steps.LowerBounds.{begun, lower_of, lowered, range_begun, set_begun, written_for}
 use Rattle.tool_ranges.specs.Steps.NpmReading.{is_from_zero, others_of}
 use Rattle.tool_ranges.proofs.ToolRows.{npm_prints, npm_table, numbers_fit, tool_prints}
@@ -153,7 +153,7 @@ others_print (r ∷ ranges) e =
 
 -- where one or two numbers are stated
 some_print : (form : Form) (n : List ℕ) (z : PlainVersion) → states_some n ≡ true → list_all fits_u64 (numbers z) ≡ true
-    → (form ≡ caret → bound_fits (Some (up (leading_place n) n)) ≡ true) → are_printable (some_judged form n z) ≡ true
+    → (form ≡ caret → bound_fits (Some (up (leading_place n) n)) ≡ true) → are_printable (some_checked form n z) ≡ true
 some_print less n z some e bound = and_from _ _ (exact_prints z e) refl
 some_print at_most n z some e bound = and_from _ _ (exact_prints z e) refl
 some_print greater [] z some e bound = cc
@@ -190,7 +190,7 @@ module _ (s : Simple) (h : HasParts s.partial) (e : fits_in Cargo s ≡ true) wh
       sym (ap bound_fits (raised_caret n some)) ∙ (λ i. bound_fits (cell_raised (cell Cargo (sym form i) (sym is i)) (sym is i)))
       ∙ (and_parts _ _ (by_port none)).1
 
-  counted : (n : List ℕ) → stated s.partial ≡ n → are_printable (judged_by_count s.form n (zero_filled s.partial)) ≡ true
+  counted : (n : List ℕ) → stated s.partial ≡ n → are_printable (checked_by_count s.form n (zero_filled s.partial)) ≡ true
   counted [] is = refl
   counted (a ∷ []) is = some_print s.form (a ∷ []) (zero_filled s.partial) refl zero_fits (caret_bound (a ∷ []) is refl)
   counted (a ∷ b ∷ []) is = some_print s.form (a ∷ b ∷ []) (zero_filled s.partial) refl zero_fits (caret_bound (a ∷ b ∷ []) is refl)
@@ -199,29 +199,29 @@ module _ (s : Simple) (h : HasParts s.partial) (e : fits_in Cargo s ≡ true) wh
       ap (λ n. are_printable (written_cell lowest_pre_release (cell Cargo s.form n) n (zero_filled s.partial))) (sym is)
       ∙ (port_prints lowest_pre_release refl Cargo).each s h (by_port none)
 
-judged_each : (judged : JudgedVersions) (s : Simple) → HasParts s.partial → fits_in Cargo s ≡ true
-    → are_printable (judging_read judged s) ≡ true
-judged_each Releases s h e = (tool_prints Cargo).each s h e
-judged_each PreReleases s h e = counted s h e (stated s.partial) refl
-judged_each All s h e = begun_prints (lower_of Lowest Cargo s) (written_in Cargo s) ((tool_prints Cargo).each s h e)
+checked_each : (checked : VersionKind) (s : Simple) → HasParts s.partial → fits_in Cargo s ≡ true
+    → are_printable (checks_read checked s) ≡ true
+checked_each Releases s h e = (tool_prints Cargo).each s h e
+checked_each PreReleases s h e = counted s h e (stated s.partial) refl
+checked_each All s h e = begun_prints (lower_of Lowest Cargo s) (written_in Cargo s) ((tool_prints Cargo).each s h e)
 
-module _ (judged : JudgedVersions) where
-  one_judged : (s : Simple) → HasParts s.partial → fits_in Cargo (as_read s) ≡ true → are_printable (judging_one judged s) ≡ true
-  one_judged s h e = judged_each judged (as_read s) h e
+module _ (checked : VersionKind) where
+  one_checked : (s : Simple) → HasParts s.partial → fits_in Cargo (as_read s) ≡ true → are_printable (checks_one checked s) ≡ true
+  one_checked s h e = checked_each checked (as_read s) h e
 
-  all_judged : (tree : List Simple) (t : Text) → SpellsComparators tree t → requirement_fits tree ≡ true
-      → are_printable (flat_map (judging_one judged) tree) ≡ true
-  all_judged [] t h e = absurd h
-  all_judged (s ∷ []) t h e = both (judging_one judged s) [] (one_judged s h.partial.1 (and_parts _ _ e).0) refl
-  all_judged (s ∷ next ∷ others) t (front, back, h, more, text) e =
+  all_checked : (tree : List Simple) (t : Text) → SpellsComparators tree t → requirement_fits tree ≡ true
+      → are_printable (flat_map (checks_one checked) tree) ≡ true
+  all_checked [] t h e = absurd h
+  all_checked (s ∷ []) t h e = both (checks_one checked s) [] (one_checked s h.partial.1 (and_parts _ _ e).0) refl
+  all_checked (s ∷ next ∷ others) t (front, back, h, more, text) e =
       let parts = and_parts _ _ e in
-      both (judging_one judged s) (flat_map (judging_one judged) (next ∷ others)) (one_judged s h.partial.1 parts.0)
-      (all_judged (next ∷ others) back more parts.1)
+      both (checks_one checked s) (flat_map (checks_one checked) (next ∷ others)) (one_checked s h.partial.1 parts.0)
+      (all_checked (next ∷ others) back more parts.1)
 
-  -- the comparators by which some versions are judged
-  pub judging_prints : (tree : List Simple) (t : Text) → SpellsComparators tree t → requirement_fits tree ≡ true
-      → HasPrintableRanges (judging judged tree)
-  judging_prints tree t h e = and_from _ _ (all_judged tree t h e) refl
+  -- the comparators by which some versions are checked
+  pub checks_prints : (tree : List Simple) (t : Text) → SpellsComparators tree t → requirement_fits tree ≡ true
+      → HasPrintableRanges (checks checked tree)
+  checks_prints tree t h e = and_from _ _ (all_checked tree t h e) refl
 
 abbrev print_ranges : List PlainRange → Bool
 print_ranges ranges = list_all (λ r. are_printable r.comparators) ranges

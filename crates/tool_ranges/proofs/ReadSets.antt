@@ -1,5 +1,5 @@
 -- serves: answer_laws::sets::satisfies_as_the_set
--- The releases that meet what a requirement is rewritten to, and the pre-releases that count and are judged so, are what it means.
+-- The releases that meet what a requirement is rewritten to, and the pre-releases that count and are checked so, are what it means.
 use Rattle.std.proofs.Common.{◌≡◌, ℕ, ◌==◌, Bool, true, false, not, ◌&&◌, ◌||◌, List, [], ◌∷◌, length, map, refl, sym, ap, ◌∙◌, rules}
 use Rattle.std.specs.Prelude.{Result, Err}
 use Rattle.std.proofs.Math.Bool.{and-false, or-false}
@@ -18,10 +18,10 @@ use Rattle.tool_ranges.proofs.AnySizes.{release_set}
 use Rattle.tool_ranges.specs.CargoGrammar.{SpellsComparators}
 use Rattle.tool_ranges.specs.CargoMeaning.{meets_requirement}
 use Rattle.tool_ranges.specs.CargoTable.{rewritten_requirement}
-use Rattle.tool_ranges.specs.declared.cargo.checking.JudgedVersions.TheVariants.{PreReleases}
-use Rattle.tool_ranges.specs.Steps.CargoPreReleases.{counting, counting_one, judging}
+use Rattle.tool_ranges.specs.declared.cargo.checking.VersionKind.TheVariants.{PreReleases}
+use Rattle.tool_ranges.specs.Steps.CargoPreReleases.{counting, counting_one, checks}
 use Rattle.tool_ranges.proofs.ReadMeanings.{requirement_meets}
-use Rattle.tool_ranges.proofs.PreReleaseMeanings.{judged, counted}
+use Rattle.tool_ranges.proofs.PreReleaseMeanings.{checked, counted}
 
 none_of : {X : Type 0} (xs : List X) → is_empty xs ≡ true → xs ≡ []
 none_of [] e = refl
@@ -32,7 +32,7 @@ pub none_made : {X Y : Type 0} (f : X → Y) (xs : List X) (n : ℕ) (r : Bool) 
 none_made f [] n r e l y = refl
 none_made f (x ∷ xs) n r e l y = search rules
 
--- of a release and of a pre-release: e says which it is, x whether it meets what is rewritten, a whether it is judged so, p whether it
+-- of a release and of a pre-release: e says which it is, x whether it meets what is rewritten, a whether it is checked so, p whether it
 -- counts as a pre-release, and s whether it is stated
 of_release : (e x a p m s : Bool) → e ≡ true → p ≡ (not e && s) → x ≡ m → ((e && x) || (a && p)) ≡ m
 of_release true x a p m s is counts means = search rules
@@ -44,12 +44,12 @@ of_pre_release false x a p m s is counts means = cc
 
 pub all_meant : (v : PlainVersion) (tree : List Simple) (t : Text) → Fits v → SpellsComparators tree t
     → ((is_empty v.pre && meets_set v (set_any (rewritten_requirement tree)))
-    || (meets_set v (set_any (judging PreReleases tree)) && meets_set v (set_any (counting tree))))
+    || (meets_set v (set_any (checks PreReleases tree)) && meets_set v (set_any (counting tree))))
     ≡ meets_requirement tree v
 all_meant v tree t small h = by_test (is_empty v.pre)
     (λ y. of_release _ _ _ _ _ _ y (counted v tree)
     (release_set v (rewritten_requirement tree) y ∙ requirement_meets v tree t (none_of v.pre y) h))
-    (λ n. of_pre_release _ _ _ _ _ _ n (counted v tree) (judged v small n tree))
+    (λ n. of_pre_release _ _ _ _ _ _ n (counted v tree) (checked v small n tree))
 
 -- where none counts, the releases alone
 pub releases_meant : (v : PlainVersion) (tree : List Simple) (t : Text) → Fits v → SpellsComparators tree t
@@ -57,7 +57,7 @@ pub releases_meant : (v : PlainVersion) (tree : List Simple) (t : Text) → Fits
 releases_meant v tree t small h none =
     sym (or-false _)
     ∙ ap (λ b. (is_empty v.pre && meets_set v (set_any (rewritten_requirement tree))) || b)
-    (sym (ap (λ b. meets_set v (set_any (judging PreReleases tree)) && b) (ap (λ (rs : List PlainRange). list_any (meets_range v) (map
+    (sym (ap (λ b. meets_set v (set_any (checks PreReleases tree)) && b) (ap (λ (rs : List PlainRange). list_any (meets_range v) (map
     range_any rs)) none)
     ∙ and-false _))
     ∙ all_meant v tree t small h

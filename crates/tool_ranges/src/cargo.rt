@@ -22,7 +22,7 @@ ghost use Rattle.tool_ranges.specs.Steps.CargoReading.{IsSetOf, IsSurveyedAs};
 ghost use Rattle.tool_ranges.specs.Steps.ToolDesugared.{desugared_fits, desugared_written};
 ghost use Rattle.tool_ranges.specs.Steps.ToolDesugared.{IsBuildableAt};
 ghost use Rattle.semver_ranges.specs.Steps.CursorViews.{IsSimpleOf};
-ghost use Rattle.tool_ranges.specs.Steps.CargoPreReleases.{counting_one, judging, judging_one};
+ghost use Rattle.tool_ranges.specs.Steps.CargoPreReleases.{counting_one, checks, checks_one};
 
 mod checking;
 mod fitting;
@@ -32,7 +32,7 @@ mod pre_releases;
 mod requirement_sets;
 
 use crate::desugaring::{self, ToolDesugared};
-use checking::{JudgedVersions, push_judging};
+use checking::{VersionKind, push_checks};
 pub(crate) use fitting::fitting;
 use grammar::read_comparator;
 pub(crate) use matching::{matches, matches_with_all};
@@ -110,7 +110,7 @@ fn rewritten_all(alloc: Global, requirement: &str) -> Result<Vec<Range>, RangeEr
         (λ e. IsRefusal requirement.now e) }
 {
     let surveyed = survey(requirement)?;
-    match build(alloc, &surveyed, JudgedVersions::Releases, false) {
+    match build(alloc, &surveyed, VersionKind::Releases, false) {
         Ok((ranges, _)) => Ok(ranges),
         Err(_) => Err(RangeError::OutOfMemory),
     }
@@ -231,15 +231,15 @@ fn ended<T: Copy>(stands_alone: bool, fit: bool, answer: T) -> Result<T, RangeEr
 fn build(
     alloc: Global,
     surveyed: &Surveyed<'_>,
-    judged: JudgedVersions,
+    checked: VersionKind,
     counts: bool,
 ) -> Result<(Vec<Range>, Vec<Range>), AllocError>
     requires { (t : Text) × (tree : List SimpleTree) × IsSurveyedAs t tree surveyed.now }
     ensures { IfOk result (λ built. (t : Text) (tree : List SimpleTree)
-        → IsSurveyedAs t tree surveyed.now → (set_with built.0.items ≡ judging judged tree)
+        → IsSurveyedAs t tree surveyed.now → (set_with built.0.items ≡ checks checked tree)
         × (counts ≡ true → map range_of built.1.items ≡ flat_map counting_one tree)) }
 {
-    let (comparator_set, counting) = build_comparators(alloc, surveyed, judged, counts)?;
+    let (comparator_set, counting) = build_comparators(alloc, surveyed, checked, counts)?;
     Ok((in_one_range(alloc, comparator_set)?, counting))
 }
 
@@ -247,13 +247,13 @@ fn build(
 fn build_comparators(
     alloc: Global,
     surveyed: &Surveyed<'_>,
-    judged: JudgedVersions,
+    checked: VersionKind,
     counts: bool,
 ) -> Result<(Vec<Comparator>, Vec<Range>), AllocError>
     requires { (t : Text) × (tree : List SimpleTree) × IsSurveyedAs t tree surveyed.now }
     ensures { IfOk result (λ built. (t : Text) (tree : List SimpleTree)
         → IsSurveyedAs t tree surveyed.now
-        → (map comparator_of built.0.items ≡ flat_map (judging_one judged) tree)
+        → (map comparator_of built.0.items ≡ flat_map (checks_one checked) tree)
         × (counts ≡ true → map range_of built.1.items ≡ flat_map counting_one tree)) }
 {
     let mut comparators = Vec::with_capacity(alloc, surveyed.count)?;
@@ -261,7 +261,7 @@ fn build_comparators(
     let mut simple = surveyed.first;
     let mut after = surveyed.after;
     for _ in 0..MOST_COMPARATORS {
-        push_judging(alloc, judged, &simple, &mut comparators)?;
+        push_checks(alloc, checked, &simple, &mut comparators)?;
         pre_releases::push_counting(alloc, counts, &simple.partial, &mut counting)?;
         let Some(rest) = after else {
             return Ok((comparators, counting));

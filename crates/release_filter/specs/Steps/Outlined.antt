@@ -7,9 +7,9 @@ use Rattle.semver_texts.specs.ToolVersions.{IsVersionTextIn}
 use Rattle.semver_texts.specs.Versions.{VersionValue}
 use Rattle.semver_texts.specs.declared.grammar.Grammar.{Grammar}
 use Rattle.release_filter.specs.Matching.{matches}
-use Rattle.release_filter.specs.declared.verdict.Judged.{Judged}
-use Rattle.release_filter.specs.declared.verdict.Judged.TheVariants.{NoVersion, DoesNotMatch}
-use Rattle.release_filter.specs.declared.verdict.Judged.TheVariants.{Matches}
+use Rattle.release_filter.specs.declared.verdict.Checked.{Checked}
+use Rattle.release_filter.specs.declared.verdict.Checked.TheVariants.{NoVersion, DoesNotMatch}
+use Rattle.release_filter.specs.declared.verdict.Checked.TheVariants.{Matches}
 
 -- this is the outline of a version that the text spells in a dialect; or there is none, as it
 -- spells none
@@ -18,17 +18,17 @@ IsOutlined grammar text None = ¬ (IsVersionTextIn grammar text)
 IsOutlined grammar text (Some outline) = IsOutlineIn grammar text outline
 
 -- what a filter says of a text that has such versions
-abbrev pub JudgesBy : (VersionValue → Type 0) → RangeValue → Judged → Type 0
-JudgesBy Has filter NoVersion = (w : VersionValue) → ¬ (Has w)
-JudgesBy Has filter DoesNotMatch = (v : VersionValue) × Has v × (matches filter v ≡ false)
-JudgesBy Has filter (Matches outline) =
+abbrev pub ChecksBy : (VersionValue → Type 0) → RangeValue → Checked → Type 0
+ChecksBy Has filter NoVersion = (w : VersionValue) → ¬ (Has w)
+ChecksBy Has filter DoesNotMatch = (v : VersionValue) × Has v × (matches filter v ≡ false)
+ChecksBy Has filter (Matches outline) =
     (v : VersionValue) × Has v × IsTrue (matches filter v) × (v ≡ version_of outline)
 
 -- what a filter says of a text that has such versions after prefixes, and the length of the prefix
-abbrev pub JudgesAfter : (Text → VersionValue → Type 0) → RangeValue → ℕ → Judged → Type 0
-JudgesAfter Has filter count NoVersion =
+abbrev pub ChecksAfter : (Text → VersionValue → Type 0) → RangeValue → ℕ → Checked → Type 0
+ChecksAfter Has filter count NoVersion =
     ((prefix : Text) (w : VersionValue) → ¬ (Has prefix w)) × (count ≡ 0)
-JudgesAfter Has filter count DoesNotMatch = (prefix : Text) × (v : VersionValue) × Has prefix v
+ChecksAfter Has filter count DoesNotMatch = (prefix : Text) × (v : VersionValue) × Has prefix v
     × (matches filter v ≡ false)
-JudgesAfter Has filter count (Matches outline) = (prefix : Text) × (v : VersionValue) × Has prefix v
+ChecksAfter Has filter count (Matches outline) = (prefix : Text) × (v : VersionValue) × Has prefix v
     × IsTrue (matches filter v) × (v ≡ version_of outline) × (count ≡ length prefix)

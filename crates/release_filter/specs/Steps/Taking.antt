@@ -11,13 +11,13 @@ use Rattle.semver_texts.specs.Versions.{PlainVersion}
 use Rattle.release_filter.specs.LineTexts.{line_text}
 use Rattle.release_filter.specs.Pieces.{LinesValue, TakesAll}
 use Rattle.release_filter.specs.Skipping.{IsLeft}
-use Rattle.release_filter.specs.Verdicts.{HasNoVersion, IsVerdictOn, JudgedLine, LineRule, Verdict}
+use Rattle.release_filter.specs.Verdicts.{HasNoVersion, IsVerdictOn, LineCheck, LineRule, Verdict}
 use Rattle.release_filter.specs.Verdicts.{dropped, empty, invalid, is_invalid, kept}
 use Rattle.release_filter.specs.Counting.{CountsValue, counted_as}
 use Rattle.release_filter.specs.Selections.{Answers, HeldValue, Holds, SelectedValue, selected_as}
-use Rattle.release_filter.specs.declared.verdict.Judged.{Judged}
-use Rattle.release_filter.specs.declared.verdict.Judged.TheVariants.{NoVersion, DoesNotMatch}
-use Rattle.release_filter.specs.declared.verdict.Judged.TheVariants.{Matches}
+use Rattle.release_filter.specs.declared.verdict.Checked.{Checked}
+use Rattle.release_filter.specs.declared.verdict.Checked.TheVariants.{NoVersion, DoesNotMatch}
+use Rattle.release_filter.specs.declared.verdict.Checked.TheVariants.{Matches}
 use Rattle.semver_versions.specs.ReadVersions.{read_plain}
 use Rattle.release_filter.specs.declared.line_filter.LineFilter.{LineFilter}
 use Rattle.release_filter.specs.declared.line_texts.LineEnd.{LineEnd}
@@ -51,7 +51,7 @@ without_version ending line = if is_empty (line_text ending line) then empty els
 
 -- what a line is of which a filter says this, and this is given; if its version matches, it is this
 -- one
-abbrev pub verdict_of : LineEnd → Judged → PlainVersion → Text → Verdict
+abbrev pub verdict_of : LineEnd → Checked → PlainVersion → Text → Verdict
 verdict_of ending NoVersion plain given = without_version ending given
 verdict_of ending DoesNotMatch plain given = dropped
 verdict_of ending (Matches outline) plain given = kept plain given
@@ -60,16 +60,16 @@ verdict_of ending (Matches outline) plain given = kept plain given
 abbrev pub Outlines : OutlineValue → PlainVersion → Type 0
 Outlines outline plain = plain ≡ (version_of outline).plain
 
-abbrev pub MatchesAs : Judged → PlainVersion → Type 0
+abbrev pub MatchesAs : Checked → PlainVersion → Type 0
 MatchesAs NoVersion plain = Unit {0}
 MatchesAs DoesNotMatch plain = Unit {0}
 MatchesAs (Matches outline) plain = Outlines outline plain
 
 -- what a filter says of a line, and what is given of it: all of a line that has no version
-abbrev pub JudgesLine : LineRule → Text → Text → Judged → Type 0
-JudgesLine rule line given NoVersion = HasNoVersion rule line × (given ≡ line)
-JudgesLine rule line given DoesNotMatch = IsVerdictOn rule line dropped
-JudgesLine rule line given (Matches outline) =
+abbrev pub ChecksLine : LineRule → Text → Text → Checked → Type 0
+ChecksLine rule line given NoVersion = HasNoVersion rule line × (given ≡ line)
+ChecksLine rule line given DoesNotMatch = IsVerdictOn rule line dropped
+ChecksLine rule line given (Matches outline) =
     (plain : PlainVersion) × Outlines outline plain × IsVerdictOn rule line (kept plain given)
 
 -- some kept lines were the last, and what is wanted at the end of the text was appended
@@ -85,10 +85,10 @@ pub record TakesLine (ending : LineEnd) (h : HeldValue) (c : CountsValue) (line 
   pub appended : new ≡ old ++ added
   pub counted : d ≡ counted_as ending verdict c line
 
--- one line was judged and taken, and this says whether it is no invalid one
-abbrev pub TakesJudged : LineRule → HeldValue → CountsValue → Text → HeldValue → CountsValue
+-- one line was checked and taken, and this says whether it is no invalid one
+abbrev pub TakesChecked : LineRule → HeldValue → CountsValue → Text → HeldValue → CountsValue
     → Text → Text → Bool → Type 0
-TakesJudged rule h c line g d old new is_valid = (verdict : Verdict)
+TakesChecked rule h c line g d old new is_valid = (verdict : Verdict)
     × IsVerdictOn rule line verdict × TakesLine rule.ending h c line verdict g d old new
     × (is_valid ≡ not (is_invalid verdict))
 
@@ -100,5 +100,5 @@ TakesRest s rest t = (t ≡ record s { unended = t.unended })
 
 -- the end of a line was taken, and this says whether the line is no invalid one
 abbrev pub TakesWhole : LinesValue → Text → LinesValue → Text → Text → Bool → Type 0
-TakesWhole s end t old new is_valid = (judged : JudgedLine) × TakesAll s end (judged ∷ []) t old new
-    × (t.unended ≡ []) × (is_valid ≡ not (is_invalid judged.verdict))
+TakesWhole s end t old new is_valid = (line : LineCheck) × TakesAll s end (line ∷ []) t old new
+    × (t.unended ≡ []) × (is_valid ≡ not (is_invalid line.verdict))

@@ -1,4 +1,4 @@
--- A means of proof, which no public clause cites: the comparators that judge a pre-release as a
+-- A means of proof, which no public clause cites: the comparators that check a pre-release as a
 -- requirement does, and the ranges of the pre-releases that count.
 use Rattle.std.specs.Prelude.{◌-◌, ◌^◌, ℕ, if◌then◌else◌, List, [], ◌∷◌}
 use Rattle.std.specs.List.{flat_map}
@@ -14,10 +14,10 @@ use Rattle.semver_ranges.specs.Partials.{leading_place}
 use Rattle.semver_ranges.specs.RewritingTable.{PlainComparator, PlainRange, PlainSet, comparator}
 use Rattle.semver_ranges.specs.RewritingTable.{cell, up_with, with_pre_release, written_cell}
 use Rattle.semver_ranges.specs.ExactBounds.{exact_bound, lowest_pre_release}
-use Rattle.tool_ranges.specs.declared.cargo.checking.JudgedVersions.{JudgedVersions}
-use Rattle.tool_ranges.specs.declared.cargo.checking.JudgedVersions.TheVariants.{Releases}
-use Rattle.tool_ranges.specs.declared.cargo.checking.JudgedVersions.TheVariants.{PreReleases}
-use Rattle.tool_ranges.specs.declared.cargo.checking.JudgedVersions.TheVariants.{All}
+use Rattle.tool_ranges.specs.declared.cargo.checking.VersionKind.{VersionKind}
+use Rattle.tool_ranges.specs.declared.cargo.checking.VersionKind.TheVariants.{Releases}
+use Rattle.tool_ranges.specs.declared.cargo.checking.VersionKind.TheVariants.{PreReleases}
+use Rattle.tool_ranges.specs.declared.cargo.checking.VersionKind.TheVariants.{All}
 use Rattle.tool_ranges.specs.CargoMeaning.{as_read}
 use Rattle.tool_ranges.specs.ToolTable.{written_in}
 use Rattle.tool_ranges.specs.Steps.LowerBounds.{written_for}
@@ -35,37 +35,37 @@ abbrev pub below_all : List PlainComparator
 below_all = comparator Lt (exact_bound zero_version) ∷ []
 
 -- one or two numbers stated: only `^` takes pre-releases with just these numbers
-abbrev pub some_judged : Form → List ℕ → PlainVersion → List PlainComparator
-some_judged less s z = comparator Lt (exact_bound z) ∷ []
-some_judged at_most s z = comparator Lt (exact_bound z) ∷ []
-some_judged greater s z = comparator Gt (last s z) ∷ []
-some_judged at_least s z = comparator Gt (last s z) ∷ []
-some_judged caret s z =
+abbrev pub some_checked : Form → List ℕ → PlainVersion → List PlainComparator
+some_checked less s z = comparator Lt (exact_bound z) ∷ []
+some_checked at_most s z = comparator Lt (exact_bound z) ∷ []
+some_checked greater s z = comparator Gt (last s z) ∷ []
+some_checked at_least s z = comparator Gt (last s z) ∷ []
+some_checked caret s z =
     comparator Gte (exact_bound z)
     ∷ comparator Lt (up_with lowest_pre_release (leading_place s) s) ∷ []
-some_judged _ s z = below_all
+some_checked _ s z = below_all
 
 -- nothing stated: no pre-release. Three stated: the port's comparators
-abbrev pub judged_by_count : Form → List ℕ → PlainVersion → List PlainComparator
-judged_by_count form [] z = below_all
-judged_by_count form (a ∷ []) z = some_judged form (a ∷ []) z
-judged_by_count form (a ∷ b ∷ []) z = some_judged form (a ∷ b ∷ []) z
-judged_by_count form (a ∷ b ∷ c ∷ rest) z =
+abbrev pub checked_by_count : Form → List ℕ → PlainVersion → List PlainComparator
+checked_by_count form [] z = below_all
+checked_by_count form (a ∷ []) z = some_checked form (a ∷ []) z
+checked_by_count form (a ∷ b ∷ []) z = some_checked form (a ∷ b ∷ []) z
+checked_by_count form (a ∷ b ∷ c ∷ rest) z =
     written_cell lowest_pre_release (cell Cargo form (a ∷ b ∷ c ∷ rest)) (a ∷ b ∷ c ∷ rest) z
 
--- the comparators that judge releases, pre-releases, or all versions, of one as it is read
-abbrev pub judging_read : JudgedVersions → Simple → List PlainComparator
-judging_read Releases s = written_in Cargo s
-judging_read PreReleases s = judged_by_count s.form (stated s.partial) (zero_filled s.partial)
-judging_read All s = written_for Lowest Cargo s
+-- the comparators that check releases, pre-releases, or all versions, of one as it is read
+abbrev pub checks_read : VersionKind → Simple → List PlainComparator
+checks_read Releases s = written_in Cargo s
+checks_read PreReleases s = checked_by_count s.form (stated s.partial) (zero_filled s.partial)
+checks_read All s = written_for Lowest Cargo s
 
-abbrev pub judging_one : JudgedVersions → Simple → List PlainComparator
-judging_one judged s = judging_read judged (as_read s)
+abbrev pub checks_one : VersionKind → Simple → List PlainComparator
+checks_one checked s = checks_read checked (as_read s)
 
-abbrev pub judging : JudgedVersions → List Simple → PlainSet
-judging judged tree =
+abbrev pub checks : VersionKind → List Simple → PlainSet
+checks checked tree =
     record {
-      ranges = record { comparators = flat_map (judging_one judged) tree; compat = Cargo } ∷ [];
+      ranges = record { comparators = flat_map (checks_one checked) tree; compat = Cargo } ∷ [];
       compat = Cargo;
     }
 

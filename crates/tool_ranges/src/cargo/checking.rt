@@ -7,7 +7,7 @@ ghost use Rattle.semver_ranges.specs.declared.range.Compat.TheVariants.{Cargo};
 ghost use Rattle.semver_ranges.specs.RangeViews.{comparator_of};
 ghost use Rattle.semver_ranges.specs.Steps.CursorViews.{IsSimpleOf};
 ghost use Rattle.tool_ranges.specs.ToolTable.{fits_in};
-ghost use Rattle.tool_ranges.specs.Steps.CargoPreReleases.{judging_read};
+ghost use Rattle.tool_ranges.specs.Steps.CargoPreReleases.{checks_read};
 
 use crate::cargo::pre_releases;
 use crate::desugaring;
@@ -18,7 +18,7 @@ use std::alloc::{AllocError, Global};
 
 /// Which versions comparators check: Cargo's `=1.2` takes 1.2.0, and no pre-release.
 #[derive(Clone, Copy)]
-pub(crate) enum JudgedVersions {
+pub(crate) enum VersionKind {
     Releases,
     PreReleases,
     /// All, where each pre-release within the bounds counts.
@@ -27,19 +27,19 @@ pub(crate) enum JudgedVersions {
 
 /// Adds the comparators that check them.
 #[inline(always)]
-pub(crate) fn push_judging(
+pub(crate) fn push_checks(
     alloc: Global,
-    judged: JudgedVersions,
+    checked: VersionKind,
     simple: &Simple<'_>,
     comparators: &mut Vec<Comparator>,
 ) -> Result<(), AllocError>
     requires { (s : SimpleTree) × IsSimpleOf s simple.now × (fits_in Cargo s ≡ true) }
     ensures { IfOk result (λ _. (s : SimpleTree) → IsSimpleOf s simple.now
         → fits_in Cargo s ≡ true → map comparator_of comparators.new.items
-        ≡ map comparator_of comparators.old.items ++ judging_read judged s) }
+        ≡ map comparator_of comparators.old.items ++ checks_read checked s) }
 {
-    match judged {
-        JudgedVersions::Releases => {
+    match checked {
+        VersionKind::Releases => {
             desugaring::push(
                 alloc,
                 simple,
@@ -48,8 +48,8 @@ pub(crate) fn push_judging(
                 comparators,
             )
         }
-        JudgedVersions::PreReleases => pre_releases::push(alloc, simple, comparators),
-        JudgedVersions::All => desugaring::push(
+        VersionKind::PreReleases => pre_releases::push(alloc, simple, comparators),
+        VersionKind::All => desugaring::push(
             alloc,
             simple,
             Compat::Cargo,

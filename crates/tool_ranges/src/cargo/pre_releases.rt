@@ -10,11 +10,11 @@ ghost use Rattle.semver_ranges.specs.RangeViews.{comparator_of, range_of};
 ghost use Rattle.semver_ranges.specs.Steps.PartialViews.{stated_of, version_of};
 ghost use Rattle.semver_ranges.specs.Steps.PartialViews.{IsPartialOf, PartsPass};
 ghost use Rattle.semver_ranges.specs.Steps.CursorViews.{form_of, IsSimpleOf};
-ghost use Rattle.tool_ranges.specs.declared.cargo.checking.JudgedVersions.TheVariants.{PreReleases};
+ghost use Rattle.tool_ranges.specs.declared.cargo.checking.VersionKind.TheVariants.{PreReleases};
 ghost use Rattle.tool_ranges.specs.ToolTable.{fits_in, states_some};
 ghost use Rattle.tool_ranges.specs.Steps.CargoPreReleases.{below_all, counting_beside};
-ghost use Rattle.tool_ranges.specs.Steps.CargoPreReleases.{judging_read, last};
-ghost use Rattle.tool_ranges.specs.Steps.CargoPreReleases.{pre_releases_of, some_judged};
+ghost use Rattle.tool_ranges.specs.Steps.CargoPreReleases.{checks_read, last};
+ghost use Rattle.tool_ranges.specs.Steps.CargoPreReleases.{pre_releases_of, some_checked};
 
 use crate::desugaring;
 use semver_ranges::grammar::{Form, Simple};
@@ -31,7 +31,7 @@ pub(crate) fn push(
     requires { (s : SimpleTree) × IsSimpleOf s simple.now × (fits_in Cargo s ≡ true) }
     ensures { IfOk result (λ _. (s : SimpleTree) → IsSimpleOf s simple.now → fits_in Cargo s ≡ true
         → map comparator_of comparators.new.items
-        ≡ map comparator_of comparators.old.items ++ judging_read PreReleases s) }
+        ≡ map comparator_of comparators.old.items ++ checks_read PreReleases s) }
 {
     match simple.partial.kind() {
         PartialKind::XRangeOnly => {
@@ -65,7 +65,7 @@ fn push_some(
         (stated_of simple.now.partial))) ≡ true }
     ensures { IfOk result (λ _. map comparator_of comparators.new.items
         ≡ map comparator_of comparators.old.items
-        ++ some_judged (form_of simple.now.form) (stated_of simple.now.partial)
+        ++ some_checked (form_of simple.now.form) (stated_of simple.now.partial)
         (version_of simple.now.partial)) }
 {
     match simple.form {

@@ -15,12 +15,12 @@ ghost use Rattle.tool_ranges.specs.AllPreReleases.{meets_requirement_with_all};
 ghost use Rattle.tool_ranges.specs.CargoMeaning.{meets_requirement};
 ghost use Rattle.tool_ranges.specs.Dialects.{RefusesAs};
 ghost use Rattle.tool_ranges.specs.declared.dialect.Dialect.TheVariants as dialect;
-ghost use Rattle.tool_ranges.specs.declared.cargo.checking.JudgedVersions.TheVariants as judged;
-ghost use Rattle.tool_ranges.specs.Steps.CargoPreReleases.{counting, counting_one, judging};
+ghost use Rattle.tool_ranges.specs.declared.cargo.checking.VersionKind.TheVariants as checked;
+ghost use Rattle.tool_ranges.specs.Steps.CargoPreReleases.{counting, counting_one, checks};
 ghost use Rattle.tool_ranges.specs.Steps.CargoReading.{IsSurveyedAs};
 
 use crate::any_size::set_of;
-use crate::cargo::checking::JudgedVersions;
+use crate::cargo::checking::VersionKind;
 use crate::cargo::{Surveyed, build, survey};
 use semver_ranges::{Compat, Range, RangeError, RangeSet};
 use std::alloc::{AllocError, Global};
@@ -72,30 +72,30 @@ pub(crate) fn read_with_all(alloc: Global, requirement: &str) -> Result<VersionS
         Ok(surveyed) => surveyed,
         Err(refusal) => return Err(refusal),
     };
-    match judged(alloc, &surveyed, JudgedVersions::All) {
+    match checked(alloc, &surveyed, VersionKind::All) {
         Ok(set) => Ok(set),
         Err(_) => Err(RangeError::OutOfMemory),
     }
 }
 
 /// The versions that satisfy the comparators by which some are checked.
-fn judged(
+fn checked(
     alloc: Global,
     surveyed: &Surveyed<'_>,
-    judged: JudgedVersions,
+    checked: VersionKind,
 ) -> Result<VersionSet, AllocError>
     requires { (t : Text) × (tree : List SimpleTree) × IsSurveyedAs t tree surveyed.now }
     ensures meaning { IfOk result (λ set. (t : Text) (tree : List SimpleTree) (v : PlainVersion)
         → IsSurveyedAs t tree surveyed.now → Fits v
-        → contains set v ≡ meets_set v (set_any (judging judged tree))) }
+        → contains set v ≡ meets_set v (set_any (checks checked tree))) }
     ensures printable { IfOk result IsPrintable }
 {
-    let (ranges, _) = build(alloc, surveyed, judged, false)?;
-    let judging = RangeSet {
+    let (ranges, _) = build(alloc, surveyed, checked, false)?;
+    let checks = RangeSet {
         ranges,
         compat: Compat::Cargo,
     };
-    set_of(alloc, &judging, PreReleases::Included)
+    set_of(alloc, &checks, PreReleases::Included)
 }
 
 /// What a requirement means.
@@ -105,7 +105,7 @@ fn meant(alloc: Global, surveyed: &Surveyed<'_>) -> Result<VersionSet, AllocErro
         → IsSurveyedAs t tree surveyed.now → Fits v → contains set v ≡ meets_requirement tree v) }
     ensures printable { IfOk result IsPrintable }
 {
-    let (ranges, counting) = build(alloc, surveyed, JudgedVersions::Releases, true)?;
+    let (ranges, counting) = build(alloc, surveyed, VersionKind::Releases, true)?;
     let rewritten = RangeSet {
         ranges,
         compat: Compat::Cargo,
@@ -128,7 +128,7 @@ fn counted(
         → map range_of ranges.items ≡ flat_map counting_one tree }
     ensures meaning { IfOk result (λ set. (t : Text) (tree : List SimpleTree) (v : PlainVersion)
         → IsSurveyedAs t tree surveyed.now → Fits v
-        → contains set v ≡ (meets_set v (set_any (judging judged.PreReleases tree))
+        → contains set v ≡ (meets_set v (set_any (checks checked.PreReleases tree))
         && meets_set v (set_any (counting tree)))) }
     ensures printable { IfOk result IsPrintable }
 {
@@ -136,6 +136,6 @@ fn counted(
         ranges,
         compat: Compat::Cargo,
     };
-    let judged = judged(alloc, surveyed, JudgedVersions::PreReleases)?;
-    judged.intersection(alloc, &set_of(alloc, &counting, PreReleases::Included)?)
+    let checked = checked(alloc, surveyed, VersionKind::PreReleases)?;
+    checked.intersection(alloc, &set_of(alloc, &counting, PreReleases::Included)?)
 }

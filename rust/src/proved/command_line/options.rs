@@ -40,23 +40,23 @@ impl MeaningOptions {
     pub fn take(&mut self, argument: &str) -> Result<bool, ArgumentError> {
         if self.wants_name {
             self.wants_name = false;
-            self.ask_by_name(argument)?;
+            self.set_dialect_by_name(argument)?;
             return Ok(true);
         }
         if let Some(name) = argument.strip_prefix("--dialect=") {
-            self.ask_by_name(name)?;
+            self.set_dialect_by_name(name)?;
             return Ok(true);
         }
         if let Some(name) = argument.strip_prefix("--as=") {
-            self.ask_by_name(name)?;
+            self.set_dialect_by_name(name)?;
             return Ok(true);
         }
         match argument {
             "--dialect" | "--as" => self.wants_name = true,
-            "--npm" => self.ask(Dialect::Npm, "--npm")?,
-            "--releases-only" | "--releases" => self.count(PreReleases::Excluded)?,
-            "--include-prerelease" | "--pre" => self.count(PreReleases::Included)?,
-            "--pre-stated" => self.count(PreReleases::Default)?,
+            "--npm" => self.set_dialect(Dialect::Npm, "--npm")?,
+            "--releases-only" | "--releases" => self.set_pre_releases(PreReleases::Excluded)?,
+            "--include-prerelease" | "--pre" => self.set_pre_releases(PreReleases::Included)?,
+            "--pre-stated" => self.set_pre_releases(PreReleases::Default)?,
             _ => return Ok(false),
         }
         Ok(true)
@@ -84,18 +84,18 @@ impl MeaningOptions {
     }
 
     /// Takes the dialect of a name.
-    fn ask_by_name(&mut self, name: &str) -> Result<(), ArgumentError> {
+    fn set_dialect_by_name(&mut self, name: &str) -> Result<(), ArgumentError> {
         match name {
-            "cargo" => self.ask(Dialect::Cargo, "--dialect cargo"),
-            "npm" => self.ask(Dialect::Npm, "--dialect npm"),
-            "crate-cargo" => self.ask(Dialect::CrateCargo, "--dialect crate-cargo"),
-            "crate-npm" => self.ask(Dialect::CrateNpm, "--dialect crate-npm"),
+            "cargo" => self.set_dialect(Dialect::Cargo, "--dialect cargo"),
+            "npm" => self.set_dialect(Dialect::Npm, "--dialect npm"),
+            "crate-cargo" => self.set_dialect(Dialect::CrateCargo, "--dialect crate-cargo"),
+            "crate-npm" => self.set_dialect(Dialect::CrateNpm, "--dialect crate-npm"),
             _ => Err(ArgumentError::UnknownDialect(name.fallible_to_string()?)),
         }
     }
 
     /// Takes the dialect that an option names; an earlier one may have asked for it, too.
-    fn ask(&mut self, dialect: Dialect, option: &'static str) -> Result<(), ArgumentError> {
+    fn set_dialect(&mut self, dialect: Dialect, option: &'static str) -> Result<(), ArgumentError> {
         let earlier = self.dialect;
         match earlier {
             Some((earlier, _)) if earlier == dialect => Ok(()),
@@ -108,7 +108,7 @@ impl MeaningOptions {
     }
 
     /// Takes the rule for pre-releases that an option names.
-    fn count(&mut self, rule: PreReleases) -> Result<(), ArgumentError> {
+    fn set_pre_releases(&mut self, rule: PreReleases) -> Result<(), ArgumentError> {
         let option = option_of(rule);
         let earlier = self.rule;
         match earlier {

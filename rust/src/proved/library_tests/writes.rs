@@ -27,8 +27,8 @@ pub fn write_writes(rt: &impl Print) -> io::Result<()> {
     crate::rattle_std::fallible_println!(rt; "writes: {writes} writers")
 }
 
-/// How many beginnings of the bytes were written to writers with each capacity, and how many of these
-/// writes didn't end as they have to.
+/// How many beginnings of the bytes were written to writers with each capacity, and how many of
+/// these writes didn't end as they have to.
 fn count_writes(most: usize, refusal: Refusal) -> (u32, u32) {
     let mut count = 0u32;
     let mut wrong = 0u32;

@@ -3,7 +3,7 @@
 
 use crate::rattle_std::prelude::*;
 use crate::proved::release_filter::line_texts::{LineEnd, text_after, text_of, whole_line};
-use crate::proved::release_filter::verdict::{Judged, judge, judge_outline};
+use crate::proved::release_filter::verdict::{Checked, check, check_outline};
 use crate::proved::semver_texts::decimals::numbers;
 use crate::proved::semver_versions::version::{Grammar, Outline, outline_in, outline_of_numbers};
 use crate::proved::tool_ranges::version_range::VersionRange;
@@ -21,11 +21,11 @@ impl LineFilter {
     /// many bytes it has a version. For speed, where nothing is before a version its numbers are
     /// read first.
     #[inline(always)]
-    pub(crate) fn first_judged<'l>(
+    pub(crate) fn first_checked<'l>(
         &self,
         bytes: &'l [u8],
         count: &mut usize,
-    ) -> Option<(&'l [u8], Judged<'l>)> {
+    ) -> Option<(&'l [u8], Checked<'l>)> {
         if self.prefixes.is_empty() {
             let (line, outline) = first_outlined(
                 bytes,
@@ -33,23 +33,23 @@ impl LineFilter {
                 self.filter.meaning().dialect.grammar(),
             )?;
             *count = 0;
-            return Some((line, judge_outline(&self.filter, outline)));
+            return Some((line, check_outline(&self.filter, outline)));
         }
         let line = whole_line(bytes, self.ending)?;
-        Some((line, self.judge_line(line, count)))
+        Some((line, self.check_line(line, count)))
     }
 
     /// What the filter says of a line, after the first prefix after which it spells a version, and
     /// how many bytes that has.
     #[inline(always)]
-    pub(crate) fn judge_line<'l>(&self, line: &'l [u8], count: &mut usize) -> Judged<'l> {
+    pub(crate) fn check_line<'l>(&self, line: &'l [u8], count: &mut usize) -> Checked<'l> {
         let text = text_of(line, self.ending);
         match self.prefixes.as_slice() {
             [] => {
                 *count = 0;
-                judge(&self.filter, text)
+                check(&self.filter, text)
             }
-            prefixes => judge_after_each(&self.filter, prefixes, text, count),
+            prefixes => check_after_each(&self.filter, prefixes, text, count),
         }
     }
 
@@ -66,22 +66,22 @@ impl LineFilter {
 
 /// What a filter says of a text after the first of the prefixes after which it spells a version,
 /// and how many bytes that prefix has.
-fn judge_after_each<'l>(
+fn check_after_each<'l>(
     filter: &VersionRange,
     prefixes: &[String],
     text: &'l [u8],
     count: &mut usize,
-) -> Judged<'l> {
+) -> Checked<'l> {
     match prefixes {
         [] => {
             *count = 0;
-            Judged::NoVersion
+            Checked::NoVersion
         }
-        [prefix, prefixes @ ..] => match judge_after(filter, prefix.as_str(), text) {
-            Judged::NoVersion => judge_after_each(filter, prefixes, text, count),
-            judged => {
+        [prefix, prefixes @ ..] => match check_after(filter, prefix.as_str(), text) {
+            Checked::NoVersion => check_after_each(filter, prefixes, text, count),
+            checked => {
                 *count = prefix.len();
-                judged
+                checked
             }
         },
     }
@@ -89,10 +89,10 @@ fn judge_after_each<'l>(
 
 /// What a filter says of a text after a prefix.
 #[inline(always)]
-fn judge_after<'l>(filter: &VersionRange, prefix: &str, text: &'l [u8]) -> Judged<'l> {
+fn check_after<'l>(filter: &VersionRange, prefix: &str, text: &'l [u8]) -> Checked<'l> {
     match text_after(prefix, text) {
-        Some(rest) => judge(filter, rest),
-        None => Judged::NoVersion,
+        Some(rest) => check(filter, rest),
+        None => Checked::NoVersion,
     }
 }
 

@@ -4,7 +4,7 @@
 
 use crate::rattle_std::prelude::*;
 use crate::proved::release_filter::line_texts::{LineEnd, text_of};
-use crate::proved::release_filter::verdict::Judged;
+use crate::proved::release_filter::verdict::Checked;
 use crate::rattle_std::AllocError;
 
 /// So many bytes of the first line that is invalid are kept.
@@ -91,12 +91,12 @@ impl Counts {
         &self,
         ending: LineEnd,
         line: &[u8],
-        judged: &Judged<'_>,
+        checked: &Checked<'_>,
     ) -> Result<Noted, AllocError> {
-        match judged {
-            Judged::NoVersion => self.noted_without_version(ending, line),
-            Judged::DoesNotMatch => Ok(Noted::Dropped),
-            Judged::Matches(_) => Ok(Noted::Kept),
+        match checked {
+            Checked::NoVersion => self.noted_without_version(ending, line),
+            Checked::DoesNotMatch => Ok(Noted::Dropped),
+            Checked::Matches(_) => Ok(Noted::Kept),
         }
     }
 
@@ -137,6 +137,6 @@ impl Counts {
 
 /// Whether a line of which a filter says this is not empty, and has no version.
 #[inline(always)]
-pub(crate) fn is_invalid(ending: LineEnd, line: &[u8], judged: &Judged<'_>) -> bool {
-    matches!(judged, Judged::NoVersion) && !text_of(line, ending).is_empty()
+pub(crate) fn is_invalid(ending: LineEnd, line: &[u8], checked: &Checked<'_>) -> bool {
+    matches!(checked, Checked::NoVersion) && !text_of(line, ending).is_empty()
 }

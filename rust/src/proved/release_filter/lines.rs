@@ -7,7 +7,7 @@ use crate::proved::release_filter::line_options::LineOptions;
 use crate::proved::release_filter::line_statistics::{Counts, Noted, is_invalid};
 use crate::proved::release_filter::line_texts::{LineEnd, after_mark, whole_line};
 use crate::proved::release_filter::selection::{Held, Selection};
-use crate::proved::release_filter::verdict::Judged;
+use crate::proved::release_filter::verdict::Checked;
 use crate::proved::semver_versions::read_version::ReadVersion;
 use crate::rattle_std::AllocError;
 use crate::rattle_std::mem;
@@ -238,7 +238,7 @@ impl Lines {
         let ending = self.chosen.ending;
         let line = after_mark(self.at_front, self.unended.as_slice());
         if line.is_empty() {
-            let none = Judged::NoVersion;
+            let none = Checked::NoVersion;
             let Ok(_) = self.held.finish(ending, line, &none, kept) else {
                 return Err(LinesError::OutOfMemory);
             };
@@ -246,16 +246,16 @@ impl Lines {
             return Ok(());
         }
         let mut count = 0;
-        let judged = self.chosen.judge_line(line, &mut count);
+        let checked = self.chosen.check_line(line, &mut count);
         let given = self.chosen.given(line, count);
-        let is_bad = is_invalid(ending, given, &judged);
+        let is_bad = is_invalid(ending, given, &checked);
         if self.is_strict && is_bad {
             return Err(LinesError::NoVersion(self.counts.lines.saturating_add(1)));
         }
-        let Ok(noted) = self.counts.noted(ending, given, &judged) else {
+        let Ok(noted) = self.counts.noted(ending, given, &checked) else {
             return Err(LinesError::OutOfMemory);
         };
-        let Ok(_) = self.held.finish(ending, given, &judged, kept) else {
+        let Ok(_) = self.held.finish(ending, given, &checked, kept) else {
             return Err(LinesError::OutOfMemory);
         };
         self.counts.add(noted);
@@ -349,14 +349,14 @@ impl Lines {
             return Ok(Some((end, is_valid)));
         }
         let mut count = 0;
-        let Some((line, judged)) = self.chosen.first_judged(bytes, &mut count) else {
+        let Some((line, checked)) = self.chosen.first_checked(bytes, &mut count) else {
             return Ok(None);
         };
         let given = self.chosen.given(line, count);
         let is_valid = take(
             self.chosen.ending,
             given,
-            &judged,
+            &checked,
             &mut self.held,
             &mut self.counts,
             kept,
@@ -426,11 +426,11 @@ fn take_ended(
     let marked = bytes.as_slice();
     let line = after_mark(at_front, marked);
     let mut count = 0;
-    let judged = chosen.judge_line(line, &mut count);
+    let checked = chosen.check_line(line, &mut count);
     let given = chosen.given(line, count);
     let may_hand_over = may_hand_over(held.selection, given, marked, kept.as_slice());
     let may_hold = may_hold(held.selection, given, marked);
-    if let Judged::Matches(outline) = &judged {
+    if let Checked::Matches(outline) = &checked {
         if may_hand_over {
             counts.add(Noted::Kept);
             mem::swap(kept, bytes);
@@ -443,7 +443,7 @@ fn take_ended(
             return Ok(true);
         }
     }
-    take(chosen.ending, given, &judged, held, counts, kept)
+    take(chosen.ending, given, &checked, held, counts, kept)
 }
 
 /// Whether a kept line may take the place of what was appended, since it is all that is: all of it
@@ -470,17 +470,17 @@ fn may_hold(selection: Selection, given: &[u8], marked: &[u8]) -> bool {
 fn take(
     ending: LineEnd,
     given: &[u8],
-    judged: &Judged<'_>,
+    checked: &Checked<'_>,
     held: &mut Held,
     counts: &mut Counts,
     kept: &mut Vec<u8>,
 ) -> Result<bool, AllocError> {
-    let noted = counts.noted(ending, given, judged)?;
-    if let Judged::Matches(outline) = judged {
+    let noted = counts.noted(ending, given, checked)?;
+    if let Checked::Matches(outline) = checked {
         held.keep(outline, given, kept)?;
     }
     counts.add(noted);
-    Ok(!is_invalid(ending, given, judged))
+    Ok(!is_invalid(ending, given, checked))
 }
 
 /// The memory ran out after so many bytes of a piece.

@@ -3,7 +3,7 @@
 
 use crate::rattle_std::prelude::*;
 use crate::proved::release_filter::line_texts::{LineEnd, without_last};
-use crate::proved::release_filter::verdict::Judged;
+use crate::proved::release_filter::verdict::Checked;
 use crate::proved::semver_versions::read_version::ReadVersion;
 use crate::proved::semver_versions::version::Outline;
 use crate::rattle_std::AllocError;
@@ -138,24 +138,24 @@ impl Held {
         &mut self,
         ending: LineEnd,
         line: &[u8],
-        judged: &Judged<'_>,
+        checked: &Checked<'_>,
         kept: &mut Vec<u8>,
     ) -> Result<(), AllocError> {
         match self.selection {
-            Selection::Each => match judged {
-                Judged::Matches(_) => {
+            Selection::Each => match checked {
+                Checked::Matches(_) => {
                     kept.fallible_extend_from_slice(line)?;
                     Ok(())
                 }
-                Judged::NoVersion | Judged::DoesNotMatch => Ok(()),
+                Checked::NoVersion | Checked::DoesNotMatch => Ok(()),
             },
             Selection::Highest | Selection::Lowest => {
-                let last = last_line(line, judged)?;
+                let last = last_line(line, checked)?;
                 self.append_best(&last, kept)?;
                 Ok(())
             }
             Selection::Sorted => {
-                let last = last_line(line, judged)?;
+                let last = last_line(line, checked)?;
                 self.append_sorted(ending, &last, kept)?;
                 Ok(())
             }
@@ -240,11 +240,11 @@ fn better_of<'k>(
 /// The last line of a text, if it is kept.
 fn last_line(
     line: &[u8],
-    judged: &Judged<'_>,
+    checked: &Checked<'_>,
 ) -> Result<Option<SelectedLine>, AllocError> {
-    match judged {
-        Judged::Matches(outline) => Ok(Some(selected_line(outline, line)?)),
-        Judged::NoVersion | Judged::DoesNotMatch => Ok(None),
+    match checked {
+        Checked::Matches(outline) => Ok(Some(selected_line(outline, line)?)),
+        Checked::NoVersion | Checked::DoesNotMatch => Ok(None),
     }
 }
 

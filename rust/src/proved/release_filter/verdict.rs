@@ -6,7 +6,7 @@ use crate::proved::semver_versions::version::{Outline, outline_in};
 use crate::proved::tool_ranges::version_range::VersionRange;
 
 /// What a range says of a text.
-pub(crate) enum Judged<'t> {
+pub(crate) enum Checked<'t> {
     /// The text is no version.
     NoVersion,
     /// It is a version that the range doesn't contain.
@@ -17,19 +17,19 @@ pub(crate) enum Judged<'t> {
 
 /// What a range says of a text, which is read in its dialect.
 #[inline(always)]
-pub(crate) fn judge<'t>(range: &VersionRange, text: &'t [u8]) -> Judged<'t> {
-    judge_outline(range, outline_in(text, range.meaning().dialect.grammar()))
+pub(crate) fn check<'t>(range: &VersionRange, text: &'t [u8]) -> Checked<'t> {
+    check_outline(range, outline_in(text, range.meaning().dialect.grammar()))
 }
 
 /// What a range says of a text that has this outline, or that is no version.
 #[inline(always)]
-pub(crate) fn judge_outline<'t>(range: &VersionRange, outline: Option<Outline<'t>>) -> Judged<'t> {
+pub(crate) fn check_outline<'t>(range: &VersionRange, outline: Option<Outline<'t>>) -> Checked<'t> {
     let Some(outline) = outline else {
-        return Judged::NoVersion;
+        return Checked::NoVersion;
     };
     if range.contains_outline(&outline) {
-        Judged::Matches(outline)
+        Checked::Matches(outline)
     } else {
-        Judged::DoesNotMatch
+        Checked::DoesNotMatch
     }
 }

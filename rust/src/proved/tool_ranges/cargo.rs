@@ -10,7 +10,7 @@ mod pre_releases;
 mod requirement_sets;
 
 use crate::proved::tool_ranges::desugaring::{self, ToolDesugared};
-use checking::{JudgedVersions, push_judging};
+use checking::{VersionKind, push_checks};
 pub(crate) use fitting::fitting;
 use grammar::read_comparator;
 pub(crate) use matching::{matches, matches_with_all};
@@ -66,7 +66,7 @@ fn rewritten(requirement: &str) -> Result<RangeSet, RangeError> {
 #[inline(never)]
 fn rewritten_all(requirement: &str) -> Result<Vec<Range>, RangeError> {
     let surveyed = survey(requirement)?;
-    match build(&surveyed, JudgedVersions::Releases, false) {
+    match build(&surveyed, VersionKind::Releases, false) {
         Ok((ranges, _)) => Ok(ranges),
         Err(_) => Err(RangeError::OutOfMemory),
     }
@@ -168,17 +168,17 @@ fn ended<T: Copy>(stands_alone: bool, fit: bool, answer: T) -> Result<T, RangeEr
 /// pre-releases that count, if these are wanted.
 fn build(
     surveyed: &Surveyed<'_>,
-    judged: JudgedVersions,
+    checked: VersionKind,
     counts: bool,
 ) -> Result<(Vec<Range>, Vec<Range>), AllocError> {
-    let (comparator_set, counting) = build_comparators(surveyed, judged, counts)?;
+    let (comparator_set, counting) = build_comparators(surveyed, checked, counts)?;
     Ok((in_one_range(comparator_set)?, counting))
 }
 
 /// The comparators of that set, and those ranges.
 fn build_comparators(
     surveyed: &Surveyed<'_>,
-    judged: JudgedVersions,
+    checked: VersionKind,
     counts: bool,
 ) -> Result<(Vec<Comparator>, Vec<Range>), AllocError> {
     let mut comparators = Vec::fallible_with_capacity(surveyed.count)?;
@@ -186,7 +186,7 @@ fn build_comparators(
     let mut simple = surveyed.first;
     let mut after = surveyed.after;
     for _ in 0..MOST_COMPARATORS {
-        push_judging(judged, &simple, &mut comparators)?;
+        push_checks(checked, &simple, &mut comparators)?;
         pre_releases::push_counting(counts, &simple.partial, &mut counting)?;
         let Some(rest) = after else {
             return Ok((comparators, counting));

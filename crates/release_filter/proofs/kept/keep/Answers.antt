@@ -2,13 +2,13 @@ use Rattle.std.proofs.Common.{ap, sym, ◌∙◌, refl, map}
 use Rattle.std.proofs.lemmas.Option.{slice_get_read}
 use Rattle.std.specs.Prelude.{slice_get}
 use Rattle.release_filter.specs.Steps.Members.{is_member}
-use Rattle.release_filter.proofs.KeptVersions.{all_in_front, in_bounds, in_front_more, judged_at, keeps_next}
+use Rattle.release_filter.proofs.KeptVersions.{all_in_front, in_bounds, in_front_more, checked_at, keeps_next}
 use Rattle.release_filter.proofs.kept.keep.Goals as goal
 
 pub loop-at-preserved : goal.loop-at-preserved
 loop-at-preserved c =
     in_front_more (is_member c.args.set.now) c.args.versions.now _ _ _ _ _ c.loop-at-test.true
-    (judged_at c.args.set.now c.args.versions.now _ c.loop-at.at _ c.contains_each.ensures.each c.contains_each.ensures.fit
+    (checked_at c.args.set.now c.args.versions.now _ c.loop-at.at _ c.contains_each.ensures.each c.contains_each.ensures.fit
     c.loop-at-test.true) c.from-count.ensures c.loop-at.invariant
 
 pub bounds-versions-from : goal.bounds-versions-from

@@ -5,7 +5,7 @@ pub returns : goal.returns
 returns c =
     let total = c.precedence_is_total.ensures.total in
     record {
-      composed = λ s t u piece next judged more old mid new a b. took_pieces total s t u piece next judged more old mid new a b;
-      rest = λ s t u piece next judged more old mid new a b. took_rest total s t u piece next judged more old mid new a b;
-      whole = λ s t u text judged more old mid new a b. took_whole total s t u text judged more old mid new a b;
+      composed = λ s t u piece next checked more old mid new a b. took_pieces total s t u piece next checked more old mid new a b;
+      rest = λ s t u piece next checked more old mid new a b. took_rest total s t u piece next checked more old mid new a b;
+      whole = λ s t u text checked more old mid new a b. took_whole total s t u text checked more old mid new a b;
     }

@@ -6,7 +6,7 @@ use Rattle.semver_ranges.specs.RangeTree.{Simple}
 use Rattle.semver_ranges.specs.RangeViews.{comparator_of, range_of}
 use Rattle.semver_ranges.specs.declared.range.Compat.TheVariants.{Cargo}
 use Rattle.tool_ranges.specs.CargoMeaning.{as_read}
-use Rattle.tool_ranges.specs.Steps.CargoPreReleases.{counting_one, judging_one}
+use Rattle.tool_ranges.specs.Steps.CargoPreReleases.{counting_one, checks_one}
 use Rattle.tool_ranges.specs.Steps.CargoReading.{after_comma, IsSurveyedAs}
 use Rattle.tool_ranges.proofs.ReadRows.{fit_numbers}
 use Rattle.tool_ranges.proofs.RequirementSteps.{Left, count_more, first_left, held_fits, none_left, one_more, written_more}
@@ -28,8 +28,8 @@ loop-init c = λ t tree is.
       λ counts. ap (map _) c.new-counting.ensures.items,
     )
 
-pub push_judging-requires : goal.push_judging-requires
-push_judging-requires c =
+pub push_checks-requires : goal.push_checks-requires
+push_checks-requires c =
     let is = c.requires.2 in
     let so_far = c.loop.invariant c.requires.0 c.requires.1 is in
     (as_read so_far.1, so_far.5, held_fits c.requires.1 so_far.0 so_far.2 so_far.1 so_far.3 is.1)
@@ -39,7 +39,7 @@ push_counting-requires c = (c.loop.invariant c.requires.0 c.requires.1 c.require
 
 -- what stands for those up to the one at hand
 abbrev AreBuilt : In_ok-push_counting → List Simple → Type 0
-AreBuilt c done = (map comparator_of c.push_judging.new.comparators.items ≡ flat_map (judging_one c.args.judged) done)
+AreBuilt c done = (map comparator_of c.push_checks.new.comparators.items ≡ flat_map (checks_one c.args.checked) done)
     × (c.args.counts ≡ true → map range_of c.push_counting.new.ranges.items ≡ flat_map counting_one done)
 
 built : (c : In_ok-push_counting) (t : Text) (tree : List Simple) (is : IsSurveyedAs t tree c.args.surveyed.now)
@@ -48,8 +48,8 @@ built c t tree is =
     let so_far = c.loop.invariant t tree is in
     let s = so_far.1 in
     let fit = held_fits tree so_far.0 so_far.2 s so_far.3 is.1 in (
-      c.in_ok-push_judging.ensures (as_read s) so_far.5 fit ∙ ap (λ l. l ++ judging_one c.args.judged s) so_far.7
-          ∙ sym (written_more (judging_one c.args.judged) so_far.0 s),
+      c.in_ok-push_checks.ensures (as_read s) so_far.5 fit ∙ ap (λ l. l ++ checks_one c.args.checked s) so_far.7
+          ∙ sym (written_more (checks_one c.args.checked) so_far.0 s),
       λ counts. c.in_ok-push_counting.ensures s.partial so_far.5.1 (fit_numbers Cargo (as_read s) c.loop.simple so_far.5 fit) counts
           ∙ ap (λ l. l ++ counting_one s) (so_far.8 counts) ∙ sym (written_more counting_one so_far.0 s),
     )

@@ -12,7 +12,7 @@ use crate::rattle_std::AllocError;
 
 /// Which versions comparators check: Cargo's `=1.2` takes 1.2.0, and no pre-release.
 #[derive(Clone, Copy)]
-pub(crate) enum JudgedVersions {
+pub(crate) enum VersionKind {
     Releases,
     PreReleases,
     /// All, where each pre-release within the bounds counts.
@@ -21,13 +21,13 @@ pub(crate) enum JudgedVersions {
 
 /// Adds the comparators that check them.
 #[inline(always)]
-pub(crate) fn push_judging(
-    judged: JudgedVersions,
+pub(crate) fn push_checks(
+    checked: VersionKind,
     simple: &Simple<'_>,
     comparators: &mut Vec<Comparator>,
 ) -> Result<(), AllocError> {
-    match judged {
-        JudgedVersions::Releases => {
+    match checked {
+        VersionKind::Releases => {
             desugaring::push(
                 simple,
                 Compat::Cargo,
@@ -35,8 +35,8 @@ pub(crate) fn push_judging(
                 comparators,
             )
         }
-        JudgedVersions::PreReleases => pre_releases::push(simple, comparators),
-        JudgedVersions::All => desugaring::push(
+        VersionKind::PreReleases => pre_releases::push(simple, comparators),
+        VersionKind::All => desugaring::push(
             simple,
             Compat::Cargo,
             LowerBounds::Lowest,

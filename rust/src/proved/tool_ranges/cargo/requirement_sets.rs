@@ -3,7 +3,7 @@
 
 use crate::rattle_std::prelude::*;
 use crate::proved::tool_ranges::any_size::set_of;
-use crate::proved::tool_ranges::cargo::checking::JudgedVersions;
+use crate::proved::tool_ranges::cargo::checking::VersionKind;
 use crate::proved::tool_ranges::cargo::{Surveyed, build, survey};
 use crate::proved::semver_ranges::{Compat, Range, RangeError, RangeSet};
 use crate::rattle_std::AllocError;
@@ -39,28 +39,28 @@ pub(crate) fn read_with_all(requirement: &str) -> Result<VersionSet, RangeError>
         Ok(surveyed) => surveyed,
         Err(refusal) => return Err(refusal),
     };
-    match judged(&surveyed, JudgedVersions::All) {
+    match checked(&surveyed, VersionKind::All) {
         Ok(set) => Ok(set),
         Err(_) => Err(RangeError::OutOfMemory),
     }
 }
 
 /// The versions that satisfy the comparators by which some are checked.
-fn judged(
+fn checked(
     surveyed: &Surveyed<'_>,
-    judged: JudgedVersions,
+    checked: VersionKind,
 ) -> Result<VersionSet, AllocError> {
-    let (ranges, _) = build(surveyed, judged, false)?;
-    let judging = RangeSet {
+    let (ranges, _) = build(surveyed, checked, false)?;
+    let checks = RangeSet {
         ranges,
         compat: Compat::Cargo,
     };
-    set_of(&judging, PreReleases::Included)
+    set_of(&checks, PreReleases::Included)
 }
 
 /// What a requirement means.
 fn meant(surveyed: &Surveyed<'_>) -> Result<VersionSet, AllocError> {
-    let (ranges, counting) = build(surveyed, JudgedVersions::Releases, true)?;
+    let (ranges, counting) = build(surveyed, VersionKind::Releases, true)?;
     let rewritten = RangeSet {
         ranges,
         compat: Compat::Cargo,
@@ -81,6 +81,6 @@ fn counted(
         ranges,
         compat: Compat::Cargo,
     };
-    let judged = judged(surveyed, JudgedVersions::PreReleases)?;
-    judged.intersection(&set_of(&counting, PreReleases::Included)?)
+    let checked = checked(surveyed, VersionKind::PreReleases)?;
+    checked.intersection(&set_of(&counting, PreReleases::Included)?)
 }

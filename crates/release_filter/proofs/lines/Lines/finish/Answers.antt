@@ -1,13 +1,13 @@
 use Rattle.std.proofs.Common.{◌≡◌, ◌∙◌, [], List, None, false, true, ap, inl, refl, subst, sym}
 use Rattle.semver_texts.specs.Versions.{PlainVersion}
 use Rattle.release_filter.specs.Selections.{AnswerAllocates, SelectedValue}
-use Rattle.release_filter.specs.declared.verdict.Judged.TheVariants as judged
+use Rattle.release_filter.specs.declared.verdict.Checked.TheVariants as checked
 use Rattle.std.specs.Prelude.{IsTrue}
 use Rattle.release_filter.specs.Counting.{counts_value}
 use Rattle.release_filter.specs.LineTexts.{after_mark, end_byte}
 use Rattle.release_filter.specs.declared.lines.Lines.TheView.{view}
 use Rattle.release_filter.specs.Pieces.{EndAllocates, LinesValue, RefusesEnd}
-use Rattle.release_filter.specs.Steps.Taking.{Concludes, JudgesLine}
+use Rattle.release_filter.specs.Steps.Taking.{Concludes, ChecksLine}
 use Rattle.release_filter.specs.declared.lines.LinesError.TheVariants.{NoVersion, OutOfMemory}
 use Rattle.release_filter.proofs.Endings.{fails_kept, ends_invalid, ends_valid, ends_valid_none, finished_none, finished_one, seen_end}
 use Rattle.release_filter.proofs.Endings.{answering_allocates, none_allocates, noting_allocates, some_line}
@@ -29,9 +29,9 @@ returns-then-is_bad-clause-refuses c =
     let value = view c.self.inside in
     let line = c.after_mark-line.result.now in
     let is = c.after_mark-line.ensures ∙ ap (after_mark value.at_front) c.as_slice.ensures.value in
-    let judges = subst (λ t. JudgesLine value.rule line t c.judge_line-judged.result) (sym c.given-given.ensures) c.judge_line-judged.ensures in
+    let checks = subst (λ t. ChecksLine value.rule line t c.check_line-checked.result) (sym c.given-given.ensures) c.check_line-checked.ensures in
     let some = some_line line (sym c.is_empty.ensures ∙ c.if-is_empty.false) in
-    let ends = ends_invalid value line is some c.self.invariant.no_end c.given-given.result.now c.judge_line-judged.result judges
+    let ends = ends_invalid value line is some c.self.invariant.no_end c.given-given.result.now c.check_line-checked.result checks
     c.is_invalid-is_bad.result c.is_invalid-is_bad.ensures c.if-is_bad.true in
     subst (λ (x : LinesValue). RefusesEnd x (NoVersion c.saturating_add.result)) c.self.view_is
     (c.if-self.true, ends, c.saturating_add.ensures)
@@ -48,10 +48,10 @@ valid_end c =
     let value = view c.self.inside in
     let line = c.after_mark-line.result.now in
     let is = c.after_mark-line.ensures ∙ ap (after_mark value.at_front) c.as_slice.ensures.value in
-    let judges = subst (λ t. JudgesLine value.rule line t c.judge_line-judged.result) (sym c.given-given.ensures) c.judge_line-judged.ensures in
+    let checks = subst (λ t. ChecksLine value.rule line t c.check_line-checked.result) (sym c.given-given.ensures) c.check_line-checked.ensures in
     let some = some_line line (sym c.is_empty.ensures ∙ c.if-is_empty.false) in
     subst (λ (x : LinesValue). RefusesEnd x OutOfMemory) c.self.view_is
-    (λ strict. ends_valid value line is some c.self.invariant.no_end c.given-given.result.now c.judge_line-judged.result judges
+    (λ strict. ends_valid value line is some c.self.invariant.no_end c.given-given.result.now c.check_line-checked.result checks
     c.one_version_in.ensures.same_version c.is_invalid-is_bad.result c.is_invalid-is_bad.ensures (not_bad c strict))
 
 pub returns-in_default-noted-clause-refuses : goal.returns-in_default-noted-clause-refuses
@@ -69,7 +69,7 @@ returns-then-is_empty-clause-finishes c =
     let old = c.args.kept.now.items in
     let new = c.finish.new.kept.items in
     let plain : PlainVersion = record { major = 0; minor = 0; patch = 0; pre = [] } in
-    let end = subst (λ (l : List SelectedValue). Concludes (end_byte value.rule.ending) value.held l old new) (fails_kept value.rule.ending judged.NoVersion plain line (inl refl))
+    let end = subst (λ (l : List SelectedValue). Concludes (end_byte value.rule.ending) value.held l old new) (fails_kept value.rule.ending checked.NoVersion plain line (inl refl))
     (c.in-Ok.ensures.answers plain tt) in
     let ended = finished_none value line is none old new end in
     let begins = c.begin.ensures ∙ (λ i. record value {
@@ -84,7 +84,7 @@ returns-clause-finishes c =
     let value = view c.self.inside in
     let line = c.after_mark-line.result.now in
     let is = c.after_mark-line.ensures ∙ ap (after_mark value.at_front) c.as_slice.ensures.value in
-    let judges = subst (λ t. JudgesLine value.rule line t c.judge_line-judged.result) (sym c.given-given.ensures) c.judge_line-judged.ensures in
+    let checks = subst (λ t. ChecksLine value.rule line t c.check_line-checked.result) (sym c.given-given.ensures) c.check_line-checked.ensures in
     let some = some_line line (sym c.is_empty.ensures ∙ c.if-is_empty.false) in
     let old = c.args.kept.now.items in
     let new = c.finish-2.new.kept.items in
@@ -94,7 +94,7 @@ returns-clause-finishes c =
       held = record { selection = c.in-Ok-finish.ensures.selection i; best = None; sorted = [] };
       counts = counts_value c.add.new.self;
     }) in
-    let ended = finished_one value line is some c.self.invariant.no_end c.given-given.result.now c.judge_line-judged.result judges
+    let ended = finished_one value line is some c.self.invariant.no_end c.given-given.result.now c.check_line-checked.result checks
     (counts_value c.add.new.self) old new c.in-Ok-finish.ensures.answers (λ plain. c.add.ensures ∙ c.in-Ok-noted.ensures.counted plain)
     c.is_invalid-is_bad.result c.is_invalid-is_bad.ensures (not_bad (goal.at.returns-clause-finishes c).After-noted) in (
       ended.0,
@@ -112,7 +112,7 @@ returns-in_default-clause-out_of_memory c = λ _.
     let plain : PlainVersion = record { major = 0; minor = 0; patch = 0; pre = [] } in
     subst (λ (x : LinesValue). EndAllocates x old) c.self.view_is
     (none_allocates value line is none old
-    (subst (λ (l : List SelectedValue). AnswerAllocates value.held l old) (fails_kept value.rule.ending judged.NoVersion plain line (inl refl))
+    (subst (λ (l : List SelectedValue). AnswerAllocates value.held l old) (fails_kept value.rule.ending checked.NoVersion plain line (inl refl))
     (c.in_default.ensures.out_of_memory plain)))
 
 pub returns-in_default-noted-clause-out_of_memory : goal.returns-in_default-noted-clause-out_of_memory
@@ -120,11 +120,11 @@ returns-in_default-noted-clause-out_of_memory c = λ _.
     let value = view c.self.inside in
     let line = c.after_mark-line.result.now in
     let is = c.after_mark-line.ensures ∙ ap (after_mark value.at_front) c.as_slice.ensures.value in
-    let judges = subst (λ t. JudgesLine value.rule line t c.judge_line-judged.result) (sym c.given-given.ensures) c.judge_line-judged.ensures in
+    let checks = subst (λ t. ChecksLine value.rule line t c.check_line-checked.result) (sym c.given-given.ensures) c.check_line-checked.ensures in
     let some = some_line line (sym c.is_empty.ensures ∙ c.if-is_empty.false) in
     let old = c.args.kept.now.items in
     subst (λ (x : LinesValue). EndAllocates x old) c.self.view_is
-    (noting_allocates value line is some c.self.invariant.no_end c.given-given.result.now c.judge_line-judged.result judges old
+    (noting_allocates value line is some c.self.invariant.no_end c.given-given.result.now c.check_line-checked.result checks old
     c.in_default-noted.ensures.out_of_memory)
 
 pub returns-in_default-finish-clause-out_of_memory : goal.returns-in_default-finish-clause-out_of_memory
@@ -132,9 +132,9 @@ returns-in_default-finish-clause-out_of_memory c = λ _.
     let value = view c.self.inside in
     let line = c.after_mark-line.result.now in
     let is = c.after_mark-line.ensures ∙ ap (after_mark value.at_front) c.as_slice.ensures.value in
-    let judges = subst (λ t. JudgesLine value.rule line t c.judge_line-judged.result) (sym c.given-given.ensures) c.judge_line-judged.ensures in
+    let checks = subst (λ t. ChecksLine value.rule line t c.check_line-checked.result) (sym c.given-given.ensures) c.check_line-checked.ensures in
     let some = some_line line (sym c.is_empty.ensures ∙ c.if-is_empty.false) in
     let old = c.args.kept.now.items in
     subst (λ (x : LinesValue). EndAllocates x old) c.self.view_is
-    (answering_allocates value line is some c.self.invariant.no_end c.given-given.result.now c.judge_line-judged.result judges old
+    (answering_allocates value line is some c.self.invariant.no_end c.given-given.result.now c.check_line-checked.result checks old
     c.in_default-finish.ensures.out_of_memory)

@@ -15,7 +15,7 @@ pub returns-clause-meaning : goal.returns-clause-meaning
 returns-clause-meaning c =
     if_ok c.intersection-2.result
     (λ set is t tree v h small. is v
-    ∙ (λ i. c.in_ok-judged.ensures.meaning t tree v h small i
+    ∙ (λ i. c.in_ok-checked.ensures.meaning t tree v h small i
     && (c.in_ok-set_of.ensures.meaning (record { plain = v; build = [] }) small
     ∙ ap (λ ranges. meets_set v (set_any (set_with ranges))) (c.requires.ranges t tree h)) i))
     c.intersection-2.ensures.contains
@@ -23,6 +23,6 @@ returns-clause-meaning c =
 pub returns-clause-printable : goal.returns-clause-printable
 returns-clause-printable c =
     let (t, tree, h) = c.requires.surveyed in
-    c.intersection-2.ensures.printable c.in_ok-judged.ensures.printable
+    c.intersection-2.ensures.printable c.in_ok-checked.ensures.printable
     (c.in_ok-set_of.ensures.printable
     (subst (λ ranges. HasPrintableRanges (set_with ranges)) (sym (c.requires.ranges t tree h)) (counting_prints tree h.1)))

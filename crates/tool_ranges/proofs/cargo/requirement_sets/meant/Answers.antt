@@ -3,9 +3,9 @@ use Rattle.semver_ranges.specs.Meeting.{meets_set}
 use Rattle.semver_ranges.specs.RangeViews.{range_of}
 use Rattle.semver_texts.specs.Texts.{is_empty}
 use Rattle.version_sets.specs.Printable.{HasPrintableRanges}
-use Rattle.tool_ranges.specs.declared.cargo.checking.JudgedVersions.TheVariants.{Releases}
+use Rattle.tool_ranges.specs.declared.cargo.checking.VersionKind.TheVariants.{Releases}
 use Rattle.tool_ranges.specs.AnySize.{set_any}
-use Rattle.tool_ranges.proofs.PrintableSets.{judging_prints}
+use Rattle.tool_ranges.proofs.PrintableSets.{checks_prints}
 use Rattle.tool_ranges.proofs.ReadRows.{if_ok}
 use Rattle.tool_ranges.proofs.ReadSets.{all_meant, none_made, releases_meant}
 use Rattle.tool_ranges.proofs.cargo.requirement_sets.meant.Goals as goal
@@ -33,12 +33,12 @@ pub returns-then-is_empty-clause-printable : goal.returns-then-is_empty-clause-p
 returns-then-is_empty-clause-printable c =
     let (t, tree, h) = c.requires in
     c.in_ok-releases.ensures.printable
-    (subst HasPrintableRanges (sym (c.in_ok-ranges.ensures t tree h).0) (judging_prints Releases tree t h.0.comparators h.1))
+    (subst HasPrintableRanges (sym (c.in_ok-ranges.ensures t tree h).0) (checks_prints Releases tree t h.0.comparators h.1))
 
 pub returns-clause-printable : goal.returns-clause-printable
 returns-clause-printable c =
     let (t, tree, h) = c.requires in
     c.union-2.ensures.printable
     (c.in_ok-releases.ensures.printable
-    (subst HasPrintableRanges (sym (c.in_ok-ranges.ensures t tree h).0) (judging_prints Releases tree t h.0.comparators h.1)))
+    (subst HasPrintableRanges (sym (c.in_ok-ranges.ensures t tree h).0) (checks_prints Releases tree t h.0.comparators h.1)))
     c.in_ok-counted.ensures.printable

@@ -1,5 +1,5 @@
 use Rattle.tool_ranges.specs.declared.dialect.Dialect.TheVariants.{CrateCargo, CrateNpm}
-use Rattle.command_line.proofs.options.MeaningOptions.ask_by_name.Goals as goal
+use Rattle.command_line.proofs.options.MeaningOptions.set_dialect_by_name.Goals as goal
 
 pub returns-in-text-clause-unknown : goal.returns-in-text-clause-unknown
 returns-in-text-clause-unknown c = λ unknown. absurd (unknown (CrateCargo, c.in-text.is))

@@ -12,17 +12,17 @@ use Rattle.semver_texts.specs.ToolVersions.{SpellsIn}
 use Rattle.semver_versions.specs.Outlines.{OutlineValue, IsOutlineIn, version_of}
 use Rattle.semver_texts.specs.declared.grammar.Grammar.{Grammar}
 use Rattle.release_filter.specs.Matching.{matches}
-use Rattle.release_filter.specs.Judging.{IsJudged}
+use Rattle.release_filter.specs.Checking.{IsChecked}
 use Rattle.release_filter.specs.LineTexts.{line_text}
 use Rattle.release_filter.specs.Counting.{CountsValue, counted_as}
-use Rattle.release_filter.specs.Steps.Outlined.{IsOutlined, JudgesAfter, JudgesBy}
-use Rattle.release_filter.specs.Steps.Taking.{JudgesLine, MatchesAs, texts, verdict_of}
-use Rattle.release_filter.specs.Verdicts.{AreJudged, HasAfter, HasVersion, IsVerdictOn, JudgedLine, LineRule, SpellsAfter, Verdict, tried}
+use Rattle.release_filter.specs.Steps.Outlined.{IsOutlined, ChecksAfter, ChecksBy}
+use Rattle.release_filter.specs.Steps.Taking.{ChecksLine, MatchesAs, texts, verdict_of}
+use Rattle.release_filter.specs.Verdicts.{AreChecked, HasAfter, HasVersion, IsVerdictOn, LineCheck, LineRule, SpellsAfter, Verdict, tried}
 use Rattle.release_filter.specs.Verdicts.{given_after}
 use Rattle.release_filter.proofs.Matching.{not_both}
 use Rattle.release_filter.specs.Verdicts.{kept, dropped, invalid, empty}
-use Rattle.release_filter.specs.declared.verdict.Judged.{Judged}
-use Rattle.release_filter.specs.declared.verdict.Judged.TheVariants.{NoVersion, DoesNotMatch, Matches}
+use Rattle.release_filter.specs.declared.verdict.Checked.{Checked}
+use Rattle.release_filter.specs.declared.verdict.Checked.TheVariants.{NoVersion, DoesNotMatch, Matches}
 use Rattle.release_filter.proofs.Tests.{all_append}
 
 abbrev pub OneVersion : Type 0
@@ -46,18 +46,18 @@ one_had same grammar (prefix ∷ prefixes) text p q v w (inr (none, a)) (inl (so
 one_had same grammar (prefix ∷ prefixes) text p q v w (inr (none, a)) (inr (other, b)) = one_had same grammar prefixes text p q v w a b
 
 -- what the filter says of what is after a prefix, it says of the text
-pub judged_after : OneOutlined → (filter : RangeValue) (prefix : Text) (text : Text) (rest : Text) (r : Judged)
-    → text ≡ prefix ++ rest → IsJudged (versions_grammar filter) (matches filter) rest r
-    → JudgesBy (SpellsAfter (versions_grammar filter) prefix text) filter r
-judged_after same filter prefix text rest NoVersion e none = grind (arith, append_cancel_left)
-judged_after same filter prefix text rest DoesNotMatch e j = search rules
-judged_after same filter prefix text rest (Matches o) e j = search rules
+pub checked_after : OneOutlined → (filter : RangeValue) (prefix : Text) (text : Text) (rest : Text) (r : Checked)
+    → text ≡ prefix ++ rest → IsChecked (versions_grammar filter) (matches filter) rest r
+    → ChecksBy (SpellsAfter (versions_grammar filter) prefix text) filter r
+checked_after same filter prefix text rest NoVersion e none = grind (arith, append_cancel_left)
+checked_after same filter prefix text rest DoesNotMatch e j = search rules
+checked_after same filter prefix text rest (Matches o) e j = search rules
 
 -- after another one the next prefix is asked
-pub next : (filter : RangeValue) (prefix : Text) (prefixes : List Text) (text : Text) (count : ℕ) (r : Judged)
+pub next : (filter : RangeValue) (prefix : Text) (prefixes : List Text) (text : Text) (count : ℕ) (r : Checked)
     → ((w : VersionValue) → ¬ (SpellsAfter (versions_grammar filter) prefix text w))
-    → JudgesAfter (HasVersion (versions_grammar filter) prefixes text) filter count r
-    → JudgesAfter (HasVersion (versions_grammar filter) (prefix ∷ prefixes) text) filter count r
+    → ChecksAfter (HasVersion (versions_grammar filter) prefixes text) filter count r
+    → ChecksAfter (HasVersion (versions_grammar filter) (prefix ∷ prefixes) text) filter count r
 next filter prefix prefixes text count NoVersion none j = (no_version, j.1)
   where
     no_version : (p : Text) (w : VersionValue) → ¬ (HasVersion (versions_grammar filter) (prefix ∷ prefixes) text p w)
@@ -84,15 +84,15 @@ module _ (rule : LineRule) (line : Text) where
   by_strips false = refl
 
   -- without a prefix all is given
-  pub judges_alone : OneOutlined → (r : Judged) → rule.prefixes ≡ [] → IsJudged (versions_grammar rule.filter) (matches rule.filter) text r
-      → JudgesLine rule line (given_after rule 0 line) r
-  judges_alone same r none j = by_said r (judged_after same rule.filter [] text text r refl j)
+  pub checks_alone : OneOutlined → (r : Checked) → rule.prefixes ≡ [] → IsChecked (versions_grammar rule.filter) (matches rule.filter) text r
+      → ChecksLine rule line (given_after rule 0 line) r
+  checks_alone same r none j = by_said r (checked_after same rule.filter [] text text r refl j)
     where
       contains : (v : VersionValue) → SpellsAfter (versions_grammar rule.filter) [] text v → HasAfter rule line [] v
       contains v a = rw none (inl (refl, a))
 
-      by_said : (r : Judged) → JudgesBy (SpellsAfter (versions_grammar rule.filter) [] text) rule.filter r
-          → JudgesLine rule line (given_after rule 0 line) r
+      by_said : (r : Checked) → ChecksBy (SpellsAfter (versions_grammar rule.filter) [] text) rule.filter r
+          → ChecksLine rule line (given_after rule 0 line) r
       by_said NoVersion j = (no_version, by_strips rule.strips_prefix)
         where
           no_version : (p : Text) (w : VersionValue) → ¬ (HasAfter rule line p w)
@@ -109,10 +109,10 @@ module _ (rule : LineRule) (line : Text) where
       )
 
   -- after one of some prefixes what is after it may be given
-  pub judges_after : (count : ℕ) (r : Judged) → 1 ≤ length rule.prefixes
-      → JudgesAfter (HasVersion (versions_grammar rule.filter) rule.prefixes text) rule.filter count r
-      → JudgesLine rule line (given_after rule count line) r
-  judges_after count r some j = by_said r j
+  pub checks_after : (count : ℕ) (r : Checked) → 1 ≤ length rule.prefixes
+      → ChecksAfter (HasVersion (versions_grammar rule.filter) rule.prefixes text) rule.filter count r
+      → ChecksLine rule line (given_after rule count line) r
+  checks_after count r some j = by_said r j
     where
       same_prefixes : (ps : List Text) → 1 ≤ length ps → tried ps ≡ ps
       same_prefixes [] some = absurd (omega arith)
@@ -121,8 +121,8 @@ module _ (rule : LineRule) (line : Text) where
       contains : (p : Text) (v : VersionValue) → HasVersion (versions_grammar rule.filter) rule.prefixes text p v → HasAfter rule line p v
       contains p v a = subst (λ ps. HasVersion (versions_grammar rule.filter) ps text p v) (sym (same_prefixes rule.prefixes some)) a
 
-      by_said : (r : Judged) → JudgesAfter (HasVersion (versions_grammar rule.filter) rule.prefixes text) rule.filter count r
-          → JudgesLine rule line (given_after rule count line) r
+      by_said : (r : Checked) → ChecksAfter (HasVersion (versions_grammar rule.filter) rule.prefixes text) rule.filter count r
+          → ChecksLine rule line (given_after rule count line) r
       by_said NoVersion j = (
         λ p w a. j.0 p w (subst (λ ps. HasVersion (versions_grammar rule.filter) ps text p w) (same_prefixes rule.prefixes some) a),
         ap (λ n. given_after rule n line) j.1 ∙ by_strips rule.strips_prefix,
@@ -139,7 +139,7 @@ module _ (rule : LineRule) (line : Text) where
 no_plain : PlainVersion
 no_plain = record { major = 0; minor = 0; patch = 0; pre = [] }
 
-pub verdict : (rule : LineRule) (line given : Text) (said : Judged) → JudgesLine rule line given said
+pub verdict : (rule : LineRule) (line given : Text) (said : Checked) → ChecksLine rule line given said
     → (plain : PlainVersion) × MatchesAs said plain × IsVerdictOn rule line (verdict_of rule.ending said plain given)
 verdict rule line given NoVersion j = (no_plain, tt, by_text _ (ap (λ l. is_empty (line_text rule.ending l)) (sym j.1)))
   where
@@ -150,8 +150,8 @@ verdict rule line given DoesNotMatch j = (no_plain, tt, j)
 verdict rule line given (Matches o) j = (j.0, j.1, j.2)
 
 -- of a line that has no version all is given
-pub counted_given : (rule : LineRule) (line given : Text) (said : Judged) (plain : PlainVersion) (c : CountsValue)
-    → JudgesLine rule line given said
+pub counted_given : (rule : LineRule) (line given : Text) (said : Checked) (plain : PlainVersion) (c : CountsValue)
+    → ChecksLine rule line given said
     → counted_as rule.ending (verdict_of rule.ending said plain given) c given
     ≡ counted_as rule.ending (verdict_of rule.ending said plain given) c line
 counted_given rule line given NoVersion plain c j =
@@ -186,40 +186,40 @@ one_verdict same rule line empty invalid p q = cc
 one_verdict same rule line empty empty p q = refl
 
 module _ (rule : LineRule) where
-  abbrev Each : List JudgedLine → Type 0
-  Each judged = AllByRecursion (λ (j : JudgedLine). IsVerdictOn rule j.line j.verdict) judged
+  abbrev Each : List LineCheck → Type 0
+  Each checked = AllByRecursion (λ (j : LineCheck). IsVerdictOn rule j.line j.verdict) checked
 
-  pub judged_none : AreJudged rule [] []
-  judged_none = record { all = refl; each = tt }
+  pub checked_none : AreChecked rule [] []
+  checked_none = record { all = refl; each = tt }
 
-  pub judged_one : (line : Text) (verdict : Verdict) → IsVerdictOn rule line verdict
-      → AreJudged rule (line ∷ []) (record { line = line; verdict = verdict } ∷ [])
-  judged_one line verdict is = record { all = refl; each = (is, tt) }
+  pub checked_one : (line : Text) (verdict : Verdict) → IsVerdictOn rule line verdict
+      → AreChecked rule (line ∷ []) (record { line = line; verdict = verdict } ∷ [])
+  checked_one line verdict is = record { all = refl; each = (is, tt) }
 
-  pub judged_more : (xs ys : List Text) (js ks : List JudgedLine) → AreJudged rule xs js → AreJudged rule ys ks
-      → AreJudged rule (xs ++ ys) (js ++ ks)
-  judged_more xs ys js ks a b = record {
-    all = map-append (λ (j : JudgedLine). j.line) js ks ∙ ap₂ (λ l m. l ++ m) a.all b.all;
-    each = all_append (λ (j : JudgedLine). IsVerdictOn rule j.line j.verdict) js ks a.each b.each;
+  pub checked_more : (xs ys : List Text) (js ks : List LineCheck) → AreChecked rule xs js → AreChecked rule ys ks
+      → AreChecked rule (xs ++ ys) (js ++ ks)
+  checked_more xs ys js ks a b = record {
+    all = map-append (λ (j : LineCheck). j.line) js ks ∙ ap₂ (λ l m. l ++ m) a.all b.all;
+    each = all_append (λ (j : LineCheck). IsVerdictOn rule j.line j.verdict) js ks a.each b.each;
   }
 
-  -- lines are judged in one way
+  -- lines are checked in one way
   module _ (same : OneVersion) where
-    same_judged : (js ks : List JudgedLine) → map (λ (j : JudgedLine). j.line) js ≡ map (λ (j : JudgedLine). j.line) ks → Each js → Each ks
+    same_checked : (js ks : List LineCheck) → map (λ (j : LineCheck). j.line) js ≡ map (λ (j : LineCheck). j.line) ks → Each js → Each ks
         → js ≡ ks
-    same_judged [] [] e p q = refl
-    same_judged [] (k ∷ ks) e p q = cc
-    same_judged (j ∷ js) [] e p q = cc
-    same_judged (j ∷ js) (k ∷ ks) e p q = grind (arith, one_verdict, same_judged js ks (cc) p.1 q.1)
+    same_checked [] [] e p q = refl
+    same_checked [] (k ∷ ks) e p q = cc
+    same_checked (j ∷ js) [] e p q = cc
+    same_checked (j ∷ js) (k ∷ ks) e p q = grind (arith, one_verdict, same_checked js ks (cc) p.1 q.1)
 
-    pub one_judging : (xs : List Text) (js ks : List JudgedLine) → AreJudged rule xs js → AreJudged rule xs ks
+    pub one_checks : (xs : List Text) (js ks : List LineCheck) → AreChecked rule xs js → AreChecked rule xs ks
         → js ≡ ks
-    one_judging xs js ks a b = grind (arith, same_judged)
+    one_checks xs js ks a b = grind (arith, same_checked)
 
--- ---- a line that is judged by its outline
+-- ---- a line that is checked by its outline
 
-pub outlined_line : OneOutlined → (rule : LineRule) (line : Text) (found : Option OutlineValue) (said : Judged) → rule.prefixes ≡ []
-    → ((text : Text) → IsOutlined (versions_grammar rule.filter) text found → IsJudged (versions_grammar rule.filter) (matches rule.filter) text said)
-    → IsOutlined (versions_grammar rule.filter) (line_text rule.ending line) found → JudgesLine rule line (given_after rule 0 line) said
+pub outlined_line : OneOutlined → (rule : LineRule) (line : Text) (found : Option OutlineValue) (said : Checked) → rule.prefixes ≡ []
+    → ((text : Text) → IsOutlined (versions_grammar rule.filter) text found → IsChecked (versions_grammar rule.filter) (matches rule.filter) text said)
+    → IsOutlined (versions_grammar rule.filter) (line_text rule.ending line) found → ChecksLine rule line (given_after rule 0 line) said
 outlined_line same rule line found said none told is =
-    judges_alone rule line same said none (told (line_text rule.ending line) is)
+    checks_alone rule line same said none (told (line_text rule.ending line) is)
