@@ -1,4 +1,4 @@
-"""Compares release-filter with the rules of docs/DECISIONS.md, docs/GRAMMAR.md and docs/MEANING.md: python3 lines-in-pieces.py PROGRAM COUNT SEED.
+"""Compares release-filter with the rules of docs/man/release-filter.1, docs/GRAMMAR.md and docs/MEANING.md: python3 lines-in-pieces.py PROGRAM COUNT SEED.
 
 It makes COUNT random texts of lines, each with a range and options, and tells by code of its own what is written, what is reported of lines without a
 version, and the status. Each text is cut in 100 random ways, and the program gets each piece by a read of its own: standard input is a socket that keeps
