@@ -4,12 +4,13 @@ statuses of both are compared: of `npm ci` what it does before it touches node_m
 import json
 import os
 import random
+import re
 import subprocess
 from pathlib import Path
-from typing import Any, List, NamedTuple, Optional
+from typing import Any, Iterator, List, NamedTuple, Optional
 
 from differences import PROJECT, Differences, Finding, Kind, listed_in
-from npm_edits import Edited, edited
+from npm_edits import Edited, edited, kinds_of
 from projects import environment, write_project
 from registry import Json, Registry
 from semver_parser import Dialect
@@ -21,6 +22,11 @@ HERE = os.path.dirname(os.path.abspath(__file__))
 LOCK = "package-lock.json"
 EDITS = 5
 WAITING = 60
+
+# How npm says which release it would add to a lock file, or put in place of another one, or which it
+# looks for in vain.
+ADDED = r"Missing: |Invalid: .* does not satisfy |ETARGET: No matching version found for "
+REFUSED = re.compile(rf"(?:{ADDED})(.[^@]*)@(.*?)(?: from lock file|\.)?")
 
 
 class Case(NamedTuple):
@@ -109,6 +115,32 @@ def choice_of(finding: Finding, it: Case, answer: Answer) -> Optional[str]:
     return None
 
 
+def choice_of_refusal(it: Case, answer: Answer, as_written: Answer) -> Optional[str]:
+    """Why npm refuses a project in which nothing is listed, by a row of the README: it refuses just
+    that also as npm wrote it, and would add what has an override by a range, and what this brings
+    along."""
+    lines = [REFUSED.fullmatch(line) for line in answer.refused]
+    releases = [line.groups() for line in lines if line is not None]
+    known = set(names_by_range(it.world.manifests[""].get("overrides", {})))
+    for name, version in releases * len(releases):
+        manifest = it.world.releases.get(name, {}).get(version, {})
+        if name in known:
+            known.update(each for kind in kinds_of(manifest) for each in manifest[kind])
+    is_known = len(releases) == len(lines) and all(name in known for name, _ in releases)
+    is_written_so = set(answer.refused) <= set(as_written.refused)
+    return "an override of a range" if is_known and is_written_so else None
+
+
+def names_by_range(overrides: Json) -> Iterator[str]:
+    """The names of the overrides whose keys have a range."""
+    for key, value in overrides.items():
+        name, at, _ = key[1:].partition("@")
+        if at:
+            yield key[:1] + name
+        if isinstance(value, dict):
+            yield from names_by_range(value)
+
+
 def above(finding: Finding, lock: Json) -> List[str]:
     """The versions of what is required that are further up than what is found."""
     packages, name = packages_of(lock, None), finding.dependency
@@ -117,14 +149,19 @@ def above(finding: Finding, lock: Json) -> List[str]:
     return found[1:]
 
 
-def compare(it: Case, answer: Answer, found: Differences) -> None:
-    """Compares what npm and the checker say of a project."""
+def compare(it: Case, answer: Answer, as_written: Answer, found: Differences) -> None:
+    """Compares what npm and the checker say of a project, of which npm has said another thing
+    before it was edited."""
     listed = listed_in(it.folder / LOCK)
     found.count(f"projects with {it.edit}" if it.edit else "projects as npm wrote them")
     if bool(answer.refused) == bool(listed):
         found.count("both refuse" if listed else "both take")
     elif answer.refused:
-        found.add("npm alone refuses", shown(it, answer.refused))
+        choice = choice_of_refusal(it, answer, as_written)
+        if choice is None:
+            found.add("npm alone refuses", shown(it, answer.refused))
+        else:
+            found.choose(choice, shown(it, answer.refused))
     else:
         choices = {choice_of(each, it, answer) for each in listed}
         why = shown(it, [[each.kind.value, *each[1:7]] for each in listed])
@@ -163,7 +200,9 @@ def run(top: Path, count: int, seed: int) -> Differences:
             found.count("worlds that npm refuses")
             continue
         made += 1
-        for it in cases_of(folder, lock, world, registry, maker):
-            compare(it, npm.answer(it.folder), found)
+        cases = cases_of(folder, lock, world, registry, maker)
+        answers = [npm.answer(it.folder) for it in cases]
+        for it, answer in zip(cases, answers):
+            compare(it, answer, answers[0], found)
     found.counts["worlds"] = made
     return found
