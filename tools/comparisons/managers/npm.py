@@ -12,10 +12,20 @@ from typing import Any, Iterator, List, NamedTuple, Optional
 from differences import PROJECT, Differences, Finding, Kind, listed_in
 from npm_edits import Edited, edited, kinds_of
 from projects import environment, write_project
-from registry import Json, Registry
+from registry import Json, Registry, in_order
 from semver_parser import Dialect
-from semver_parser.checks.npm.lock import folders, packages_of
-from semver_parser.checks.satisfaction import is_met
+from semver_parser.checks.npm.lock import (
+    PEERS,
+    Packages,
+    asks_at,
+    folders,
+    name_by_place,
+    package_at,
+    packages_of,
+    with_manifest,
+)
+from semver_parser.checks.npm.specs import range_of
+from semver_parser.checks.satisfaction import is_met, range_in
 from worlds import Maker, World
 
 HERE = os.path.dirname(os.path.abspath(__file__))
@@ -112,7 +122,44 @@ def choice_of(finding: Finding, it: Case, answer: Answer) -> Optional[str]:
         return "what no registry has"
     if any(is_met(finding.range, version, Dialect.NPM) for version in above(finding, it.lock)):
         return "what fits is further up"
-    return None
+    return "a peer whose newest version has no place" if is_left_peer(finding, it) else None
+
+
+def is_left_peer(finding: Finding, it: Case) -> bool:
+    """Whether a peer doesn't fit, and the version that npm picks for it isn't for all else that
+    requires what is there and is right."""
+    packages = with_manifests(it)
+    found = {place: package_at(packages, place) for place in packages}
+    asks = [ask for place, entry in packages.items() for ask in asks_at(place, entry, found, {})]
+    into = [ask for ask in asks if ask.found is not None and ask.found.place == finding.place]
+    mine = (PEERS, finding.requirer, finding.dependency)
+    if finding.kind != Kind.UNSATISFIED or mine not in [(it.kind, it.place, it.name) for it in into]:
+        return False
+    picked = picked_for(finding.range, list(it.world.releases.get(finding.package, {})))
+    ranges = [range_of(ask.spec) for ask in into]
+    needed = [each for each in ranges if is_met(each, finding.version, Dialect.NPM)]
+    return picked is not None and not all(is_met(each, picked, Dialect.NPM) for each in needed)
+
+
+def picked_for(wanted: str, versions: List[str]) -> Optional[str]:
+    """The version that npm takes from the registry for a range: the latest, or else the highest."""
+    latest = max(versions, key=in_order, default="")
+    if is_met(wanted, latest, Dialect.NPM):
+        return latest
+    found = range_in(wanted, Dialect.NPM)
+    return None if found is None else found.highest(versions)
+
+
+def with_manifests(it: Case) -> Packages:
+    """The packages of a lock file with what their package.json files require: one of lockfileVersion
+    1 has no peers."""
+    packages = packages_of(it.lock, it.world.manifests[""])
+    for place, entry in packages.items():
+        releases = it.world.releases.get(entry.get("name", name_by_place(place)), {})
+        manifest = it.world.manifests.get(place, releases.get(entry.get("version", "")))
+        if manifest is not None:
+            packages[place] = with_manifest(entry, manifest)
+    return packages
 
 
 def choice_of_refusal(it: Case, answer: Answer, as_written: Answer) -> Optional[str]:
