@@ -194,15 +194,6 @@ def put_in_place(rule: Optional[Rule], ask: Ask) -> str:
     return rule.spec
 
 
-def refused(asks: List[Ask], outermost: Rule) -> Iterator[Tuple[Ask, str]]:
-    """What the project itself asks for, where an override would put something else in its place:
-    npm refuses that, also if a version satisfies both."""
-    for ask in asks:
-        spec = put_in_place(rule_for(outermost, ask.name, ask.spec), ask)
-        if spec != ask.spec:
-            yield ask, spec
-
-
 # ---- the rules of packages
 
 
@@ -275,17 +266,31 @@ def names_in(rule: Rule) -> Set[str]:
     return {it.name for it in rule.inner}.union(*(names_in(it) for it in rule.inner))
 
 
-def put_overrides(
+def reading_of(
     packages: Packages, found: Dict[str, Package], asks: Dict[str, List[Ask]], outermost: Rule
-) -> None:
-    """Puts overrides in place of what packages ask for, but for the project itself, and for what
-    was put where it is by another package. npm reads links after all packages."""
+) -> Reading:
+    """What npm has read of a lock file, if there are overrides. It reads links after all packages."""
     reading = Reading(found, outermost)
-    pinned = pinned_in(packages) if outermost.inner else set()
     for is_link in (False, True) if outermost.inner else ():
         for place, entry in packages.items():
             if bool(entry.get("link")) == is_link:
                 reading.add(place, asks[place])
+    return reading
+
+
+def refused(reading: Reading) -> Iterator[Tuple[Ask, str]]:
+    """What the project itself asks for, where an override puts something else in its place: npm
+    refuses that, also if a version satisfies both."""
+    for edge in (it for edges in reading.edges.values() for it in edges):
+        spec = put_in_place(edge.rule, edge.ask)
+        if not edge.ask.place and spec != edge.ask.spec:
+            yield edge.ask, spec
+
+
+def put_overrides(packages: Packages, asks: Dict[str, List[Ask]], reading: Reading) -> None:
+    """Puts overrides in place of what packages ask for, but for the project itself, and for what
+    was put where it is by another package."""
+    pinned = pinned_in(packages) if reading.read else set()
     replaced: Dict[str, Dict[str, str]] = {}
     for edge in (it for name in reading.named for it in reading.edges.get(name, ())):
         ask, spec = edge.ask, put_in_place(edge.rule, edge.ask)
