@@ -113,10 +113,10 @@ def choice_of(finding: Finding, it: Case, answer: Answer) -> Optional[str]:
     requirer = "" if finding.requirer == PROJECT else finding.requirer
     if finding.kind in (Kind.ANOTHER_PACKAGE, Kind.ANOTHER_VERSION):
         return "names and archives"
-    if [requirer, finding.dependency] in answer.left_out:
-        return "what is optional and can't be installed"
     if requirer not in answer.looked:
         return "what is required below workspaces"
+    if [requirer, finding.dependency] in answer.left_out:
+        return "what is optional and can't be installed"
     releases = it.world.releases.get(finding.dependency, {})
     if not any(is_met(finding.range, version, Dialect.NPM) for version in releases):
         return "what no registry has"
