@@ -97,7 +97,7 @@ annotated() {
     diff -u "cases/annotations/${1##*/}" "$work/annotations"
     echo "annotations of $1: passed"
 }
-for name in version-1.json aliases.json yarn/keys/yarn.lock pnpm/wrong-6.yaml cargo-lock/wrong/Cargo.lock; do
+for name in version-1.json aliases.json yarn/keys/yarn.lock pnpm/wrong-6.yaml pnpm/settings/pnpm-lock.yaml cargo-lock/wrong/Cargo.lock; do
     ! may_read "$name" || annotated "$name"
 done
 if has_yaml; then

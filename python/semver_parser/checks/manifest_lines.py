@@ -1,5 +1,5 @@
-"""The lines of manifests in which the requirements of findings are: a pull request that changed one
-shows that line, and not always the lock file."""
+"""The lines of manifests in which the requirements or the settings of findings are: a pull request
+that changed one shows that line, and not always the lock file."""
 
 import os
 import re
@@ -15,10 +15,12 @@ from .files import (
     json_object,
     taking,
 )
-from .findings import PROJECT, Finding, Keys
+from .findings import PROJECT, Finding, Keys, Kind
 from .lines import AFTER_KEY, of_json, of_yaml, with_lines
 from .lock_files import BUN, CARGO, NPM, PNPM, YARN, Input, manifest_path
+from .manifests import MANIFEST
 from .npm.lock import ASKS_OF_TOPS
+from .pnpm.settings import WORKSPACE_FILE
 
 CATALOG = "catalog:"
 
@@ -58,7 +60,7 @@ def positions_of(tool: str, file: Input, found: List[Finding]) -> Dict[Finding, 
 
 
 class Paths:
-    """The manifests beside a lock file, by what requires something."""
+    """The manifests beside a lock file, by what requires or sets something."""
 
     def __init__(self, tool: str, file: Input) -> None:
         self.tool, self.file = tool, file
@@ -67,14 +69,19 @@ class Paths:
         self.workspaces = {name.decode(): directory.decode() for name, directory in named}
 
     def manifest_for(self, finding: Finding) -> Optional[str]:
-        """The manifest of what requires something, if that is of the project."""
+        """The manifest of what requires something, if that is of the project, or of a setting."""
         folder, requirer = self.file.folder, finding.requirer
-        if not requirer or folder is None:
+        if folder is None:
+            return None
+        if self.tool == PNPM and is_setting(finding):
+            is_there = finding.reason in (WORKSPACE_FILE, MANIFEST)
+            return os.path.join(folder, finding.reason) if is_there else None
+        if not requirer:
             return None
         if self.tool == CARGO:
             return self.crate_at(folder, requirer)
         if self.tool == PNPM and requirer.startswith(CATALOG):
-            return os.path.join(folder, "pnpm-workspace.yaml")
+            return os.path.join(folder, WORKSPACE_FILE)
         if self.tool not in (NPM, YARN, PNPM, BUN) or "node_modules" in requirer.split("/"):
             return None
         if self.tool == YARN and finding.requirer_version:
@@ -111,7 +118,7 @@ def text_of(path: str) -> str:
 
 
 def lines_in(path: str, found: List[Finding]) -> Iterator[Tuple[Finding, int]]:
-    """The lines of a manifest that have the requirements of findings."""
+    """The lines of a manifest that have the requirements or the settings of findings."""
     keys_of, lines_of = reader_for(path)
     wanted = {keys for it in found for keys in keys_of(it)}
     lines = lines_of(text_of(path).encode("utf-8"), wanted)
@@ -122,24 +129,51 @@ def lines_in(path: str, found: List[Finding]) -> Iterator[Tuple[Finding, int]]:
 
 
 def reader_for(path: str) -> Tuple[KeysOf, LinesOf]:
-    """What leads to a requirement in a manifest, and what finds the lines of that."""
+    """What leads to a requirement or a setting in a manifest, and what finds the lines of that."""
     if path.endswith(".toml"):
         return keys_in_toml, lines_of_toml
     if path.endswith(".yaml"):
-        return keys_in_catalogs, lines_of_yaml
+        return keys_in_yaml, lines_of_yaml
     return keys_in_json, lines_of_json
 
 
+def is_setting(finding: Finding) -> bool:
+    """Whether a finding is of a setting of pnpm, which nobody requires."""
+    return finding.kind == Kind.STALE and not finding.requirer
+
+
+def keys_of_setting(finding: Finding) -> List[Keys]:
+    """The keys that may lead to a setting of pnpm, by those in the lock file: to it, or to the list
+    or the table that it is in."""
+    name, *inner = finding.at
+    if name == "settings":
+        return [tuple(inner)]
+    if name == "catalogs":
+        return keys_of_catalog(*inner)
+    table = name.removesuffix("Checksum")
+    return [(table, *inner), (table,)]
+
+
+def keys_of_catalog(catalog: str, name: str) -> List[Keys]:
+    """The keys that may lead to an entry of a catalog."""
+    keys: List[Keys] = [("catalogs", catalog, name)]
+    return keys + ([("catalog", name)] if catalog == "default" else [])
+
+
 def keys_in_json(finding: Finding) -> List[Keys]:
-    """The keys that may lead to a requirement in a package.json."""
-    return [(kind, finding.dependency) for kind in ASKS_OF_TOPS]
+    """The keys that may lead to a requirement or a setting in a package.json."""
+    if not is_setting(finding):
+        return [(kind, finding.dependency) for kind in ASKS_OF_TOPS]
+    keys = keys_of_setting(finding)
+    resolutions: List[Keys] = [("resolutions", *it[1:]) for it in keys if it[0] == "overrides"]
+    return [("pnpm", *keys[0]), *resolutions[:1], *(("pnpm", *it) for it in keys[1:])]
 
 
-def keys_in_catalogs(finding: Finding) -> List[Keys]:
-    """The keys that may lead to a requirement of a catalog in a pnpm-workspace.yaml."""
-    catalog = finding.requirer[len(CATALOG) :]
-    keys: List[Keys] = [("catalogs", catalog, finding.dependency)]
-    return keys + ([("catalog", finding.dependency)] if catalog == "default" else [])
+def keys_in_yaml(finding: Finding) -> List[Keys]:
+    """The keys that may lead to an entry of a catalog or to a setting in a pnpm-workspace.yaml."""
+    if is_setting(finding):
+        return keys_of_setting(finding)
+    return keys_of_catalog(finding.requirer[len(CATALOG) :], finding.dependency)
 
 
 def keys_in_toml(finding: Finding) -> List[Keys]:
@@ -148,7 +182,7 @@ def keys_in_toml(finding: Finding) -> List[Keys]:
 
 
 def lines_of_json(text: bytes, wanted: Set[Keys]) -> Dict[Keys, int]:
-    """The lines of a package.json that have requirements."""
+    """The lines of a package.json that have requirements or settings."""
     try:
         json_object(text)
     except (Unreadable, WrongShape, RecursionError):
@@ -157,7 +191,7 @@ def lines_of_json(text: bytes, wanted: Set[Keys]) -> Dict[Keys, int]:
 
 
 def lines_of_yaml(text: bytes, wanted: Set[Keys]) -> Dict[Keys, int]:
-    """The lines of a pnpm-workspace.yaml that have requirements."""
+    """The lines of a pnpm-workspace.yaml that have requirements or settings."""
     return with_lines(text, {keys: at for keys, at in of_yaml(text, wanted) if keys in wanted})
 
 

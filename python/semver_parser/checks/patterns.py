@@ -1,40 +1,44 @@
-"""The directories that patterns of workspaces find, as npm and yarn find them: below the project,
-and none in a `node_modules`.
+"""Patterns of workspaces, as minimatch reads them: what they match, and the directories that they
+find below the project, as npm and yarn find them, none in a `node_modules`.
 
-A part of a pattern has `*`, `?` and `[SET]`, `**` is for any directories, and `{ONE,OTHER}` is for
-each of them. A link isn't followed for `**`, since links may lead round in circles.
+A link isn't followed for `**`, since links may lead round in circles.
 """
 
 import os
 import re
-from fnmatch import fnmatchcase
-from typing import Iterator, List
+from functools import lru_cache
+from typing import Iterator, List, Pattern
 
 from .files import WrongShape
 
-# What npm leaves out before a pattern, which is never for another place of the file system.
-BEFORE = re.compile(r"\.?/+")
-
 BRACES = re.compile(r"\{([^{},]*(?:,[^{},]*)+)\}")
-MAGIC = re.compile(r"[*?\[]")
+MAGIC = re.compile(r"[*?\[(]")
 ANYWHERE = "**"
+MODULES = "node_modules"
 
 # How many patterns one with braces may be for.
 MOST = 1000
 
+# The parts of a pattern without braces.
+PART = re.compile(r"(?:\A|(?<=/))\*\*(?:/|\Z)|[?*+@!]\([^()]*\)|\[[!^]?\]?[^\]/]*\]|.", re.S)
 
-def places_at(pattern: str, top: str) -> List[str]:
-    """The directories below another one that a pattern finds."""
-    if "\0" in pattern:
-        raise WrongShape(": workspaces: no folder has such a name")
-    patterns = [BEFORE.sub("", pattern, count=1) if BEFORE.match(pattern) else pattern]
+# What a list matches, by what is before it.
+TIMES = {"?": "?", "*": "*", "+": "+", "@": ""}
+
+NOTHING = re.compile(r"(?!)")
+
+
+# ---- what they match
+
+
+def alternatives(pattern: str) -> List[str]:
+    """The patterns that one with braces is for: `{a,b}/*` is for `a/*` and `b/*`."""
+    patterns = [pattern]
     while any(BRACES.search(it) for it in patterns):
         patterns = [inner for it in patterns for inner in without_braces(it)]
         if len(patterns) > MOST:
             raise WrongShape(f": workspaces: a pattern is for more than {MOST:,} others")
-    found = (place for it in patterns for place in places_below(top, "", parts_of(it)))
-    places = {os.path.normpath(place).replace(os.sep, "/") for place in found}
-    return sorted(places - {"."})
+    return patterns
 
 
 def without_braces(pattern: str) -> List[str]:
@@ -44,6 +48,52 @@ def without_braces(pattern: str) -> List[str]:
         return [pattern]
     before, after = pattern[: found.start()], pattern[found.end() :]
     return [before + it + after for it in found.group(1).split(",")]
+
+
+@lru_cache(maxsize=None)
+def expression(pattern: str) -> Pattern[str]:
+    """The expression that a pattern without braces is. One with `[z-a]` matches nothing."""
+    parts = (matched(it.group(), it.start(), pattern) for it in PART.finditer(pattern))
+    try:
+        return re.compile("".join(parts), re.S)
+    except re.error:
+        return NOTHING
+
+
+def matched(part: str, at: int, pattern: str) -> str:
+    """What a part of a pattern matches. A name that begins with a dot is matched only by one."""
+    no_dot = r"(?!\.)" if at == 0 or pattern[at - 1] == "/" else ""
+    if part == "**/":
+        return r"(?:(?!\.)[^/]+/)*"
+    if part == ANYWHERE:
+        return r"(?:(?!\.)[^/]+(?:/(?!\.)[^/]+)*)?"
+    if part[1:2] == "(":
+        return with_a_list(part, no_dot)
+    if len(part) > 1:
+        inside = re.sub(r"([\\\[&|~])", r"\\\1", part[1:-1])
+        return f"{no_dot}[^{inside[1:]}]" if inside[0] in "!^" else f"{no_dot}[{inside}]"
+    return {"*": f"{no_dot}[^/]*", "?": f"{no_dot}[^/]"}.get(part, re.escape(part))
+
+
+def with_a_list(part: str, no_dot: str) -> str:
+    """What a part with a list of patterns matches, as `@(a|b)` and `!(c)`."""
+    listed = "|".join(expression(it).pattern for it in part[2:-1].split("|"))
+    if part[0] == "!":
+        return rf"{no_dot}(?!(?:{listed})(?:/|\Z))[^/]*"
+    return f"(?:{listed}){TIMES[part[0]]}"
+
+
+# ---- what they find
+
+
+def places_at(pattern: str, top: str) -> List[str]:
+    """The directories below another one that a pattern finds."""
+    if "\0" in pattern:
+        raise WrongShape(": workspaces: no folder has such a name")
+    parts = map(parts_of, alternatives(pattern))
+    found = (place for it in parts for place in places_below(top, "", it))
+    places = {os.path.normpath(place).replace(os.sep, "/") for place in found}
+    return sorted(places - {"."})
 
 
 def parts_of(pattern: str) -> List[str]:
@@ -62,25 +112,17 @@ def places_below(top: str, place: str, parts: List[str]) -> Iterator[str]:
     first, *rest = parts
     if first == ANYWHERE:
         yield from places_below(top, place, rest)
-        for name in names_in(top, place, False, False):
-            yield from places_below(top, f"{place}/{name}" if place else name, parts)
-        return
-    named = [first]
-    if MAGIC.search(first):
-        names = names_in(top, place, True, first[0] == ".")
-        named = [it for it in names if fnmatchcase(it, first)]
-    for name in named:
+        rest = parts
+    for name in names_in(top, place, first) if MAGIC.search(first) else [first]:
         inner = f"{place}/{name}" if place else name
-        if name != "node_modules" and os.path.isdir(os.path.join(top, inner)):
+        if name != MODULES and os.path.isdir(os.path.join(top, inner)):
             yield from places_below(top, inner, rest)
 
 
-def names_in(top: str, place: str, follows_links: bool, has_hidden: bool) -> List[str]:
-    """The names of the directories in one, but for what is hidden and what tools put there."""
+def names_in(top: str, place: str, part: str) -> List[str]:
+    """The names of the directories in one that a part of a pattern matches."""
+    is_deep = part == ANYWHERE
+    matches = expression("*" if is_deep else part).fullmatch
     with os.scandir(os.path.join(top, place) or ".") as entries:
-        return [
-            it.name
-            for it in entries
-            if it.name != "node_modules" and (has_hidden or it.name[0] != ".")
-            if it.is_dir(follow_symlinks=follows_links)
-        ]
+        found = [it.name for it in entries if it.is_dir(follow_symlinks=not is_deep)]
+    return [name for name in found if matches(name)]

@@ -20,16 +20,27 @@ def write_npm(folder: Path, overrides: Dict[str, str], packages: Dict[str, Any])
     return folder / "package-lock.json"
 
 
+def write_overrides(folder: Path, wanted: List[str], keys: List[str]) -> Path:
+    """Writes a file of packages that require another one, each by one of some ranges, and overrides
+    of that by others. Its path."""
+    names = [f"package-{number}" for number in range(len(wanted))]
+    packages: Dict[str, Any] = {"": {"dependencies": {name: "1.0.0" for name in names}}}
+    for name, spec in zip(names, wanted):
+        packages[f"node_modules/{name}"] = {"version": "1.0.0", "dependencies": {"part": spec}}
+    packages["node_modules/part"] = {"version": "2.0.0"}
+    return write_npm(folder, {f"part@{it}": "2.0.0" for it in keys}, packages)
+
+
 def of_overrides(folder: Path) -> Made:
     """Thousands of overrides of one name, each for what one package requires."""
-    names = [f"package-{number}" for number in range(COUNT)]
-    packages: Dict[str, Any] = {"": {"dependencies": {name: "1.0.0" for name in names}}}
-    for number, name in enumerate(names):
-        needs = {"part": f"1.0.{number}"}
-        packages[f"node_modules/{name}"] = {"version": "1.0.0", "dependencies": needs}
-    packages["node_modules/part"] = {"version": "2.0.0"}
-    overrides = {f"part@1.0.{number}": "2.0.0" for number in range(COUNT)}
-    return write_npm(folder, overrides, packages), 0
+    versions = [f"1.0.{number}" for number in range(COUNT)]
+    return write_overrides(folder, versions, versions), 0
+
+
+def of_ranges(folder: Path) -> Made:
+    """Thousands of overrides of one name by ranges, none of which is for what a package requires."""
+    wanted = [f"^2.0.0 || ~4.{number}.0" for number in range(COUNT)]
+    return write_overrides(folder, wanted, [f"~1.{number}.0" for number in range(COUNT)]), 0
 
 
 def of_chain(folder: Path) -> Made:
@@ -44,5 +55,6 @@ def of_chain(folder: Path) -> Made:
 
 MAKERS: List[Tuple[str, Callable[[Path], Made]]] = [
     ("3,000 overrides of one name", of_overrides),
+    ("3,000 overrides of one name by ranges", of_ranges),
     ("a chain of 3,000 overrides", of_chain),
 ]

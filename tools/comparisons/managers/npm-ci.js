@@ -22,7 +22,8 @@ const lookedAt = tree => {
 const leftOutOf = tree => {
   const nodes = [tree, ...tree.inventory.values()]
   const edges = nodes.flatMap(node => [...node.edgesOut.values()])
-  return edges.filter(edge => edge.type === 'optional' && !edge.to).map(edge => [edge.from.location, edge.name])
+  const left = edges.filter(edge => edge.type === 'optional' && !(edge.to && edge.valid))
+  return left.map(edge => [edge.from.location, edge.name])
 }
 
 const answerOn = async folder => {

@@ -4,23 +4,39 @@ statuses of both are compared: of `npm ci` what it does before it touches node_m
 import json
 import os
 import random
+import re
 import subprocess
 from pathlib import Path
-from typing import Any, List, NamedTuple, Optional
+from typing import Any, Iterator, List, NamedTuple, Optional
 
 from differences import PROJECT, Differences, Finding, Kind, listed_in
-from npm_edits import Edited, edited
+from npm_edits import Edited, edited, kinds_of
 from projects import environment, write_project
-from registry import Json, Registry
+from registry import Json, Registry, in_order
 from semver_parser import Dialect
-from semver_parser.checks.npm.lock import folders, packages_of
-from semver_parser.checks.satisfaction import is_met
+from semver_parser.checks.npm.lock import (
+    PEERS,
+    Packages,
+    asks_at,
+    folders,
+    name_by_place,
+    package_at,
+    packages_of,
+    with_manifest,
+)
+from semver_parser.checks.npm.specs import range_of
+from semver_parser.checks.satisfaction import is_met, range_in
 from worlds import Maker, World
 
 HERE = os.path.dirname(os.path.abspath(__file__))
 LOCK = "package-lock.json"
 EDITS = 5
 WAITING = 60
+
+# How npm says which release it would add to a lock file, or put in place of another one, or which it
+# looks for in vain.
+ADDED = r"Missing: |Invalid: .* does not satisfy |ETARGET: No matching version found for "
+REFUSED = re.compile(rf"(?:{ADDED})(.[^@]*)@(.*?)(?: from lock file|\.)?")
 
 
 class Case(NamedTuple):
@@ -97,16 +113,79 @@ def choice_of(finding: Finding, it: Case, answer: Answer) -> Optional[str]:
     requirer = "" if finding.requirer == PROJECT else finding.requirer
     if finding.kind in (Kind.ANOTHER_PACKAGE, Kind.ANOTHER_VERSION):
         return "names and archives"
-    if [requirer, finding.dependency] in answer.left_out:
-        return "what is optional and can't be installed"
     if requirer not in answer.looked:
         return "what is required below workspaces"
+    if [requirer, finding.dependency] in answer.left_out:
+        return "what is optional and can't be installed"
     releases = it.world.releases.get(finding.dependency, {})
     if not any(is_met(finding.range, version, Dialect.NPM) for version in releases):
         return "what no registry has"
     if any(is_met(finding.range, version, Dialect.NPM) for version in above(finding, it.lock)):
         return "what fits is further up"
-    return None
+    return "a peer whose newest version has no place" if is_left_peer(finding, it) else None
+
+
+def is_left_peer(finding: Finding, it: Case) -> bool:
+    """Whether a peer doesn't fit, and the version that npm picks for it isn't for all else that
+    requires what is there and is right."""
+    packages = with_manifests(it)
+    found = {place: package_at(packages, place) for place in packages}
+    asks = [ask for place, entry in packages.items() for ask in asks_at(place, entry, found, {})]
+    into = [ask for ask in asks if ask.found is not None and ask.found.place == finding.place]
+    mine = (PEERS, finding.requirer, finding.dependency)
+    if finding.kind != Kind.UNSATISFIED or mine not in [(it.kind, it.place, it.name) for it in into]:
+        return False
+    picked = picked_for(finding.range, list(it.world.releases.get(finding.package, {})))
+    ranges = [range_of(ask.spec) for ask in into]
+    needed = [each for each in ranges if is_met(each, finding.version, Dialect.NPM)]
+    return picked is not None and not all(is_met(each, picked, Dialect.NPM) for each in needed)
+
+
+def picked_for(wanted: str, versions: List[str]) -> Optional[str]:
+    """The version that npm takes from the registry for a range: the latest, or else the highest."""
+    latest = max(versions, key=in_order, default="")
+    if is_met(wanted, latest, Dialect.NPM):
+        return latest
+    found = range_in(wanted, Dialect.NPM)
+    return None if found is None else found.highest(versions)
+
+
+def with_manifests(it: Case) -> Packages:
+    """The packages of a lock file with what their package.json files require: one of lockfileVersion
+    1 has no peers."""
+    packages = packages_of(it.lock, it.world.manifests[""])
+    for place, entry in packages.items():
+        releases = it.world.releases.get(entry.get("name", name_by_place(place)), {})
+        manifest = it.world.manifests.get(place, releases.get(entry.get("version", "")))
+        if manifest is not None:
+            packages[place] = with_manifest(entry, manifest)
+    return packages
+
+
+def choice_of_refusal(it: Case, answer: Answer, as_written: Answer) -> Optional[str]:
+    """Why npm refuses a project in which nothing is listed, by a row of the README: it refuses just
+    that also as npm wrote it, and would add what has an override by a range, and what this brings
+    along."""
+    lines = [REFUSED.fullmatch(line) for line in answer.refused]
+    releases = [line.groups() for line in lines if line is not None]
+    known = set(names_by_range(it.world.manifests[""].get("overrides", {})))
+    for name, version in releases * len(releases):
+        manifest = it.world.releases.get(name, {}).get(version, {})
+        if name in known:
+            known.update(each for kind in kinds_of(manifest) for each in manifest[kind])
+    is_known = len(releases) == len(lines) and all(name in known for name, _ in releases)
+    is_written_so = set(answer.refused) <= set(as_written.refused)
+    return "an override of a range" if is_known and is_written_so else None
+
+
+def names_by_range(overrides: Json) -> Iterator[str]:
+    """The names of the overrides whose keys have a range."""
+    for key, value in overrides.items():
+        name, at, _ = key[1:].partition("@")
+        if at:
+            yield key[:1] + name
+        if isinstance(value, dict):
+            yield from names_by_range(value)
 
 
 def above(finding: Finding, lock: Json) -> List[str]:
@@ -117,14 +196,19 @@ def above(finding: Finding, lock: Json) -> List[str]:
     return found[1:]
 
 
-def compare(it: Case, answer: Answer, found: Differences) -> None:
-    """Compares what npm and the checker say of a project."""
+def compare(it: Case, answer: Answer, as_written: Answer, found: Differences) -> None:
+    """Compares what npm and the checker say of a project, of which npm has said another thing
+    before it was edited."""
     listed = listed_in(it.folder / LOCK)
     found.count(f"projects with {it.edit}" if it.edit else "projects as npm wrote them")
     if bool(answer.refused) == bool(listed):
         found.count("both refuse" if listed else "both take")
     elif answer.refused:
-        found.add("npm alone refuses", shown(it, answer.refused))
+        choice = choice_of_refusal(it, answer, as_written)
+        if choice is None:
+            found.add("npm alone refuses", shown(it, answer.refused))
+        else:
+            found.choose(choice, shown(it, answer.refused))
     else:
         choices = {choice_of(each, it, answer) for each in listed}
         why = shown(it, [[each.kind.value, *each[1:7]] for each in listed])
@@ -163,7 +247,9 @@ def run(top: Path, count: int, seed: int) -> Differences:
             found.count("worlds that npm refuses")
             continue
         made += 1
-        for it in cases_of(folder, lock, world, registry, maker):
-            compare(it, npm.answer(it.folder), found)
+        cases = cases_of(folder, lock, world, registry, maker)
+        answers = [npm.answer(it.folder) for it in cases]
+        for it, answer in zip(cases, answers):
+            compare(it, answer, answers[0], found)
     found.counts["worlds"] = made
     return found

@@ -10,15 +10,14 @@ were read with one, or else it comes from the folder that the package is in. The
 outermost rule; its workspaces and linked folders have none.
 """
 
-import re
 from dataclasses import dataclass, field
 from functools import cached_property
 from typing import Dict, Iterator, List, Optional, Set, Tuple
 
-from semver_parser import Dialect
+from semver_parser import Dialect, Range
 
 from ..files import Entry, WrongShape, object_at, text_at
-from ..satisfaction import is_met, is_range
+from ..satisfaction import is_met, is_range, range_in
 from .lock import (
     Ask,
     Package,
@@ -30,17 +29,10 @@ from .lock import (
     name_by_place,
     pinned_in,
 )
-from .specs import alias_of, git_range_of, may_overlap, name_and_rest, range_of, reason_of
+from .overlaps import Overlaps
+from .specs import alias_of, git_range_of, name_and_rest, range_of, reason_of
 
 ANY = "*"
-
-# A release, as a range that contains it alone.
-RELEASE = re.compile(r"(?:(?:0|[1-9][0-9]*)(?:\.(?!\Z)|\Z)){3}")
-
-
-def is_release(text: str) -> bool:
-    """Whether a text is a release, and as a range contains it alone."""
-    return RELEASE.fullmatch(text) is not None and is_range(text, Dialect.NPM)
 
 
 @dataclass(eq=False)
@@ -56,45 +48,69 @@ class Rule:
     key: str = ""
     inner: List["Rule"] = field(default_factory=list)
 
-    @cached_property
-    def by_release(self) -> Dict[Tuple[str, str], List[Tuple[int, "Rule"]]]:
-        """The rules inside by their names, and by their ranges if these are releases, of which a
-        file may have thousands; each with its number in their order."""
-        found: Dict[Tuple[str, str], List[Tuple[int, Rule]]] = {}
-        for numbered in enumerate(self.inner):
-            within = numbered[1].within
-            key = (numbered[1].name, within if is_release(within) else "")
-            found.setdefault(key, []).append(numbered)
-        return found
+    chosen: Dict[Tuple[str, str], "Rule"] = field(default_factory=dict)
+    """The rules that were chosen for what a package with this one asks for."""
 
     @cached_property
-    def by_name(self) -> Dict[str, List["Rule"]]:
+    def by_name(self) -> Dict[str, "RulesOfName"]:
         """The rules inside by their names."""
         found: Dict[str, List[Rule]] = {}
         for rule in self.inner:
             found.setdefault(rule.name, []).append(rule)
-        return found
+        return {name: RulesOfName(rules) for name, rules in found.items()}
 
-    def inside(self, name: str, wanted: str) -> List["Rule"]:
-        """The rules inside of a name that may be for what is asked for, in their order."""
-        if not is_release(wanted):
-            return self.by_name.get(name, [])
-        of_others = self.by_release.get((name, ""), [])
-        numbered = sorted([*of_others, *self.by_release.get((name, wanted), [])])
-        return [rule for _, rule in numbered]
+    @cached_property
+    def alone(self) -> "RulesOfName":
+        """This rule, as the only one."""
+        return RulesOfName([self])
 
-    def of_name(self, name: str, wanted: str = "") -> Iterator["Rule"]:
+    def around(self) -> Iterator["Rule"]:
+        """This rule and those round it, the innermost first."""
+        at: Optional[Rule] = self
+        while at is not None:
+            yield at
+            at = at.outer
+
+    def of_name(self, name: str) -> Iterator["Rule"]:
         """The rules of a name that are for what a package with this one asks for, the innermost
         first. Of one key the innermost counts."""
         seen: Set[str] = set()
-        at: Optional[Rule] = self
-        while at is not None:
-            own = [at] if at.name == name else []
-            for rule in [*at.inside(name, wanted), *own]:
+        for at in self.around():
+            inside = at.by_name[name].rules if name in at.by_name else []
+            for rule in [*inside, at] if at.name == name else inside:
                 if rule.key not in seen:
                     seen.add(rule.key)
                     yield rule
-            at = at.outer
+
+
+class RulesOfName:
+    """The rules of a name inside another one, in their order, of which a file may have thousands."""
+
+    def __init__(self, rules: List[Rule]) -> None:
+        self.rules = rules
+        self.of_any = next((number for number, it in enumerate(rules) if it.within == ANY), None)
+
+    @cached_property
+    def overlaps(self) -> Overlaps:
+        """The ranges of those before the first that is for any version, since none after it is the
+        first."""
+        texts = [it.within for it in self.rules[: self.of_any]]
+        return Overlaps([Range(it, dialect=Dialect.NPM, pre_releases="included") for it in texts])
+
+    def first(self, spec: str) -> Optional[Rule]:
+        """The first that is for what is asked for: with a range it is if both have versions in
+        common. Of what has no range that can't be told, and git without one is for none."""
+        number = self.of_any
+        if not is_git_without_range(spec):
+            wanted = range_in(range_of(spec), Dialect.NPM, "included")
+            found = 0 if wanted is None else self.overlaps.first(wanted)
+            number = number if found is None else found
+        return None if number is None else self.rules[number]
+
+
+def is_git_without_range(spec: str) -> bool:
+    """Whether a repository is asked for, and no range of its versions."""
+    return git_range_of(spec) is None and alias_of(spec) is None and reason_of(spec) == "git"
 
 
 # ---- what package.json has
@@ -150,18 +166,16 @@ def replacement(spec: str, manifest: Entry) -> Optional[str]:
 
 def rule_for(here: Rule, name: str, spec: str) -> Rule:
     """The rule for what a package with a rule asks for, and that one if there is no other."""
-    rules = here.of_name(name, range_of(spec))
-    return next((rule for rule in rules if is_concerned(rule, spec)), here)
+    if (name, spec) not in here.chosen:
+        rules = (first_at(at, name, spec) for at in here.around())
+        here.chosen[name, spec] = next((it for it in rules if it is not None), here)
+    return here.chosen[name, spec]
 
 
-def is_concerned(rule: Rule, spec: str) -> bool:
-    """Whether a rule of the name is for what is asked for: with a range it is if both have versions
-    in common. Of what has no range that can't be told, and git without one is for none."""
-    if rule.within == ANY:
-        return True
-    if git_range_of(spec) is None and alias_of(spec) is None and reason_of(spec) == "git":
-        return False
-    return may_overlap(range_of(spec), rule.within, "included")
+def first_at(rule: Rule, name: str, spec: str) -> Optional[Rule]:
+    """The first rule inside another one that is for what is asked for, or that one if it is."""
+    found = rule.by_name[name].first(spec) if name in rule.by_name else None
+    return rule.alone.first(spec) if found is None and rule.name == name else found
 
 
 def rule_within(here: Rule, name: str, version: str) -> Rule:
@@ -178,15 +192,6 @@ def put_in_place(rule: Optional[Rule], ask: Ask) -> str:
     if rule is None or rule.name != ask.name or rule.spec is None:
         return ask.spec
     return rule.spec
-
-
-def refused(asks: List[Ask], outermost: Rule) -> Iterator[Tuple[Ask, str]]:
-    """What the project itself asks for, where an override would put something else in its place:
-    npm refuses that, also if a version satisfies both."""
-    for ask in asks:
-        spec = put_in_place(rule_for(outermost, ask.name, ask.spec), ask)
-        if spec != ask.spec:
-            yield ask, spec
 
 
 # ---- the rules of packages
@@ -261,17 +266,31 @@ def names_in(rule: Rule) -> Set[str]:
     return {it.name for it in rule.inner}.union(*(names_in(it) for it in rule.inner))
 
 
-def put_overrides(
+def reading_of(
     packages: Packages, found: Dict[str, Package], asks: Dict[str, List[Ask]], outermost: Rule
-) -> None:
-    """Puts overrides in place of what packages ask for, but for the project itself, and for what
-    was put where it is by another package. npm reads links after all packages."""
+) -> Reading:
+    """What npm has read of a lock file, if there are overrides. It reads links after all packages."""
     reading = Reading(found, outermost)
-    pinned = pinned_in(packages) if outermost.inner else set()
     for is_link in (False, True) if outermost.inner else ():
         for place, entry in packages.items():
             if bool(entry.get("link")) == is_link:
                 reading.add(place, asks[place])
+    return reading
+
+
+def refused(reading: Reading) -> Iterator[Tuple[Ask, str]]:
+    """What the project itself asks for, where an override puts something else in its place: npm
+    refuses that, also if a version satisfies both."""
+    for edge in (it for edges in reading.edges.values() for it in edges):
+        spec = put_in_place(edge.rule, edge.ask)
+        if not edge.ask.place and spec != edge.ask.spec:
+            yield edge.ask, spec
+
+
+def put_overrides(packages: Packages, asks: Dict[str, List[Ask]], reading: Reading) -> None:
+    """Puts overrides in place of what packages ask for, but for the project itself, and for what
+    was put where it is by another package."""
+    pinned = pinned_in(packages) if reading.read else set()
     replaced: Dict[str, Dict[str, str]] = {}
     for edge in (it for name in reading.named for it in reading.edges.get(name, ())):
         ask, spec = edge.ask, put_in_place(edge.rule, edge.ask)

@@ -3,13 +3,14 @@
 npm looks for a place for a peer in the folders round who requires it, beginning with the first
 whose package has no such peer itself. No other version has a place there if that package needs the
 one that is there, or brings along who has that for a peer. Then npm only warns, unless the project
-or a workspace brought along who requires the peer.
+or a workspace requires the peer, or brought along who does. To npm nobody brought along a linked
+directory that is no workspace.
 """
 
 from functools import cached_property
 from typing import Callable, Dict, Iterable, Iterator, List, Set
 
-from .lock import PEERS, Ask, folder_round, folders, inside, is_top
+from .lock import PEERS, Ask, folders, inside, is_top
 from .specs import is_elsewhere, is_no_range, may_overlap, range_of
 
 
@@ -41,16 +42,18 @@ class Peers:
     def is_left(self, ask: Ask) -> bool:
         """Whether npm leaves a peer that doesn't fit as it is: no version is for that and for
         others that need what is there."""
-        if ask.kind != PEERS or ask.found is None or is_top(ask.place) or is_elsewhere(ask.wanted):
+        if ask.kind != PEERS or ask.found is None or ask.place in self.tops:
             return False
-        others = self.others(self.first_folder(ask), ask, ask.found.place)
+        if is_elsewhere(ask.wanted):
+            return False
+        others = self.others(self.first_folder(ask.place, ask.name), ask, ask.found.place)
         is_needed = any(is_apart(it.wanted, ask.wanted) for it in others)
-        return is_needed and not self.is_of_project(ask.place)
+        return is_needed and (is_top(ask.place) or not self.is_of_project(ask.place))
 
-    def first_folder(self, ask: Ask) -> str:
-        """The first folder round who asks for a peer whose package has no such peer itself."""
-        around = (it for it in folders(folder_round(ask.place)) if it in self.asks)
-        return next((it for it in around if not it or not self.has_peer(it, ask.name)), "")
+    def first_folder(self, place: str, name: str) -> str:
+        """The first of a place and the folders round it whose package has no peer of a name."""
+        around = (it for it in folders(place) if it in self.asks)
+        return next((it for it in around if not it or not self.has_peer(it, name)), "")
 
     def has_peer(self, place: str, name: str) -> bool:
         """Whether a package has a peer of a name."""
@@ -66,7 +69,7 @@ class Peers:
         peer of these itself."""
         for each in self.having(place):
             for ask in self.fitting(each):
-                if ask.kind != PEERS or ask.place in self.tops:
+                if ask.kind != PEERS or is_top(ask.place):
                     yield ask
 
     def having(self, place: str) -> Set[str]:
@@ -87,7 +90,8 @@ class Peers:
         into = self.fitting(there)
         if there != inside(folder, peer.name):
             return [it for it in into if folder in folders(it.place)]
-        own = [it.found for it in self.entries(there) if it.place == folder]
+        entries = self.entries(there)
+        own = [it.found for it in entries if self.first_folder(it.place, it.name) == folder]
         return [it for it in into if peer.found in own or it.kind == PEERS] if own else []
 
 

@@ -45,7 +45,7 @@ from .lock import (
     within,
     without_optional,
 )
-from .overrides import Rule, put_overrides, refused, rules_of
+from .overrides import Rule, put_overrides, reading_of, refused, rules_of
 from .leaving import Leaving
 from .peers import Peers
 from .settings import STRICT_PEERS, is_set
@@ -266,7 +266,8 @@ def findings(lock: Entry, project: Project, tally: Tally) -> Iterator[Finding]:
     if is_of_what_is_there(lock):
         asks = {place: without_optional(each) for place, each in asks.items()}
     yield from of_project(packages, found, workspaces, is_old)
-    for ask, override in refused(asks.get("", []), project.rules):
+    reading = reading_of(packages, found, asks, project.rules)
+    for ask, override in refused(reading):
         yield of_conflict(ask, override, is_old)
     checked = [it for it in packages if not is_left_out(packages[it], project.scope)]
     if project.manifest is not None:
@@ -274,7 +275,7 @@ def findings(lock: Entry, project: Project, tally: Tally) -> Iterator[Finding]:
         checked = [it for it in checked if it in there]
     tally.from_lock = len(from_lock.intersection(checked))
     tally.packages += sum(not is_top(it) and not packages[it].get("link") for it in checked)
-    put_overrides(packages, found, asks, project.rules)
+    put_overrides(packages, asks, reading)
     is_strict = is_set(project.folder, STRICT_PEERS)
     peers = None if is_strict else Peers(asks, fits, workspaces.values())
     leaving = Leaving(packages, peers)

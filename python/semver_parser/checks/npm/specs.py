@@ -3,7 +3,7 @@
 import posixpath
 import re
 from functools import lru_cache
-from typing import List, Literal, NamedTuple, Optional, Tuple
+from typing import List, NamedTuple, Optional, Tuple
 from urllib.parse import unquote
 
 from semver_parser import Dialect
@@ -129,12 +129,10 @@ def reason_of(spec: str) -> str:
 
 
 @lru_cache(maxsize=None)
-def may_overlap(
-    spec: str, within: str, pre_releases: Literal["default", "included"] = "default"
-) -> bool:
+def may_overlap(spec: str, within: str) -> bool:
     """Whether two ranges have a version in common, or may have one, since one of them isn't
     read."""
-    one, other = (range_in(it, Dialect.NPM, pre_releases) for it in (spec, within))
+    one, other = (range_in(it, Dialect.NPM) for it in (spec, within))
     return one is None or other is None or not one.isdisjoint(other)
 
 

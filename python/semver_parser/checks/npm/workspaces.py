@@ -1,15 +1,11 @@
 """The workspaces of a project of npm: the directories that patterns of its package.json match."""
 
-import os
 import re
 from functools import lru_cache
-from typing import Dict, Iterable, Iterator, List, NamedTuple, Tuple
+from typing import Dict, Iterable, List, NamedTuple, Tuple
 
 from ..files import Entry, WrongShape, list_at, text_at
-from .patterns import alternatives, expression
-
-MODULES = "node_modules"
-MAGIC = re.compile(r"[*?\[(]")
+from ..patterns import MODULES, alternatives, expression, places_at
 
 
 class Patterns(NamedTuple):
@@ -45,11 +41,22 @@ def is_matched(pattern: str, place: str) -> bool:
 
 
 def is_workspace(patterns: Patterns, place: str) -> bool:
-    """Whether patterns have a place for a workspace."""
-    if MODULES in place.split("/") or not any(is_matched(it, place) for it in patterns.taken):
+    """Whether patterns have a place of a lock file for a workspace."""
+    if MODULES in place.split("/") or is_left_out(patterns, place):
         return False
+    return any(is_matched(it, place) for it in patterns.taken)
+
+
+def is_left_out(patterns: Patterns, place: str) -> bool:
+    """Whether patterns leave out a place."""
     texts = (place, f"{place}/")
-    return not any(is_matched(it, text) for it in patterns.left_out for text in texts)
+    return any(is_matched(it, text) for it in patterns.left_out for text in texts)
+
+
+def places_in(patterns: Patterns, folder: str) -> List[str]:
+    """The directories below a folder that patterns have for workspaces, in order."""
+    found = {place for it in patterns.taken for place in places_at(it, folder)}
+    return [place for place in sorted(found) if not is_left_out(patterns, place)]
 
 
 def by_name(manifests: Iterable[Tuple[str, Entry]]) -> Dict[str, str]:
@@ -66,48 +73,3 @@ def name_by_directory(place: str) -> str:
     """The name that a directory gives a package without one."""
     *_, above, last = ["", *place.split("/")]
     return f"{above}/{last}" if above.startswith("@") else last
-
-
-# ---- the directories
-
-
-def places_in(patterns: Patterns, folder: str) -> List[str]:
-    """The directories below a folder that patterns have for workspaces, in order."""
-    parts = {parts_of(each) for it in patterns.taken for each in alternatives(it)}
-    found = {place for each in parts for place in walked(folder, "", each)}
-    return [place for place in sorted(found) if is_workspace(patterns, place)]
-
-
-def parts_of(pattern: str) -> Tuple[str, ...]:
-    """The parts of a pattern, each `**` once where several follow each other."""
-    parts = pattern.split("/")
-    return tuple(it for it, after in zip(parts, [*parts[1:], ""]) if it != "**" or after != "**")
-
-
-def walked(folder: str, place: str, parts: Tuple[str, ...]) -> Iterator[str]:
-    """The directories at or below a place that the parts of a pattern lead to."""
-    if not parts:
-        yield place
-        return
-    first, rest = parts[0], parts[1:]
-    if first == "**":
-        yield from walked(folder, place, rest)
-    names = names_in(os.path.join(folder, place), first)
-    for name in names:
-        inner = f"{place}/{name}" if place else name
-        yield from walked(folder, inner, parts if first == "**" else rest)
-
-
-def names_in(folder: str, part: str) -> List[str]:
-    """The names of the directories in a folder that a part of a pattern matches. `**` follows no
-    links."""
-    if not MAGIC.search(part):
-        return [part] if os.path.isdir(os.path.join(folder, part)) else []
-    is_deep = part == "**"
-    matches = expression("*" if is_deep else part).fullmatch
-    try:
-        with os.scandir(folder) as entries:
-            found = [it.name for it in entries if it.is_dir(follow_symlinks=not is_deep)]
-    except OSError:
-        return []
-    return [name for name in found if name != MODULES and matches(name)]

@@ -12,7 +12,7 @@ address has its version at its package, and a workspace in its package.json.
 import os
 import re
 from fnmatch import translate
-from typing import Callable, Dict, Iterator, List, NamedTuple, Optional, Tuple
+from typing import Callable, Dict, Iterator, NamedTuple, Optional, Tuple
 
 from semver_parser import Dialect
 
@@ -41,6 +41,9 @@ KINDS = (USUAL, FOR_DEVELOPMENT, OPTIONAL, "configDependencies", "packageManager
 
 Packages = Dict[str, Entry]
 Reader = Callable[[str], Optional[Entry]]
+
+Catalogs = Dict[Tuple[str, str], str]
+"""What catalogs ask for, by these and the names there."""
 
 class Found(NamedTuple):
     """What is found: its name, where it isn't the one that is asked for, and its version, where the
@@ -184,13 +187,12 @@ def asks_of_catalogs(lock: Entry, packages: Packages) -> Iterator[Ask]:
             yield Ask(f"{CATALOG}{catalog}", name, spec, Found(named, version), True, at)
 
 
-def by_catalog(ask: Ask, catalogs: List[Ask]) -> Ask:
+def by_catalog(ask: Ask, catalogs: Catalogs) -> Ask:
     """What is asked for, with the range of the catalog that it is taken from."""
     if not ask.spec.startswith(CATALOG):
         return ask
     asker = f"{CATALOG}{ask.spec[len(CATALOG) :] or 'default'}"
-    specs = (it.spec for it in catalogs if (it.asker, it.name) == (asker, ask.name))
-    return ask._replace(spec=next(specs, ask.spec))
+    return ask._replace(spec=catalogs.get((asker, ask.name), ask.spec))
 
 
 def packages_of(lock: Entry, packages: Packages) -> Iterator[Tuple[str, Entry, Entry]]:

@@ -32,6 +32,7 @@ from ..npm.specs import (
 from . import settings
 from .asks import (
     Ask,
+    Catalogs,
     Importer,
     Packages,
     asks_of_catalogs,
@@ -187,7 +188,7 @@ def graph_of(lock: Entry, packages: Packages) -> Graph:
 
 
 def of_importer(
-    asks: Iterator[Ask], catalogs: List[Ask], overrides: Dict[str, List[Override]], tally: Tally
+    asks: Iterator[Ask], catalogs: Catalogs, overrides: Dict[str, List[Override]], tally: Tally
 ) -> Iterator[Finding]:
     """What there is to say of what the project or a workspace asks for: of a version, and if that
     is right, of what the file was written for."""
@@ -266,11 +267,12 @@ def findings(lock: Entry, top: Optional[str], tally: Tally, scope: Scope) -> Ite
     check_version(lock)
     entries, read = entries_of(lock), reader_of(top)
     packages = entries.packages
-    overrides, catalogs = overrides_of(lock), list(asks_of_catalogs(lock, packages))
+    overrides, asks_by_catalogs = overrides_of(lock), list(asks_of_catalogs(lock, packages))
+    catalogs = {(it.asker, it.name): it.spec for it in asks_by_catalogs}
     tally.packages += len(packages)
     if folders_of(top) is not None:
         yield from settings.findings(lock, settings.settings_of(top or "", read(TOP) or {}))
-    for ask in catalogs:
+    for ask in asks_by_catalogs:
         yield from of_ask(ask, overrides, tally)
     tally.graph = lambda: graph_of(lock, packages)
     importers = list(importers_for(lock, top, read))

@@ -1,0 +1,30 @@
+"""Which of many ranges, in an order, is the first that has versions in common with another one."""
+
+from itertools import zip_longest
+from typing import List, Optional
+
+from semver_parser import Range
+
+
+class Overlaps:
+    """Ranges in their order, then what each two of them contain together, then each two of these,
+    up to what all contain. So one is found by few comparisons, however many there are."""
+
+    def __init__(self, ranges: List[Range]) -> None:
+        self.levels = [ranges]
+        while len(self.levels[-1]) > 1:
+            last = self.levels[-1]
+            pairs = zip_longest(last[::2], last[1::2])
+            self.levels.append([one if other is None else one | other for one, other in pairs])
+
+    def first(self, wanted: Range) -> Optional[int]:
+        """The number of the first one that has versions in common with a range."""
+        top = self.levels[-1]
+        if not top or top[0].isdisjoint(wanted):
+            return None
+        number = 0
+        for level in reversed(self.levels[:-1]):
+            number *= 2
+            if level[number].isdisjoint(wanted):
+                number += 1
+        return number
