@@ -321,14 +321,27 @@ where_root_may_not_build() {
     refuses "make: the Rust crate isn't built, and $root" make install PREFIX="$work/one"
 }
 
+# Without the kit ./semver-parser is what cargo builds, and says so.
+where_no_kit_is() {
+    rm "$work/bin/rt"
+    building="mkdir -p out/cargo/release && printf '#!/bin/sh\necho \"<\$1>\"\nexit 7\n' > out/cargo/release/semver-parser
+chmod +x out/cargo/release/semver-parser"
+    stub cargo "cd '$small' && $building"
+    mkdir "$work/tools"
+    for tool in sh dirname readlink id find sed tr date nproc uname make env mktemp rm mkdir chmod; do
+        ln -s "$(command -v "$tool")" "$work/tools/$tool"
+    done
+    [ "$(id -u)" != 0 ] || chown 0 "$small" "$checkout"
+    ends 7 env PATH="$work/bin:$work/tools" "$small/semver-parser" 'a b'
+    has '<a b>' stdout
+    has 'semver-parser: there is no command rt, so nothing is proved, and cargo builds it' stderr
+}
+
 # Without cargo and without `rt` what isn't built is refused.
 where_no_tool_is() {
-    rm "$work/bin/rt" "$work/bin/cargo" "$work/bin/rustc"
-    mkdir "$work/tools"
-    for tool in sh dirname readlink id find sed tr date nproc uname make env mktemp rm; do ln -s "$(command -v "$tool")" "$work/tools/$tool"; done
-    [ "$(id -u)" != 0 ] || chown 0 "$small" "$checkout"
+    rm "$work/bin/cargo" "$work/bin/rustc"
     refuses "make: needs the command cargo, 1.79 or later (rustup, or from Debian 13 on: apt-get install cargo)" env PATH="$work/tools" make -s out/cargo/release/semver-parser
-    refuses "semver-parser: semver-parser isn't built, and cannot be: there is no command rt (README names the kit that has it)" \
+    refuses "semver-parser: semver-parser isn't built, and cannot be: there is no command rt (README names the kit that has it), and no cargo, which builds it unproved" \
         env PATH="$work/tools" "$small/semver-parser" 1.2.3
 }
 
@@ -345,5 +358,6 @@ when_it_proves
 when_a_proof_fails
 where_nothing_may_be_written
 where_root_may_not_build
+where_no_kit_is
 where_no_tool_is
 echo 'installed programs: passed'
