@@ -23,11 +23,11 @@
  * are as they were, and `error`, which may be null, says more; after OK it is as it was, too.
  * INVALID_ARGUMENT comes first, then the errors of the arguments from left to right. OUT_OF_MEMORY
  * comes only from a function that allocates: one that makes or prints something, combines ranges, or
- * fills `error` after another error, in place of that. The others don't allocate.
+ * fills `error` after another error, which it then replaces. The others don't allocate.
  *
  * THE CALLER MUST pass valid pointers, not null except where it is said, and not change what they
- * point to during a call. Threads may call concurrently, and read one range or list at once. Not in
- * the child of a fork of several threads, where POSIX doesn't allow malloc.
+ * point to during a call. Threads may call concurrently, and read one range or list at once. In the
+ * forked child of a process with several threads POSIX doesn't allow malloc, so no call either.
  *
  * COMPATIBILITY. A minor version may add functions, statuses, reasons, dialects and rules, and give
  * a meaning to reserved fields; a caller treats a number that it doesn't know as an unknown error.
