@@ -3,7 +3,7 @@
 modules aren't.
 
 A directory for each family of formats has what it reads: `npm`, `yarn`, `pnpm` and `cargo`. They
-share the files (`files`), the judgement of a version (`satisfaction`), what there is to say
+share the files (`files`), the check of a version (`satisfaction`), what there is to say
 (`findings`), the frame of a program (`program`), and how it starts (`entry_points`).
 
 `check_lock_file` has the options, and `checking` what is done by them: `discovery` finds lock

@@ -1,4 +1,4 @@
-"""How a version is judged by a range, or by the rules of versions. Each text is read once: a lock
+"""How a version is checked by a range, or by the rules of versions. Each text is read once: a lock
 file has most of them again and again."""
 
 from functools import lru_cache

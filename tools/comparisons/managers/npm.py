@@ -151,8 +151,8 @@ def picked_for(wanted: str, versions: List[str]) -> Optional[str]:
 
 
 def with_manifests(it: Case) -> Packages:
-    """The packages of a lock file with what their package.json files require: one of lockfileVersion
-    1 has no peers."""
+    """The packages of a lock file with what their package.json files require: one of
+    lockfileVersion 1 has no peers."""
     packages = packages_of(it.lock, it.world.manifests[""])
     for place, entry in packages.items():
         releases = it.world.releases.get(entry.get("name", name_by_place(place)), {})

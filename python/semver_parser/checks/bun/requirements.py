@@ -6,8 +6,8 @@ there, and else for what the file has of them, and each package.
 WHAT IS FOUND. The package of the name that is nearest to the path of what requires it, as for npm's
 directories, but by the names of packages.
 
-OVERRIDES AND CATALOGS. They are in the file. A requirement that an override is for is judged by
-that, if the version doesn't satisfy what is required. `catalog:` is judged by the range there.
+OVERRIDES AND CATALOGS. They are in the file. A requirement that an override is for is checked by
+that, if the version doesn't satisfy what is required. `catalog:` is checked by the range there.
 """
 
 import os

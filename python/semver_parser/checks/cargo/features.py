@@ -1,4 +1,4 @@
-"""Which optional dependencies the features of a package ask for, as Cargo's lock file has them."""
+"""Which optional dependencies the features of a package require, as Cargo's lock file has them."""
 
 from typing import Dict, List, Set
 
@@ -17,7 +17,7 @@ def features_of(manifest: Manifest) -> Dict[str, List[str]]:
 
 
 def checked(manifest: Manifest) -> Manifest:
-    """A manifest, whose features ask for others and for optional dependencies alone."""
+    """A manifest, whose features require others and for optional dependencies alone."""
     features = features_of(manifest)
     optional = {need.key for need in manifest.needs if need.is_optional}
     for feature, values in manifest.features.items():
@@ -30,8 +30,8 @@ def checked(manifest: Manifest) -> Manifest:
 
 
 def activated_by(manifest: Manifest, wanted: Set[str]) -> Dict[str, Set[str]]:
-    """The dependencies that features of a package ask for, and which features of these.
-    `NAME?/FEATURE` asks for the dependency, too: in the lock file it is there."""
+    """The dependencies that features of a package require, and which features of these.
+    `NAME?/FEATURE` requires the dependency, too: in the lock file it is there."""
     features = features_of(manifest)
     optional = {need.key for need in manifest.needs if need.is_optional}
     found: Dict[str, Set[str]] = {}

@@ -1,12 +1,12 @@
 """The findings of a `Cargo.lock` beside its manifests: whether Cargo would leave it as it is.
 
-WHO ASKS. The members of the workspace, and the packages that they have by paths, whose `Cargo.toml`
-files are there. What the other packages ask for isn't in such a file: `cargo metadata
+WHO REQUIRES. The members of the workspace, and the packages that they have by paths, whose
+`Cargo.toml` files are there. What the other packages require isn't in such a file: `cargo metadata
 --format-version 1` writes it.
 
 WHAT IS FOUND. Of the packages that the lock file has for a package the first that is what is asked
 for: by its name, its version, and its source or a patch of that. What is there for nothing that is
-asked for is listed, and so is each package to which nothing leads.
+required is listed, and so is each package to which nothing leads.
 """
 
 from typing import Iterator, List, Optional
@@ -49,7 +49,7 @@ def of_versions(resolution: Resolution) -> Iterator[Finding]:
 
 
 def of_need(need: Need, package: Package, resolution: Resolution) -> Iterator[Finding]:
-    """What there is to say of what a package asks for, for which nothing is there."""
+    """What there is to say of what a package requires, for which nothing is there."""
     finding = required(package, Kind.MISSING, need.name)
     finding = finding._replace(range=need.requirement, alias=need.other_name or "")
     others = [it for it in candidates(need, package, resolution) if not it.is_gone]
@@ -131,7 +131,7 @@ def findings(
     lock: Entry, folder: Optional[str], tally: Tally, scope: Scope
 ) -> Iterator[Finding]:
     """What there is to say of a lock file beside the manifests of a folder: first of its versions,
-    then of what each package asks for whose manifest is there, of the patches, and of what the
+    then of what each package requires whose manifest is there, of the patches, and of what the
     other packages depend on. If all of that is right, a package to which nothing leads is
     wrong."""
     if folder is None:

@@ -1,4 +1,4 @@
-"""What a Cargo.toml asks for: a package, and what a workspace has for its members."""
+"""What a Cargo.toml requires: a package, and what a workspace has for its members."""
 
 import os
 from typing import Any, Dict, Iterator, List, NamedTuple, Optional, Tuple
@@ -19,7 +19,7 @@ NO_VERSION = "0.0.0"
 
 
 class Need(NamedTuple):
-    """What a manifest asks for: the name of the package, the name that it is given, if another, the
+    """What a manifest requires: the name of the package, the name that it is given, if another, the
     requirement, whether that is of a registry or of a path or git alone, the table that it is in,
     where the package is to be taken from, as stated and as it is, whether it is optional, and which
     features it is to have."""
@@ -46,7 +46,7 @@ class Need(NamedTuple):
 
 
 class Manifest(NamedTuple):
-    """The directory, the name and the version of a package, what it asks for, and its features.
+    """The directory, the name and the version of a package, what it requires, and its features.
     Without a name it is that of a workspace alone."""
 
     folder: str
@@ -179,7 +179,7 @@ def read(path: str) -> Entry:
 
 
 def by_table(entry: Entry) -> Dict[Tuple[str, str], Need]:
-    """What a manifest asks for, by table and key; of a workspace what it has for its members, too,
+    """What a manifest requires, by table and key; of a workspace what it has for its members, too,
     and what replaces packages. What it takes from another file has no requirement here. A file
     without any table of a manifest is none."""
     package_of(entry)

@@ -1,11 +1,11 @@
 """The findings of what `cargo metadata --format-version 1` writes: a graph that Cargo resolved, and
-the manifests that ask for it. A Cargo.lock has the graph alone.
+the manifests that require it. A Cargo.lock has the graph alone.
 
-WHO ASKS. Each package asks for the `dependencies` of its manifest.
+WHO REQUIRES. Each package requires the `dependencies` of its manifest.
 
 WHAT IS FOUND. The edges of the package in the graph: those to a package of that name, for the same
 kind of dependency and the same target, and under the same other name where it has one. A path or a
-git repository without a version is asked for as `*`, and lets each version in.
+git repository without a version is required as `*`, and lets each version in.
 
 WHAT HAS TO BE THERE. An edge has to be there for each dependency, but for
 
@@ -27,7 +27,7 @@ DependencyKind = Tuple[Optional[str], Optional[str]]
 
 
 class Need(NamedTuple):
-    """What a manifest asks for, and the other name that it gives to that, if any."""
+    """What a manifest requires, and the other name that it gives to that, if any."""
 
     name: str
     other_name: Optional[str]
@@ -47,7 +47,7 @@ class Edge(NamedTuple):
 
 
 class Package(NamedTuple):
-    """A package, what it asks for, what it was given, and what its active features ask for."""
+    """A package, what it requires, what it was given, and what its active features require."""
 
     name: str
     version: str
@@ -66,7 +66,7 @@ def optional_text_at(value: Any, where: str) -> Optional[str]:
 
 
 def kind_at(value: Entry, where: str) -> DependencyKind:
-    """The kind and the target of what is asked for or given."""
+    """The kind and the target of what is required or given."""
     kind = optional_text_at(value.get("kind"), f"{where}: kind")
     return kind, optional_text_at(value.get("target"), f"{where}: target")
 
@@ -153,7 +153,7 @@ def active_at(package: Entry, node: Entry, name: str) -> Set[str]:
     return active
 
 
-# ---- the judgement
+# ---- the check
 
 
 def crate_name(name: str) -> str:
@@ -162,7 +162,7 @@ def crate_name(name: str) -> str:
 
 
 def is_edge_for(edge: Edge, need: Need, package: Package) -> bool:
-    """Whether an edge of a package is for what it asks for. One to the package itself, which is for
+    """Whether an edge of a package is for what it requires. One to the package itself, which is for
     development, has its own name in the graph, whatever other name the manifest gives."""
     if edge.name != need.name or need.kind not in edge.kinds:
         return False
@@ -179,7 +179,7 @@ def is_edge_for(edge: Edge, need: Need, package: Package) -> bool:
 
 
 def has_to_be_there(need: Need, package: Package, targets: Set[Optional[str]]) -> bool:
-    """Whether the graph has to have an edge for what a package asks for, where these targets are
+    """Whether the graph has to have an edge for what a package requires, where these targets are
     active."""
     kind, target = need.kind
     is_active = not need.is_optional or (need.other_name or need.name) in package.active
@@ -196,7 +196,7 @@ def active_targets(packages: List[Package]) -> Set[Optional[str]]:
 
 
 def is_asked_for(version: str, need: Need) -> Optional[bool]:
-    """Whether a version is what is asked for; None if the requirement isn't read."""
+    """Whether a version is what is required; None if the requirement isn't read."""
     if need.requirement == "*" and not need.has_registry:
         return True
     return is_met(need.requirement, version, Dialect.CARGO)
@@ -208,7 +208,7 @@ def is_asked_for(version: str, need: Need) -> Optional[bool]:
 def of_need(
     package: Package, need: Need, is_required: bool, is_strict: bool, tally: Tally
 ) -> Iterator[Finding]:
-    """What there is to say of what a package asks for."""
+    """What there is to say of what a package requires."""
     finding = Finding(Kind.MISSING, need.requirement, "", package.name, need.name)
     finding = finding._replace(alias=need.other_name or "", requirer_version=package.version)
     edges = [edge for edge in package.edges if is_edge_for(edge, need, package)]
@@ -230,7 +230,7 @@ def of_version(package: Package) -> Iterator[Finding]:
 
 
 def of_edges(package: Package) -> Iterator[Finding]:
-    """What there is to say of the edges of a package that nothing asks for."""
+    """What there is to say of the edges of a package that nothing requires."""
     for edge in package.edges:
         if not any(is_edge_for(edge, need, package) for need in package.needs):
             finding = Finding(Kind.NOT_REQUIRED, "", edge.version, package.name, edge.name)

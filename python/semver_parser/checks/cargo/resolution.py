@@ -1,4 +1,4 @@
-"""What Cargo would take from a Cargo.lock for what the manifests of a project ask for."""
+"""What Cargo would take from a Cargo.lock for what the manifests of a project require."""
 
 from typing import Dict, Iterator, List, NamedTuple, Optional, Set, Tuple
 
@@ -15,7 +15,7 @@ PackageKey = Tuple[str, str, str]
 
 
 class Match(NamedTuple):
-    """What a package asks for, what of the lock file that is, if anything, and whether it has to be
+    """What a package requires, what of the lock file that is, if anything, and whether it has to be
     there."""
 
     need: Need
@@ -25,7 +25,7 @@ class Match(NamedTuple):
 
 class Resolution:
     """A lock file beside its project: the packages to which something leads, the features that each
-    package at a path is asked to have, and which of these a package asks for whose manifest isn't
+    package at a path is asked to have, and which of these a package requires whose manifest isn't
     there."""
 
     def __init__(self, lock: Lock, project: Project) -> None:
@@ -81,16 +81,16 @@ class Resolution:
                     left.append(self.project.at(folder))
 
     def manifests(self) -> Iterator[Manifest]:
-        """The manifests of the members, and of the packages at paths that are asked for."""
+        """The manifests of the members, and of the packages at paths that are required."""
         yield from map(self.project.at, self.features)
         for folder in sorted(self.asked_by_others - set(self.features)):
             yield self.project.at(folder)
 
-    # ---- what is asked for
+    # ---- what is required
 
     def needs_of(self, manifest: Manifest) -> Iterator[Tuple[Need, bool]]:
-        """What a manifest may ask for, and whether it does. What is for development a member alone
-        asks for, and an optional dependency is there if a feature asks for it: which those may be
+        """What a manifest may require, and whether it does. What is for development a member alone
+        requires, and an optional dependency is there if a feature requires it: which those may be
         isn't known if a package asks whose manifest isn't there. A package at a path has to be
         there."""
         asked = activated_by(manifest, self.features.get(manifest.folder, set()))
@@ -105,7 +105,7 @@ class Resolution:
                 yield need, is_active
 
     def matches_of(self, manifest: Manifest) -> Iterator[Match]:
-        """What a manifest asks for, each with what of the lock file Cargo takes for it."""
+        """What a manifest requires, each with what of the lock file Cargo takes for it."""
         entry = self.entry_of(manifest)
         edges = [] if entry is None else self.edges_of(entry)
         by_name: Dict[str, List[Package]] = {}
@@ -122,14 +122,14 @@ class Resolution:
         return self.project.at(package.folder).version if package.folder else package.version
 
     def is_met(self, need: Need, package: Package) -> Optional[bool]:
-        """Whether a package has a version that is asked for; None if the requirement isn't read. A
+        """Whether a package has a version that is required; None if the requirement isn't read. A
         path or git without a requirement lets each version in."""
         if need.requirement == "*" and not need.has_registry:
             return True
         return is_met(need.requirement, self.version_of(package), Dialect.CARGO)
 
     def is_source(self, need: Need, package: Package) -> bool:
-        """Whether a package is from the source that is asked for, or from a patch of that."""
+        """Whether a package is from the source that is required, or from a patch of that."""
         return is_at(need.source, package) or any(
             is_patched(need.source, patch.source) and is_of_patch(patch, package)
             for patch in self.project.patches
@@ -137,7 +137,7 @@ class Resolution:
 
 
 def in_order(packages: List[Package]) -> List[Package]:
-    """Packages of one name in Cargo's order, by which the first that is asked for is taken."""
+    """Packages of one name in Cargo's order, by which the first that is required is taken."""
     if len(packages) < 2 or not all(is_version(it.version, Dialect.CARGO) for it in packages):
         return packages
     return sorted(packages, key=lambda it: Version.parse(it.version, dialect=Dialect.CARGO))

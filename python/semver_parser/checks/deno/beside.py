@@ -1,5 +1,6 @@
-"""What is beside a `deno.lock`: the deno.json and package.json files of the project and its members,
-for which the file was written. `deno install --frozen` refuses it if these list something else."""
+"""What is beside a `deno.lock`: the deno.json and package.json files of the project and its
+members, for which the file was written. `deno install --frozen` refuses it if these list something
+else."""
 
 import os
 from typing import Any, Iterator, List, NamedTuple, Optional, Set, Tuple

@@ -18,14 +18,14 @@ class Leaving:
         self.packages, self.peers, self.locked = packages, peers, locked_in(packages)
 
     def as_npm(self, finding: Finding, ask: Ask) -> Finding:
-        """A finding of what a package asks for, which may count by `--strict` alone."""
+        """A finding of what a package requires, which may count by `--strict` alone."""
         if finding.is_strict or finding.kind not in OF_REQUIREMENTS:
             return finding
         reason = self.reason(finding, ask)
         return finding if reason is None else finding._replace(is_strict=True, reason=reason)
 
     def reason(self, finding: Finding, ask: Ask) -> Optional[str]:
-        """Why npm leaves what a package asks for as it is, if it does."""
+        """Why npm leaves what a package requires as it is, if it does."""
         if is_outside(ask.place):
             return "outside"
         if self.is_brought_along(ask):
@@ -34,7 +34,7 @@ class Leaving:
         return "conflicting peer" if is_peer else None
 
     def is_brought_along(self, ask: Ask) -> bool:
-        """Whether a package brings along what it asks for, or what is there is from the lock file
+        """Whether a package brings along what it requires, or what is there is from the lock file
         of another package."""
         if is_top(ask.place):
             return False

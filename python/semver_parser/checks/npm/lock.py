@@ -1,4 +1,4 @@
-"""What a lock file of npm has: its packages, what each asks for, and what is found for that.
+"""What a lock file of npm has: its packages, what each requires, and what is found for that.
 
 Packages are told by their places, as in lockfileVersion 2 and 3: the folders from the project on,
 and nothing for the project itself.
@@ -36,7 +36,7 @@ class Package(NamedTuple):
 
 
 class Ask(NamedTuple):
-    """Who asks for what, of which kind, whether that has to be there, what is found, what else
+    """Who requires what, of which kind, whether that has to be there, what is found, what else
     would do, and what an override puts in place."""
 
     place: str
@@ -50,7 +50,7 @@ class Ask(NamedTuple):
 
     @property
     def wanted(self) -> str:
-        """What is asked for with the override."""
+        """What is required with the override."""
         return self.spec if self.override is None else self.override
 
 
@@ -115,7 +115,7 @@ def name_by_place(place: str) -> str:
 
 
 def packages_of(lock: Entry, manifest: Optional[Entry]) -> Packages:
-    """The packages of a lock file, in its order. What the project itself asks for is taken from its
+    """The packages of a lock file, in its order. What the project itself requires is taken from its
     package.json, where there is one, and else from the file: one of lockfileVersion 1 hasn't it."""
     version = lock.get("lockfileVersion")
     if version not in (1, 2, 3) or type(version) is not int:
@@ -243,13 +243,13 @@ def pinned_in(packages: Packages) -> Set[str]:
     }
 
 
-# ---- what is asked for
+# ---- what is required
 
 
 def asks_at(
     place: str, entry: Entry, found: Dict[str, Package], workspaces: Dict[str, str]
 ) -> Iterator[Ask]:
-    """What the package at a place asks for, in the order of the file, beside what is found at each
+    """What the package at a place requires, in the order of the file, beside what is found at each
     place, and the workspaces of the project, which it has under their names whatever else it asks
     for."""
     asked = [] if entry.get("link") else asked_at(place, entry)
@@ -301,7 +301,7 @@ def nearest(name: str, around: Tuple[str, ...], found: Dict[str, Package]) -> Op
 
 
 def asked_at(place: str, entry: Entry) -> List[Tuple[str, str, str]]:
-    """What the package at a place asks for: in which way, for which name, and for what."""
+    """What the package at a place requires: in which way, for which name, and for what."""
     where = place or "the project"
     named = ASKS_OF_TOPS if is_top(place) else ASKS_OF_EACH
     kinds = [kind for kind in named if kind in entry]
@@ -326,12 +326,12 @@ def is_of_what_is_there(lock: Entry) -> bool:
 
 
 def without_optional(asks: List[Ask]) -> List[Ask]:
-    """What a package asks for, of which what is optional doesn't have to be there."""
+    """What a package requires, of which what is optional doesn't have to be there."""
     return [it._replace(is_required=False) if it.kind == OPTIONAL else it for it in asks]
 
 
 def has_to_be_there(place: str, entry: Entry, kind: str, name: str) -> bool:
-    """Whether what a package asks for in a way has to be in the file. Of what is optional only that
+    """Whether what a package requires in a way has to be in the file. Of what is optional only that
     of the project, its workspaces and linked directories has to: npm adds that."""
     if is_outside(place):
         return False

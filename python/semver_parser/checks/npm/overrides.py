@@ -1,11 +1,11 @@
-"""The overrides of a project of npm, and which of them is for what is asked for.
+"""The overrides of a project of npm, and which of them is for what is required.
 
 A rule is a key of the overrides with what is there. It is for packages of its name, and of its
-range of versions, and what it has inside for all that these ask for, directly and through others.
+range of versions, and what it has inside for all that these require, directly and through others.
 Of one name the innermost goes first.
 
-Each package has one rule, whose inner ones and those round it are for what it asks for. As npm
-reads a lock file in its order, that is the rule of who asked for the package last, as far as these
+Each package has one rule, whose inner ones and those round it are for what it requires. As npm
+reads a lock file in its order, that is the rule of who required the package last, as far as these
 were read with one, or else it comes from the folder that the package is in. The project has the
 outermost rule; its workspaces and linked folders have none.
 """
@@ -38,7 +38,7 @@ ANY = "*"
 @dataclass(eq=False)
 class Rule:
     """An override: the name and the range of its key, what is there, what that puts in place of
-    what is asked for, if it does, the key, and the rule that it is in. The outermost has none."""
+    what is required, if it does, the key, and the rule that it is in. The outermost has none."""
 
     name: str = ""
     within: str = ANY
@@ -49,7 +49,7 @@ class Rule:
     inner: List["Rule"] = field(default_factory=list)
 
     chosen: Dict[Tuple[str, str], "Rule"] = field(default_factory=dict)
-    """The rules that were chosen for what a package with this one asks for."""
+    """The rules that were chosen for what a package with this one requires."""
 
     @cached_property
     def by_name(self) -> Dict[str, "RulesOfName"]:
@@ -72,7 +72,7 @@ class Rule:
             at = at.outer
 
     def of_name(self, name: str) -> Iterator["Rule"]:
-        """The rules of a name that are for what a package with this one asks for, the innermost
+        """The rules of a name that are for what a package with this one requires, the innermost
         first. Of one key the innermost counts."""
         seen: Set[str] = set()
         for at in self.around():
@@ -84,7 +84,8 @@ class Rule:
 
 
 class RulesOfName:
-    """The rules of a name inside another one, in their order, of which a file may have thousands."""
+    """The rules of a name inside another one, in their order, of which a file may have
+    thousands."""
 
     def __init__(self, rules: List[Rule]) -> None:
         self.rules = rules
@@ -98,7 +99,7 @@ class RulesOfName:
         return Overlaps([Range(it, dialect=Dialect.NPM, pre_releases="included") for it in texts])
 
     def first(self, spec: str) -> Optional[Rule]:
-        """The first that is for what is asked for: with a range it is if both have versions in
+        """The first that is for what is required: with a range it is if both have versions in
         common. Of what has no range that can't be told, and git without one is for none."""
         number = self.of_any
         if not is_git_without_range(spec):
@@ -109,7 +110,7 @@ class RulesOfName:
 
 
 def is_git_without_range(spec: str) -> bool:
-    """Whether a repository is asked for, and no range of its versions."""
+    """Whether a repository is required, and no range of its versions."""
     return git_range_of(spec) is None and alias_of(spec) is None and reason_of(spec) == "git"
 
 
@@ -149,8 +150,8 @@ def name_and_range(key: str, where: str) -> Tuple[str, str]:
 
 
 def replacement(spec: str, manifest: Entry) -> Optional[str]:
-    """What an override puts in place of what is asked for. `*` puts nothing there, as npm has it,
-    and `$NAME` what the project itself asks for of that name."""
+    """What an override puts in place of what is required. `*` puts nothing there, as npm has it,
+    and `$NAME` what the project itself requires of that name."""
     if not spec.startswith("$"):
         return None if spec == ANY else spec
     kinds = ("devDependencies", "optionalDependencies", "dependencies", "peerDependencies")
@@ -165,7 +166,7 @@ def replacement(spec: str, manifest: Entry) -> Optional[str]:
 
 
 def rule_for(here: Rule, name: str, spec: str) -> Rule:
-    """The rule for what a package with a rule asks for, and that one if there is no other."""
+    """The rule for what a package with a rule requires, and that one if there is no other."""
     if (name, spec) not in here.chosen:
         rules = (first_at(at, name, spec) for at in here.around())
         here.chosen[name, spec] = next((it for it in rules if it is not None), here)
@@ -173,7 +174,7 @@ def rule_for(here: Rule, name: str, spec: str) -> Rule:
 
 
 def first_at(rule: Rule, name: str, spec: str) -> Optional[Rule]:
-    """The first rule inside another one that is for what is asked for, or that one if it is."""
+    """The first rule inside another one that is for what is required, or that one if it is."""
     found = rule.by_name[name].first(spec) if name in rule.by_name else None
     return rule.alone.first(spec) if found is None and rule.name == name else found
 
@@ -188,7 +189,7 @@ def rule_within(here: Rule, name: str, version: str) -> Rule:
 
 
 def put_in_place(rule: Optional[Rule], ask: Ask) -> str:
-    """What is asked for, or what a rule puts in its place."""
+    """What is required, or what a rule puts in its place."""
     if rule is None or rule.name != ask.name or rule.spec is None:
         return ask.spec
     return rule.spec
@@ -199,7 +200,7 @@ def put_in_place(rule: Optional[Rule], ask: Ask) -> str:
 
 @dataclass(eq=False)
 class Edge:
-    """What a package asks for, the rule for that, if it has one, and the place that it leads to."""
+    """What a package requires, the rule for that, if it has one, and the place that it leads to."""
 
     ask: Ask
     rule: Optional[Rule] = None
@@ -208,7 +209,7 @@ class Edge:
 
 class Reading:
     """What npm has read of a lock file: the rule of each package, and the edges between packages by
-    the names of what is asked for."""
+    the names of what is required."""
 
     def __init__(self, found: Dict[str, Package], outermost: Rule) -> None:
         self.found, self.named = found, names_in(outermost)
@@ -269,7 +270,8 @@ def names_in(rule: Rule) -> Set[str]:
 def reading_of(
     packages: Packages, found: Dict[str, Package], asks: Dict[str, List[Ask]], outermost: Rule
 ) -> Reading:
-    """What npm has read of a lock file, if there are overrides. It reads links after all packages."""
+    """What npm has read of a lock file, if there are overrides. It reads links after all
+    packages."""
     reading = Reading(found, outermost)
     for is_link in (False, True) if outermost.inner else ():
         for place, entry in packages.items():
@@ -279,7 +281,7 @@ def reading_of(
 
 
 def refused(reading: Reading) -> Iterator[Tuple[Ask, str]]:
-    """What the project itself asks for, where an override puts something else in its place: npm
+    """What the project itself requires, where an override puts something else in its place: npm
     refuses that, also if a version satisfies both."""
     for edge in (it for edges in reading.edges.values() for it in edges):
         spec = put_in_place(edge.rule, edge.ask)
@@ -288,7 +290,7 @@ def refused(reading: Reading) -> Iterator[Tuple[Ask, str]]:
 
 
 def put_overrides(packages: Packages, asks: Dict[str, List[Ask]], reading: Reading) -> None:
-    """Puts overrides in place of what packages ask for, but for the project itself, and for what
+    """Puts overrides in place of what packages require, but for the project itself, and for what
     was put where it is by another package."""
     pinned = pinned_in(packages) if reading.read else set()
     replaced: Dict[str, Dict[str, str]] = {}

@@ -15,7 +15,7 @@ from .specs import is_elsewhere, is_no_range, may_overlap, range_of
 
 
 class Peers:
-    """What the packages of a lock file ask for, which of that fits, and who asks for each."""
+    """What the packages of a lock file require, which of that fits, and who requires each."""
 
     def __init__(
         self, asks: Dict[str, List[Ask]], fits: Callable[[Ask], bool], tops: Iterable[str]
@@ -96,7 +96,7 @@ class Peers:
 
 
 def is_apart(spec: str, other: str) -> bool:
-    """Whether no version is for both of what is asked for. One at a URL or a path is for that."""
+    """Whether no version is for both of what is required. One at a URL or a path is for that."""
     if is_elsewhere(spec):
         return True
     return not is_no_range(spec) and not may_overlap(range_of(spec), range_of(other))

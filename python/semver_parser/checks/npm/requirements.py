@@ -1,10 +1,11 @@
 """The findings of a lock file of npm, of lockfileVersion 1, 2 or 3.
 
-WHO ASKS. Each package asks for its `peerDependencies`, `dependencies` and `optionalDependencies`,
-and the project and its workspaces, which are below no `node_modules`, for their `devDependencies`
-too. Of one name in several of these npm keeps the last, in this order. In lockfileVersion 1 each
-package asks for what it `requires`. What the project, its workspaces and linked directories ask for
-is in their package.json, and in the lock file too from lockfileVersion 2 on, where it may be stale.
+WHO REQUIRES. Each package requires its `peerDependencies`, `dependencies` and
+`optionalDependencies`, and the project and its workspaces, which are below no `node_modules`, for
+their `devDependencies` too. Of one name in several of these npm keeps the last, in this order. In
+lockfileVersion 1 each package requires what it `requires`. What the project, its workspaces and
+linked directories require is in their package.json, and in the lock file too from lockfileVersion 2
+on, where it may be stale.
 
 WHAT IS FOUND. The nearest package of the name: in the package's own `node_modules`, or else in
 that of a folder round it. A peer is looked for from the folder round the package on; those of the
@@ -15,7 +16,7 @@ WHAT COUNTS. What nothing leads to from the project and its workspaces isn't loo
 leaves as it is counts by `--strict` alone.
 
 OVERRIDES. They aren't in a lock file, but in the project's package.json. What an override replaces
-is judged by what the override asks for.
+is checked by what the override requires.
 """
 
 from typing import Dict, Iterable, Iterator, List, NamedTuple, Optional, Set
@@ -60,8 +61,8 @@ from .specs import (
 )
 
 class Judgement(NamedTuple):
-    """How what is asked for was judged: by which text, whether that is an override, whether the
-    package has the name that it asks for, and which of the verdicts its version has."""
+    """How what is required was checked: by which text, whether that is an override, whether the
+    package has the name that it requires, and which of the verdicts its version has."""
 
     spec: str
     is_overridden: bool
@@ -79,11 +80,11 @@ class Project(NamedTuple):
     scope: Scope
 
 
-# ---- the judgement
+# ---- the check
 
 
 def judged_by(spec: str, is_overridden: bool, ask: Ask) -> Judgement:
-    """The judgement of what is found by a text."""
+    """The check of what is found by a text."""
     name = None if ask.found is None else ask.found.name
     is_named = name is None or has_name(name, spec)
     requirer = "" if is_overridden else ask.place
@@ -120,7 +121,7 @@ def is_plainly_met(ask: Ask) -> bool:
 
 
 def judged(ask: Ask) -> Judgement:
-    """The judgement of what is found."""
+    """The check of what is found."""
     return judged_by(ask.wanted, ask.override is not None, ask)
 
 
@@ -169,7 +170,7 @@ def of_ask(ask: Ask, judgement: Judgement, is_old: bool, tally: Tally) -> Iterat
 
 
 def of_conflict(ask: Ask, override: str, is_old: bool) -> Finding:
-    """What there is to say of an override of what the project itself asks for."""
+    """What there is to say of an override of what the project itself requires."""
     at = keys_of("", is_old)
     return Finding(Kind.CONFLICT, override, ask.spec, PROJECT, ask.name, at=at)
 
@@ -217,7 +218,7 @@ def rules_of_manifest(manifest: Entry) -> Rule:
 
 
 def graph_of(asks: Dict[str, List[Ask]]) -> Graph:
-    """The places that what each place asks for leads to. A workspace is where a path begins."""
+    """The places that what each place requires leads to. A workspace is where a path begins."""
     return {
         place or PROJECT: [
             it.found.place or PROJECT

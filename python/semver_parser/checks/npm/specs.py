@@ -1,4 +1,4 @@
-"""What npm, yarn and pnpm ask for: a range, or a tag, an address or a path."""
+"""What npm, yarn and pnpm require: a range, or a tag, an address or a path."""
 
 import posixpath
 import re
@@ -27,7 +27,7 @@ GIT_RANGE = re.compile(r"(?!file:|[./~])([^#]*[/:][^#]*)#(?:.*::)?semver:([^:]*)
 # The path of a directory, from where it is required.
 DIRECTORY = re.compile(r"(?:file:(?!/|~/)|(?=\.))(.*)", re.S)
 
-# What is asked for by the range of a catalog begins so, of which npm has none.
+# What is required by the range of a catalog begins so, of which npm has none.
 CATALOG = "catalog:"
 
 # Why what is no range isn't checked, by how it begins or ends; the first that fits.
@@ -45,7 +45,7 @@ REASONS = (
 
 
 class Override(NamedTuple):
-    """What is put in place of what is asked for: of which package's asks, and of which of these,
+    """What is put in place of what is required: of which package's asks, and of which of these,
     each empty if it is for all, and what is put there."""
 
     parent: str
@@ -68,7 +68,7 @@ def alias_of(spec: str) -> Optional[Tuple[str, str]]:
 
 
 def has_name(name: str, spec: str) -> bool:
-    """Whether a package has the name that is asked for, if that is an alias."""
+    """Whether a package has the name that is required, if that is an alias."""
     alias = alias_of(spec)
     return alias is None or alias[0] == name
 
@@ -88,18 +88,18 @@ def git_range_of(spec: str) -> Optional[Tuple[str, str]]:
 
 
 def range_of(spec: str) -> str:
-    """What comes in place of the range in what is asked for."""
+    """What comes in place of the range in what is required."""
     named = alias_of(spec) or (git_range_of(spec) if "#" in spec else None)
     return spec if named is None else named[1]
 
 
 def is_archive(spec: str) -> bool:
-    """Whether what is asked for is an archive at a URL."""
+    """Whether what is required is an archive at a URL."""
     return spec.startswith(("http:", "https:")) and spec.endswith((".tgz", ".tar", ".tar.gz"))
 
 
 def directory_at(spec: str, place: str) -> Optional[str]:
-    """The place of the directory that is asked for from another place; None if it is none, or if
+    """The place of the directory that is required from another place; None if it is none, or if
     its path begins at the root or at the user's home."""
     found = DIRECTORY.fullmatch(spec)
     if found is None or spec.endswith((".tgz", ".tar", ".tar.gz")):
@@ -109,12 +109,12 @@ def directory_at(spec: str, place: str) -> Optional[str]:
 
 
 def is_elsewhere(spec: str) -> bool:
-    """Whether npm takes what is asked for for an address or a path. An alias is none."""
+    """Whether npm takes what is required for an address or a path. An alias is none."""
     return alias_of(spec) is None and ELSEWHERE.match(spec) is not None
 
 
 def is_no_range(spec: str) -> bool:
-    """Whether npm takes what is asked for, which isn't read as a range, for something else: a tag,
+    """Whether npm takes what is required, which isn't read as a range, for something else: a tag,
     an address or a path. An alias has a range or a tag, and an address of git may have a range."""
     if git_range_of(spec) is not None:
         return False

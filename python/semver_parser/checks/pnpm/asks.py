@@ -1,10 +1,10 @@
-"""Who asks for what in a `pnpm-lock.yaml`, and what is found for that.
+"""Who requires what in a `pnpm-lock.yaml`, and what is found for that.
 
-WHO ASKS. The project and its workspaces (`importers`), for what they depend on directly, by their
-package.json files where these are there, the catalogs, from which importers take ranges, and each
-package for its peers. The other ranges of packages aren't in such a file.
+WHO REQUIRES. The project and its workspaces (`importers`), for what they depend on directly, by
+their package.json files where these are there, the catalogs, from which importers take ranges, and
+each package for its peers. The other ranges of packages aren't in such a file.
 
-WHAT IS FOUND. Of an importer and a catalog the version beside what it asks for, and of a peer the
+WHAT IS FOUND. Of an importer and a catalog the version beside what it requires, and of a peer the
 package of that name among the dependencies of the package, where pnpm puts it. What is at an
 address has its version at its package, and a workspace in its package.json.
 """
@@ -43,10 +43,10 @@ Packages = Dict[str, Entry]
 Reader = Callable[[str], Optional[Entry]]
 
 Catalogs = Dict[Tuple[str, str], str]
-"""What catalogs ask for, by these and the names there."""
+"""What catalogs require, by these and the names there."""
 
 class Found(NamedTuple):
-    """What is found: its name, where it isn't the one that is asked for, and its version, where the
+    """What is found: its name, where it isn't the one that is required, and its version, where the
     file has it."""
 
     name: Optional[str]
@@ -54,11 +54,12 @@ class Found(NamedTuple):
 
 
 class Ask(NamedTuple):
-    """Who asks for which name, for what, what is found, whether that has to be there, the keys in
-    the file that lead to it or to who asks, why it is listed only with `--strict` if it isn't
-    there, and the name and the version of the package that asks, if it is one that is called by
-    them. Packages ask for peers, and the project and its workspaces also for development. `locked`
-    is what the lock file has for what a package.json asks for, and `kinds` are those of both."""
+    """Who requires which name, for what, what is found, whether that has to be there, the keys in
+    the file that lead to it or to who requires it, why it is listed only with `--strict` if it
+    isn't there, and the name and the version of the package that has it, if it is one that is
+    called by them. Packages require peers, and the project and its workspaces also for development.
+    `locked` is what the lock file has for what a package.json requires, and `kinds` are those of
+    both."""
 
     asker: str
     name: str
@@ -100,7 +101,7 @@ def found_at_address(text: str, name: str, packages: Packages) -> Found:
     return Found(None, None)
 
 
-# ---- who asks
+# ---- who requires
 
 
 def importers_of(lock: Entry) -> Dict[str, Entry]:
@@ -118,7 +119,7 @@ def found_by_link(text: str, folder: str, read: Reader) -> Found:
 
 class Importer(NamedTuple):
     """The project or a workspace: its folder, the keys that lead to it, what the file has of it,
-    and what its package.json asks for, if that is there."""
+    and what its package.json requires, if that is there."""
 
     folder: str
     at: Keys
@@ -132,7 +133,7 @@ class Importer(NamedTuple):
 
 
 def locked_in(importer: Importer) -> Iterator[Tuple[str, str, str, str]]:
-    """What a file has of an importer: kinds, names, what was asked for, which is apart from these
+    """What a file has of an importer: kinds, names, what was required, which is apart from these
     in lockfileVersion 5, and what is found."""
     folder, fields = importer.folder, importer.fields
     specs = texts_at(fields.get("specifiers", {}), f"{folder}: specifiers")
@@ -148,7 +149,7 @@ def locked_in(importer: Importer) -> Iterator[Tuple[str, str, str, str]]:
 
 
 def asks_of_importer(importer: Importer, entries: Entries, read: Reader) -> Iterator[Ask]:
-    """What the project or a workspace asks for, by its package.json where that is there."""
+    """What the project or a workspace requires, by its package.json where that is there."""
     needs, at = dict(importer.needs or {}), importer.at
     for kind, name, locked, text in locked_in(importer):
         found = None
@@ -170,12 +171,12 @@ def asks_of_importer(importer: Importer, entries: Entries, read: Reader) -> Iter
 
 
 def kind_of(need: Need) -> str:
-    """The kind of what a package.json asks for."""
+    """The kind of what a package.json requires."""
     return OPTIONAL if need.is_optional else FOR_DEVELOPMENT if need.is_development else USUAL
 
 
 def asks_of_catalogs(lock: Entry, packages: Packages) -> Iterator[Ask]:
-    """What the catalogs ask for. The versions there are without the names of packages."""
+    """What the catalogs require. The versions there are without the names of packages."""
     for catalog, entries in objects_at(lock.get("catalogs") or {}, "catalogs").items():
         for name, entry in objects_at(entries, f"catalogs: {catalog}").items():
             where = f"catalogs: {catalog}: {name}"
@@ -188,7 +189,7 @@ def asks_of_catalogs(lock: Entry, packages: Packages) -> Iterator[Ask]:
 
 
 def by_catalog(ask: Ask, catalogs: Catalogs) -> Ask:
-    """What is asked for, with the range of the catalog that it is taken from."""
+    """What is required, with the range of the catalog that it is taken from."""
     if not ask.spec.startswith(CATALOG):
         return ask
     asker = f"{CATALOG}{ask.spec[len(CATALOG) :] or 'default'}"
@@ -214,7 +215,7 @@ def keys_of(key: str, packages: Packages) -> Keys:
 def asks_of_package(
     key: str, fields: Entry, depends: Entry, packages: Packages
 ) -> Iterator[Ask]:
-    """The peers that a package asks for."""
+    """The peers that a package requires."""
     called = called_by(key)
     asker = key if called is None else called[0]
     metas = objects_at(fields.get("peerDependenciesMeta", {}), f"{asker}: peerDependenciesMeta")
@@ -248,7 +249,7 @@ def importers_for(lock: Entry, top: Optional[str], read: Reader) -> Iterator[Imp
     those of the file."""
     locked, folders = importers_of(lock), folders_of(top)
     for folder in locked if folders is None else folders:
-        # With this sum there is a `.pnpmfile.cjs`, which may change what a package.json asks for.
+        # With this sum there is a `.pnpmfile.cjs`, which may change what a package.json requires.
         manifest = None if "pnpmfileChecksum" in lock else read(folder)
         at = ("importers", folder) if "importers" in lock else ()
         needs = None if manifest is None else dict(needs_in(manifest, lock))
@@ -256,7 +257,7 @@ def importers_for(lock: Entry, top: Optional[str], read: Reader) -> Iterator[Imp
 
 
 def needs_in(manifest: Entry, lock: Entry) -> Iterator[Tuple[str, Need]]:
-    """What a package.json asks for. With `autoInstallPeers` these are also its peers, and with
+    """What a package.json requires. With `autoInstallPeers` these are also its peers, and with
     `excludeLinksFromLockfile` no links. What the file has as ignored isn't there."""
     has_peers, has_no_links = (
         object_at(lock.get("settings") or {}, "settings").get(name) == "true"

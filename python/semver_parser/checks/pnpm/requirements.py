@@ -1,10 +1,10 @@
 """The findings of a `pnpm-lock.yaml`.
 
-BESIDE THE FILE. What package.json files ask for has to be what the file was written for, text by
+BESIDE THE FILE. What package.json files require has to be what the file was written for, text by
 text, and so have settings. Packages without an entry are missing.
 
-OVERRIDES. They are in the file. An ask that one of them is for is judged by what it puts there, if
-the version isn't what is asked for.
+OVERRIDES. They are in the file. A requirement that one of them is for is checked by what it puts
+there, if the version isn't what is required.
 """
 
 import json
@@ -51,7 +51,7 @@ from .entries import LINK, Entries, called_by, entries_of, without_entry
 from .projects import folders_of
 from .specs import of_jsr, of_workspace, parent_and_name, takes_peer
 
-# What an override has in place of what is asked for if that is removed.
+# What an override has in place of what is required if that is removed.
 REMOVED = "-"
 
 
@@ -89,8 +89,9 @@ def overrides_of(lock: Entry) -> Dict[str, List[Override]]:
 
 
 def is_for(override: Override, ask: Ask) -> bool:
-    """Whether an override of the name is for an ask: by the package that asks, and by the range
-    that is asked for. The project and its workspaces may have any name, as it isn't in the file."""
+    """Whether an override of the name is for a requirement: by the package that has it, and by the
+    range that is required. The project and its workspaces may have any name, as it isn't in the
+    file."""
     name, within = name_and_rest(override.parent)
     if name and ask.parent is not None:
         is_within = not within or is_met(within, ask.parent[1], Dialect.NPM) is not False
@@ -100,7 +101,7 @@ def is_for(override: Override, ask: Ask) -> bool:
 
 
 def wanted_of(ask: Ask, spec: str, version: str) -> str:
-    """What is asked for as npm has it, where this version is found, for which a peer's range may be
+    """What is required as npm has it, where this version is found, for which a peer's range may be
     by pnpm's own rule."""
     wanted = of_workspace(of_jsr(ask.name, spec), version)
     return version if ask.is_peer and takes_peer(wanted, version) else wanted
@@ -109,7 +110,7 @@ def wanted_of(ask: Ask, spec: str, version: str) -> str:
 def of_ask(
     ask: Ask, overrides: Dict[str, List[Override]], tally: Tally
 ) -> Iterator[Finding]:
-    """What there is to say of what is asked for."""
+    """What there is to say of what is required."""
     specs = [it.spec for it in overrides.get(ask.name, []) if is_for(it, ask)]
     replaced = [spec for spec in specs if spec != REMOVED]
     found = ask.found
@@ -151,7 +152,7 @@ def check_version(lock: Entry) -> None:
 
 
 def in_scope(asks: Iterator[Ask], scope: Scope, tally: Tally) -> Iterator[Ask]:
-    """What is asked for, but for what a scope leaves out."""
+    """What is required, but for what a scope leaves out."""
     for ask in asks:
         is_left_out = ask.is_peer and not scope.has_peers
         if is_left_out or (ask.is_development and not scope.has_development):
@@ -190,7 +191,7 @@ def graph_of(lock: Entry, packages: Packages) -> Graph:
 def of_importer(
     asks: Iterator[Ask], catalogs: Catalogs, overrides: Dict[str, List[Override]], tally: Tally
 ) -> Iterator[Finding]:
-    """What there is to say of what the project or a workspace asks for: of a version, and if that
+    """What there is to say of what the project or a workspace requires: of a version, and if that
     is right, of what the file was written for."""
     for ask in asks:
         is_gone = bool(ask.kinds[1]) and not ask.kinds[0]
@@ -206,7 +207,7 @@ def as_text(value: Any) -> str:
 
 
 def of_fields(importer: Importer, manifest: Entry) -> Iterator[Finding]:
-    """What there is to say of what a file has of a package.json beside what that asks for."""
+    """What there is to say of what a file has of a package.json beside what that requires."""
     published = object_at(manifest.get("publishConfig") or {}, "publishConfig")
     own = {
         "dependenciesMeta": as_text(manifest.get("dependenciesMeta")),

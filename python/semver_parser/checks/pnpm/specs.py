@@ -1,4 +1,4 @@
-"""What pnpm asks for, as npm has it: `jsr:`, `workspace:` and the ranges of peers."""
+"""What pnpm requires, as npm has it: `jsr:`, `workspace:` and the ranges of peers."""
 
 import re
 from typing import Tuple

@@ -36,7 +36,7 @@ def of_rust(entry: Entry, table: str) -> Iterator[Beside]:
 
 
 def of_features(table: str, values: Dict[str, Any]) -> Iterator[Beside]:
-    """The features that a table of dependencies asks for."""
+    """The features that a table of dependencies requires."""
     for name, value in values.items():
         for key in OF_FEATURES:
             if isinstance(value, dict) and key in value:

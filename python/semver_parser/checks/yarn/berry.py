@@ -1,10 +1,10 @@
 """The findings of a `yarn.lock` of yarn 2 and later.
 
-WHO ASKS. Each package asks for its `dependencies` and `optionalDependencies`, also a workspace, by
-its package.json, where that is there. A key that no package asks for the project does: by a
+WHO REQUIRES. Each package requires its `dependencies` and `optionalDependencies`, also a workspace,
+by its package.json, where that is there. A key that no package requires the project does: by a
 catalog, a resolution or a patch.
 
-WHAT IS FOUND. The package whose key has what is asked for, as `numbers@npm:^1.0.0`, and of which
+WHAT IS FOUND. The package whose key has what is required, as `numbers@npm:^1.0.0`, and of which
 the version in its `resolution` is installed. A resolution that has a key is found first.
 
 NOT IN THE FILE. Who provides a peer, the version of a workspace, and which key a catalog is for.
@@ -44,7 +44,7 @@ def folder_of(package: Package) -> str:
 
 
 def asks_of(package: Package, project: Project) -> Iterator[Ask]:
-    """What a package asks for: a workspace by its package.json, where that is there."""
+    """What a package requires: a workspace by its package.json, where that is there."""
     manifest = project.get(folder_of(package))
     by_manifest = needs_of_manifest(manifest or {}, KINDS_OF_BERRY)
     for need in needs_of(package) if manifest is None else by_manifest:
@@ -52,8 +52,8 @@ def asks_of(package: Package, project: Project) -> Iterator[Ask]:
 
 
 def asks_of_project(package: Package, used: Set[Optional[str]]) -> Iterator[Ask]:
-    """The keys of a package that no package asks for: the project does, by a catalog, a resolution
-    or a patch. A workspace's own key is asked for by none."""
+    """The keys of a package that no package requires: the project does, by a catalog, a resolution
+    or a patch. A workspace's own key is required by none."""
     for pattern in package.patterns:
         if bare(pattern) not in used:
             name, spec = name_and_rest(pattern)
@@ -62,7 +62,7 @@ def asks_of_project(package: Package, used: Set[Optional[str]]) -> Iterator[Ask]
 
 
 def edge_of(ask: Ask, by_key: ByKey, resolutions: Resolutions) -> Edge:
-    """What is found for what is asked for: that by a resolution that has a key first."""
+    """What is found for what is required: that by a resolution that has a key first."""
     resolved: List[str] = []
     if ask.package is not None and ask.name in resolutions:
         name, place = name_and_rest(ask.package.resolution)

@@ -1,12 +1,12 @@
 """The findings of a `yarn.lock` of yarn 1.
 
-WHO ASKS. The project and its workspaces, by their package.json files, and for each resolution the
-project, too; and each package that is found for something asks for its `dependencies` and
-`optionalDependencies`. What nobody asks for yarn doesn't look at. Without a package.json all
-packages count, and each key that none of them asks for the project does.
+WHO REQUIRES. The project and its workspaces, by their package.json files, and for each resolution
+the project, too; and each package that is found for something requires its `dependencies` and
+`optionalDependencies`. What nobody requires yarn doesn't look at. Without a package.json all
+packages count, and each key that none of them requires the project does.
 
-WHAT IS FOUND. The package whose key has what is asked for, as `numbers@^1.0.0`, and for a name that
-a resolution is for the package of its key, whatever is asked for. A workspace is found by its name
+WHAT IS FOUND. The package whose key has what is required, as `numbers@^1.0.0`, and for a name that
+a resolution is for the package of its key, whatever is required. A workspace is found by its name
 and version, without a key.
 """
 
@@ -46,30 +46,30 @@ class File:
         self.edges: Dict[str, List[Edge]] = {}
 
     def edge_of(self, ask: Ask) -> Optional[Edge]:
-        """What is found for what is asked for; None if a resolution decides, as it doesn't of what
-        the project itself asks for."""
+        """What is found for what is required; None if a resolution decides, as it doesn't of what
+        the project itself requires."""
         if ask.package is None and ask.folder == TOP:
             return self.own_edge_of(ask)
         edge = self.own_edge_of(ask)
         return edge if self.is_met(edge) or not self.resolved_for(ask) else None
 
     def own_edge_of(self, ask: Ask) -> Edge:
-        """What is found for what is asked for without resolutions."""
+        """What is found for what is required without resolutions."""
         return Edge(ask, ask.spec, {}, key_for(ask.name, ask.spec, self.by_key), False)
 
     def is_met(self, edge: Edge) -> bool:
-        """Whether what is found is what is asked for."""
+        """Whether what is found is what is required."""
         return edge.key is not None and verdict_on(self.by_key[edge.key].version, edge.spec) is None
 
     def resolved_for(self, ask: Ask) -> List[str]:
-        """What resolutions put in place of what is asked for."""
+        """What resolutions put in place of what is required."""
         if ask.name not in self.resolutions:
             return []
         names = [ask.asker] if ask.package is None else map(name_of, ask.package.patterns)
         return specs_for(self.resolutions, ask.name, ask.spec, names)
 
     def edges_of(self, package: Package) -> List[Edge]:
-        """What is found for what a package asks for."""
+        """What is found for what a package requires."""
         if package.key not in self.edges:
             asks = (Ask(package, need.name, need.spec) for need in needs_of(package))
             found = (self.edge_of(ask) for ask in asks)
@@ -89,11 +89,11 @@ class File:
         return [it for it in self.packages if it.key in found]
 
 
-# ---- what the project asks for
+# ---- what the project requires
 
 
 def asks_of_folders(project: Project) -> Iterator[Ask]:
-    """What the project and its workspaces ask for, but for each other."""
+    """What the project and its workspaces require, but for each other."""
     versions = {name_in(it): version_in(it) for it in project.values()}
     for folder, manifest in project.items():
         for need in needs_of_manifest(manifest):
@@ -105,14 +105,14 @@ def asks_of_folders(project: Project) -> Iterator[Ask]:
 
 
 def spec_of(manifest: Dict[str, Any], name: str, spec: str) -> str:
-    """What a package.json asks for by a name: of several kinds the first that isn't `*` or
+    """What a package.json requires by a name: of several kinds the first that isn't `*` or
     empty."""
     specs = (manifest.get(kind, {}).get(name, "") for kind in (*KINDS, "peerDependencies"))
     return next((it for it in specs if it not in TRIVIAL), spec) if spec in TRIVIAL else spec
 
 
 def asks_of_resolutions(resolutions: Resolutions) -> Iterator[Ask]:
-    """What the project asks for by resolutions. yarn warns of a tag, and ignores it."""
+    """What the project requires by resolutions. yarn warns of a tag, and ignores it."""
     for name, groups in resolutions.items():
         for spec in dict.fromkeys(it.spec for group in groups.values() for it in group):
             is_any = is_range(spec, Dialect.NPM) or is_elsewhere(spec)
@@ -121,7 +121,7 @@ def asks_of_resolutions(resolutions: Resolutions) -> Iterator[Ask]:
 
 
 def asks_of_keys(file: File) -> Iterator[Ask]:
-    """The keys of packages that no package asks for."""
+    """The keys of packages that no package requires."""
     used = {edge.key for package in file.packages for edge in file.edges_of(package)}
     for package in file.packages:
         for pattern in package.patterns:
@@ -144,7 +144,7 @@ def of_archive(package: Package) -> Iterator[Finding]:
 def findings(
     packages: List[Package], resolutions: Resolutions, project: Project, tally: Tally, scope: Scope
 ) -> Iterator[Finding]:
-    """What there is to say of a lock file. First comes what the project asks for."""
+    """What there is to say of a lock file. First comes what the project requires."""
     file = File(packages, resolutions)
     asks = asks_of_folders(project) if project else asks_of_keys(file)
     edges = [*map(file.edge_of, asks), *map(file.own_edge_of, asks_of_resolutions(resolutions))]

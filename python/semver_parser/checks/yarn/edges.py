@@ -1,4 +1,4 @@
-"""What is asked for in a project of yarn, what of the file is for that, and what there is to say of
+"""What is required in a project of yarn, what of the file is for that, and what there is to say of
 it."""
 
 from typing import Dict, Iterable, Iterator, List, NamedTuple, Optional
@@ -27,7 +27,7 @@ WORKSPACE = "0.0.0-use.local"
 
 
 class Ask(NamedTuple):
-    """Who asks for which name, and for what, and whether it is for development. Without a package
+    """Who requires which name, and for what, and whether it is for development. Without a package
     it is the project, or in yarn 1 a workspace, in its directory and by its name."""
 
     package: Optional[Package]
@@ -50,7 +50,7 @@ class Ask(NamedTuple):
 
 
 class Edge(NamedTuple):
-    """What is asked for, by which text that is checked, what resolutions put in place of it, each
+    """What is required, by which text that is checked, what resolutions put in place of it, each
     by what npm has for it, the key that is for it, and whether the file is berry's."""
 
     ask: Ask
@@ -70,7 +70,7 @@ ByKey = Dict[str, Package]
 
 
 def wanted_of(name: str, spec: str) -> str:
-    """What berry asks for as npm has it: a range with the name of its package, also inside
+    """What berry requires as npm has it: a range with the name of its package, also inside
     `patch:`."""
     if PATCH in spec:
         name, spec = name_and_rest(source_of(f"{name}@{spec}"))
@@ -79,18 +79,18 @@ def wanted_of(name: str, spec: str) -> str:
 
 
 def wanted_of_classic(_: str, spec: str) -> str:
-    """What yarn 1 asks for as npm has it: `npm:NAME` without a range is for the tag `latest`."""
+    """What yarn 1 requires as npm has it: `npm:NAME` without a range is for the tag `latest`."""
     name, rest = alias_of(spec) or ("", spec)
     return f"npm:{name}@latest" if name and not rest else spec
 
 
 def bare(pattern: str) -> str:
-    """What is asked for, without the place that a link or a patch belongs to."""
+    """What is required, without the place that a link or a patch belongs to."""
     return pattern.partition("::")[0]
 
 
 def key_for(name: str, spec: str, by_key: ByKey) -> Optional[str]:
-    """The key that is for what is asked for. yarn 2 and later write `npm:` before a range."""
+    """The key that is for what is required. yarn 2 and later write `npm:` before a range."""
     key = f"{name}@{bare(spec) if '::' in spec else spec}"
     if key not in by_key:
         key = f"{name}@npm:{spec}"
@@ -116,7 +116,7 @@ def graph_of(edges: Iterable[Edge], by_key: ByKey) -> Graph:
 
 
 def of_missing(edge: Edge) -> Iterator[Finding]:
-    """What there is to say of what is asked for and not found. A tag, a path or a URL may have been
+    """What there is to say of what is required and not found. A tag, a path or a URL may have been
     written in another way by berry."""
     finding, is_strict = edge.ask.finding, edge.is_berry and is_no_range(edge.wanted)
     if edge.ask.spec.startswith(CATALOG):
@@ -127,7 +127,7 @@ def of_missing(edge: Edge) -> Iterator[Finding]:
 
 
 def of_edge(edge: Edge, found: Package) -> Iterator[Finding]:
-    """What there is to say of what is asked for and found."""
+    """What there is to say of what is required and found."""
     ask, spec, resolved = edge.ask, edge.spec, edge.resolved
     if found.version == WORKSPACE:
         finding = ask.finding._replace(kind=Kind.NOT_CHECKED, at=(found.key,))

@@ -1,6 +1,6 @@
-"""What a `yarn.lock` has: its packages, each with the asks that it is for and with what it asks for
-itself. Both notations are read by one reader: they are indented by two blanks a level, and a line
-has a key, and then a value or, on the lines below, an object.
+"""What a `yarn.lock` has: its packages, each with the requirements that it is for and with what it
+requires itself. Both notations are read by one reader: they are indented by two blanks a level, and
+a line has a key, and then a value or, on the lines below, an object.
 """
 
 import json
@@ -31,9 +31,9 @@ MET_BY = ("dependencies", OPTIONAL)
 
 
 class Package(NamedTuple):
-    """A package of the file: its key, the asks that it is for, as `numbers@^1.0.0`, the version
-    that yarn installs, that of its entry, its fields, by what it is resolved, if the file is
-    berry's, and its own name, which yarn 1 has only in a URL."""
+    """A package of the file: its key, the requirements that it is for, as `numbers@^1.0.0`, the
+    version that yarn installs, that of its entry, its fields, by what it is resolved, if the file
+    is berry's, and its own name, which yarn 1 has only in a URL."""
 
     key: str
     patterns: List[str]
@@ -53,8 +53,8 @@ USUAL = re.compile(
 
 
 def lines_of(text: str) -> Iterator[Tuple[int, int, str, str, bool]]:
-    """The lines of a file: of each its number, indent, key and value, and whether an object follows.
-    Berry writes a key of more than 1,024 characters after `? `, and its colon on the next
+    """The lines of a file: of each its number, indent, key and value, and whether an object
+    follows. Berry writes a key of more than 1,024 characters after `? `, and its colon on the next
     line."""
     key = ""
     for number, line in enumerate(text.splitlines(), 1):
@@ -176,7 +176,7 @@ def version_of(reference: str) -> Optional[str]:
 
 
 def needs_of(package: Package) -> Iterator[Need]:
-    """What a package asks for."""
+    """What a package requires."""
     metas = package.fields.get("dependenciesMeta", {})
     for kind in MET_BY:
         asked = package.fields.get(kind, {})
@@ -191,10 +191,10 @@ def needs_of(package: Package) -> Iterator[Need]:
 
 
 def name_of(pattern: str) -> str:
-    """The name that a pattern asks for."""
+    """The name that a pattern requires."""
     return name_and_rest(pattern)[0]
 
 
 def spec_of(pattern: str) -> str:
-    """What a pattern asks for."""
+    """What a pattern requires."""
     return name_and_rest(pattern)[1]

@@ -1,4 +1,4 @@
-"""The resolutions of a package.json of yarn: what is put in place of what packages ask for."""
+"""The resolutions of a package.json of yarn: what is put in place of what packages require."""
 
 import re
 from typing import Dict, Iterable, List, NamedTuple, Tuple
@@ -18,8 +18,8 @@ class Resolution(NamedTuple):
 
 
 Resolutions = Dict[str, Dict[Tuple[str, str, str], List[Resolution]]]
-"""Resolutions by the names at the ends of their paths: each by the name of the package that asks,
-the place that this has, and what it asks for, each empty if it may be any."""
+"""Resolutions by the names at the ends of their paths: each by the name of the package that has it,
+the place that this has, and what it requires, each empty if it may be any."""
 
 
 def resolutions_of(manifest: Entry) -> Resolutions:
@@ -39,14 +39,14 @@ def resolutions_of(manifest: Entry) -> Resolutions:
 
 
 def of_yarn(spec: str) -> str:
-    """What is asked for without the `npm:` that berry writes before a range."""
+    """What is required without the `npm:` that berry writes before a range."""
     return spec[4:] if spec.startswith("npm:") and "@" not in spec[5:] else spec
 
 
 def specs_for(
     resolutions: Resolutions, name: str, spec: str, parents: Iterable[str], place: str = ""
 ) -> List[str]:
-    """What is put in place of what a package asks for, of one of these names and perhaps at a
+    """What is put in place of what a package requires, of one of these names and perhaps at a
     place, in the order of the file: the first of those that are for the same."""
     groups = resolutions.get(name)
     if groups is None:
