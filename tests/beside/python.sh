@@ -40,7 +40,7 @@ END
     ! MYPYPATH=. mypy --strict --cache-dir "$work/types" "$work/wrong.py" > "$work/wrong" || refuse 'mypy finds no error'
     [ "$(grep -c ': error: ' "$work/wrong")" = 9 ] || refuse "mypy finds other errors: $(cat "$work/wrong")"
 else
-    echo 'mypy: skipped, since it is not there (Debian: apt-get install mypy)'
+    echo 'mypy: skipped, since it is not there (Debian: apt-get install mypy python3-typeshed)'
 fi
 
 # ---- the wheel
