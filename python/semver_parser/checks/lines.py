@@ -30,6 +30,9 @@ INDENT = 2
 # The line of a package of yarn, which may have its colon on the next one.
 TOP_OF_YARN = re.compile(rb"^(?:\? [^\n]*\n)?[^\s#][^\n]*", re.M)
 
+# The name of a package in a key of yarn, unless it has an escape.
+NAME_OF_YARN = re.compile(rb"""(?:^|[\s",'])(@?[^@\s",']+)@""")
+
 # A package of a Cargo.lock, and the fields that tell which one it is.
 TOP_OF_CARGO = re.compile(rb"^\[(?:\[package\]|root)\][^\n]*\n(?:[^\[\n][^\n]*\n)*", re.M)
 FIELD = re.compile(rb'^(name|version) = "([^"\n]*)"', re.M)
@@ -175,10 +178,15 @@ def key_of_yaml(key: bytes) -> str:
 
 
 def of_yarn(text: bytes, wanted: Set[Keys]) -> Offsets:
-    """The keys of the packages of a yarn.lock."""
+    """The keys of the packages of a yarn.lock that have the names of what is wanted."""
+    each = [set(NAME_OF_YARN.findall(keys[0].encode("utf-8", "replace"))) for keys in wanted]
+    names, are_all_known = set().union(*each), all(each)
     for found in TOP_OF_YARN.finditer(text):
-        for _, _, key, _, _ in lines_of(utf8(found.group())):
-            yield (key,), found.start()
+        key = found.group()
+        if are_all_known and b"\\" not in key and names.isdisjoint(NAME_OF_YARN.findall(key)):
+            continue
+        for _, _, whole, _, _ in lines_of(utf8(key)):
+            yield (whole,), found.start()
 
 
 def of_cargo(text: bytes, wanted: Set[Keys]) -> Offsets:
