@@ -135,7 +135,7 @@ why() {
     echo "paths to the findings of $file: passed"
 }
 why 1 monorepo/package-lock.json 'the project > lodash' 'packages/b > a'
-why 1 yarn/stale/yarn.lock 'the project > perhaps' 'the project > linked' 'the project > num' 'the project > replaced' 'the project > tool' \
+why 1 yarn/stale/yarn.lock 'the project > perhaps' 'the project > any-release' 'the project > linked' 'the project > num' 'the project > replaced' 'the project > tool' \
     'packages/a > c' 'packages/a > right' 'packages/b > a' 'the project > right 1.4.0 > system'
 why 1 pnpm/stale/pnpm-lock.yaml 'the project > num' 'the project > perhaps' 'the project > git' 'the project > tool' 'packages/a > right' \
     'the project > right 1.4.0 > missing'

@@ -41,7 +41,7 @@ refused() {
 # ---- npm
 
 for name in package-lock version-1 version-2 links missing peers kinds accepted any archives archives-1 names ranges aliases aliases-1 versions overrides/package-lock canaries tags \
-    unread from-npm/package-lock stale/package-lock workspaces/package-lock workspaces-1/package-lock legacy-peers/package-lock overrides-turn/package-lock workspaces-stale/package-lock overrides-conflict/package-lock overrides-linked/package-lock peers-conflict/package-lock peers-strict/package-lock; do
+    unread from-npm/package-lock stale/package-lock workspaces/package-lock workspaces-1/package-lock legacy-peers/package-lock overrides-turn/package-lock workspaces-stale/package-lock overrides-conflict/package-lock overrides-linked/package-lock overrides-late/package-lock peers-conflict/package-lock peers-strict/package-lock; do
     checked 1 "$name.json"
 done
 for name in nothing-wrong canaries-right left-alone/package-lock hidden/node_modules/.package-lock; do
@@ -107,7 +107,7 @@ checked 1 yarn/classic/yarn.lock --strict
 checked 0 yarn/berry-right/yarn.lock
 checked 1 yarn/berry/yarn.lock
 checked 1 yarn/berry/yarn.lock --strict
-for name in resolution keys stale stale-berry workspaces-berry; do checked 1 "yarn/$name/yarn.lock"; done
+for name in resolution resolutions keys stale stale-berry workspaces-berry; do checked 1 "yarn/$name/yarn.lock"; done
 checked 2 yarn/cut-off/yarn.lock
 if python3 -c 'import yaml' 2> /dev/null; then
     for version in 5 6 9; do

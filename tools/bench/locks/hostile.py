@@ -53,8 +53,24 @@ def of_chain(folder: Path) -> Made:
     return write_npm(folder, overrides, packages), 0
 
 
+def of_copies(folder: Path) -> Made:
+    """Thousands of packages of one name with an override for each. What requires it comes after it in
+    the file, so npm has its rule from the directory that it is in."""
+    packages: Dict[str, Any] = {"": {"dependencies": {}}}
+    for number in range(COUNT):
+        name, version = f"package-{number}", f"1.{number}.7"
+        packages[""]["dependencies"][name] = "1.0.0"
+        packages[f"node_modules/{name}"] = {"version": "1.0.0", "dependencies": {"whole": "1.0.0"}}
+        inside = f"node_modules/{name}/node_modules"
+        packages[f"{inside}/part"] = {"version": version}
+        packages[f"{inside}/whole"] = {"version": "1.0.0", "dependencies": {"part": version}}
+    overrides = {f"part@~1.{number}.0": f"1.{number}.7" for number in range(COUNT)}
+    return write_npm(folder, overrides, packages), 0
+
+
 MAKERS: List[Tuple[str, Callable[[Path], Made]]] = [
     ("3,000 overrides of one name", of_overrides),
     ("3,000 overrides of one name by ranges", of_ranges),
     ("a chain of 3,000 overrides", of_chain),
+    ("3,000 overrides, each for one of 3,000 copies", of_copies),
 ]

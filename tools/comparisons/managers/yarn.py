@@ -3,7 +3,7 @@ these, which `yarn install --frozen-lockfile` takes or refuses.
 
 What yarn 1 calls frozen is the project alone: what its workspaces and packages require, and the
 file lacks, it takes from the registry. So the registry serves archives and no versions of a name,
-and yarn has to do with what is in the file.
+and yarn has to do with what is in the file, but for archives that are required by their URLs.
 """
 
 import shutil
@@ -11,13 +11,11 @@ import subprocess
 from pathlib import Path
 from typing import Any, Dict, Optional
 
-from differences import Differences, is_refused, listed_in
+from differences import PROJECT, Differences, Finding, Kind, listed_in
 from projects import environment, write_project
 from registry import Registry
 from worlds import Maker, World
 from yarn_edits import ANOTHER_ARCHIVE, damaged, edited
-
-from semver_parser.checks.findings import Kind
 
 LOCK = "yarn.lock"
 CHANGES = 5
@@ -56,13 +54,18 @@ def shown_of(world: World, lock: str) -> Dict[str, Any]:
     return {"manifests": world.manifests, "lock": lock}
 
 
-def is_by_choice(what: str, path: Path) -> bool:
-    """Whether the checker lists aliases alone, or archives of another version after that damage."""
-    listed = listed_in(path)
-    aliased = [it for it in listed if it.range.startswith("npm:")]
-    archives = [it for it in listed if it.kind == Kind.ANOTHER_VERSION]
-    known = [*aliased, *(archives if what == ANOTHER_ARCHIVE else [])]
-    return bool(known) and len(known) == len(listed)
+def choice_of(what: str, finding: Finding) -> Optional[str]:
+    """Why a finding is listed, though yarn takes the project, by a row of the README: it is of an
+    alias, or of an archive of another version after that damage, or yarn fetches what the file lacks
+    from a URL, which the registry serves."""
+    if finding.range.startswith("npm:"):
+        return "yarn doesn't compare an alias"
+    if finding.kind == Kind.ANOTHER_VERSION and what == ANOTHER_ARCHIVE:
+        return "yarn doesn't compare an archive of another version"
+    is_fetched = finding.kind == Kind.MISSING and finding.requirer != PROJECT
+    if is_fetched and finding.range.startswith("http://"):
+        return "yarn fetches an archive by its URL"
+    return None
 
 
 def compare(
@@ -74,10 +77,12 @@ def compare(
     (folder / LOCK).write_text(lock)
     taken = yarn.takes(folder)
     found.count(f"{what}: yarn {'takes' if taken else 'refuses'} it")
-    if taken and is_by_choice(what, folder / LOCK):
-        choice = "an archive of another version" if what == ANOTHER_ARCHIVE else "an alias"
-        found.choose(f"yarn doesn't compare {choice}", shown_of(world, lock))
-    elif taken == is_refused(folder / LOCK):
+    listed = listed_in(folder / LOCK)
+    choices = {choice_of(what, it) for it in listed}
+    if taken and listed and None not in choices:
+        for choice in sorted(it for it in choices if it is not None):
+            found.choose(choice, shown_of(world, lock))
+    elif taken == bool(listed):
         who = "refused here, and yarn takes it" if taken else "yarn alone refuses it"
         found.add(f"{what}: {who}", shown_of(world, lock))
 

@@ -1,7 +1,8 @@
-"""Which of many ranges, in an order, is the first that has versions in common with another one."""
+"""Which of many ranges, in an order, is the first that has versions in common with another one, and
+which have a version."""
 
 from itertools import zip_longest
-from typing import List, Optional
+from typing import Iterator, List, Optional
 
 from semver_parser import Range
 
@@ -28,3 +29,15 @@ class Overlaps:
             if level[number].isdisjoint(wanted):
                 number += 1
         return number
+
+    def having(self, version: str) -> Iterator[int]:
+        """The numbers of those that have a version, in their order."""
+        pending = [(len(self.levels) - 1, 0)]
+        while pending:
+            level, number = pending.pop()
+            ranges = self.levels[level]
+            if number < len(ranges) and version in ranges[number]:
+                if level == 0:
+                    yield number
+                else:
+                    pending += [(level - 1, 2 * number + 1), (level - 1, 2 * number)]

@@ -10,6 +10,7 @@ were read with one, or else it comes from the folder that the package is in. The
 outermost rule; its workspaces and linked folders have none.
 """
 
+from bisect import bisect_left, insort
 from dataclasses import dataclass, field
 from functools import cached_property
 from typing import Dict, Iterator, List, Optional, Set, Tuple
@@ -17,8 +18,9 @@ from typing import Dict, Iterator, List, Optional, Set, Tuple
 from semver_parser import Dialect, Range
 
 from ..files import Entry, WrongShape, object_at, text_at
-from ..satisfaction import is_met, is_range, range_in
+from ..satisfaction import is_met, is_range, is_version, range_in
 from .lock import (
+    PEERS,
     Ask,
     Package,
     Packages,
@@ -64,6 +66,13 @@ class Rule:
         """This rule, as the only one."""
         return RulesOfName([self])
 
+    @cached_property
+    def versions(self) -> Range:
+        """The versions by the key and by what is there, if that is a range."""
+        key, own = (range_in(it, Dialect.NPM) for it in (self.within, self.own))
+        assert key is not None
+        return key if own is None else key | own
+
     def around(self) -> Iterator["Rule"]:
         """This rule and those round it, the innermost first."""
         at: Optional[Rule] = self
@@ -71,16 +80,17 @@ class Rule:
             yield at
             at = at.outer
 
-    def of_name(self, name: str) -> Iterator["Rule"]:
-        """The rules of a name that are for what a package with this one requires, the innermost
-        first. Of one key the innermost counts."""
-        seen: Set[str] = set()
+    def having(self, name: str, version: str) -> Iterator["Rule"]:
+        """The rules of a name whose key or replacement has a version, and that are for what a
+        package with this one requires, the innermost first. Of one key the innermost counts."""
+        passed: List[RulesOfName] = []
         for at in self.around():
-            inside = at.by_name[name].rules if name in at.by_name else []
-            for rule in [*inside, at] if at.name == name else inside:
-                if rule.key not in seen:
-                    seen.add(rule.key)
-                    yield rule
+            inside = [at.by_name[name]] if name in at.by_name else []
+            for rules in [*inside, at.alone] if at.name == name else inside:
+                for rule in rules.having(version):
+                    if not any(rule.key in it.keys for it in passed):
+                        yield rule
+                passed.append(rules)
 
 
 class RulesOfName:
@@ -89,6 +99,7 @@ class RulesOfName:
 
     def __init__(self, rules: List[Rule]) -> None:
         self.rules = rules
+        self.keys = {it.key for it in rules}
         self.of_any = next((number for number, it in enumerate(rules) if it.within == ANY), None)
 
     @cached_property
@@ -107,6 +118,15 @@ class RulesOfName:
             found = 0 if wanted is None else self.overlaps.first(wanted)
             number = number if found is None else found
         return None if number is None else self.rules[number]
+
+    @cached_property
+    def versions(self) -> Overlaps:
+        """The versions of each."""
+        return Overlaps([it.versions for it in self.rules])
+
+    def having(self, version: str) -> Iterator[Rule]:
+        """Those whose key or replacement has a version, in their order."""
+        return (self.rules[number] for number in self.versions.having(version))
 
 
 def is_git_without_range(spec: str) -> bool:
@@ -182,10 +202,7 @@ def first_at(rule: Rule, name: str, spec: str) -> Optional[Rule]:
 def rule_within(here: Rule, name: str, version: str) -> Rule:
     """The rule of a package in a folder whose package has a rule: the first of the name whose key
     or replacement has the version, and that one if there is none."""
-    for rule in here.of_name(name):
-        if any(is_met(it, version, Dialect.NPM) for it in (rule.within, rule.own)):
-            return rule
-    return here
+    return next(here.having(name, version), here) if is_version(version, Dialect.NPM) else here
 
 
 def put_in_place(rule: Optional[Rule], ask: Ask) -> str:
@@ -207,6 +224,29 @@ class Edge:
     target: str = ""
 
 
+class Edges:
+    """The edges to one name as they were read, of which a folder may have few."""
+
+    def __init__(self) -> None:
+        self.all: List[Edge] = []
+        self.by_place: List[Tuple[str, int]] = []
+
+    def add(self, edge: Edge) -> None:
+        """Adds an edge."""
+        insort(self.by_place, (edge.ask.place, len(self.all)))
+        self.all.append(edge)
+
+    def inside(self, folder: str) -> List[Edge]:
+        """Those of the package in a folder, and of what is inside it."""
+        if not folder:
+            return self.all
+        found: List[int] = []
+        for first, end in ((folder, f"{folder}\0"), (f"{folder}/", f"{folder}0")):
+            bounds = (bisect_left(self.by_place, (it, 0)) for it in (first, end))
+            found += [number for _, number in self.by_place[slice(*bounds)]]
+        return [self.all[number] for number in sorted(found)]
+
+
 class Reading:
     """What npm has read of a lock file: the rule of each package, and the edges between packages by
     the names of what is required."""
@@ -214,7 +254,7 @@ class Reading:
     def __init__(self, found: Dict[str, Package], outermost: Rule) -> None:
         self.found, self.named = found, names_in(outermost)
         self.rules: Dict[str, Rule] = {"": outermost}
-        self.edges: Dict[str, List[Edge]] = {}
+        self.edges: Dict[str, Edges] = {}
         self.read: Set[str] = set()
 
     def add(self, place: str, asks: List[Ask]) -> None:
@@ -226,7 +266,7 @@ class Reading:
         around = [inside(folder, "") for folder in folders(place)]
         for ask in asks:
             edge = Edge(ask)
-            self.edges.setdefault(ask.name, []).append(edge)
+            self.edges.setdefault(ask.name, Edges()).add(edge)
             self.choose(edge)
             nearest = (it + ask.name for it in around if it + ask.name in self.read)
             self.lead(edge, next(nearest, ""))
@@ -234,8 +274,8 @@ class Reading:
     def attach(self, place: str, name: str, folder: str) -> None:
         """Leads edges to a package in a folder, which has its rule from the last of them, or else
         from the folder."""
-        for edge in self.edges.get(name, ()):
-            if len(edge.target) < len(place) and is_inside(edge.ask.place, folder):
+        for edge in self.edges[name].inside(folder) if name in self.edges else ():
+            if len(edge.target) < len(place):
                 self.lead(edge, place)
         if place not in self.rules and folder in self.rules:
             rule, version = self.rules[folder], self.found[place].version or ""
@@ -257,9 +297,29 @@ class Reading:
                 self.rules[target] = edge.rule
 
 
-def is_inside(place: str, folder: str) -> bool:
-    """Whether a place is a folder or inside it."""
-    return not folder or place == folder or place.startswith(f"{folder}/")
+    def put_late(self, edge: Edge) -> Optional[str]:
+        """What an override puts in place of what an edge requires, where npm sees that only after
+        its package has been read. What is found doesn't fit then, so npm puts something else inside
+        the package, chooses the rule anew, and takes what it found after all if that has the same
+        rule, fits by it, and is newer than anything that was required."""
+        ask, here = edge.ask, self.rules.get(edge.ask.place)
+        asked, found = put_in_place(edge.rule, ask), ask.found
+        if here is None or found is None or ask.kind == PEERS or not are_beside(ask.place, found):
+            return None
+        rule, version = rule_for(here, ask.name, asked), found.version or ""
+        wanted, spec = range_in(asked, Dialect.NPM, "included"), put_in_place(rule, ask)
+        is_same = rule is self.rules.get(found.place)
+        if wanted is None or not is_same or is_met(asked, version, Dialect.NPM):
+            return None
+        is_right = is_met(spec, version, Dialect.NPM) is True
+        above = range_in(f">{version}", Dialect.NPM, "included") if is_right else None
+        return None if above is None or not above.isdisjoint(wanted) else spec
+
+
+def are_beside(place: str, found: Package) -> bool:
+    """Whether what is found is in the same directory as the package at a place."""
+    is_inside = not is_top(place) and not is_top(found.place)
+    return is_inside and folder_round(place) == folder_round(found.place)
 
 
 def names_in(rule: Rule) -> Set[str]:
@@ -283,7 +343,7 @@ def reading_of(
 def refused(reading: Reading) -> Iterator[Tuple[Ask, str]]:
     """What the project itself requires, where an override puts something else in its place: npm
     refuses that, also if a version satisfies both."""
-    for edge in (it for edges in reading.edges.values() for it in edges):
+    for edge in (it for edges in reading.edges.values() for it in edges.all):
         spec = put_in_place(edge.rule, edge.ask)
         if not edge.ask.place and spec != edge.ask.spec:
             yield edge.ask, spec
@@ -294,8 +354,9 @@ def put_overrides(packages: Packages, asks: Dict[str, List[Ask]], reading: Readi
     was put where it is by another package."""
     pinned = pinned_in(packages) if reading.read else set()
     replaced: Dict[str, Dict[str, str]] = {}
-    for edge in (it for name in reading.named for it in reading.edges.get(name, ())):
-        ask, spec = edge.ask, put_in_place(edge.rule, edge.ask)
+    edges = (reading.edges[name].all for name in reading.named if name in reading.edges)
+    for edge in (it for each in edges for it in each):
+        ask, spec = edge.ask, reading.put_late(edge) or put_in_place(edge.rule, edge.ask)
         is_pinned = ask.found is not None and ask.found.place in pinned
         if ask.place and spec != ask.spec and not is_pinned:
             replaced.setdefault(ask.place, {})[ask.name] = spec

@@ -8,6 +8,10 @@ packages count, and each key that none of them requires the project does.
 WHAT IS FOUND. The package whose key has what is required, as `numbers@^1.0.0`, and for a name that
 a resolution is for the package of its key, whatever is required. A workspace is found by its name
 and version, without a key.
+
+WHAT IS DROPPED. What a resolution is for yarn drops from the file if it has another archive than
+that of the resolution, and refuses the file if the project itself requires the same: beside a
+package or a workspace that does, or beside itself, if it has workspaces.
 """
 
 from typing import Any, Dict, Iterable, Iterator, List, Optional
@@ -32,7 +36,7 @@ from .edges import (
     packages_by_key,
 )
 from .lock import Package, name_of, needs_of
-from .resolutions import Resolutions, specs_for
+from .resolutions import Resolution, Resolutions, resolutions_for
 
 TRIVIAL = ("", "*")
 
@@ -51,7 +55,8 @@ class File:
         if ask.package is None and ask.folder == TOP:
             return self.own_edge_of(ask)
         edge = self.own_edge_of(ask)
-        return edge if self.is_met(edge) or not self.resolved_for(ask) else None
+        is_right = self.is_met(edge) and self.replacing(edge) is None
+        return edge if is_right or not self.resolved_for(ask) else None
 
     def own_edge_of(self, ask: Ask) -> Edge:
         """What is found for what is required without resolutions."""
@@ -59,20 +64,30 @@ class File:
 
     def is_met(self, edge: Edge) -> bool:
         """Whether what is found is what is required."""
-        return edge.key is not None and verdict_on(self.by_key[edge.key].version, edge.spec) is None
+        return edge.key is not None and edge.verdict(self.by_key[edge.key].version) is None
 
-    def resolved_for(self, ask: Ask) -> List[str]:
-        """What resolutions put in place of what is required."""
+    def resolved_for(self, ask: Ask) -> List[Resolution]:
+        """The resolutions that may be for what is required."""
         if ask.name not in self.resolutions:
             return []
         names = [ask.asker] if ask.package is None else map(name_of, ask.package.patterns)
-        return specs_for(self.resolutions, ask.name, ask.spec, names)
+        return resolutions_for(self.resolutions, ask.name, ask.spec, names)
+
+    def replacing(self, edge: Edge) -> Optional[str]:
+        """What a resolution puts in place of what is found, if it is known to be for that and has
+        another archive."""
+        found = [it for it in self.resolved_for(edge.ask) if is_taken(it.spec)][:1]
+        spec = next((it.spec for it in found if it.is_anywhere), None)
+        key = None if spec is None else key_for(edge.ask.name, spec, self.by_key)
+        if key is None or edge.key is None:
+            return None
+        archives = {str(self.by_key[it].fields.get("resolved", "")) for it in (key, edge.key)}
+        return spec if len(archives) > 1 and "" not in archives else None
 
     def edges_of(self, package: Package) -> List[Edge]:
         """What is found for what a package requires."""
         if package.key not in self.edges:
-            asks = (Ask(package, need.name, need.spec) for need in needs_of(package))
-            found = (self.edge_of(ask) for ask in asks)
+            found = map(self.edge_of, asks_of(package))
             self.edges[package.key] = [it for it in found if it is not None]
         return self.edges[package.key]
 
@@ -87,6 +102,11 @@ class File:
                 found[package.key] = package
                 left += self.edges_of(package)
         return [it for it in self.packages if it.key in found]
+
+
+def asks_of(package: Package) -> Iterator[Ask]:
+    """What a package requires."""
+    return (Ask(package, need.name, need.spec) for need in needs_of(package))
 
 
 # ---- what the project requires
@@ -104,6 +124,12 @@ def asks_of_folders(project: Project) -> Iterator[Ask]:
                 yield Ask(None, need.name, spec, folder, need.is_development, asker)
 
 
+def has_workspaces(manifest: Dict[str, Any]) -> bool:
+    """Whether yarn takes the project for one of its workspaces, also if it names no other."""
+    named = manifest.get("workspaces")
+    return "packages" in named if isinstance(named, dict) else named is not None
+
+
 def spec_of(manifest: Dict[str, Any], name: str, spec: str) -> str:
     """What a package.json requires by a name: of several kinds the first that isn't `*` or
     empty."""
@@ -115,9 +141,14 @@ def asks_of_resolutions(resolutions: Resolutions) -> Iterator[Ask]:
     """What the project requires by resolutions. yarn warns of a tag, and ignores it."""
     for name, groups in resolutions.items():
         for spec in dict.fromkeys(it.spec for group in groups.values() for it in group):
-            is_any = is_range(spec, Dialect.NPM) or is_elsewhere(spec)
-            if is_any or alias_of(spec) is not None:
+            if is_taken(spec):
                 yield Ask(None, name, spec)
+
+
+def is_taken(spec: str) -> bool:
+    """Whether yarn takes a resolution for one."""
+    is_any = is_range(spec, Dialect.NPM) or is_elsewhere(spec)
+    return is_any or alias_of(spec) is not None
 
 
 def asks_of_keys(file: File) -> Iterator[Ask]:
@@ -141,18 +172,44 @@ def of_archive(package: Package) -> Iterator[Finding]:
         yield of_package(package, Kind.ANOTHER_VERSION)._replace(range=url)
 
 
+def of_dropped(
+    file: File, asks: List[Ask], reached: List[Package], is_root: bool
+) -> Iterator[Finding]:
+    """What there is to say of what the project requires, if others require the same, and yarn drops
+    that from the file for a resolution. The root of workspaces is one of the others itself."""
+    own = {(it.name, it.spec): it for it in asks if it.folder == TOP}
+    others = [it for it in asks if it.folder != TOP or is_root]
+    for ask in [*others, *(it for package in reached for it in asks_of(package))]:
+        edge = file.own_edge_of(ask)
+        is_right = (ask.name, ask.spec) in own and file.is_met(edge)
+        spec = file.replacing(edge) if is_right else None
+        if spec is None or edge.key is None:
+            continue
+        found = file.by_key[edge.key]
+        finding = own.pop((ask.name, ask.spec)).finding._replace(range=spec, at=(found.key,))
+        if verdict_on(found.version, spec) == Kind.UNSATISFIED:
+            name = found.name or ask.name
+            yield finding._replace(kind=Kind.OVERRIDDEN, version=found.version, package=name)
+        else:
+            yield finding._replace(kind=Kind.CONFLICT, version=ask.spec)
+
+
 def findings(
     packages: List[Package], resolutions: Resolutions, project: Project, tally: Tally, scope: Scope
 ) -> Iterator[Finding]:
     """What there is to say of a lock file. First comes what the project requires."""
     file = File(packages, resolutions)
-    asks = asks_of_folders(project) if project else asks_of_keys(file)
+    asks = list(asks_of_folders(project) if project else asks_of_keys(file))
     edges = [*map(file.edge_of, asks), *map(file.own_edge_of, asks_of_resolutions(resolutions))]
     outside = [it for it in edges if it is not None]
     reached = file.reached(outside) if project else packages
     inner = (edge for package in reached for edge in file.edges_of(package))
     tally.graph = lambda: graph_of([*outside, *inner], file.by_key)
     yield from of_edges(in_scope(outside, scope, tally), file.by_key, bool(project), tally)
+    if resolutions:
+        shown = [it for it in asks if scope.has_development or not it.is_development]
+        is_root = has_workspaces(project.get(TOP, {}))
+        yield from of_dropped(file, shown, reached, is_root)
     for package in reached:
         yield from of_version(package)
         yield from of_archive(package)

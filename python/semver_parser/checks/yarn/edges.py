@@ -65,6 +65,12 @@ class Edge(NamedTuple):
         wanted_as = wanted_of if self.is_berry else wanted_of_classic
         return wanted_as(self.ask.name, self.spec)
 
+    def verdict(self, version: str) -> Optional[Kind]:
+        """What there is to say of a version. To yarn 1 an empty text is no range, and each version
+        is right."""
+        is_any = not self.is_berry and not self.spec and is_version(version, Dialect.NPM)
+        return None if is_any else verdict_on(version, self.wanted)
+
 
 ByKey = Dict[str, Package]
 
@@ -134,7 +140,7 @@ def of_edge(edge: Edge, found: Package) -> Iterator[Finding]:
         yield finding._replace(is_strict=True, reason="workspace")
         return
     wanted = edge.wanted
-    verdict = verdict_on(found.version, wanted)
+    verdict = edge.verdict(found.version)
     is_named = has_name(found.name, wanted) or any(has_name(found.name, it) for it in resolved)
     if verdict is None and (is_named or not found.name):
         return

@@ -11,10 +11,12 @@ STEP = re.compile(r"(?:@[^/]+/)?[^/]+")
 
 
 class Resolution(NamedTuple):
-    """A resolution of a name: its place in the file, and what is put there."""
+    """A resolution of a name: its place in the file, what is put there, and whether the whole path
+    is known by who asks: by `**/` before it, or a name alone, which yarn 1 takes for the same."""
 
     number: int
     spec: str
+    is_anywhere: bool
 
 
 Resolutions = Dict[str, Dict[Tuple[str, str, str], List[Resolution]]]
@@ -30,11 +32,13 @@ def resolutions_of(manifest: Entry) -> Resolutions:
         *outer, last = STEP.findall(path) or [path]
         name, within = name_and_rest(last)
         parent, place = name_and_rest("".join(outer[-1:]))
+        is_known = outer in ([], ["**"]) or (outer[:-1] == ["**"] and "*" not in parent)
+        is_anywhere = is_known and not place and not within
         if "*" in parent:
             parent = place = ""
         group = (parent, of_yarn(place), of_yarn(within))
         found = resolutions.setdefault(name, {}).setdefault(group, [])
-        found.append(Resolution(number, spec))
+        found.append(Resolution(number, spec, is_anywhere))
     return resolutions
 
 
@@ -43,11 +47,11 @@ def of_yarn(spec: str) -> str:
     return spec[4:] if spec.startswith("npm:") and "@" not in spec[5:] else spec
 
 
-def specs_for(
+def resolutions_for(
     resolutions: Resolutions, name: str, spec: str, parents: Iterable[str], place: str = ""
-) -> List[str]:
-    """What is put in place of what a package requires, of one of these names and perhaps at a
-    place, in the order of the file: the first of those that are for the same."""
+) -> List[Resolution]:
+    """The resolutions for what a package requires, of one of these names and perhaps at a place, in
+    the order of the file: the first of those that are for the same."""
     groups = resolutions.get(name)
     if groups is None:
         return []
@@ -55,4 +59,12 @@ def specs_for(
     wanted += [(parent, at, "") for parent in dict.fromkeys(parents) for at in {"", place}]
     wanted += [(parent, at, of_yarn(spec)) for parent, at, _ in wanted]
     found = {it for group in wanted for it in groups.get(group, ())[:1]}
-    return list(dict.fromkeys(it.spec for it in sorted(found)))
+    return sorted(found)
+
+
+def specs_for(
+    resolutions: Resolutions, name: str, spec: str, parents: Iterable[str], place: str = ""
+) -> List[str]:
+    """What is put in place of what a package requires."""
+    found = resolutions_for(resolutions, name, spec, parents, place)
+    return list(dict.fromkeys(it.spec for it in found))
