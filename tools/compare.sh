@@ -13,11 +13,11 @@
 #   librust-semver-dev);
 # - real: both, on the texts of COUNT of Debian's node-* packages and of as many librust-* packages,
 #   against every version that these have (npm, cargo, librust-semver-dev, python3, and a network);
-# - grid: brute force over a grid of versions, what sets of versions tell of two ranges (python3);
+# - grid: brute force over a grid of versions, what sets of versions say of two ranges (python3);
 # - lines: the definitions in Python, what release-filter writes of COUNT texts of lines, each cut
 #   into pieces in 100 ways (python3);
-# - version-places: brute force with node-semver as npm ships it, and grammars, where and why a text
-#   is no version, in each dialect (npm);
+# - version-places: brute force with node-semver as npm ships it, and grammars, where and why a string
+#   is an invalid version, in each dialect (npm);
 # - erased: the kit's build with cargo's, what the table of cases and release-filter write of COUNT
 #   random rows and lines, in each dialect and by each rule (python3, cargo);
 # - crate-tests: the Rust crate's own tests and examples, against rust/ (cargo and
@@ -42,7 +42,7 @@
 #   of these names (apt with its network, npm, and the library as for locks);
 # - places: brute force over all texts of up to COUNT characters, where a refused range stops being
 #   one (python3).
-# It stands outside the gate.
+# It is beside the gate.
 set -eu
 cd "$(dirname "$0")/.."
 cases=crates/replayed_cases/out/replayed_cases
