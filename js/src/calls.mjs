@@ -13,13 +13,18 @@ const encoder = new TextEncoder()
 const decoder = new TextDecoder()
 
 let functions = null
-let bytes, numbers, buffer, capacity
-let held = '', heldLength = 0 // the string that is at the begin of the buffer, and its bytes
+let bytes, numbers
+let buffer // where strings are written: { begin, capacity }, an address and a number of bytes
+
+// The string at the beginning of the buffer, with its length in bytes. Both are replaced together,
+// so that one can't be there without the other; no string is equal to that of NOTHING.
+const NOTHING = Object.freeze({ string: null, length: 0 })
+let held = NOTHING
 
 function open(instance) {
   functions = instance.exports
-  held = ''
-  heldLength = capacity = 0
+  held = NOTHING
+  buffer = { begin: 0, capacity: 0 }
   refresh()
   reserve(1024)
 }
@@ -66,19 +71,21 @@ export async function ready() {
   init(await WebAssembly.compile(source))
 }
 
-function reserve(length) {
-  buffer = functions.reserve(length)
-  if (buffer === 0) throw new RangeError('out of memory')
-  capacity = length
+// Makes the buffer larger. What was written to it is still there, and if memory ran out, so is the
+// buffer itself.
+function reserve(capacity) {
+  const begin = functions.reserve(capacity)
+  if (begin === 0) throw new RangeError('out of memory')
+  buffer = { begin, capacity }
 }
 
 // Writes a string at an offset of the buffer, as UTF-8. Returns how many bytes it has.
 function write(offset, string) {
   const { length } = string
-  if (offset + length > capacity) reserve(2 * (offset + length))
+  if (offset + length > buffer.capacity) reserve(2 * (offset + length))
   if (bytes.length === 0) refresh()
   if (length > 200) return writeUtf8(offset, string)
-  const begin = buffer + offset
+  const begin = buffer.begin + offset
   for (let index = 0; index < length; index += 1) {
     const code = string.charCodeAt(index)
     if (code > 127) return writeUtf8(offset, string)
@@ -89,26 +96,27 @@ function write(offset, string) {
 
 function writeUtf8(offset, string) {
   const most = offset + 3 * string.length
-  if (most > capacity) reserve(most)
+  if (most > buffer.capacity) reserve(most)
   if (bytes.length === 0) refresh()
-  const place = bytes.subarray(buffer + offset, buffer + capacity)
+  const place = bytes.subarray(buffer.begin + offset, buffer.begin + buffer.capacity)
   return encoder.encodeInto(string, place).written
 }
 
-// Writes a string at the begin of the buffer, if it isn't there yet.
+// Writes a string at the beginning of the buffer, if it isn't there yet. Returns how many bytes it
+// has.
 function hold(string) {
-  if (string === held) return heldLength
-  held = ''
-  heldLength = write(0, string)
-  held = string
-  return heldLength
+  if (string === held.string) return held.length
+  held = NOTHING
+  const length = write(0, string)
+  held = { string, length }
+  return length
 }
 
 /** Makes a call with the address and the length of a string, and then the other arguments. */
 export function callWith(name, string, ...others) {
   const call = calls()[name]
   const length = hold(string)
-  return call(buffer, length, ...others)
+  return call(buffer.begin, length, ...others)
 }
 
 /** Returns whether a version satisfies a range, or a negative number if one of them is invalid. */
@@ -116,14 +124,15 @@ export function askOnce(version, range, dialect, rule) {
   const { range_satisfied: call } = calls()
   const rangeLength = hold(range)
   const length = write(rangeLength, version)
-  return call(buffer, rangeLength, buffer + rangeLength, length, dialect, rule)
+  const { begin } = buffer
+  return call(begin, rangeLength, begin + rangeLength, length, dialect, rule)
 }
 
 /** Returns 1 if a version is in a range that was read, 0 if not, and else a negative number. */
 export function askRange(address, version) {
   const { range_has: call } = calls()
   const length = hold(version)
-  return call(address, buffer, length)
+  return call(address, buffer.begin, length)
 }
 
 /** Returns how two versions compare by precedence; null if one is invalid. */
@@ -131,7 +140,8 @@ export function compareOnce(version, other, dialect) {
   const { version_compare: call } = calls()
   const length = hold(version)
   const otherLength = write(length, other)
-  const order = call(buffer, length, buffer + length, otherLength, dialect)
+  const { begin } = buffer
+  const order = call(begin, length, begin + length, otherLength, dialect)
   return order < 0 ? null : order - 1
 }
 
@@ -139,24 +149,25 @@ export function compareOnce(version, other, dialect) {
 export function readVersion(version, dialect) {
   const { version_read: call } = calls()
   const length = hold(version)
-  return call(buffer, length, dialect) === 0 ? length : -1
+  return call(buffer.begin, length, dialect) === 0 ? length : -1
 }
 
 /** Returns the index of the best of some versions that are in a range; their number if none is. */
 export function bestOf(address, versions, isLowest) {
   const { range_best: call } = calls()
-  held = ''
-  const begin = 4 * versions.length
-  let end = begin
+  held = NOTHING
+  const first = 4 * versions.length
+  let end = first
   const lengths = versions.map((version) => {
     const length = write(end, version)
     end += length
     return length
   })
-  if (end > capacity) reserve(end)
+  if (end > buffer.capacity) reserve(end)
   if (bytes.length === 0) refresh()
-  new Uint32Array(bytes.buffer, buffer, lengths.length).set(lengths)
-  const index = call(address, buffer, lengths.length, buffer + begin, isLowest ? 1 : 0)
+  const { begin } = buffer
+  new Uint32Array(bytes.buffer, begin, lengths.length).set(lengths)
+  const index = call(address, begin, lengths.length, begin + first, isLowest ? 1 : 0)
   if (index < 0) throw new RangeError('out of memory')
   return index
 }
@@ -185,5 +196,5 @@ export function partOf(string, length, index) {
   if (partLength === 0) return ''
   const begin = numberAt(index)
   if (string.length === length) return string.slice(begin, begin + partLength)
-  return decoder.decode(bytes.subarray(buffer + begin, buffer + begin + partLength))
+  return decoder.decode(bytes.subarray(buffer.begin + begin, buffer.begin + begin + partLength))
 }

@@ -411,3 +411,17 @@ test('the README names each export', () => {
   const readme = readFileSync(new URL('node_modules/semver-parser-proved/README.md', import.meta.url), 'utf8')
   for (const name of Object.keys(common)) assert.match(readme, new RegExp(`\`[^\`]*\\b${name}\\b`), name)
 })
+
+test('a call does not depend on the one before it', () => {
+  for (const versions of [['1.0.0'], [], ['1.2.3', '']]) {
+    semver.maxSatisfying(versions, '1')
+    assert.equal(semver.satisfies('1.0.0', ''), true)
+    semver.maxSatisfying(versions, '1')
+    assert.equal(semver.validRange(''), '*')
+    semver.minSatisfying(versions, '1.2.3')
+    assert.equal(semver.valid(''), null)
+  }
+  const everything = new semver.Range('')
+  semver.maxSatisfying(['1.0.0'], '1')
+  assert.equal(everything.test('1.0.0'), true)
+})
