@@ -1,8 +1,8 @@
 #!/bin/sh
-# Tests each function of the header for C from C: short and long strings, each dialect, each rule for
-# pre-releases, ranges that are read once, errors and their sentences, each allocation refused, and the
-# table of cases of crates/replayed_cases. It has make build the library. ./test c does the same under
-# valgrind and sanitizers.
+# Tests each function of the header for C from C: short and long strings, each dialect, each rule
+# for pre-releases, ranges that are read once, errors and their sentences, each allocation refused,
+# the table of cases of crates/replayed_cases, and random calls in random order. It has make build
+# the library. ./test c does the same under valgrind and sanitizers.
 set -eu
 unset CDPATH
 cd "$(dirname "$0")/.."
@@ -21,6 +21,16 @@ cc -O1 -o "$work/refused" tests/c/refused.c $library -Wl,--wrap=malloc,--wrap=re
 cc -O1 -pthread -o "$work/uses" tests/c/uses.c $library
 for name in rules readings sets errors nulls refused uses; do "$work/$name"; done
 "$work/replay" crates/replayed_cases/stdin crates/replayed_cases/stdout
+
+# Random calls return the same after others as alone. Each function is among them.
+cc -O1 -o "$work/order" tests/c/order.c tests/c/order_calls.c "$work/texts.o" $library
+"$work/order" 2000 1
+for name in $(sed -n 's/^ *\(semver_parser_[a-z_]*\);$/\1/p' rust/capi/semver_parser.map); do
+    grep -q "\b$name(" tests/c/order_calls.c || {
+        echo "C functions: order has no call of $name"
+        exit 1
+    }
+done
 
 # The layout of each type is the same if enumerations are as short as can be.
 for flag in -fno-short-enums -fshort-enums; do

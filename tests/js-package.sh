@@ -1,6 +1,7 @@
 #!/bin/sh
 # Makes the JavaScript package, packs it, installs it in an empty project without a network, and
-# runs its tests there; its types where tsc is there; and the rows of crates/replayed_cases.
+# runs its tests there; its types where tsc is there; the rows of crates/replayed_cases; and random
+# calls, each of which has to return the same after others as alone.
 set -eu
 top=$(dirname -- "$(dirname -- "$(readlink -f -- "$0")")")
 fail() {
@@ -32,6 +33,7 @@ done
 grep -q "\"version\": \"$(cat "$top/VERSION")\"" "$top/js/package.json" ||
     fail 'package.json has another version than VERSION'
 node "$top/tests/js-rows.js" unpacked/package/index.cjs
+node "$top/js/tests/order.mjs" "$PWD/unpacked/package/index.cjs" 1500 1
 
 # The cases are what node-semver says that npm has, if that is of the version that wrote them.
 NODE_PATH=$(npm root -g)/npm/node_modules
@@ -49,7 +51,7 @@ mkdir project && cd project
 echo '{ "name": "project", "private": true }' > package.json
 npm install --silent "../$packed" > "$work/log" 2>&1 ||
     { cat "$work/log" && fail 'npm does not install it'; }
-cp "$top/js/tests/cases.json" "$top/js/tests/package.test.mjs" .
+cp "$top/js/tests/cases.json" "$top/js/tests/package.test.mjs" "$top/js/tests/results.mjs" .
 node --test package.test.mjs > "$work/log" 2>&1 || { cat "$work/log" && fail 'its tests fail'; }
 passed=$(sed -n 's/^# pass //p' "$work/log")
 types='no tsc (Debian: apt-get install node-typescript), so its types are not checked'

@@ -41,7 +41,10 @@
 # - real-locks [NAME..]: npm, of what check-lock-file lists of the lock files in Debian's source packages
 #   of these names (apt with its network, npm, and the library as for locks);
 # - places: brute force over all texts of up to COUNT characters, where a refused range stops being
-#   one (python3).
+#   one (python3);
+# - order: a fresh process, what each of COUNT random calls, 2000 or more, returns after others: calls
+#   of the JavaScript package, of the Python package by several threads, too, and of the C functions
+#   (node, what rust/wasm/build.sh needs, python3 and gcc).
 # It is beside the gate.
 set -eu
 cd "$(dirname "$0")/.."
@@ -106,9 +109,23 @@ real-locks)
 damaged-locks)
     exec python3 tools/comparisons/damaged-locks.py "${2:-30000}" "$seed"
     ;;
+order)
+    built=$(mktemp -d)
+    trap 'rm -rf "$built"' EXIT
+    trap 'exit 2' HUP INT TERM
+    tools/make-js.sh directory "$built/js"
+    node js/tests/order.mjs "$built/js/index.cjs" "${2:-20000}" "$seed"
+    tests/python-order.sh "${2:-20000}" "$seed"
+    library=out/lib/libsemver_parser.a
+    make -s $library
+    cc -O1 -o "$built/order" tests/c/order.c tests/c/order_calls.c tests/c/texts.c $library
+    "$built/order" "${2:-20000}" "$seed"
+    exit
+    ;;
 crate | cargo | node | npm | versions | real | grid | lines | places | version-places | erased) ;;
 *)
-    kinds='crate|cargo|node|npm|versions|real|grid|lines|places|version-places|js|npm-on-it|managers|damaged-locks|erased'
+    kinds='crate|cargo|node|npm|versions|real|grid|lines|places|version-places|js|npm-on-it'
+    kinds="$kinds|managers|damaged-locks|erased|order"
     echo "usage: tools/compare.sh $kinds [COUNT] [SEED], or locks FILE.., or real-locks [NAME..]," >&2
     echo '       or crate-tests, or targets' >&2
     exit 2

@@ -1,9 +1,10 @@
 #!/bin/sh
-# Tests the C library from C and from C++: the tables of cases, ranges that are read once, errors, null
-# with a length, each allocation refused in turn, and two threads, under valgrind and under the
-# sanitizers of gcc, as clang compiles them, and as C++; and that the header compiles without warning by
-# each standard. It stands beside the gate, and needs gcc, g++, clang and valgrind (Debian: apt-get
-# install gcc g++ clang valgrind) beside cargo, which builds the library if it isn't built.
+# Tests the C library from C and from C++: the tables of cases, ranges that are read once, errors,
+# null with a length, each allocation refused in turn, two threads, and random calls in random order,
+# under valgrind and under the sanitizers of gcc, as clang compiles them, and as C++; and that the
+# header compiles without warning by each standard. It stands beside the gate, and needs gcc, g++,
+# clang and valgrind (Debian: apt-get install gcc g++ clang valgrind) beside cargo, which builds the
+# library if it isn't built.
 set -eu
 cd "$(dirname "$0")/../.."
 top=$PWD
@@ -18,18 +19,28 @@ begin
 library=out/lib/libsemver_parser.a
 again $library
 
+tests='rules readings sets errors replay refused nulls uses order'
+
+# linked_with NAME: what a test is linked with. $work, which mktemp makes, has no blanks.
+linked_with() {
+    objects=$work/objects
+    case $1 in
+    uses | nulls) ;;
+    refused) echo '-Wl,--wrap=malloc,--wrap=realloc,--wrap=free' ;;
+    order) echo "$objects/order_calls.o $objects/texts.o" ;;
+    *) echo "$objects/calls.o $objects/texts.o $objects/table.o" ;;
+    esac
+}
+
 # compile COMPILER FLAGS..: each test with the library.
 compile() {
     rm -rf "$work/objects"
     mkdir "$work/objects"
-    for name in rules readings sets errors replay refused nulls uses calls texts table; do
+    for name in $tests calls texts table order_calls; do
         "$@" -Wall -Wextra -Werror -O1 -g -pthread -c "tests/c/$name.c" -o "$work/objects/$name.o"
     done
-    for name in rules readings sets errors replay refused nulls uses; do
-        helpers="$work/objects/calls.o $work/objects/texts.o $work/objects/table.o" flags=
-        case $name in uses | nulls) helpers= ;; refused) helpers= flags=-Wl,--wrap=malloc,--wrap=realloc,--wrap=free ;; esac
-        # The objects' names have no blanks but those of $work, which mktemp makes.
-        "$@" -x none -pthread -o "$work/$name" "$work/objects/$name.o" $helpers $library $flags
+    for name in $tests; do
+        "$@" -x none -pthread -o "$work/$name" "$work/objects/$name.o" $(linked_with $name) $library
     done
 }
 
@@ -39,6 +50,7 @@ run() {
     for name in rules readings sets errors refused uses; do "$@" "$work/$name"; done
     [ $# != 0 ] || "$work/nulls"
     "$@" "$work/replay" crates/replayed_cases/stdin crates/replayed_cases/stdout
+    "$@" "$work/order" 600 1
 }
 
 # by_standards LANGUAGE COMPILER FLAG STANDARD..: without warning.
@@ -70,5 +82,5 @@ echo 'as C++:'
 run
 compile gcc -std=c11
 echo 'under valgrind:'
-run valgrind -q --error-exitcode=1 --leak-check=full --show-leak-kinds=all
+run valgrind -q --child-silent-after-fork=yes --error-exitcode=1 --leak-check=full --show-leak-kinds=all
 echo 'C library: passed'
