@@ -48,12 +48,13 @@ in_bash() {
     echo bash
 }
 
-# A shell in a terminal of its own is sent the words, a tab, and a key that prints the line then.
+# A shell in a terminal of its own is sent the words, a tab, and a key that prints the line then. One
+# that hangs is ended after five minutes.
 in_zsh() {
     command -v zsh > /dev/null || { echo 'no zsh' && return; }
     while IFS='|' read -r program before word wanted; do
         case $wanted in *' '*) continue ;; esac
-        found=$(timeout 20 zsh -f -c '
+        found=$(timeout 300 zsh -f -c '
             zmodload zsh/zpty
             zpty shell zsh -f -i
             zpty -w shell "PS1= fpath=($PWD/tools/completions \$fpath); autoload -U compinit; compinit -u -D"

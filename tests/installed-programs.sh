@@ -10,13 +10,18 @@ cd "$(dirname "$0")/.."
 
 # ---- what is built
 
+# newer_than FILE: what was built after it. cargo always writes its lists of sources, NAME.d.
+newer_than() {
+    find out/cargo/release out/lib -maxdepth 1 -type f ! -name '*.d' -newer "$1"
+}
+
 # All is built, and once only; the programs run; and from elsewhere, where `cd` looks in other
 # directories.
 as_built() {
     ends 0 make
-    begun=$(date +%s)
+    : > "$work/built"
     ends 0 make
-    [ $(($(date +%s) - begun)) -le 5 ] || fail 'it takes time to build nothing'
+    [ -z "$(newer_than "$work/built")" ] || fail "built again: $(newer_than "$work/built")"
     OPENED=yes
     export OPENED
     tests/program-runs.sh out/cargo/release/semver-parser
@@ -231,17 +236,18 @@ leaves_nothing() {
     return "$left"
 }
 
+# stopped_by SIGNAL: a proof that takes ten minutes is stopped by it, and not waited for.
 stopped_by() {
     rm -rf "$work/temporary" "$work/half"
     mkdir "$work/temporary"
-    stub rt "echo \$\$ > '$work/half'; exec sleep 60"
+    stub rt "echo \$\$ > '$work/half'; exec sleep 600"
     TMPDIR=$work/temporary env --default-signal="$1" "$small/semver-parser" 1.2.3 > "$work/stdout" 2> "$work/stderr" &
     script=$! status=0
     until [ -s "$work/half" ]; do sleep 0.05; done
     sent=$(date +%s)
     kill -s "$1" "$script"
     wait "$script" 2> /dev/null || status=$?
-    [ $(($(date +%s) - sent)) -lt 30 ] || fail "stopped by $1: it waits for the proof"
+    [ $(($(date +%s) - sent)) -lt 600 ] || fail "stopped by $1: it waits for the proof"
     [ "$(kill -l "$status")" = "$1" ] || fail "stopped by $1: status $status"
     [ -z "$(ls -A "$work/temporary")" ] || fail "stopped by $1: something is left"
     ! kill -0 "$(cat "$work/half")" 2> /dev/null || fail "stopped by $1: the proof goes on"

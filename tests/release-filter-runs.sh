@@ -222,10 +222,10 @@ at_once() {
 }
 
 # The second line comes once the first has been read. A program that holds it back is ended after
-# ten seconds.
+# five minutes.
 the_first_line_at_once() {
     mkfifo "$work/taken"
-    { echo 1.2.3; cat "$work/taken"; } | timeout 10 "$program" "$@" | {
+    { echo 1.2.3; cat "$work/taken"; } | timeout 300 "$program" "$@" | {
         read -r line
         echo "read: $line"
         echo 1.2.4 > "$work/taken"
