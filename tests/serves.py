@@ -33,26 +33,27 @@ def imported(text):
 
 
 def functions(top, crate, sources):
-    """Of each function of a crate its module, its name with its type's, the lines of its head and body, and whether it is
-    public: in the order of the sources."""
+    """Of each function of a crate its module, its name with its type's, the lines of its head and body, its source, and its
+    first line if it is public; and its type if it is of a trait: in the order of the sources."""
     for path in sources(crate):
-        module, inside = path.split('/src/')[1][:-3], ''
+        module, inside, type_of_trait = path.split('/src/')[1][:-3], '', ''
         lines = read(os.path.join(top, path)).split('\n')
         for at, line in enumerate(lines):
             begins = re.match(r'impl(?:<[^{]*>)? (?:([\w:]+)(?:<[^{]*>)? for )?(\w+)', line)
             if begins:
                 inside = begins.group(2) + (begins.group(1) or '').split('::')[-1] + '/'
+                type_of_trait = begins.group(2) if begins.group(1) else ''
             elif line.startswith('}'):
-                inside = ''
+                inside = type_of_trait = ''
             call = re.match(r'( *)(pub(?:\([a-z]+\))? )?(?:unsafe )?(?:extern "C" )?fn (\w+)', line)
             if call:
                 end = next((k for k in range(at, len(lines)) if lines[k].rstrip() in (call.group(1) + '}', call.group(1) + '{}')), at)
                 attributes = [it for it in lines[max(0, at - 4):at] if it.strip().startswith('#[')]
                 own = inside if call.group(1) else ''
-                yield module, own + call.group(3), '\n'.join(attributes + lines[at:end + 1]), path, line if call.group(2) == 'pub ' else ''
+                yield module, own + call.group(3), '\n'.join(attributes + lines[at:end + 1]), path, line if call.group(2) == 'pub ' else '', type_of_trait
 
 
-def graph(top, crates, sources, public):
+def graph(top, crates, sources, public, exported):
     """The public calls, and of each node what rests on it: files of lemmas, and functions by crate, module and name."""
     above, calls, texts = {}, [], {}
     for crate, name, text in lemma_files(top, crates):
@@ -64,9 +65,9 @@ def graph(top, crates, sources, public):
         by_name = {}
         for module, name, *_ in known:
             by_name.setdefault(name.split('/')[-1], []).append((crate, module, name))
-        for module, name, body, path, line in known:
+        for module, name, body, path, line, type_of_trait in known:
             node = (crate, module, name)
-            if line and (public(crate, path, line) or module == 'laws'):
+            if line and (public(crate, path, line) or module == 'laws') or type_of_trait and exported(crate, path, type_of_trait):
                 calls.append(node)
             folder = os.path.join(top, 'crates', crate, 'proofs', *([] if module in ('lib', 'main') else [module]), name)
             folder = next((at for at in folders if at.endswith('/' + name)), folder) if '/' in name and not os.path.isdir(folder) else folder
@@ -91,9 +92,9 @@ def clause_of(answers, lemma):
     return found
 
 
-def served(top, crates, sources, public):
+def served(top, crates, sources, public, exported):
     """Of each file of lemmas the line that is to be at its head."""
-    calls, above, texts = graph(top, crates, sources, public)
+    calls, above, texts = graph(top, crates, sources, public, exported)
     rank = {node: at for at, node in enumerate(calls)}
     for crate, name, _ in lemma_files(top, crates):
         level, seen, before = [(crate, name)], {(crate, name)}, {}
@@ -121,9 +122,9 @@ def path_of(top, crate, name):
     return os.path.join(top, 'crates', crate, 'proofs', name + '.antt')
 
 
-def errors(top, crates, sources, public):
+def errors(top, crates, sources, public, exported):
     """What the heads of the files of lemmas should say, and don't."""
-    wanted = {(crate, name): line for crate, name, line in served(top, crates, sources, public)}
+    wanted = {(crate, name): line for crate, name, line in served(top, crates, sources, public, exported)}
     for crate, name, text in lemma_files(top, crates):
         line = wanted.get((crate, name))
         if line is None:
@@ -132,9 +133,9 @@ def errors(top, crates, sources, public):
             yield f'crates/{crate}/proofs/{name}.antt does not begin with: {line} (tests/documents.py --serves writes it)'
 
 
-def write(top, crates, sources, public):
+def write(top, crates, sources, public, exported):
     """Puts the lines where they belong."""
-    for crate, name, line in list(served(top, crates, sources, public)):
+    for crate, name, line in list(served(top, crates, sources, public, exported)):
         path = path_of(top, crate, name)
         text = read(path)
         if text.startswith(PREFIX):

@@ -207,12 +207,19 @@ def intervals(found, holds):
     return [tuple(interval) for interval in answer]
 
 
+def end_of(begin, end):
+    """What an interval is written to end below. One of all the pre-releases of its numbers that are left ends below their release: `>=1.2.3-a <1.2.3`."""
+    numbers, pre = begin
+    above = raised(numbers)
+    return (numbers, ()) if pre and above and end == (above, (0,)) else end
+
+
 def interval_text(interval, lowest):
     begin, end = interval
     if end == right_after(begin):
         return f"={shown(begin)}"
     bounds = [f">={shown(begin)}"] if begin != lowest else []
-    return " ".join(bounds + ([f"<{shown(end)}"] if end else [])) or "*"
+    return " ".join(bounds + ([f"<{shown(end_of(begin, end))}"] if end else [])) or "*"
 
 
 def whole(found, holds):

@@ -65,7 +65,7 @@ export class Comparator {
     const meaning = options === undefined ? this.#meaning : meaningFor(options, [this, other])
     if (options === undefined) checkDialect(meaning, other)
     const [one, two] = [this, other].map((it) => readRange(it, meaning))
-    return one.beside(two, 'range_overlaps') === 1
+    return one.beside(two, 'range_is_apart') === 0
   }
 }
 

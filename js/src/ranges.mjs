@@ -146,7 +146,7 @@ export class Range {
     if (readOf(other) === null) throw new TypeError('a Range is required')
     const meaning = options === undefined ? this.#read.meaning : meaningFor(options, [this, other])
     if (options === undefined) checkDialect(meaning, other)
-    return readRange(this, meaning).beside(readRange(other, meaning), 'range_overlaps') === 1
+    return readRange(this, meaning).beside(readRange(other, meaning), 'range_is_apart') === 0
   }
 }
 

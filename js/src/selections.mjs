@@ -85,14 +85,16 @@ function readBoth(range, other, options) {
     readRange(pair[0], meaningFor(given, pair), at))
 }
 
-// What a call says of two ranges.
+// What a call returns of two ranges.
 function asked(range, other, options, call) {
   const [one, two] = readBoth(range, other, options)
-  return one.beside(two, call) === 1
+  return one.beside(two, call)
 }
 
-export const intersects = (range, other, options) => asked(range, other, options, 'range_overlaps')
-export const subset = (range, other, options) => asked(range, other, options, 'range_is_within')
+export const intersects = (range, other, options) =>
+  asked(range, other, options, 'range_is_apart') === 0
+export const subset = (range, other, options) =>
+  asked(range, other, options, 'range_is_within') === 1
 
 export function compareRanges(range, other, options) {
   const [one, two] = readBoth(range, other, options)
@@ -107,7 +109,7 @@ export function outside(version, range, side, options) {
   const { version: string } = new SemVer(version, meaning)
   const read = readRange(range, meaning, 1)
   const beyond = readRange(BEYOND[side] + string, meaning.with('included'))
-  return read.beside(beyond, 'range_overlaps') === 0
+  return read.beside(beyond, 'range_is_apart') === 1
 }
 
 export const gtr = (version, range, options) => outside(version, range, '>', options)

@@ -262,7 +262,7 @@ class Range(Printed):
         """The pre-releases of the range as a range, to be compared by precedence.
 
         >>> Range("^1.2.3-rc", dialect="cargo").printed_pre_releases
-        '>=1.2.3-rc <1.2.4-0'
+        '>=1.2.3-rc <1.2.3'
         """
         return printed(LIBRARY.semver_parser_range_to_string, self._handle, True)
 

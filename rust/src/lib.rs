@@ -29,7 +29,8 @@
 //! let old = VersionRange::parse("^1.2", Dialect::Cargo)?;
 //! let new = VersionRange::parse(">=1.2.1, <1.9", Dialect::Cargo)?;
 //! assert_eq!((&old - &new).to_string(), "=1.2.0 || >=1.9.0 <2.0.0");
-//! assert!(new.is_subset(&old) && old.contains("1.2.0") == Ok(true));
+//! assert_eq!(new.is_subset(&old), Ok(true));
+//! assert_eq!(old.contains("1.2.0"), Ok(true));
 //! # Ok::<(), semver_parser::RangeError>(())
 //! ```
 //!

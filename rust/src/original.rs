@@ -2,16 +2,25 @@
 //! report a failed allocation, and these end the process, as all of Rust does.
 
 use crate::parser;
+use crate::rattle_std::FallibleToString;
 use crate::version;
 use crate::{Compat, RangeError, RangeSet};
 use alloc::alloc::{handle_alloc_error, Layout};
-use alloc::string::{String, ToString};
+use alloc::string::String;
+use core::fmt::Display;
 use core::str::FromStr;
 
 /// What Rust does if an allocation fails.
 #[cold]
 pub(crate) fn out_of_memory() -> ! {
     handle_alloc_error(Layout::new::<u64>())
+}
+
+/// The sentence of an error. `to_string` of std would panic if `Display` returned an error.
+fn sentence(error: impl Display) -> String {
+    error
+        .fallible_to_string()
+        .unwrap_or_else(|_| out_of_memory())
 }
 
 impl RangeSet {
@@ -49,7 +58,7 @@ impl From<RangeError> for String {
     fn from(error: RangeError) -> String {
         match error {
             RangeError::OutOfMemory => out_of_memory(),
-            error => error.to_string(),
+            error => sentence(error),
         }
     }
 }
@@ -73,7 +82,7 @@ impl From<parser::Error<'_>> for String {
     fn from(error: parser::Error<'_>) -> String {
         match error {
             parser::Error::OutOfMemory => out_of_memory(),
-            error => error.to_string(),
+            error => sentence(error),
         }
     }
 }

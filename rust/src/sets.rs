@@ -6,18 +6,18 @@
 //!
 //! let old = sets::read("^1.2", Dialect::Cargo)?;
 //! let new = sets::read(">=1.2.1, <1.9", Dialect::Cargo)?;
-//! assert!(new.is_subset(&old));
+//! assert_eq!(new.is_subset(&old), Ok(true));
 //! assert!(old.contains(&version::parse("1.2.0").unwrap()));
 //!
 //! let lost = old.difference(&new)?.release_ranges()?.range_set;
 //! assert_eq!(lost.to_string(), "=1.2.0 || >=1.9.0 <2.0.0");
-//! # Ok::<(), semver_parser::RangeError>(())
+//! # Ok::<(), Box<dyn std::error::Error>>(())
 //! ```
 
 use crate::proved::tool_ranges::meaning;
 use crate::{AllocError, Meaning, RangeError};
 
-pub use crate::proved::version_sets::{Comparison, Release, SetRanges, VersionSet};
+pub use crate::proved::version_sets::{Comparison, Release, SetError, SetRanges, VersionSet};
 
 /// Reads a range string into the set of the versions that it means in a dialect.
 ///

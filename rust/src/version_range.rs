@@ -1,9 +1,7 @@
-//! What Rust has of ranges beside the proved calls: strings, operators, and printing.
+//! What Rust has of ranges beside the proved calls: strings and operators.
 
 use crate::original::out_of_memory;
 use crate::{Meaning, OperationError, RangeError, SatisfiesError, VersionRange};
-use alloc::vec::Vec;
-use core::fmt;
 use core::ops::{BitAnd, BitOr, Sub};
 
 impl VersionRange {
@@ -62,7 +60,7 @@ impl VersionRange {
     /// # Ok::<(), semver_parser::RangeError>(())
     /// ```
     pub fn highest<'v>(&self, versions: impl IntoIterator<Item = &'v str>) -> Option<&'v str> {
-        self.found(versions, VersionRange::highest_of)
+        self.highest_among(versions.into_iter())
     }
 
     /// Returns the lowest of the versions that the range contains, as [`VersionRange::highest`] the
@@ -76,58 +74,7 @@ impl VersionRange {
     /// # Ok::<(), semver_parser::RangeError>(())
     /// ```
     pub fn lowest<'v>(&self, versions: impl IntoIterator<Item = &'v str>) -> Option<&'v str> {
-        self.found(versions, VersionRange::lowest_of)
-    }
-
-    fn found<'v>(
-        &self,
-        versions: impl IntoIterator<Item = &'v str>,
-        find: impl Fn(&VersionRange, &[&[u8]]) -> Option<usize>,
-    ) -> Option<&'v str> {
-        let versions: Vec<&str> = versions.into_iter().collect();
-        let bytes: Vec<&[u8]> = versions.iter().map(|it| it.as_bytes()).collect();
-        find(self, &bytes).map(|index| versions[index])
-    }
-}
-
-impl PartialEq for VersionRange {
-    /// Whether both ranges have the same meaning and contain the same versions.
-    ///
-    /// ```
-    /// use semver_parser::{Dialect, VersionRange};
-    ///
-    /// let range = VersionRange::parse("^1.2", Dialect::Npm)?;
-    /// assert!(range == VersionRange::parse(">=1.2.0 <2.0.0-0", Dialect::Npm)?);
-    /// assert!(range != VersionRange::parse("^1.2", Dialect::Cargo)?);
-    /// # Ok::<(), semver_parser::RangeError>(())
-    /// ```
-    fn eq(&self, other: &VersionRange) -> bool {
-        self.meaning() == other.meaning() && self.versions() == other.versions()
-    }
-}
-
-impl Eq for VersionRange {}
-
-impl fmt::Display for VersionRange {
-    /// Writes the releases that the range contains as a range in npm's syntax, `<0.0.0-0` if it has
-    /// none, and if it has pre-releases, these after `, pre-releases `, to be compared by
-    /// precedence. Of pre-releases alone the first comma is missing.
-    ///
-    /// ```
-    /// use semver_parser::{Dialect, VersionRange};
-    ///
-    /// let shown = |range| VersionRange::parse(range, Dialect::Npm).unwrap().to_string();
-    /// assert_eq!(shown("1.2.0 || ~1.9"), "=1.2.0 || >=1.9.0 <1.10.0");
-    /// assert_eq!(shown("^1.2.3-b"), ">=1.2.3 <2.0.0, pre-releases >=1.2.3-b <1.2.4-0");
-    /// ```
-    fn fmt(&self, f: &mut fmt::Formatter<'_>) -> fmt::Result {
-        let releases = self.versions().release_ranges().map_err(|_| fmt::Error)?;
-        let pre_releases = self.versions().pre_release_ranges().map_err(|_| fmt::Error)?;
-        match (releases.range_set.ranges.is_empty(), pre_releases.range_set.ranges.is_empty()) {
-            (_, true) => write!(f, "{releases}"),
-            (true, false) => write!(f, "pre-releases {pre_releases}"),
-            (false, false) => write!(f, "{releases}, pre-releases {pre_releases}"),
-        }
+        self.lowest_among(versions.into_iter())
     }
 }
 

@@ -2,12 +2,18 @@
 use Rattle.std.specs.Prelude.{◌≡◌, Option, option_map}
 use Rattle.semver_parser.specs.Versions.{PlainVersion, VersionValue}
 use Rattle.semver_parser.specs.VersionViews.{version_value}
+use Rattle.tool_ranges.specs.VersionRanges.{RangeValue}
 use Rattle.version_sets.specs.VersionSets.{SetValue, contains, Fits}
 use Rattle.version_sets.specs.declared.Comparison.{Comparison}
 
--- two sets are equal where they have the same versions
+-- two sets are equal where they read digits alike and have the same versions
 abbrev pub AreAlike : SetValue → SetValue → Type 0
-AreAlike a b = ((v : PlainVersion) → Fits v → contains a v ≡ contains b v) → a ≡ b
+AreAlike a b = a.digits ≡ b.digits → ((v : PlainVersion) → Fits v → contains a v ≡ contains b v) → a ≡ b
+
+-- two ranges are equal where they have the same meaning and the same versions
+abbrev pub AreAlikeRanges : RangeValue → RangeValue → Type 0
+AreAlikeRanges a b = a.meaning ≡ b.meaning
+    → ((v : PlainVersion) → Fits v → contains a.versions v ≡ contains b.versions v) → a ≡ b
 
 -- the three versions of a comparison, where there are any
 pub record ComparisonValue : Type 0 where

@@ -3,6 +3,8 @@
 ghost use Rattle.std.specs.Prelude.{◌≡◌, alloc_error, IfOk, option_map};
 ghost use Rattle.semver_parser.specs.VersionViews.{version_value};
 ghost use Rattle.semver_parser.specs.Outlines.{version_of};
+ghost use Rattle.semver_texts.specs.Digits.{digits_in};
+ghost use Rattle.tool_ranges.specs.Dialects.{grammar_of};
 ghost use Rattle.version_sets.specs.VersionSets.{Fits};
 ghost use Rattle.answer_laws.specs.OneAnswer.{AreOne, itself};
 ghost use Rattle.answer_laws.specs.SameSets.{AreAlike, comparison_value};
@@ -14,7 +16,7 @@ use std::alloc::{AllocError, Global};
 use tool_ranges::meaning::{self, Meaning};
 use tool_ranges::{cargo, npm};
 use version_sets::laws::{one_set, sets_are_normal};
-use version_sets::{Comparison, PreReleases, Release, VersionSet};
+use version_sets::{Comparison, PreReleases, Release, SetError, VersionSet};
 
 /// Two answers of a call that reads a text, on the same inputs.
 type Read = (
@@ -22,13 +24,16 @@ type Read = (
     Result<VersionSet, RangeError>,
 );
 
-/// Two answers of a call that makes a set of others, on the same inputs.
+/// Two answers of a call that makes a set of comparators, on the same inputs.
 type Made = (
     Result<VersionSet, AllocError>,
     Result<VersionSet, AllocError>,
 );
 
-/// Two sets with the same versions are equal. It does nothing.
+/// Two answers of a call that combines two sets, on the same inputs.
+type Combined = (Result<VersionSet, SetError>, Result<VersionSet, SetError>);
+
+/// Two sets that read digits alike and have the same versions are equal. It does nothing.
 fn are_alike(first: &VersionSet, second: &VersionSet)
     ensures alike { AreAlike first.now second.now }
 {
@@ -104,13 +109,15 @@ pub fn one_satisfies(
     )
 }
 
-/// `meaning::satisfies` answers what the set of the text says of the version.
+/// `meaning::satisfies` answers what the set of the text says of the version, whose digits it reads
+/// as the dialect does.
 pub fn satisfies_as_the_set(
     alloc: Global,
     version: &Outline<'_>,
     range: &str,
     meaning: Meaning,
 ) -> (Result<bool, RangeError>, Result<bool, RangeError>)
+    requires { version.now.digits ≡ digits_in (grammar_of meaning.dialect) }
     ensures same { AreOne RangeError.OutOfMemory itself result.0 result.1 }
 {
     semver_versions::laws::numbers_of_outlines_fit(version);
@@ -147,8 +154,8 @@ pub fn one_of_set_by(
 }
 
 /// `VersionSet::union` has one answer.
-pub fn one_union(alloc: Global, set: &VersionSet, other: &VersionSet) -> Made
-    ensures one { AreOne alloc_error itself result.0 result.1 }
+pub fn one_union(alloc: Global, set: &VersionSet, other: &VersionSet) -> Combined
+    ensures one { AreOne SetError.OutOfMemory itself result.0 result.1 }
 {
     let first = set.union(alloc, other);
     let second = set.union(alloc, other);
@@ -157,8 +164,8 @@ pub fn one_union(alloc: Global, set: &VersionSet, other: &VersionSet) -> Made
 }
 
 /// `VersionSet::intersection` has one answer.
-pub fn one_intersection(alloc: Global, set: &VersionSet, other: &VersionSet) -> Made
-    ensures one { AreOne alloc_error itself result.0 result.1 }
+pub fn one_intersection(alloc: Global, set: &VersionSet, other: &VersionSet) -> Combined
+    ensures one { AreOne SetError.OutOfMemory itself result.0 result.1 }
 {
     let first = set.intersection(alloc, other);
     let second = set.intersection(alloc, other);
@@ -167,8 +174,8 @@ pub fn one_intersection(alloc: Global, set: &VersionSet, other: &VersionSet) -> 
 }
 
 /// `VersionSet::difference` has one answer.
-pub fn one_difference(alloc: Global, set: &VersionSet, other: &VersionSet) -> Made
-    ensures one { AreOne alloc_error itself result.0 result.1 }
+pub fn one_difference(alloc: Global, set: &VersionSet, other: &VersionSet) -> Combined
+    ensures one { AreOne SetError.OutOfMemory itself result.0 result.1 }
 {
     let first = set.difference(alloc, other);
     let second = set.difference(alloc, other);
@@ -177,11 +184,11 @@ pub fn one_difference(alloc: Global, set: &VersionSet, other: &VersionSet) -> Ma
 }
 
 /// `VersionSet::empty` has one answer.
-pub fn one_empty(alloc: Global) -> (VersionSet, VersionSet)
+pub fn one_empty(alloc: Global, digits: Digits) -> (VersionSet, VersionSet)
     ensures one { result.0 ≡ result.1 }
 {
-    let first = VersionSet::empty(alloc);
-    let second = VersionSet::empty(alloc);
+    let first = VersionSet::empty(alloc, digits);
+    let second = VersionSet::empty(alloc, digits);
     are_alike(&first, &second);
     (first, second)
 }
@@ -243,11 +250,8 @@ pub fn one_compare(
     alloc: Global,
     set: &VersionSet,
     new: &VersionSet,
-) -> (
-    Result<Comparison, AllocError>,
-    Result<Comparison, AllocError>,
-)
-    ensures one { AreOne alloc_error comparison_value result.0 result.1 }
+) -> (Result<Comparison, SetError>, Result<Comparison, SetError>)
+    ensures one { AreOne SetError.OutOfMemory comparison_value result.0 result.1 }
 {
     laws::precedence_is_total();
     (set.compare(alloc, new), set.compare(alloc, new))

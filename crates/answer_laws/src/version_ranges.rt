@@ -1,11 +1,15 @@
 //! The calls that read a range, combine two, or check versions by one.
 
-ghost use Rattle.std.specs.Prelude.{◌≡◌, IfOk};
+ghost use Rattle.std.specs.Prelude.{◌≡◌, IfOk, List};
 ghost use Rattle.answer_laws.specs.OneAnswer.{AreOne, itself};
-ghost use Rattle.answer_laws.specs.SameSets.{AreAlike};
+ghost use Rattle.std.specs.Borrow.{Bor};
+ghost use Rattle.std.specs.Iterator.{Drains, IsFinite};
+ghost use Rattle.semver_texts.specs.Texts.{Text};
+ghost use Rattle.answer_laws.specs.SameSets.{AreAlikeRanges};
 
 use semver_ranges::RangeError;
 use std::alloc::Global;
+use tool_ranges::laws::ranges_read_digits;
 use tool_ranges::meaning::Meaning;
 use tool_ranges::range_operations::OperationError;
 use tool_ranges::satisfying::SatisfiesError;
@@ -18,9 +22,10 @@ type Combined = (
     Result<VersionRange, OperationError>,
 );
 
-/// The versions of two ranges that are answered are alike. It does nothing.
+/// Two ranges that are answered are equal if they have the same meaning and the same versions. It
+/// does nothing.
 fn answers_are_alike<E>(first: &Result<VersionRange, E>, second: &Result<VersionRange, E>)
-    ensures alike { IfOk first.now (λ a. IfOk second.now (λ b. AreAlike a.versions b.versions)) }
+    ensures alike { IfOk first.now (λ a. IfOk second.now (AreAlikeRanges a)) }
 {
     one_set();
     let Ok(first) = first else {
@@ -31,6 +36,8 @@ fn answers_are_alike<E>(first: &Result<VersionRange, E>, second: &Result<Version
     };
     sets_are_normal(first.versions());
     sets_are_normal(second.versions());
+    ranges_read_digits(first);
+    ranges_read_digits(second);
 }
 
 /// `VersionRange::parse` has one answer.
@@ -73,6 +80,43 @@ pub fn one_lowest_of(range: &VersionRange, versions: &[&[u8]]) -> (Option<usize>
     ensures one { result.0 ≡ result.1 }
 {
     (range.lowest_of(versions), range.lowest_of(versions))
+}
+
+/// `VersionRange::highest_among` has one answer, of two iterators that give the same strings, since each
+/// is taken.
+pub fn one_highest_among<'v, I: Iterator<Item = &'v str> + Drop>(
+    range: &VersionRange,
+    versions: I,
+    same_versions: I,
+) -> (Option<&'v str>, Option<&'v str>)
+    requires can { I.can_next versions × I.can_next same_versions }
+    requires end { IsFinite (I.remaining versions) × IsFinite (I.remaining same_versions) }
+    requires same { (xs ys : List (Bor Text)) → Drains I.next_gives versions xs
+        → Drains I.next_gives same_versions ys → xs ≡ ys }
+    ensures one { result.0 ≡ result.1 }
+{
+    (
+        range.highest_among(versions),
+        range.highest_among(same_versions),
+    )
+}
+
+/// So has `VersionRange::lowest_among`.
+pub fn one_lowest_among<'v, I: Iterator<Item = &'v str> + Drop>(
+    range: &VersionRange,
+    versions: I,
+    same_versions: I,
+) -> (Option<&'v str>, Option<&'v str>)
+    requires can { I.can_next versions × I.can_next same_versions }
+    requires end { IsFinite (I.remaining versions) × IsFinite (I.remaining same_versions) }
+    requires same { (xs ys : List (Bor Text)) → Drains I.next_gives versions xs
+        → Drains I.next_gives same_versions ys → xs ≡ ys }
+    ensures one { result.0 ≡ result.1 }
+{
+    (
+        range.lowest_among(versions),
+        range.lowest_among(same_versions),
+    )
 }
 
 /// `VersionRange::union` has one answer.

@@ -81,7 +81,9 @@ impl Program {
         rt: &HostRuntime,
         tools: &[(&str, Dialect, &RangeError)],
         range: &str,
-    ) -> ExitCode {
+    ) -> ExitCode
+        ensures status { exit_status result ≡ 2 }
+    {
         for (tool, dialect, error) in tools {
             let _ = match refused_text(rt.alloc(), *dialect, error, range) {
                 Ok(text) => eprintln!(rt; "{}: {tool}: {text}", self.name),

@@ -3,7 +3,7 @@
 use crate::arguments::{Extent, Options};
 use semver_parser::version::Version;
 use std::alloc::{AllocError, Global};
-use version_sets::{SetRanges, VersionSet};
+use version_sets::{SetError, SetRanges, VersionSet};
 
 /// What is written, so far.
 #[derive(Drop)]
@@ -39,7 +39,7 @@ impl Output {
         alloc: Global,
         old: &VersionSet,
         new: &VersionSet,
-    ) -> Result<(), AllocError> {
+    ) -> Result<(), SetError> {
         match self.options.extent {
             Extent::Whole => {
                 self.push_whole(alloc, "lost", &old.difference(alloc, new)?)?;

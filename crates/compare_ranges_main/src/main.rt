@@ -15,6 +15,7 @@ use std::process::ExitCode;
 use tool_ranges::dialect::Dialect;
 use tool_ranges::meaning::Meaning;
 use tool_ranges::version_range::VersionRange;
+use version_sets::SetError;
 
 /// The program.
 const PROGRAM: Program = Program {
@@ -161,17 +162,17 @@ fn of_two(
     question: &Question,
     range: &VersionRange,
     new: &VersionRange,
-) -> Result<String, AllocError> {
+) -> Result<String, SetError> {
     let mut output = Output::new(rt.alloc(), question.options);
     output.push_two(rt.alloc(), range.versions(), new.versions())?;
-    output.finish(rt.alloc())
+    Ok(output.finish(rt.alloc())?)
 }
 
 /// Whether the change is there that the exit status reports.
 fn is_changed(question: &Question, range: &VersionRange, new: &VersionRange) -> bool {
     match question.options.fails_on {
-        Some(Change::Lost) => !range.is_subset(new),
-        Some(Change::Gained) => !new.is_subset(range),
+        Some(Change::Lost) => range.is_subset(new) != Ok(true),
+        Some(Change::Gained) => new.is_subset(range) != Ok(true),
         Some(Change::Any) | None => range.versions() != new.versions(),
     }
 }

@@ -1,5 +1,5 @@
 //! Printed values at a writer that refuses.
-use super::writers::{Limited, Refusal};
+use super::writers::{ALL_AT_ONCE, Limited, Refusal};
 use semver_parser::parser::{Error, Parser};
 use semver_parser::{Comparator, Compat, Range, RangeError, RangeSet, version};
 use std::alloc::Global;
@@ -147,7 +147,7 @@ fn write_printed<T: fmt::Display>(
 /// Whether the value prints as the text to a writer of so many bytes: all of it where all is taken,
 /// and else a beginning, an error, and nothing more.
 fn prints<T: fmt::Display>(alloc: Global, value: &T, text: &str, left: usize) -> bool {
-    let mut out = Limited::new(alloc, left, usize::MAX, Refusal::Fail);
+    let mut out = Limited::new(alloc, left, ALL_AT_ONCE, Refusal::Fail);
     let is_printed = write!(out, "{value}").is_ok();
     let is_whole = out.taken.as_slice() == text.as_bytes();
     let is_front = text.as_bytes().starts_with(out.taken.as_slice());

@@ -1,5 +1,5 @@
 //! The report at a writer that refuses.
-use super::writers::{Limited, Refusal};
+use super::writers::{ALL_AT_ONCE, Limited, Refusal};
 use semver_parser::report;
 use std::alloc::Global;
 use std::io;
@@ -11,7 +11,7 @@ const REPORT: &str = "version: 1.2.3\ncargo: >=1.2.3 <2.0.0\nnpm: =1.2.3\n";
 pub fn write_report(rt: &impl Print, alloc: Global) -> io::Result<()> {
     let mut refusals = 0u32;
     for refusal in [Refusal::Fail, Refusal::Interrupt, Refusal::TakeNone] {
-        for most in [1, usize::MAX] {
+        for most in [1, ALL_AT_ONCE] {
             for left in 0..=REPORT.len() {
                 if !ends_with(alloc, left, most, refusal) {
                     println!(rt; "report: wrong after {left} bytes")?;

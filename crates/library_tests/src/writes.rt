@@ -1,5 +1,5 @@
 //! Whole writes: of no byte and of some, at a writer that refuses.
-use super::writers::{Limited, Refusal};
+use super::writers::{ALL_AT_ONCE, Limited, Refusal};
 use semver_texts::writing::write_whole;
 use std::alloc::Global;
 use std::io;
@@ -13,7 +13,7 @@ const BYTES: &[u8] = b"1.2.3";
 pub fn write_writes(rt: &impl Print, alloc: Global) -> io::Result<()> {
     let mut writes = 0u32;
     for refusal in [Refusal::Fail, Refusal::Interrupt, Refusal::TakeNone] {
-        for most in [1, usize::MAX] {
+        for most in [1, ALL_AT_ONCE] {
             let (count, wrong) = count_writes(alloc, most, refusal);
             writes = writes.saturating_add(count);
             if wrong > 0 {

@@ -2,22 +2,17 @@
 -- Versions that pass, put before others and kept, some at a time.
 use Rattle.std.proofs.Common.{◌≡◌, ℕ, zero, suc, ◌+◌, ◌<◌, ◌≤◌, Bool, true, false, List, [], ◌∷◌, ◌++◌, map, filter, take, drop, set}
 use Rattle.std.proofs.Common.{length, get_or}
-use Rattle.std.proofs.Common.{refl, sym, ap, ap₂, ◌∙◌, subst, arith, Any, IsTrue, cond, add-zero, Some}
+use Rattle.std.proofs.Common.{sym, ap, ap₂, ◌∙◌, subst, arith, cond, add-zero, Some}
 use Rattle.std.specs.Prelude.{slice_get}
 use Rattle.std.specs.Int.{from_bool}
 use Rattle.std.proofs.lemmas.Option.{slice_get-get_or, slice_get_within}
-use Rattle.std.proofs.lemmas.List.{append-nil, append_assoc, length-append, length-set, get_or-append-add, get_or_append_left}
+use Rattle.std.proofs.lemmas.List.{append-nil, append_assoc, length-set}
 use Rattle.std.proofs.lemmas.List.{map-append, take-set, take_more, take_more_set}
 use Rattle.std.proofs.lemmas.List.Elements.{filter-append}
 use Rattle.std.specs.List.{AllByRecursion}
-use Rattle.tool_ranges.specs.VersionRanges.{RangeValue}
 use Rattle.semver_texts.specs.VersionViews.{version_value}
-use Rattle.semver_texts.specs.declared.grammar.Grammar.{Grammar}
 use Rattle.semver_texts.specs.declared.version.Version.{Version}
-use Rattle.version_sets.specs.declared.PreReleases.{PreReleases}
-use Rattle.version_sets.specs.VersionSets.{SetValue, contains, Fits}
-use Rattle.semver_texts.specs.Digits.{plain_by}
-use Rattle.semver_texts.specs.declared.grammar.Digits.{Digits}
+use Rattle.version_sets.specs.VersionSets.{SetValue, contains_kept, Fits}
 use Rattle.release_filter.specs.Steps.Members.{is_member}
 use Rattle.release_filter.proofs.Matching.{some_is}
 use Rattle.std.proofs.lemmas.Grind.{common_steps}
@@ -138,7 +133,7 @@ keeps_next f xs places ys old kept i d b inside same is before =
 
 -- the answer on a version is whether it is a member
 pub checked_at : (set : SetValue) (versions : List Version) (answers : List Bool) (i : ℕ) (d : Bool)
-    → answers ≡ map (λ v. contains set (version_value v).plain) versions
+    → answers ≡ map (λ v. contains_kept set (version_value v).plain) versions
     → AllByRecursion (λ v. Fits (version_value v).plain) versions
     → i < length versions → (e : Version) → get_or answers i d ≡ is_member set (get_or versions i e)
 checked_at set versions answers i d told fit inside e = grind (arith, common_steps)

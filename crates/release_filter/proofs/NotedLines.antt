@@ -1,6 +1,6 @@
 -- serves: release_filter::lines::Lines::push, stops
 -- What is counted of a line that has no version.
-use Rattle.std.proofs.Common.{◌≡◌, ◌∙◌, ◌==◌, [], ◌∷◌, ℕ, Bool, true, false, refl, sym, ap, arith}
+use Rattle.std.proofs.Common.{◌≡◌, ◌==◌, [], ◌∷◌, ℕ, Bool, true, false, refl, arith}
 use Rattle.std.proofs.Common.{Vec, Global, length, min, take, rules}
 use Rattle.std.proofs.lemmas.Grind.{common_steps}
 use Rattle.std.specs.Option.{is_some}

@@ -55,8 +55,11 @@ not_below : (m n : ℕ) → is_lt (nat_cmp n m) ≡ false → m ≤ n
 not_below m n low = grind (arith, nat_tests)
 
 module _ (total : IsTotalOrder precedence) where
+  pub by_version_total : IsTotalOrder by_version
+  by_version_total = then_total (on_total plain_of total) (on_total index_of nat_cmp_total)
+
   pub ranks : IsStrictWeakOrder is_below
-  ranks = ranks_by (then_total (on_total plain_of total) (on_total index_of nat_cmp_total)) (λ (l : IndexedLine). l)
+  ranks = ranks_by by_version_total (λ (l : IndexedLine). l)
 
   -- a line that another isn't below is no greater, and if its version is equal it is before it
   isnt_above : (x y : IndexedLine) → is_below y x ≡ false → precedence (plain_of x) (plain_of y) ≡ Greater → ⊥

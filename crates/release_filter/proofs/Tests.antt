@@ -1,7 +1,7 @@
 -- serves: release_filter::filter::filter_text, kept
 -- Tests of all or some of a list, and what tests keep of one.
-use Rattle.std.proofs.Common.{rules, ◌≤◌, arith, ◌≡◌, ℕ, ◌+◌, ◌<◌, Bool, List, [], ◌∷◌}
-use Rattle.std.proofs.Common.{◌++◌, refl, map, filter, take, length, get_or}
+use Rattle.std.proofs.Common.{rules, arith, ◌≡◌, Bool, List, [], ◌∷◌}
+use Rattle.std.proofs.Common.{◌++◌, refl, map, filter}
 use Rattle.std.specs.List.{AllByRecursion, list_any}
 use Rattle.std.proofs.lemmas.Grind.{common_steps}
 

@@ -2,6 +2,7 @@
 
 ghost use Rattle.std.specs.Prelude.{◌≡◌, ◌<◌, ◌↔◌, ◌++◌, [], ◌∷◌, true, IfErr, IfOk, MatchOption};
 ghost use Rattle.std.specs.Prelude.{List, Option, length, map, option_to_list};
+ghost use Rattle.std.specs.Cmp.{IsTotalOrder};
 ghost use Rattle.std.specs.Option.{option_map};
 ghost use Rattle.std.specs.Ordering.{nat_cmp, ordering_then};
 ghost use Rattle.std.specs.declared.cmp.Ordering.TheVariants.{Less};
@@ -17,6 +18,7 @@ ghost use Rattle.release_filter.specs.Selections.{SelectedValue, emptied, ended,
 ghost use Rattle.release_filter.specs.Selections.{selected_as};
 ghost use Rattle.release_filter.specs.Selections.{order_of, text_of};
 ghost use Rattle.release_filter.specs.declared.line_texts.LineEnd.{LineEnd};
+ghost use Rattle.release_filter.specs.declared.selection.IndexedLine.{IndexedLine};
 
 use crate::line_texts::{LineEnd, without_last};
 use crate::verdict::Checked;
@@ -271,6 +273,10 @@ impl Held {
         ensures unchanged { IfErr result (λ _. kept.new.items ≡ kept.old.items) }
         ensures out_of_memory { IfErr result (λ _. AnswerAllocates (held_value self.now)
             (option_to_list (option_map selected_value last.now)) kept.old.items) }
+        // What the sort compares by is a total order, which Rust demands.
+        ensures total_order { IsTotalOrder (λ (k l : IndexedLine). ordering_then
+            (precedence (read_plain k.line.now.version) (read_plain l.line.now.version))
+            (nat_cmp k.index l.index)) }
     {
         laws::precedence_is_total();
         let mut lines = Vec::new(alloc);

@@ -41,6 +41,7 @@ pub(crate) fn check_outline<'t>(range: &VersionRange, outline: Option<Outline<'t
     let Some(outline) = outline else {
         return Checked::NoVersion;
     };
+    laws::numbers_of_outlines_fit(&outline);
     if range.contains_outline(&outline) {
         Checked::Matches(outline)
     } else {

@@ -280,8 +280,8 @@ fn push_escaped(byte: u8, written: &mut Vec<u8>) -> Result<(), AllocError> {
         b'"' | b'\\' => push(written, b'\\')?,
         0..=0x1f => {
             written.extend_from_slice(b"\\u00")?;
-            push(written, HEXADECIMAL[(byte >> 4) as usize])?;
-            return push(written, HEXADECIMAL[(byte & 15) as usize]);
+            push(written, HEXADECIMAL[usize::from(byte >> 4)])?;
+            return push(written, HEXADECIMAL[usize::from(byte & 15)]);
         }
         _ => {}
     }

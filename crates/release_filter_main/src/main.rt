@@ -13,6 +13,7 @@ use command_line::Program;
 use copying::{Copying, Error};
 use report::report_invalid;
 use semver_parser::RangeError;
+use semver_parser::version::Digits;
 use std::alloc::Global;
 use std::io::ErrorKind;
 use std::process::ExitCode;
@@ -98,7 +99,9 @@ fn run(rt: &HostRuntime, filtering: &Filtering) -> ExitCode {
 /// Filters, and returns whether a line was kept.
 fn filtered(rt: &HostRuntime, filtering: &Filtering) -> Result<bool, Error> {
     let versions = versions(rt.alloc(), filtering).map_err(Error::Range)?;
-    let range = VersionRange::of_versions(versions, filtering.meaning);
+    let Ok(range) = VersionRange::of_versions(versions, filtering.meaning) else {
+        return Err(Error::OutOfMemory);
+    };
     let Ok(mut copying) = Copying::new(rt.alloc(), &filtering.options, range) else {
         return Err(Error::OutOfMemory);
     };
@@ -111,7 +114,7 @@ fn filtered(rt: &HostRuntime, filtering: &Filtering) -> Result<bool, Error> {
 fn versions(alloc: Global, filtering: &Filtering) -> Result<VersionSet, RangeError> {
     let mut versions = meaning::read(alloc, filtering.meaning, filtering.range.as_str())?;
     if filtering.options.is_inverted {
-        let Ok(others) = all_versions(alloc)?.difference(alloc, &versions) else {
+        let Ok(others) = all_versions(alloc, versions.digits())?.difference(alloc, &versions) else {
             return Err(RangeError::OutOfMemory);
         };
         versions = others;
@@ -123,13 +126,17 @@ fn versions(alloc: Global, filtering: &Filtering) -> Result<VersionSet, RangeErr
     })
 }
 
-/// All versions: `*` to npm, with each pre-release.
-fn all_versions(alloc: Global) -> Result<VersionSet, RangeError> {
+/// All versions, which read identifiers of digits alone so: none is below 0.0.0-0.
+fn all_versions(alloc: Global, digits: Digits) -> Result<VersionSet, RangeError> {
+    let dialect = match digits {
+        Digits::Kept => Dialect::CrateNpm,
+        Digits::AnySize => Dialect::Npm,
+    };
     let meaning = Meaning {
-        dialect: Dialect::Npm,
+        dialect,
         pre_releases: PreReleases::Included,
     };
-    meaning::read(alloc, meaning, "*")
+    meaning::read(alloc, meaning, ">=0.0.0-0")
 }
 
 /// Reports on standard error what the error is, and returns status 2.

@@ -22,7 +22,6 @@ mod tools;
 mod versions;
 
 use checksum::Checksum;
-use filtering::write_greatest as highest;
 use semver_parser::version::Grammar;
 use semver_parser::{Compat, version};
 use std::alloc::Global;
@@ -114,9 +113,27 @@ fn answer<W: Write>(
         "copy-tags" => filtering::write_copied(alloc, text, "v", steps, out),
         "greatest-line" => filtering::write_greatest_line(alloc, text, "", steps, out),
         "greatest-tag" => filtering::write_greatest_line(alloc, text, "v", steps, out),
-        "greatest-release" => highest(alloc, text, PreReleases::Excluded, steps, out),
-        "greatest-stated" => highest(alloc, text, PreReleases::Default, steps, out),
-        "greatest-of-all" => highest(alloc, text, PreReleases::Included, steps, out),
+        "greatest-release" => filtering::write_greatest(
+            alloc,
+            text,
+            PreReleases::Excluded,
+            steps,
+            out,
+        ),
+        "greatest-stated" => filtering::write_greatest(
+            alloc,
+            text,
+            PreReleases::Default,
+            steps,
+            out,
+        ),
+        "greatest-of-all" => filtering::write_greatest(
+            alloc,
+            text,
+            PreReleases::Included,
+            steps,
+            out,
+        ),
         "refused-range-as-cargo" => places::write_refused(alloc, text, Dialect::Cargo, out),
         "refused-range-as-npm" => places::write_refused(alloc, text, Dialect::Npm, out),
         "refused-range-as-crate-cargo" => {

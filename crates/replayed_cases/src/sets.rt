@@ -3,10 +3,9 @@
 use crate::filtering::versions_of;
 use semver_parser::version::{self, Version};
 use semver_parser::{Compat, RangeError};
-use std::alloc::{AllocError, Global};
-use std::io;
-use std::io::Write;
-use version_sets::{PreReleases, VersionSet};
+use std::alloc::Global;
+use std::io::{self, ErrorKind, Write};
+use version_sets::{PreReleases, SetError, VersionSet};
 
 /// A rule for pre-releases, and a mode.
 pub type Dialect = (PreReleases, Compat);
@@ -64,7 +63,9 @@ pub fn write_pair<W: Write>(
     let Some(versions) = versions_of(alloc, list)? else {
         return write!(out, "not all are versions");
     };
-    let parts = Parts::of(alloc, &first, &second)?;
+    let Ok(parts) = Parts::of(alloc, &first, &second) else {
+        return Err(io::Error::from(ErrorKind::OutOfMemory));
+    };
     write_compared(alloc, &first, &second, &parts, out)?;
     for version in versions.iter() {
         write!(out, "; {version}:")?;
@@ -103,7 +104,9 @@ pub fn write_whole_pair<W: Write>(
         Ok(set) => set,
         Err(error) => return write!(out, "{error}"),
     };
-    let parts = Parts::of(alloc, &first, &second)?;
+    let Ok(parts) = Parts::of(alloc, &first, &second) else {
+        return Err(io::Error::from(ErrorKind::OutOfMemory));
+    };
     write!(out, "lost ")?;
     write_ranges(alloc, &parts.lost, out)?;
     write!(out, "; gained ")?;
@@ -129,7 +132,7 @@ struct Parts {
 }
 
 impl Parts {
-    fn of(alloc: Global, first: &VersionSet, second: &VersionSet) -> Result<Parts, AllocError> {
+    fn of(alloc: Global, first: &VersionSet, second: &VersionSet) -> Result<Parts, SetError> {
         Ok(Parts {
             lost: first.difference(alloc, second)?,
             gained: second.difference(alloc, first)?,
@@ -154,7 +157,8 @@ fn write_compared<W: Write>(
     write_lowest(alloc, &parts.gained, out)?;
     write!(out, ", shared ")?;
     write_lowest(alloc, &parts.shared, out)?;
-    let (within, overlaps) = (first.is_subset(second), !first.is_disjoint(second));
+    let within = first.is_subset(second) == Ok(true);
+    let overlaps = first.is_disjoint(second) == Ok(false);
     let same = first == second;
     write!(out, ", within {within}, overlaps {overlaps}, same {same}")
 }

@@ -39,7 +39,7 @@ pub fn write_meant<W: Write>(
     };
     write!(out, "means")?;
     for (version, item) in versions.iter().zip(list.split(' ')) {
-        let is_meant = set.contains_by(version, tool.dialect.grammar().digits());
+        let is_meant = set.contains(version);
         if is_meant {
             write!(out, " {version}")?;
         }

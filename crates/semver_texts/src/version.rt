@@ -108,7 +108,9 @@ impl Identifier {
 fn number_and(alloc: Global, number: u64, text: &str) -> Result<String, AllocError>
     ensures { IfOk result (λ whole. string_bytes whole ≡ decimal number ++ text.now) }
 {
-    let digits = number.checked_ilog10().map_or(1, |log| log as usize + 1);
+    let digits = number
+        .checked_ilog10()
+        .map_or(1, |log| usize::from(log as u8) + 1);
     let mut whole = String::with_capacity(alloc, digits.saturating_add(text.len()))?;
     write!(whole, "{number}{text}")?;
     Ok(whole)

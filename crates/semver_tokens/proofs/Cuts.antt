@@ -1,4 +1,4 @@
--- serves: semver_tokens::lexer::count_tokens
+-- serves: semver_tokens::lexer::LexerIterator::next, steps
 -- A text may be cut where a token ends.
 use Rattle.std.proofs.Common.{◌≡◌, ℕ, zero, suc, ◌+◌, ◌-◌, ◌<◌, ◌≤◌, Bool, true, List, ◌++◌, length, get_or, take, drop, sym, refl}
 use Rattle.std.proofs.Common.{ap, ◌∙◌, subst, arith, IsUtf8, length-drop, length-append, length-take-le, take-append-drop, zero-add}

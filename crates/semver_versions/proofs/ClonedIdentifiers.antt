@@ -1,4 +1,4 @@
--- serves: semver_versions::read_version::ReadVersion::without_build
+-- serves: semver_versions::read_version::ReadVersion::without_build, plain
 -- Cloned identifiers have the same values.
 use Rattle.std.proofs.Common.{rules, ◌≡◌, List, [], ◌∷◌, map, refl, ap₂}
 use Rattle.std.specs.List.{AllZip}

@@ -266,7 +266,17 @@ impl<'t> Outline<'t> {
         ensures { ⟦<ByDigits<Joined<'t, InVersions>> as Identifiers<'t>>⟧.left result
             ≡ (version_of self.now).plain.pre }
     {
-        ByDigits::of(Joined::of(self.pre, InVersions), self.digits)
+        self.pre_by(self.digits)
+    }
+
+    /// The identifiers of the pre-release, as they are compared if those of digits alone are read
+    /// so.
+    #[inline(always)]
+    pub(crate) fn pre_by(&self, digits: Digits) -> ByDigits<Joined<'t, InVersions>>
+        ensures { ⟦<ByDigits<Joined<'t, InVersions>> as Identifiers<'t>>⟧.left result
+            ≡ identifiers_by digits (kept_version_of self.now).plain.pre }
+    {
+        ByDigits::of(Joined::of(self.pre, InVersions), digits)
     }
 
     // Answer: equation.

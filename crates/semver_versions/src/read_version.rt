@@ -4,7 +4,8 @@ ghost use Rattle.std.specs.Prelude.{◌≡◌, IfOk};
 ghost use Rattle.semver_texts.specs.Digits.{plain_by};
 ghost use Rattle.semver_texts.specs.Precedence.{precedence};
 ghost use Rattle.semver_texts.specs.VersionViews.{version_value};
-ghost use Rattle.semver_versions.specs.Outlines.{version_of};
+ghost use Rattle.semver_texts.specs.Versions.{without_build};
+ghost use Rattle.semver_versions.specs.Outlines.{kept_version_of, version_of};
 ghost use Rattle.semver_versions.specs.ReadVersions.{read_plain};
 
 use crate::outlines::Outline;
@@ -30,7 +31,11 @@ impl ReadVersion {
     /// Returns the version of an outline, without its build. `Err` is out of memory.
     #[inline(always)]
     pub fn of(alloc: Global, outline: &Outline<'_>) -> Result<ReadVersion, AllocError>
-        ensures { IfOk result (λ read. read_plain read ≡ (version_of outline.now).plain) }
+        ensures plain { IfOk result (λ read. read_plain read ≡ (version_of outline.now).plain) }
+        // Both parts are those of the outline, but for the build.
+        ensures version { IfOk result (λ read. version_value read.version
+            ≡ without_build (kept_version_of outline.now).plain) }
+        ensures digits { IfOk result (λ read. read.digits ≡ outline.now.digits) }
     {
         let version = Version {
             major: outline.major(),
@@ -48,7 +53,11 @@ impl ReadVersion {
     // Answer: equation.
     /// Returns the same version, without its build. `Err` is out of memory.
     pub fn without_build(&self, alloc: Global) -> Result<ReadVersion, AllocError>
-        ensures { IfOk result (λ same. read_plain same ≡ read_plain self.now) }
+        ensures plain { IfOk result (λ same. read_plain same ≡ read_plain self.now) }
+        // Both parts are the same, but for the build.
+        ensures version { IfOk result (λ same. version_value same.version
+            ≡ without_build (version_value self.now.version).plain) }
+        ensures digits { IfOk result (λ same. same.digits ≡ self.now.digits) }
     {
         let version = Version {
             major: self.version.major,
@@ -98,14 +107,16 @@ impl ReadVersion {
     }
 
     // Answer: equation.
-    /// Returns how the version of an outline compares with it by precedence.
+    /// Returns how the version of an outline compares with it by precedence, if the outline's
+    /// identifiers of digits alone are read so.
     #[inline(always)]
-    pub fn compared_outline(&self, outline: &Outline<'_>) -> Ordering
-        ensures { result ≡ precedence (version_of outline.now).plain (read_plain self.now) }
+    pub fn compared_outline(&self, outline: &Outline<'_>, digits: Digits) -> Ordering
+        ensures { result ≡ precedence (plain_by digits (kept_version_of outline.now).plain)
+            (read_plain self.now) }
     {
         compare(
             (outline.major, outline.minor, outline.patch),
-            outline.compared_pre(),
+            outline.pre_by(digits),
             (self.version.major, self.version.minor, self.version.patch),
             self.pre(),
         )

@@ -34,3 +34,7 @@ mod RangeCompletions
 mod CargoCompletions
 pub mod ReadingCompletions
 mod SatisfiesErrors
+mod HighestMembers
+mod HighestStrings
+pub mod OneHighest
+mod ContainedTexts

@@ -27,7 +27,6 @@ use Rattle.tool_ranges.specs.declared.range_matching.Terms.TheVariants.{Npm, Npm
 use Rattle.tool_ranges.specs.Steps.Matching.{Refuses, Says, after, begun, grammar_of, ended, lower_of, range_every, range_met, taken}
 use Rattle.tool_ranges.specs.Steps.Matching.{term_fits, term_met}
 use Rattle.tool_ranges.proofs.ToolRows.{npm_table}
-use Rattle.std.proofs.Common.{rules}
 
 -- the table by which the terms fit
 pub table_of : (terms : Terms) → (written : Simple → List PlainComparator) × IsTable (term_fits terms) written

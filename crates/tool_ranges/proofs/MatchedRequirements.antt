@@ -21,7 +21,7 @@ use Rattle.tool_ranges.specs.declared.dialect.Dialect.TheVariants as dialect
 use Rattle.tool_ranges.specs.Steps.Matching.{RefusesRequired, SaysRequired, comparator_met, requirement_met}
 use Rattle.tool_ranges.specs.Steps.CargoReading.{comparator_at, EndsAs}
 use Rattle.tool_ranges.proofs.RequirementLaws.{answered, same_comparators}
-use Rattle.tool_ranges.proofs.RequirementSteps.{IsSurveyed, read_fits, states_number, surveyed_end, surveyed_next, surveyed_start}
+use Rattle.tool_ranges.proofs.RequirementSteps.{IsSurveyed, read_fits, states_number, surveyed_end, surveyed_next}
 use Rattle.std.proofs.lemmas.Grind.{common_steps}
 use Rattle.std.proofs.Common.{rules}
 

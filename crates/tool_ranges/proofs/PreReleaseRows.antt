@@ -1,20 +1,17 @@
 -- serves: tool_ranges::cargo::rewrite
 -- The comparators that check pre-releases, of a simple that was read, and the range of those that count beside it.
-use Rattle.std.proofs.Common.{◌≡◌, ℕ, true, ◌&&◌, if◌then◌else◌, List, [], ◌∷◌, length, refl, ◌∙◌, ◌⊎◌, inl, inr, rules}
+use Rattle.std.proofs.Common.{◌≡◌, ℕ, true, List, [], ◌∷◌, refl, ◌∙◌, ◌⊎◌, inl, inr, rules}
 use Rattle.semver_ranges.specs.declared.grammar.Simple as read
 use Rattle.semver_ranges.specs.declared.partial.Partial.{Partial}
 use Rattle.semver_ranges.specs.declared.partial.PartialKind.{PartialKind}
 use Rattle.semver_ranges.specs.declared.partial.PartialKind.TheVariants.{XRangeOnly, MajorOnly, MajorMinor, MajorMinorPatch}
-use Rattle.semver_ranges.specs.declared.range.Op.TheVariants.{Gte}
 use Rattle.semver_ranges.specs.declared.range.Compat.TheVariants.{Cargo}
 use Rattle.semver_ranges.specs.RangeTree.{Form, Simple}
 use Rattle.semver_texts.specs.Versions.{PlainVersion}
 use Rattle.semver_ranges.specs.Partials.{stated, zero_filled}
-use Rattle.semver_ranges.specs.RewritingTable.{PlainComparator, cell, comparator, up, written_cell}
-use Rattle.semver_ranges.specs.ExactBounds.{lowest_pre_release}
 use Rattle.semver_ranges.specs.Steps.PartialViews.{stated_of, version_of}
 use Rattle.semver_ranges.specs.Steps.CursorViews.{form_of, IsSimpleOf}
-use Rattle.tool_ranges.specs.ToolTable.{fits_in, is_greater, states_some, written_in}
+use Rattle.tool_ranges.specs.ToolTable.{fits_in, states_some, written_in}
 use Rattle.tool_ranges.specs.declared.cargo.checking.VersionKind.TheVariants.{PreReleases}
 use Rattle.tool_ranges.specs.Steps.CargoPreReleases.{below_all, checked_by_count, checks_read, some_checked}
 use Rattle.tool_ranges.proofs.ReadRows.{fit_numbers}

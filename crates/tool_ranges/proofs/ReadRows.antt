@@ -1,29 +1,24 @@
 -- serves: tool_ranges::meaning::satisfies, meaning
 -- The cell of a simple that was read: where it is `>` of one or two numbers, below every pre-release, and else.
-use Rattle.std.proofs.Common.{◌≡◌, ℕ, Bool, true, false, ◌&&◌, [], ◌∷◌, List, length, refl, sym, ap, ◌∙◌, None, arith, rules}
+use Rattle.std.proofs.Common.{◌≡◌, Bool, true, false, ◌&&◌, length, refl, sym, ap, ◌∙◌, arith, rules}
 use Rattle.std.specs.Prelude.{Result, Ok, Err, IfOk}
 use Rattle.std.specs.List.{list_all}
-use Rattle.std.proofs.Math.Bool.{and-true}
 use Rattle.std.proofs.lemmas.Bool.{and_left, both_ways}
 use Rattle.semver_ranges.specs.declared.grammar.Simple as read
 use Rattle.semver_ranges.specs.declared.partial.Place.{Place}
 use Rattle.semver_ranges.specs.declared.partial.RaisedBounds.TheVariants.{Exact}
-use Rattle.semver_ranges.specs.declared.range.Op.TheVariants.{Lt}
 use Rattle.semver_ranges.specs.declared.range.Compat.{Compat}
-use Rattle.semver_ranges.specs.declared.range.Compat.TheVariants.{Npm}
 use Rattle.semver_ranges.specs.declared.desugaring.Desugared.{Desugared}
-use Rattle.semver_ranges.specs.RangeTree.{Form, less, greater, Simple}
-use Rattle.semver_texts.specs.Versions.{PlainVersion}
+use Rattle.semver_ranges.specs.RangeTree.{Simple}
 use Rattle.semver_ranges.specs.Partials.{stated, fits_u64}
-use Rattle.semver_ranges.specs.RewritingTable.{comparator, cell, cell_raised}
-use Rattle.semver_ranges.specs.ExactBounds.{exact_bound}
+use Rattle.semver_ranges.specs.RewritingTable.{cell_raised}
 use Rattle.semver_ranges.specs.Steps.PartialViews.{stated_of, place_number, PartsPass}
 use Rattle.semver_ranges.specs.Steps.DesugaredViews.{IsRow, place_of, cell_of as table_cell}
 use Rattle.semver_ranges.specs.declared.desugaring.Desugared.TheVariants.{Against, Below, Between}
 use Rattle.semver_ranges.specs.Steps.CursorViews.{form_of, IsSimpleOf}
 use Rattle.semver_texts.proofs.Lists.{by_test}
 use Rattle.tool_ranges.specs.declared.desugaring.ToolDesugared.{ToolDesugared}
-use Rattle.tool_ranges.specs.declared.desugaring.ToolDesugared.TheVariants.{Above, BelowAll, Shared}
+use Rattle.tool_ranges.specs.declared.desugaring.ToolDesugared.TheVariants.{Above, Shared}
 use Rattle.tool_ranges.specs.ToolTable.{begins_above, ends_at, ends_below, fits_in, is_greater, raised_in, states_some, written_in}
 use Rattle.tool_ranges.specs.Steps.ToolDesugared.{bound_at, desugared_fits, raised_place, desugared_written, IsDesugaredOf, IsPlacedAt}
 

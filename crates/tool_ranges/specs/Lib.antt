@@ -17,3 +17,4 @@ pub mod RangeReasons
 pub mod Refusals
 pub mod Satisfying
 pub mod VersionRanges
+pub mod Highest

@@ -5,3 +5,4 @@ pub mod NpmReading
 pub mod ToolDesugared
 pub mod Places
 pub mod LowerBounds
+pub mod SameRanges

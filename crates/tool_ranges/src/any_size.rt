@@ -4,6 +4,7 @@
 ghost use Rattle.std.specs.Prelude.{◌≡◌, IfOk};
 ghost use Rattle.semver_ranges.specs.RangeViews.{set_of};
 ghost use Rattle.semver_texts.specs.Versions.{VersionValue};
+ghost use Rattle.semver_texts.specs.declared.grammar.Digits.TheVariants.{AnySize};
 ghost use Rattle.version_sets.specs.Printable.{HasPrintableRanges, IsPrintable};
 ghost use Rattle.version_sets.specs.PreReleaseRules.{meets_with};
 ghost use Rattle.version_sets.specs.VersionSets.{contains, Fits};
@@ -23,6 +24,7 @@ pub(crate) fn set_of(
     ensures meaning { IfOk result (λ s. (v : VersionValue) → Fits v.plain
         → contains s v.plain ≡ meets_with pre_releases (set_any (set_of set.now)) v) }
     ensures printable { HasPrintableRanges (set_of set.now) → IfOk result IsPrintable }
+    ensures digits { IfOk result (λ s. s.digits ≡ AnySize) }
 {
     VersionSet::of_set_by(alloc, set, pre_releases, Digits::AnySize)
 }

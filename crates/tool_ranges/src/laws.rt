@@ -1,6 +1,7 @@
 //! Laws over the definitions: each is the contract of a function that does nothing.
 
 ghost use Rattle.std.specs.Prelude.{◌≡◌, ◌++◌, ℕ, [], Option};
+ghost use Rattle.semver_texts.specs.Digits.{digits_in};
 ghost use Rattle.semver_texts.specs.Texts.{Text};
 ghost use Rattle.text_prefixes.specs.Prefixes.{IsLongestPrefix};
 ghost use Rattle.tool_ranges.specs.Prefixes.{BeginsAs};
@@ -9,10 +10,12 @@ ghost use Rattle.tool_ranges.specs.Dialects.{IsTextAs, SpellsAs, TreeOf};
 ghost use Rattle.text_prefixes.specs.declared.reasons.Reason.{Reason as SomeReason};
 ghost use Rattle.tool_ranges.specs.RangeReasons.{IsReasonAs};
 ghost use Rattle.tool_ranges.specs.TooLarge.{IsLimitOffset};
+ghost use Rattle.tool_ranges.specs.VersionRanges.{versions_grammar};
 
 use crate::dialect::Dialect;
 use crate::meaning::Meaning;
 use crate::satisfying::{SatisfiesError, satisfies};
+use crate::version_range::VersionRange;
 use semver_versions::laws::one_version_in;
 
 /// In no dialect a range text has two trees.
@@ -48,6 +51,14 @@ pub fn one_reason()
         (x y : SomeReason) → IsReasonAs dialect prefix next x → IsReasonAs dialect prefix next y
         → x ≡ y }
 {}
+
+/// A range reads identifiers of digits alone as its dialect does.
+pub fn ranges_read_digits(range: &VersionRange)
+    ensures digits { range.now.versions.digits ≡ digits_in (versions_grammar range.now) }
+{
+    // Names a field, so that what each range keeps is known.
+    let _ = &range.versions;
+}
 
 /// A number has one dialect, or none.
 pub fn one_dialect_of_number(number: i32) -> (Option<Dialect>, Option<Dialect>)

@@ -5,6 +5,7 @@ mod any_size;
 pub mod cargo;
 mod desugaring;
 pub mod dialect;
+mod highest;
 pub mod laws;
 pub mod meaning;
 pub mod npm;

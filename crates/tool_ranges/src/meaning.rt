@@ -1,8 +1,11 @@
 //! What a range text means: in which dialect, and with which pre-releases.
 
 ghost use Rattle.std.specs.Prelude.{◌≡◌, ◌≢◌, ◌&&◌, Bool, true, Err, IfOk};
+ghost use Rattle.semver_texts.specs.Digits.{digits_in};
 ghost use Rattle.semver_texts.specs.Texts.{Text, is_empty};
 ghost use Rattle.semver_texts.specs.Versions.{PlainVersion, without_build};
+ghost use Rattle.semver_texts.specs.declared.grammar.Digits.{Digits};
+ghost use Rattle.semver_texts.specs.declared.grammar.Digits.TheVariants.{AnySize};
 ghost use Rattle.tool_ranges.specs.declared.dialect.Dialect.{Dialect as SomeDialect};
 ghost use Rattle.tool_ranges.specs.declared.dialect.Dialect.TheVariants as dialect;
 ghost use Rattle.semver_versions.specs.Outlines.{version_of};
@@ -10,7 +13,7 @@ ghost use Rattle.semver_ranges.specs.RangeTexts.{RefusesExactly};
 ghost use Rattle.semver_ranges.specs.RangeTree.{SetTree, Spells};
 ghost use Rattle.version_sets.specs.Printable.{IsPrintable};
 ghost use Rattle.version_sets.specs.PreReleaseRules.{meant_with, numbers_fit};
-ghost use Rattle.tool_ranges.specs.Dialects.{RefusesAs, SpellsAs, TreeOf};
+ghost use Rattle.tool_ranges.specs.Dialects.{RefusesAs, SpellsAs, TreeOf, grammar_of};
 ghost use Rattle.tool_ranges.specs.Meanings.{IsSetBy, MeansAs, MeansBy, meant_as, meant_by};
 ghost use Rattle.tool_ranges.specs.Steps.Matching.{plain_of, of_releases};
 
@@ -63,6 +66,8 @@ pub fn read(alloc: Global, meaning: Meaning, range: &str) -> Result<VersionSet, 
     ensures meaning { IfOk result (λ set. MeansAs meaning range.now set) }
     // Its identifiers can be read back from their texts.
     ensures printable { IfOk result IsPrintable }
+    // It reads identifiers of digits alone as the dialect does.
+    ensures digits { IfOk result (λ set. set.digits ≡ digits_in (grammar_of meaning.dialect)) }
 {
     let rule = meaning.pre_releases;
     match meaning.dialect {
@@ -78,6 +83,7 @@ fn read_cargo(alloc: Global, range: &str, rule: PreReleases) -> Result<VersionSe
     ensures refusals { RefusesAs dialect.Cargo range.now result }
     ensures meaning { IfOk result (λ set. MeansBy dialect.Cargo rule range.now set) }
     ensures printable { IfOk result IsPrintable }
+    ensures digits { IfOk result (λ set. set.digits ≡ AnySize) }
 {
     match rule {
         PreReleases::Default => cargo::read(alloc, range),
@@ -91,6 +97,7 @@ fn read_npm(alloc: Global, range: &str, rule: PreReleases) -> Result<VersionSet,
     ensures refusals { RefusesAs dialect.Npm range.now result }
     ensures meaning { IfOk result (λ set. MeansBy dialect.Npm rule range.now set) }
     ensures printable { IfOk result IsPrintable }
+    ensures digits { IfOk result (λ set. set.digits ≡ AnySize) }
 {
     match rule {
         PreReleases::Default => npm::read(alloc, range),
@@ -110,6 +117,8 @@ fn releases_of(
         → IfOk read (λ set. IsSetBy d t meets set)
         → IfOk result (λ set. IsSetBy d t (λ tree v. is_empty v.pre && meets tree v) set) }
     ensures printable { IfOk result IsPrintable }
+    ensures digits { (d : Digits) → IfOk read (λ set. set.digits ≡ d)
+        → IfOk result (λ set. set.digits ≡ d) }
 {
     match read {
         Ok(set) => Ok(set.only_releases(alloc)),

@@ -1,6 +1,6 @@
 //! What two ranges of one meaning contain together, and how they compare.
 
-ghost use Rattle.std.specs.Prelude.{◌≡◌, ◌≢◌, ◌⊎◌, ◌↔◌, ◌&&◌, ◌||◌, Err, IfOk, not, true};
+ghost use Rattle.std.specs.Prelude.{◌≡◌, ◌≢◌, ◌⊎◌, ◌↔◌, ◌&&◌, ◌||◌, Err, IfOk, false, not, true};
 ghost use Rattle.semver_texts.specs.Versions.{PlainVersion};
 ghost use Rattle.version_sets.specs.Printable.{IsPrintable};
 ghost use Rattle.version_sets.specs.VersionSets.{IsIn, contains};
@@ -8,8 +8,9 @@ ghost use Rattle.version_sets.specs.VersionSets.{IsIn, contains};
 use crate::version_range::VersionRange;
 use std::alloc::Global;
 use thiserror::Error;
+use version_sets::SetError;
 
-/// Why two ranges can't be combined.
+/// Why two ranges can't be combined or compared.
 ///
 /// ```
 /// use semver_parser::{Dialect, OperationError, VersionRange};
@@ -24,6 +25,10 @@ pub enum OperationError {
     /// The dialects of the ranges differ, or which pre-releases count.
     #[error("the ranges have different meanings")]
     DifferentMeanings,
+    /// They read identifiers of digits alone from 2^64 on differently: to Cargo and npm these are
+    /// numbers, and to the crate they are texts.
+    #[error("the ranges read numbers from 2^64 on differently")]
+    DifferentDigits,
     /// An allocation failed.
     #[error("out of memory")]
     OutOfMemory,
@@ -49,6 +54,7 @@ impl VersionRange {
     pub fn union(&self, alloc: Global, other: &VersionRange) -> Result<VersionRange, OperationError>
         ensures refused { (result ≡ Err OperationError.DifferentMeanings)
             ↔ (self.now.meaning ≢ other.now.meaning) }
+        ensures same_digits { result ≢ Err OperationError.DifferentDigits }
         ensures contains { IfOk result (λ r. (v : PlainVersion)
             → contains r.versions v ≡ (contains self.now.versions v
             || contains other.now.versions v)) }
@@ -64,8 +70,12 @@ impl VersionRange {
             return Err(OperationError::DifferentMeanings);
         }
         match self.versions.union(alloc, &other.versions) {
-            Ok(versions) => Ok(VersionRange::of_versions(versions, self.meaning)),
-            Err(_) => Err(OperationError::OutOfMemory),
+            Ok(versions) => Ok(VersionRange {
+                versions,
+                meaning: self.meaning,
+            }),
+            Err(SetError::DifferentDigits) => Err(OperationError::DifferentDigits),
+            Err(SetError::OutOfMemory) => Err(OperationError::OutOfMemory),
         }
     }
 
@@ -92,6 +102,7 @@ impl VersionRange {
     ) -> Result<VersionRange, OperationError>
         ensures refused { (result ≡ Err OperationError.DifferentMeanings)
             ↔ (self.now.meaning ≢ other.now.meaning) }
+        ensures same_digits { result ≢ Err OperationError.DifferentDigits }
         ensures contains { IfOk result (λ r. (v : PlainVersion)
             → contains r.versions v ≡ (contains self.now.versions v
             && contains other.now.versions v)) }
@@ -107,8 +118,12 @@ impl VersionRange {
             return Err(OperationError::DifferentMeanings);
         }
         match self.versions.intersection(alloc, &other.versions) {
-            Ok(versions) => Ok(VersionRange::of_versions(versions, self.meaning)),
-            Err(_) => Err(OperationError::OutOfMemory),
+            Ok(versions) => Ok(VersionRange {
+                versions,
+                meaning: self.meaning,
+            }),
+            Err(SetError::DifferentDigits) => Err(OperationError::DifferentDigits),
+            Err(SetError::OutOfMemory) => Err(OperationError::OutOfMemory),
         }
     }
 
@@ -135,6 +150,7 @@ impl VersionRange {
     ) -> Result<VersionRange, OperationError>
         ensures refused { (result ≡ Err OperationError.DifferentMeanings)
             ↔ (self.now.meaning ≢ other.now.meaning) }
+        ensures same_digits { result ≢ Err OperationError.DifferentDigits }
         ensures contains { IfOk result (λ r. (v : PlainVersion)
             → contains r.versions v ≡ (contains self.now.versions v
             && not (contains other.now.versions v))) }
@@ -150,44 +166,119 @@ impl VersionRange {
             return Err(OperationError::DifferentMeanings);
         }
         match self.versions.difference(alloc, &other.versions) {
-            Ok(versions) => Ok(VersionRange::of_versions(versions, self.meaning)),
-            Err(_) => Err(OperationError::OutOfMemory),
+            Ok(versions) => Ok(VersionRange {
+                versions,
+                meaning: self.meaning,
+            }),
+            Err(SetError::DifferentDigits) => Err(OperationError::DifferentDigits),
+            Err(SetError::OutOfMemory) => Err(OperationError::OutOfMemory),
         }
     }
 
     // Answer: equation.
-    /// Returns whether the other range contains each version that this one does, whatever their
-    /// meanings. It does not allocate.
+    /// Returns whether the other range contains each version that this one does. Their meanings may
+    /// differ. It does not allocate.
+    ///
+    /// # Errors
+    ///
+    /// `DifferentDigits` if one range is in a dialect of the crate and the other in Cargo's or
+    /// npm's, and no other: a version with an identifier of digits alone from 2^64 on isn't the same
+    /// to both.
     ///
     /// ```
-    /// use semver_parser::{Dialect, VersionRange};
+    /// use semver_parser::{Dialect, OperationError, VersionRange};
     ///
     /// let cargo = VersionRange::parse("1.2", Dialect::Cargo)?;
     /// let npm = VersionRange::parse("1.2", Dialect::Npm)?;
-    /// assert!(npm.is_subset(&cargo) && !cargo.is_subset(&npm));
+    /// assert_eq!(npm.is_subset(&cargo), Ok(true));
+    /// assert_eq!(cargo.is_subset(&npm), Ok(false));
+    ///
+    /// let kept = VersionRange::parse("1.2", Dialect::CrateNpm)?;
+    /// assert_eq!(npm.is_subset(&kept), Err(OperationError::DifferentDigits));
     /// # Ok::<(), semver_parser::RangeError>(())
     /// ```
-    pub fn is_subset(&self, other: &VersionRange) -> bool
-        ensures { (result ≡ true) ↔ ((v : PlainVersion)
-            → IsIn v self.now.versions → IsIn v other.now.versions) }
+    pub fn is_subset(&self, other: &VersionRange) -> Result<bool, OperationError>
+        ensures refused { (result ≡ Err OperationError.DifferentDigits)
+            ↔ (self.now.versions.digits ≢ other.now.versions.digits) }
+        ensures any_meaning { result ≢ Err OperationError.DifferentMeanings }
+        ensures no_memory { result ≢ Err OperationError.OutOfMemory }
+        ensures subset { IfOk result (λ is. (is ≡ true) ↔ ((v : PlainVersion)
+            → IsIn v self.now.versions → IsIn v other.now.versions)) }
+        // If it isn't one, this range contains a version that the other doesn't.
+        ensures witness { IfOk result (λ is. is ≡ false → (v : PlainVersion)
+            × IsIn v self.now.versions × (¬ IsIn v other.now.versions)) }
     {
-        self.versions.is_subset(&other.versions)
+        match self.versions.is_subset(&other.versions) {
+            Ok(is) => Ok(is),
+            Err(_) => Err(OperationError::DifferentDigits),
+        }
     }
 
     // Answer: equation.
-    /// Returns whether no version is in both ranges, whatever their meanings. It does not allocate.
+    /// Returns whether no version is in both ranges. Their meanings may differ. It does not
+    /// allocate.
+    ///
+    /// # Errors
+    ///
+    /// Those of [`VersionRange::is_subset`].
     ///
     /// ```
     /// use semver_parser::{Dialect, VersionRange};
     ///
     /// let range = VersionRange::parse("^1.2", Dialect::Npm)?;
-    /// assert!(range.is_disjoint(&VersionRange::parse(">=2.0.0", Dialect::Npm)?));
+    /// assert_eq!(range.is_disjoint(&VersionRange::parse(">=2.0.0", Dialect::Npm)?), Ok(true));
     /// # Ok::<(), semver_parser::RangeError>(())
     /// ```
-    pub fn is_disjoint(&self, other: &VersionRange) -> bool
-        ensures { (result ≡ true) ↔ ((v : PlainVersion)
-            → IsIn v self.now.versions → ¬ IsIn v other.now.versions) }
+    pub fn is_disjoint(&self, other: &VersionRange) -> Result<bool, OperationError>
+        ensures refused { (result ≡ Err OperationError.DifferentDigits)
+            ↔ (self.now.versions.digits ≢ other.now.versions.digits) }
+        ensures any_meaning { result ≢ Err OperationError.DifferentMeanings }
+        ensures no_memory { result ≢ Err OperationError.OutOfMemory }
+        ensures disjoint { IfOk result (λ is. (is ≡ true) ↔ ((v : PlainVersion)
+            → IsIn v self.now.versions → ¬ IsIn v other.now.versions)) }
+        // If they aren't disjoint, both contain a version.
+        ensures witness { IfOk result (λ is. is ≡ false → (v : PlainVersion)
+            × IsIn v self.now.versions × IsIn v other.now.versions) }
     {
-        self.versions.is_disjoint(&other.versions)
+        match self.versions.is_disjoint(&other.versions) {
+            Ok(is) => Ok(is),
+            Err(_) => Err(OperationError::DifferentDigits),
+        }
     }
+}
+
+// Answer: equation.
+impl PartialEq for VersionRange {
+    ghost use Rattle.std.specs.Cmp.{partial_equiv_from_equiv};
+    ghost use Rattle.tool_ranges.specs.VersionRanges.{same_range};
+    ghost use Rattle.tool_ranges.specs.Steps.SameRanges.{ranges_equiv};
+
+    ghost eq = { same_range };
+
+    ghost laws = { partial_equiv_from_equiv ranges_equiv };
+
+    /// Whether both ranges have the same meaning and contain the same versions. It does not
+    /// allocate.
+    ///
+    /// ```
+    /// use semver_parser::{Dialect, VersionRange};
+    ///
+    /// let range = VersionRange::parse("^1.2", Dialect::Npm)?;
+    /// assert!(range == VersionRange::parse(">=1.2.0 <2.0.0-0", Dialect::Npm)?);
+    /// assert!(range != VersionRange::parse("^1.2", Dialect::Cargo)?);
+    /// # Ok::<(), semver_parser::RangeError>(())
+    /// ```
+    fn eq(&self, other: &VersionRange) -> bool
+        ensures value { result ≡ same_range self.now other.now }
+        ensures same_versions { (result ≡ true) ↔ ((self.now.meaning ≡ other.now.meaning)
+            × ((v : PlainVersion) → IsIn v self.now.versions ↔ IsIn v other.now.versions)) }
+    {
+        self.meaning == other.meaning && self.versions == other.versions
+    }
+}
+
+impl Eq for VersionRange {
+    ghost use Rattle.tool_ranges.specs.Steps.SameRanges.{ranges_equiv};
+
+    ghost laws = { ranges_equiv };
 }

@@ -1,22 +1,24 @@
 //! A range that was read: a set of versions, and the meaning by which it was read.
 
-ghost use Rattle.std.specs.Prelude.{◌≡◌, ◌↔◌, IfOk, false, true};
-ghost use Rattle.semver_texts.specs.Digits.{digits_in, plain_by};
+ghost use Rattle.std.specs.Prelude.{◌≡◌, ◌≢◌, ◌↔◌, Err, IfOk, true};
+ghost use Rattle.semver_texts.specs.Digits.{digits_in};
 ghost use Rattle.semver_texts.specs.VersionViews.{version_value};
+ghost use Rattle.semver_texts.specs.Texts.{Text};
 ghost use Rattle.semver_texts.specs.Versions.{PlainVersion};
-ghost use Rattle.semver_versions.specs.Outlines.{version_of};
-ghost use Rattle.tool_ranges.specs.Dialects.{RefusesAs};
+ghost use Rattle.semver_versions.specs.Outlines.{IsOutlineIn, kept_version_of, version_of};
+ghost use Rattle.tool_ranges.specs.Dialects.{RefusesAs, grammar_of};
 ghost use Rattle.tool_ranges.specs.Meanings.{MeansAs};
 ghost use Rattle.tool_ranges.specs.VersionRanges.{ContainsText, versions_grammar};
-ghost use Rattle.version_sets.specs.Highest.{FindsHighest};
 ghost use Rattle.version_sets.specs.Printable.{IsPrintable};
-ghost use Rattle.version_sets.specs.VersionSets.{IsIn, contains};
+ghost use Rattle.version_sets.specs.VersionSets.{IsIn, contains, contains_kept};
 
 use crate::meaning::{self, Meaning};
+use crate::range_operations::OperationError;
 use crate::satisfying::SatisfiesError;
 use semver_ranges::RangeError;
 use semver_versions::version::{Outline, Version, outline_in};
 use std::alloc::Global;
+use std::fmt;
 use std::marker::Model;
 use version_sets::VersionSet;
 
@@ -29,7 +31,8 @@ use version_sets::VersionSet;
 /// let old = VersionRange::parse("^1.2", Dialect::Cargo)?;
 /// let new = VersionRange::parse(">=1.2.1, <1.9", Dialect::Cargo)?;
 /// assert_eq!((&old - &new).to_string(), "=1.2.0 || >=1.9.0 <2.0.0");
-/// assert!(new.is_subset(&old) && old.contains("1.2.0") == Ok(true));
+/// assert_eq!(new.is_subset(&old), Ok(true));
+/// assert_eq!(old.contains("1.2.0"), Ok(true));
 /// # Ok::<(), semver_parser::RangeError>(())
 /// ```
 #[derive(Debug, Drop)]
@@ -39,11 +42,16 @@ pub struct VersionRange {
 }
 
 impl Model for VersionRange {
+    ghost use Rattle.semver_texts.specs.Digits.{digits_in};
+    ghost use Rattle.std.specs.Prelude.{◌≡◌};
+    ghost use Rattle.tool_ranges.specs.Dialects.{grammar_of};
     ghost use Rattle.tool_ranges.specs.VersionRanges.{RangeValue};
 
     ghost Value = { RangeValue };
 
     ghost view = { λ r. record { versions = r.versions; meaning = r.meaning } };
+
+    ghost invariant = { λ r. r.versions.digits ≡ digits_in (grammar_of r.meaning.dialect) };
 }
 
 impl VersionRange {
@@ -81,19 +89,39 @@ impl VersionRange {
     // Answer: equation.
     /// Returns the range of the versions of a set.
     ///
+    /// # Errors
+    ///
+    /// `DifferentDigits` if the set reads identifiers of digits alone otherwise than the dialect,
+    /// and no other.
+    ///
     /// ```
     /// use semver_parser::sets::VersionSet;
-    /// use semver_parser::{Dialect, VersionRange};
+    /// use semver_parser::{Dialect, Digits, OperationError, VersionRange};
     ///
-    /// let none = VersionRange::of_versions(VersionSet::empty(), Dialect::Npm.into());
-    /// assert!(none == VersionRange::parse(">1 <1", Dialect::Npm)?);
+    /// let none = VersionSet::empty(Digits::AnySize);
+    /// let range = VersionRange::of_versions(none, Dialect::Npm.into()).unwrap();
+    /// assert!(range == VersionRange::parse(">1 <1", Dialect::Npm)?);
+    ///
+    /// let kept = VersionSet::empty(Digits::Kept);
+    /// let refused = VersionRange::of_versions(kept, Dialect::Npm.into());
+    /// assert_eq!(refused.unwrap_err(), OperationError::DifferentDigits);
     /// # Ok::<(), semver_parser::RangeError>(())
     /// ```
-    pub fn of_versions(versions: VersionSet, meaning: Meaning) -> VersionRange
-        ensures versions { result.versions ≡ versions }
-        ensures meaning { result.meaning ≡ meaning }
+    pub fn of_versions(
+        versions: VersionSet,
+        meaning: Meaning,
+    ) -> Result<VersionRange, OperationError>
+        ensures refused { (result ≡ Err OperationError.DifferentDigits)
+            ↔ (versions.digits ≢ digits_in (grammar_of meaning.dialect)) }
+        ensures same_meaning { result ≢ Err OperationError.DifferentMeanings }
+        ensures no_memory { result ≢ Err OperationError.OutOfMemory }
+        ensures versions { IfOk result (λ r. r.versions ≡ versions) }
+        ensures meaning { IfOk result (λ r. r.meaning ≡ meaning) }
     {
-        VersionRange { versions, meaning }
+        if versions.digits() != meaning.dialect.grammar().digits() {
+            return Err(OperationError::DifferentDigits);
+        }
+        Ok(VersionRange { versions, meaning })
     }
 
     // Answer: equation.
@@ -157,7 +185,8 @@ impl VersionRange {
     }
 
     // Answer: equation.
-    /// Returns whether the range contains the version of an outline. It does not allocate.
+    /// Returns whether the range contains the version of an outline. Its identifiers of digits alone
+    /// are read by the range's dialect. It does not allocate.
     ///
     /// ```
     /// use semver_parser::{version, Dialect, VersionRange};
@@ -169,7 +198,11 @@ impl VersionRange {
     /// ```
     #[inline(always)]
     pub fn contains_outline(&self, version: &Outline<'_>) -> bool
-        ensures { result ≡ contains self.now.versions (version_of version.now).plain }
+        ensures contains { result
+            ≡ contains_kept self.now.versions (kept_version_of version.now).plain }
+        // If it was read in the range's dialect, this is so of its version.
+        ensures of_text { (text : Text) → IsOutlineIn (versions_grammar self.now) text version.now
+            → result ≡ contains self.now.versions (version_of version.now).plain }
     {
         self.versions.contains_outline(version)
     }
@@ -189,52 +222,9 @@ impl VersionRange {
     /// # Ok::<(), String>(())
     /// ```
     pub fn contains_version(&self, version: &Version) -> bool
-        ensures { result ≡ contains self.now.versions
-            (plain_by (digits_in (versions_grammar self.now)) (version_value version.now).plain) }
+        ensures { result ≡ contains_kept self.now.versions (version_value version.now).plain }
     {
-        let digits = self.meaning.dialect.grammar().digits();
-        self.versions.contains_by(version, digits)
-    }
-
-    // Answer: law answer_laws::version_ranges::one_highest_of.
-    /// Returns the index of the highest of many versions that the range contains, by precedence
-    /// (SemVer 2.0.0, section 11), the first of equal ones, or `None` if it contains none of them.
-    /// Strings that aren't versions of the dialect are skipped. It does not allocate.
-    ///
-    /// ```
-    /// use semver_parser::{Dialect, VersionRange};
-    ///
-    /// let range = VersionRange::parse("^1.2", Dialect::Npm)?;
-    /// let versions: [&[u8]; 4] = [b"1.2.0", b"latest", b"1.10.0", b"2.0.0"];
-    /// assert_eq!(range.highest_of(&versions), Some(2));
-    /// assert_eq!(range.highest_of(&[b"2.0.0"]), None);
-    /// # Ok::<(), semver_parser::RangeError>(())
-    /// ```
-    pub fn highest_of(&self, versions: &[&[u8]]) -> Option<usize>
-        ensures { FindsHighest false (versions_grammar self.now) self.now.versions versions.now
-            result }
-    {
-        self.versions
-            .highest_of(versions, self.meaning.dialect.grammar())
-    }
-
-    // Answer: law answer_laws::version_ranges::one_lowest_of.
-    /// Returns the index of the lowest of many versions that the range contains, as
-    /// [`VersionRange::highest_of`] that of the highest.
-    ///
-    /// ```
-    /// use semver_parser::{Dialect, VersionRange};
-    ///
-    /// let range = VersionRange::parse("^1.2", Dialect::Npm)?;
-    /// assert_eq!(range.lowest_of(&[b"1.1.0", b"1.10.0", b"v1.2.0"]), Some(2));
-    /// # Ok::<(), semver_parser::RangeError>(())
-    /// ```
-    pub fn lowest_of(&self, versions: &[&[u8]]) -> Option<usize>
-        ensures { FindsHighest true (versions_grammar self.now) self.now.versions versions.now
-            result }
-    {
-        self.versions
-            .lowest_of(versions, self.meaning.dialect.grammar())
+        self.versions.contains(version)
     }
 
     // Answer: equation.
@@ -250,5 +240,30 @@ impl VersionRange {
         ensures { (result ≡ true) ↔ ((v : PlainVersion) → ¬ IsIn v self.now.versions) }
     {
         self.versions.is_empty()
+    }
+}
+
+// Answer: equation.
+impl fmt::Display for VersionRange {
+    ghost use Rattle.std.specs.Prelude.{Some};
+    ghost use Rattle.version_sets.specs.SetRanges.{kinds_text};
+
+    ghost output = { λ range. Some (kinds_text range.versions) };
+
+    /// Writes the releases that the range contains as a range in npm's syntax, `<0.0.0-0` if it has
+    /// none, and if it has pre-releases, these after `, pre-releases `, to be compared by
+    /// precedence. Of pre-releases alone the first comma is missing. It does not allocate, and its
+    /// only error is the writer's.
+    ///
+    /// ```
+    /// use semver_parser::{Dialect, VersionRange};
+    ///
+    /// let shown = |range| VersionRange::parse(range, Dialect::Npm).unwrap().to_string();
+    /// assert_eq!(shown("1.2.0 || ~1.9"), "=1.2.0 || >=1.9.0 <1.10.0");
+    /// assert_eq!(shown("^1.2.3-b"), ">=1.2.3 <2.0.0, pre-releases >=1.2.3-b <1.2.3");
+    /// ```
+    fn fmt<W: fmt::Write>(&self, f: &mut fmt::Formatter<W>) -> fmt::Result {
+        let versions = &self.versions;
+        write!(f, "{versions}")
     }
 }

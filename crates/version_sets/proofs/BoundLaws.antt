@@ -65,7 +65,7 @@ release_reaches xs ws e = grind arith
 pub none_above : (xs ws : List IdentifierValue) → is_empty ws ≡ true → is_gt Equal ≡ is_gt (pre_cmp xs ws)
 none_above xs ws e = grind arith
 
-from_lowest : (xs : List IdentifierValue) → is_empty xs ≡ false → is_ge Equal ≡ is_ge (pre_cmp xs (numeric 0 ∷ []))
+pub from_lowest : (xs : List IdentifierValue) → is_empty xs ≡ false → is_ge Equal ≡ is_ge (pre_cmp xs (numeric 0 ∷ []))
 from_lowest [] e = absurd (search rules)
 from_lowest (x ∷ xs) e = sym (zero_lowest x xs)
 
@@ -89,7 +89,7 @@ past true w v f e = right_above w v f e
 past false w v f e = ap (λ b. is_ge (precedence v (record w { pre = successor w.pre b }))) f
     ∙ ap (λ p. is_ge (precedence v (record w { pre = p }))) (append-nil w.pre)
 
-before_release : (xs ws : List IdentifierValue) → is_empty xs ≡ false → is_empty ws ≡ true → is_gt Equal ≡ is_ge (pre_cmp xs ws)
+pub before_release : (xs ws : List IdentifierValue) → is_empty xs ≡ false → is_empty ws ≡ true → is_gt Equal ≡ is_ge (pre_cmp xs ws)
 before_release [] ws e f = absurd (search rules)
 before_release (x ∷ xs) [] e f = refl
 before_release (x ∷ xs) (w ∷ ws) e f = absurd (search rules)

@@ -23,7 +23,7 @@ use Rattle.semver_ranges.specs.declared.range.Op.{Op}
 use Rattle.semver_ranges.specs.declared.range.Op.TheVariants.{Lt, Gte, Eq}
 use Rattle.semver_ranges.specs.RewritingTable.{comparator}
 use Rattle.version_sets.specs.DigitViews.{comparator_kept, range_kept}
-use Rattle.version_sets.specs.SetRanges.{bounds, interval, intervals, is_lowest, is_lowest_pre, is_same_end, npm_range}
+use Rattle.version_sets.specs.SetRanges.{Kind, bounds, interval, intervals, is_lowest, is_lowest_pre, is_same_end, npm_range}
 use Rattle.version_sets.specs.Steps.SpanViews.{successor}
 
 pub by_none : (d : Digits) → identifiers_by d [] ≡ []
@@ -149,33 +149,35 @@ prints_plain d v e =
 
 -- ---- ranges of what fits are kept as they are
 
-module _ where
-  comparator_fits : (op : Op) (v : PlainVersion) → is_printable_version v ≡ true → comparator_kept (comparator op v) ≡ comparator op v
-  comparator_fits op v e = ap (comparator op) (plain_fits v e)
+comparator_fits : (op : Op) (v : PlainVersion) → is_printable_version v ≡ true → comparator_kept (comparator op v) ≡ comparator op v
+comparator_fits op v e = ap (comparator op) (plain_fits v e)
 
+module _ (kind : Kind) (end_prints : (a b : PlainVersion) → is_printable_version a ≡ true → is_printable_version b ≡ true
+    → is_printable_version (kind.end a b) ≡ true) where
   bounds_fit : (from : PlainVersion) (to : Option PlainVersion) → is_printable_version from ≡ true
-      → IfSome to (λ v. is_printable_version v ≡ true) → map comparator_kept (bounds from to) ≡ bounds from to
+      → IfSome to (λ v. is_printable_version v ≡ true) → map comparator_kept (bounds kind.end from to) ≡ bounds kind.end from to
   bounds_fit from None e f = λ i. comparator_fits Gte from e i ∷ []
   bounds_fit from (Some to) e f =
-      by_test (is_lowest from) (λ y. rw y (λ i. comparator_fits Lt to f i ∷ []))
-      (λ n. rw n (λ i. comparator_fits Gte from e i ∷ comparator_fits Lt to f i ∷ []))
+      let g = end_prints from to e f in
+      by_test (is_lowest from) (λ y. rw y (λ i. comparator_fits Lt (kind.end from to) g i ∷ []))
+      (λ n. rw n (λ i. comparator_fits Gte from e i ∷ comparator_fits Lt (kind.end from to) g i ∷ []))
 
-  interval_fits : (next : PlainVersion → Option PlainVersion) (from : PlainVersion) (to : Option PlainVersion)
+  interval_fits : (from : PlainVersion) (to : Option PlainVersion)
       → is_printable_version from ≡ true → IfSome to (λ v. is_printable_version v ≡ true)
-      → range_kept (npm_range (interval next from to)) ≡ npm_range (interval next from to)
-  interval_fits next from to e f =
-      by_test (is_same_end to (next from)) (λ y. rw y (λ i. npm_range (comparator_fits Eq from e i ∷ [])))
+      → range_kept (npm_range (interval kind from to)) ≡ npm_range (interval kind from to)
+  interval_fits from to e f =
+      by_test (is_same_end to (kind.next from)) (λ y. rw y (λ i. npm_range (comparator_fits Eq from e i ∷ [])))
       (λ n. rw n (ap npm_range (bounds_fit from to e f)))
 
-  pub intervals_fit : (next : PlainVersion → Option PlainVersion) (vs : List PlainVersion) → list_all is_printable_version vs ≡ true
-      → map range_kept (intervals next vs) ≡ intervals next vs
-  intervals_fit next [] e = refl
-  intervals_fit next (from ∷ []) e =
-      let both = and_parts (is_printable_version from) _ e in λ i. interval_fits next from None both.0 tt i ∷ []
-  intervals_fit next (from ∷ to ∷ vs) e =
+  pub intervals_fit : (vs : List PlainVersion) → list_all is_printable_version vs ≡ true
+      → map range_kept (intervals kind vs) ≡ intervals kind vs
+  intervals_fit [] e = refl
+  intervals_fit (from ∷ []) e =
+      let both = and_parts (is_printable_version from) _ e in λ i. interval_fits from None both.0 tt i ∷ []
+  intervals_fit (from ∷ to ∷ vs) e =
       let both = and_parts (is_printable_version from) _ e in
       let more = and_parts (is_printable_version to) _ both.1 in
-      λ i. interval_fits next from (Some to) both.0 more.0 i ∷ intervals_fit next vs more.1 i
+      λ i. interval_fits from (Some to) both.0 more.0 i ∷ intervals_fit vs more.1 i
 
 -- each is kept for itself
 pub kept_each : {X : Type 0} (value : X → IdentifierValue) (d : Digits) (xs : List X)

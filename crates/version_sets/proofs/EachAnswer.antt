@@ -13,7 +13,9 @@ use Rattle.version_sets.specs.declared.release.Release.{Release}
 use Rattle.version_sets.specs.Releases.{release_value}
 use Rattle.version_sets.specs.Steps.Places.{set_of, version_place}
 use Rattle.semver_texts.specs.declared.version.Version.{Version}
-use Rattle.version_sets.specs.VersionSets.{SetValue, contains}
+use Rattle.semver_texts.specs.declared.grammar.Digits.{Digits}
+use Rattle.semver_texts.specs.declared.grammar.Digits.TheVariants.{Kept, AnySize}
+use Rattle.version_sets.specs.VersionSets.{SetValue, contains_kept}
 use Rattle.version_sets.specs.Steps.Between.{is_release_between}
 
 -- of the first n items the answers are written, and P holds of them
@@ -27,33 +29,38 @@ pub record AreTold {X : Type 0} (f : X → Bool) (P : X → Type 0) (xs : List X
 between_both : (r s : Ordering) → (not (is_lt r) && is_lt s) ≡ (is_ge r && not (is_ge s && true))
 between_both r s = grind arith
 
-abbrev pub set_of_releases : List PlainVersion → SetValue
-set_of_releases releases = record { releases = releases; pre_releases = [] }
+abbrev pub set_of_releases : Digits → List PlainVersion → SetValue
+set_of_releases digits releases = record { releases = releases; pre_releases = []; digits = digits }
 
-two_at : (from to : Release) (a b c : ℕ) (pre : List IdentifierValue)
+two_at : (from to : Release) (a b c : ℕ) (digits : Digits) (pre : List IdentifierValue)
     → let v : PlainVersion = record { major = a; minor = b; patch = c; pre = pre } in
-    is_release_between from (Some to) v ≡ contains (set_of_releases (release_value from ∷ release_value to ∷ [])) v
-two_at from to a b c [] =
+    is_release_between from (Some to) v ≡ contains_kept (set_of_releases digits (release_value from ∷ release_value to ∷ [])) v
+two_at from to a b c Kept [] =
     let v : PlainVersion = record { major = a; minor = b; patch = c; pre = [] } in
     between_both (precedence v (release_value from)) (precedence v (release_value to))
-two_at from to a b c (id ∷ pre) = refl
+two_at from to a b c AnySize [] =
+    let v : PlainVersion = record { major = a; minor = b; patch = c; pre = [] } in
+    between_both (precedence v (release_value from)) (precedence v (release_value to))
+two_at from to a b c Kept (id ∷ pre) = refl
+two_at from to a b c AnySize (id ∷ pre) = refl
 
-pub two_boundaries : (from to : Release) (v : PlainVersion)
-    → is_release_between from (Some to) v ≡ contains (set_of_releases (release_value from ∷ release_value to ∷ [])) v
-two_boundaries from to v = two_at from to v.major v.minor v.patch v.pre
+pub two_boundaries : (from to : Release) (digits : Digits) (v : PlainVersion)
+    → is_release_between from (Some to) v ≡ contains_kept (set_of_releases digits (release_value from ∷ release_value to ∷ [])) v
+two_boundaries from to digits v = two_at from to v.major v.minor v.patch digits v.pre
 
 -- the set that has these two boundaries alone has what lies between them
-pub between_two : (rs items : List Release) (ps : List ReadVersion) (n : ℕ) (set : SetValue) (vs : List Version) (d e : Release)
-    → 2 ≤ length rs → length rs < 3 → rs ≡ items → true ≡ (n == 0) → n ≡ length ps → set_of items ps ≡ set
-    → map (λ v. is_release_between (get_or rs 0 d) (Some (get_or rs 1 e)) (version_place v)) vs ≡ map (λ v. contains set (version_place v)) vs
-between_two [] items ps n set vs d e low high is none long told = absurd (omega arith)
-between_two (a ∷ []) items ps n set vs d e low high is none long told = absurd (omega arith)
-between_two (a ∷ b ∷ c ∷ rs) items ps n set vs d e low high is none long told = absurd (omega arith)
-between_two (a ∷ b ∷ []) items (p ∷ ps) n set vs d e low high is none long told = absurd (grind (arith, nat_tests))
-between_two (a ∷ b ∷ []) items [] n set vs d e low high is none long told =
+pub between_two : (digits : Digits) (rs items : List Release) (ps : List ReadVersion) (n : ℕ) (set : SetValue) (vs : List Version)
+    (d e : Release) → 2 ≤ length rs → length rs < 3 → rs ≡ items → true ≡ (n == 0) → n ≡ length ps → set_of digits items ps ≡ set
+    → map (λ v. is_release_between (get_or rs 0 d) (Some (get_or rs 1 e)) (version_place v)) vs
+    ≡ map (λ v. contains_kept set (version_place v)) vs
+between_two digits [] items ps n set vs d e low high is none long told = absurd (omega arith)
+between_two digits (a ∷ []) items ps n set vs d e low high is none long told = absurd (omega arith)
+between_two digits (a ∷ b ∷ c ∷ rs) items ps n set vs d e low high is none long told = absurd (omega arith)
+between_two digits (a ∷ b ∷ []) items (p ∷ ps) n set vs d e low high is none long told = absurd (grind (arith, nat_tests))
+between_two digits (a ∷ b ∷ []) items [] n set vs d e low high is none long told =
     map-same vs
-    (λ v. two_boundaries a b (version_place v) ∙ ap (λ its. contains (set_of its []) (version_place v)) is
-    ∙ ap (λ s. contains s (version_place v)) told)
+    (λ v. two_boundaries a b digits (version_place v) ∙ ap (λ its. contains_kept (set_of digits its []) (version_place v)) is
+    ∙ ap (λ s. contains_kept s (version_place v)) told)
   where
     map-same : {f g : Version → Bool} (vs : List Version) → ((v : Version) → f v ≡ g v) → map f vs ≡ map g vs
     map-same [] same = refl

@@ -1,17 +1,19 @@
 -- serves: version_sets::set_ranges::VersionSet::release_ranges
 -- What is right above a release and above a pre-release, and that none of a kind is below its lowest.
-use Rattle.std.proofs.Common.{arith, ◌≡◌, Bool, true, false, List, [], ◌∷◌, refl, sym, ap, ◌∙◌}
-use Rattle.std.proofs.Common.{Equal, is_ge, is_gt}
-use Rattle.std.specs.Prelude.{Option, Some, None}
+use Rattle.std.proofs.Common.{arith, ◌≡◌, Bool, true, false, cond, not, List, [], ◌∷◌, refl, sym, ap, ◌∙◌}
+use Rattle.std.proofs.Common.{Equal, is_ge, is_gt, is_lt}
+use Rattle.std.specs.Prelude.{Option, Some, None, option_map}
 use Rattle.std.proofs.lemmas.Bool.Decides.{nat_tests}
 use Rattle.semver_texts.specs.Precedence.{pre_cmp, precedence}
 use Rattle.semver_texts.specs.Texts.{is_empty}
 use Rattle.semver_texts.specs.Versions.{IdentifierValue, numeric, alphanumeric, PlainVersion}
 use Rattle.version_sets.specs.VersionSets.{Fits, IsRelease, IsPreRelease}
-use Rattle.version_sets.specs.SetRanges.{next_release, next_pre_release, is_lowest, is_lowest_pre}
+use Rattle.version_sets.specs.SetRanges.{next_release, is_lowest, is_lowest_pre, is_same_end, pre_release_above}
+use Rattle.version_sets.specs.SetRanges.{lowest_pre_release, of_pre_releases, of_releases, pre_release_end}
 use Rattle.version_sets.specs.Steps.Bounds.{numbers_cmp}
-use Rattle.version_sets.proofs.BoundLaws.{from, zero_lowest, against, release_reaches, none_above, right_above}
-use Rattle.version_sets.proofs.IntervalLaws.{IsKind}
+use Rattle.version_sets.proofs.BoundLaws.{from, from_lowest, before_release, zero_lowest, against, release_reaches, none_above, right_above}
+use Rattle.version_sets.proofs.SweepLaws.{by_test}
+use Rattle.version_sets.proofs.IntervalLaws.{IsKind, below_is, same_end}
 
 -- by the numbers alone
 reached : Option PlainVersion → PlainVersion → Bool
@@ -35,12 +37,13 @@ from_zero a v e = grind (arith, nat_tests)
 pub release_lowest : (a v : PlainVersion) → is_empty v.pre ≡ true → is_lowest a ≡ true → is_ge (precedence v a) ≡ true
 release_lowest a v e l = sym (against is_ge is_ge v a refl refl (release_reaches v.pre a.pre e)) ∙ from_zero a v l
 
-pub releases_are_kind : IsKind IsRelease next_release
+pub releases_are_kind : IsKind IsRelease of_releases
 releases_are_kind = record {
   above = λ a v pa pv.
       release_from (next_release a) v pv.1 ∙ numbers_above a v pa.0 pv.0
       ∙ against is_gt is_gt v a refl refl (none_above v.pre a.pre pa.1);
   lowest = λ a v pa pv l. release_lowest a v pv.1 l;
+  ends = λ a b v pa pb pv. refl;
 }
 
 pub lowest_pre : (xs ws : List IdentifierValue) → is_empty xs ≡ false → is_empty ws ≡ false → is_lowest_pre ws ≡ true
@@ -62,8 +65,34 @@ pub pre_release_lowest : (a v : PlainVersion) → is_empty a.pre ≡ false → i
 pre_release_lowest a v f e l =
     sym (against is_ge is_ge v a refl refl (lowest_pre v.pre a.pre e f (is_lowest-pre a l))) ∙ from_zero a v l
 
-pub pre_releases_are_kind : IsKind IsPreRelease next_pre_release
+-- the pre-releases below the lowest one of the numbers above are those below the release of the numbers
+from_above : (n : Option PlainVersion) (v : PlainVersion) → is_empty v.pre ≡ false
+    → from (option_map lowest_pre_release n) v ≡ reached n v
+unfolding reached
+from_above None v e = refl
+from_above (Some w) v e =
+    sym (against is_ge is_ge v (lowest_pre_release w) refl refl (from_lowest v.pre e))
+
+below_release : (a b v : PlainVersion) → IsPreRelease a → IsPreRelease v → is_same_end (Some b) (pre_release_above a) ≡ true
+    → is_lt (precedence v (record a { pre = [] })) ≡ is_lt (precedence v b)
+below_release a b v pa pv same =
+    let release : PlainVersion = record a { pre = [] } in
+    let above : is_ge (precedence v b) ≡ is_gt (numbers_cmp v release) =
+    ap (λ t. from t v) (same_end (Some b) (pre_release_above a) same) ∙ from_above (next_release release) v pv.1
+    ∙ numbers_above release v pa.0 pv.0 in
+    below_is (precedence v release) ∙ ap not (sym (against is_gt is_ge v release refl refl (before_release v.pre [] pv.1 refl)))
+    ∙ ap not (sym above) ∙ sym (below_is (precedence v b))
+
+ends_below : (a b v : PlainVersion) → IsPreRelease a → IsPreRelease v → is_lt (precedence v (pre_release_end a b)) ≡ is_lt (precedence v b)
+ends_below a b v pa pv =
+    let release : PlainVersion = record a { pre = [] } in
+    by_test (is_same_end (Some b) (pre_release_above a))
+    (λ e. ap (λ t. is_lt (precedence v (cond t release b))) e ∙ below_release a b v pa pv e)
+    (λ e. ap (λ t. is_lt (precedence v (cond t release b))) e)
+
+pub pre_releases_are_kind : IsKind IsPreRelease of_pre_releases
 pre_releases_are_kind = record {
   above = λ a v pa pv. right_above a v pa.1 pv.1;
   lowest = λ a v pa pv l. pre_release_lowest a v pa.1 pv.1 l;
+  ends = λ a b v pa pb pv. ends_below a b v pa pv;
 }

@@ -18,5 +18,4 @@ mod KindLaws
 mod ReadBack
 mod SetRangeLaws
 mod MetLaws
-mod HighestMembers
-pub mod OneHighest
+mod WrittenSets

@@ -6,18 +6,20 @@ use Rattle.std.proofs.Common.{arith, is_ge}
 use Rattle.std.specs.List.{AllWithin}
 use Rattle.std.specs.Prelude.{if◌then◌else◌}
 use Rattle.std.proofs.lemmas.List.{get_or_default}
-use Rattle.semver_versions.specs.Outlines.{OutlineValue, IsOutlineIn, IsOutlineOf, version_of}
+use Rattle.semver_versions.specs.Outlines.{OutlineValue, IsOutlineIn, IsOutlineOf, kept_version_of, version_of}
+use Rattle.semver_texts.specs.Digits.{version_by}
 use Rattle.semver_texts.specs.Precedence.{precedence}
 use Rattle.semver_texts.specs.Steps.PrecedenceLaws.{precedence_total}
 use Rattle.semver_texts.specs.Texts.{Text, is_empty}
 use Rattle.semver_texts.specs.ToolVersions.{SpellsIn}
 use Rattle.semver_texts.specs.VersionGrammar.{SpellsVersion}
 use Rattle.semver_texts.specs.Versions.{IdentifierValue, PlainVersion, VersionValue}
+use Rattle.semver_texts.specs.declared.grammar.Digits.TheVariants.{Kept}
 use Rattle.semver_texts.specs.declared.grammar.Grammar.TheVariants.{Crate}
 use Rattle.semver_versions.specs.declared.read_version.ReadVersion.{ReadVersion}
 use Rattle.semver_versions.specs.ReadVersions.{read_plain}
 use Rattle.version_sets.specs.Boundaries.{is_inside, IsIncreasing}
-use Rattle.version_sets.specs.VersionSets.{SetValue, contains}
+use Rattle.version_sets.specs.VersionSets.{SetValue, contains, contains_kept}
 use Rattle.version_sets.proofs.SearchLaws.{is_passed, passed_before, reversed_ge}
 
 -- a release is its numbers
@@ -49,10 +51,15 @@ pre_release_has v set answer says told = at (is_empty v.pre) (sym says ∙ told)
 -- each text that has an outline spells its version
 pub of_texts : (set : SetValue) (o : OutlineValue)
     → ((v : VersionValue) (text : Text) → IsOutlineIn Crate text o → SpellsIn Crate v text → v ≡ version_of o)
-    → ((text : Text) → IsOutlineIn Crate text o ↔ IsOutlineOf text o) → (answer : Bool) → answer ≡ contains set (version_of o).plain
-    → (text : Text) (v : VersionValue) → IsOutlineOf text o → SpellsVersion v text → answer ≡ contains set v.plain
+    → ((text : Text) → IsOutlineIn Crate text o ↔ IsOutlineOf text o) → (answer : Bool)
+    → answer ≡ contains_kept set (kept_version_of o).plain
+    → (text : Text) (v : VersionValue) → IsOutlineOf text o → SpellsVersion v text → answer ≡ contains_kept set v.plain
 of_texts set o same outlines answer told text v outlined spells =
-    told ∙ ap (λ (w : VersionValue). contains set w.plain) (sym (same v text ((outlines text).1 outlined) spells))
+    let inside = (outlines text).1 outlined in
+    let (w, spelled, is) = inside in
+    let kept : o.digits ≡ Kept = ap (λ (p : OutlineValue). p.digits) is in
+    told ∙ ap (λ (w : VersionValue). contains_kept set w.plain)
+    (sym (same v text inside spells ∙ ap (λ d. version_by d (kept_version_of o)) kept))
 
 -- ---- a search among boundaries
 

@@ -20,7 +20,7 @@ use Rattle.semver_ranges.specs.RewritingTable.{PlainComparator, PlainRange, Plai
 use Rattle.semver_ranges.specs.Meeting.{meets_comparator, meets_range, meets_set}
 use Rattle.semver_ranges.specs.PrintedRanges.{is_printable_version, IsPrintableRange, IsPrintableSet, set_text}
 use Rattle.version_sets.specs.VersionSets.{SetValue, contains, IsRelease}
-use Rattle.version_sets.specs.SetRanges.{is_lowest, is_same_end, bounds, interval, npm_range, intervals}
+use Rattle.version_sets.specs.SetRanges.{Kind, is_lowest, is_same_end, bounds, interval, npm_range, intervals, of_pre_releases, pre_release_above}
 use Rattle.version_sets.specs.SetRanges.{is_from_lowest, is_whole, ranges_text, ReadsBack}
 use Rattle.version_sets.proofs.IntervalLaws.{below_is}
 use Rattle.version_sets.proofs.KindLaws.{release_lowest, pre_release_lowest}
@@ -31,36 +31,54 @@ use Rattle.version_sets.proofs.SweepLaws.{by_test}
 abbrev Prints : List PlainComparator → Type 0
 Prints cs = IsTrue (not (is_empty cs)) × IsTrue (list_all (λ c. is_printable_version c.version) cs)
 
-abbrev end_prints : Option PlainVersion → Bool
-end_prints None = true
-end_prints (Some v) = is_printable_version v
+abbrev to_prints : Option PlainVersion → Bool
+to_prints None = true
+to_prints (Some v) = is_printable_version v
 
-bounds_print : (a : PlainVersion) (to : Option PlainVersion) → is_printable_version a ≡ true → end_prints to ≡ true → Prints (bounds a to)
-bounds_print a None e f = (refl, and_from _ _ e refl)
-bounds_print a (Some b) e f =
-    by_test (is_lowest a)
-    (λ l. subst (λ t. Prints (cond t (comparator Lt b ∷ []) (comparator Gte a ∷ comparator Lt b ∷ []))) (sym l) (refl, and_from _ _ f refl))
-    (λ l. subst (λ t. Prints (cond t (comparator Lt b ∷ []) (comparator Gte a ∷ comparator Lt b ∷ []))) (sym l)
-    (refl, and_from _ _ e (and_from _ _ f refl)))
+-- what an interval is shown to end below is printable where its boundaries are
+abbrev pub EndPrints : Kind → Type 0
+EndPrints kind = (a b : PlainVersion) → is_printable_version a ≡ true → is_printable_version b ≡ true
+    → is_printable_version (kind.end a b) ≡ true
 
-module _ (next : PlainVersion → Option PlainVersion) where
-  range_prints : (a : PlainVersion) (to : Option PlainVersion) → is_printable_version a ≡ true → end_prints to ≡ true
-      → IsPrintableRange Npm (npm_range (interval next a to))
+-- the numbers of what is printable
+release_of_prints : (v : PlainVersion) → is_printable_version v ≡ true → is_printable_version (record v { pre = [] }) ≡ true
+release_of_prints v e = and_from _ _ (and_parts _ _ e).0 refl
+
+pub end_prints : EndPrints of_pre_releases
+end_prints a b e f =
+    let release : PlainVersion = record a { pre = [] } in
+    by_test (is_same_end (Some b) (pre_release_above a))
+    (λ s. ap (λ t. is_printable_version (cond t release b)) s ∙ release_of_prints a e)
+    (λ s. ap (λ t. is_printable_version (cond t release b)) s ∙ f)
+
+module _ (kind : Kind) (end_prints_too : EndPrints kind) where
+  bounds_print : (a : PlainVersion) (to : Option PlainVersion) → is_printable_version a ≡ true → to_prints to ≡ true
+      → Prints (bounds kind.end a to)
+  bounds_print a None e f = (refl, and_from _ _ e refl)
+  bounds_print a (Some b) e f =
+      let c = comparator Lt (kind.end a b) in
+      let g = end_prints_too a b e f in
+      by_test (is_lowest a)
+      (λ l. subst (λ t. Prints (cond t (c ∷ []) (comparator Gte a ∷ c ∷ []))) (sym l) (refl, and_from _ _ g refl))
+      (λ l. subst (λ t. Prints (cond t (c ∷ []) (comparator Gte a ∷ c ∷ []))) (sym l) (refl, and_from _ _ e (and_from _ _ g refl)))
+
+  range_prints : (a : PlainVersion) (to : Option PlainVersion) → is_printable_version a ≡ true → to_prints to ≡ true
+      → IsPrintableRange Npm (npm_range (interval kind a to))
   range_prints a to e f =
-      let p : Prints (interval next a to) =
-      by_test (is_same_end to (next a))
-      (λ s. subst (λ t. Prints (cond t (comparator Eq a ∷ []) (bounds a to))) (sym s) (refl, and_from _ _ e refl))
-      (λ s. subst (λ t. Prints (cond t (comparator Eq a ∷ []) (bounds a to))) (sym s) (bounds_print a to e f)) in
+      let p : Prints (interval kind a to) =
+      by_test (is_same_end to (kind.next a))
+      (λ s. subst (λ t. Prints (cond t (comparator Eq a ∷ []) (bounds kind.end a to))) (sym s) (refl, and_from _ _ e refl))
+      (λ s. subst (λ t. Prints (cond t (comparator Eq a ∷ []) (bounds kind.end a to))) (sym s) (bounds_print a to e f)) in
       (p.0, refl, p.1)
 
-  ranges_print : (xs : List PlainVersion) → list_all is_printable_version xs ≡ true → All (IsPrintableRange Npm) (intervals next xs)
+  ranges_print : (xs : List PlainVersion) → list_all is_printable_version xs ≡ true → All (IsPrintableRange Npm) (intervals kind xs)
   ranges_print [] e = All-nil (IsPrintableRange Npm)
   ranges_print (a ∷ []) e =
       All-cons (IsPrintableRange Npm) _ [] (range_prints a None (and_parts _ _ e).0 refl) (All-nil (IsPrintableRange Npm))
   ranges_print (a ∷ b ∷ xs) e =
       let here = and_parts _ _ e in
       let after = and_parts _ _ here.1 in
-      All-cons (IsPrintableRange Npm) _ (intervals next xs) (range_prints a (Some b) here.0 after.0) (ranges_print xs after.1)
+      All-cons (IsPrintableRange Npm) _ (intervals kind xs) (range_prints a (Some b) here.0 after.0) (ranges_print xs after.1)
 
 release_prints : (v : PlainVersion) → IsRelease v → is_printable_version v ≡ true
 release_prints v p = grind (arith, nat_tests)
@@ -145,24 +163,24 @@ module _ (law : PrintedReadBack) (P : PlainVersion → Type 0) (set : SetValue) 
       → ReadsBack (codes "*") P set
   star_reads kind all = (star, star_spells, refl, λ v pv. star_met v (kind v pv) ∙ sym (all v pv))
 
-  module _ (next : PlainVersion → Option PlainVersion) (xs : List PlainVersion) where
+  module _ (kind : Kind) (end_prints_too : EndPrints kind) (xs : List PlainVersion) where
     abbrev made : PlainSet
-    made = record { ranges = intervals next xs; compat = Npm }
+    made = record { ranges = intervals kind xs; compat = Npm }
 
     module _ (prints : list_all is_printable_version xs ≡ true) (means : (v : PlainVersion) → P v → meets_set v made ≡ contains set v) where
-      pub reads : (is_whole (intervals next xs) ≡ true → ReadsBack (codes "*") P set) → ReadsBack (ranges_text made) P set
+      pub reads : (is_whole (intervals kind xs) ≡ true → ReadsBack (codes "*") P set) → ReadsBack (ranges_text made) P set
       reads whole =
-          by_test (is_empty (intervals next xs))
-          (λ e. subst (λ t. ReadsBack (cond t (codes "<0.0.0-0") (cond (is_whole (intervals next xs)) (codes "*") (set_text made))) P set)
-          (sym e) (none_read (λ v pv. sym (means v pv) ∙ no_ranges v (intervals next xs) e)))
-          (λ e. subst (λ t. ReadsBack (cond t (codes "<0.0.0-0") (cond (is_whole (intervals next xs)) (codes "*") (set_text made))) P set)
+          by_test (is_empty (intervals kind xs))
+          (λ e. subst (λ t. ReadsBack (cond t (codes "<0.0.0-0") (cond (is_whole (intervals kind xs)) (codes "*") (set_text made))) P set)
+          (sym e) (none_read (λ v pv. sym (means v pv) ∙ no_ranges v (intervals kind xs) e)))
+          (λ e. subst (λ t. ReadsBack (cond t (codes "<0.0.0-0") (cond (is_whole (intervals kind xs)) (codes "*") (set_text made))) P set)
           (sym e)
-          (by_test (is_whole (intervals next xs))
+          (by_test (is_whole (intervals kind xs))
           (λ w. subst (λ t. ReadsBack (cond t (codes "*") (set_text made)) P set) (sym w) (whole w))
           (λ w. subst (λ t. ReadsBack (cond t (codes "*") (set_text made)) P set) (sym w)
-          (some_read made (ap not e, ranges_print next xs prints) refl means))))
+          (some_read made (ap not e, ranges_print kind end_prints_too xs prints) refl means))))
 
       -- that of releases, where all are in the set
-      pub whole_reads : ((v : PlainVersion) → P v → is_empty v.pre ≡ true) → is_whole (intervals next xs) ≡ true
+      pub whole_reads : ((v : PlainVersion) → P v → is_empty v.pre ≡ true) → is_whole (intervals kind xs) ≡ true
           → ReadsBack (codes "*") P set
-      whole_reads kind w = star_reads kind (λ v pv. sym (means v pv) ∙ whole_met v (intervals next xs) (kind v pv) w)
+      whole_reads of_kind w = star_reads of_kind (λ v pv. sym (means v pv) ∙ whole_met v (intervals kind xs) (of_kind v pv) w)

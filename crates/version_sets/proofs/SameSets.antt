@@ -1,6 +1,6 @@
 -- serves: version_sets::laws::one_set
 -- Sets with the same versions have the same boundaries.
-use Rattle.std.proofs.Common.{arith, ◌≡◌, ◌↔◌, Bool, true, not, ◌&&◌, sym}
+use Rattle.std.proofs.Common.{arith, ◌≡◌, ◌↔◌, Bool, true, false, not, ◌&&◌, refl, sym}
 use Rattle.std.proofs.lemmas.Bool.{and_parts}
 use Rattle.std.proofs.Common.{ap, ap₂, ◌∙◌, subst, true≢false, Ordering, Equal, is_eq}
 use lib.Pointwise.{pointwise_decides}
@@ -9,7 +9,9 @@ use Rattle.std.specs.Ordering.{eq_by_cmp}
 use Rattle.semver_texts.specs.Versions.{PlainVersion}
 use Rattle.semver_texts.specs.Precedence.{precedence}
 use Rattle.version_sets.specs.declared.set_operations.Combination.TheVariants.{Difference, Intersection}
-use Rattle.version_sets.specs.VersionSets.{SetValue, contains, Fits, IsIn, same_boundaries, IsNormal}
+use Rattle.semver_texts.specs.declared.grammar.Digits.{Digits}
+use Rattle.semver_texts.specs.declared.grammar.Digits.TheVariants.{Kept, AnySize}
+use Rattle.version_sets.specs.VersionSets.{SetValue, contains, Fits, IsIn, same_digits, same_set, IsNormal}
 use Rattle.version_sets.specs.Steps.Combined.{KeepsSome}
 use Rattle.semver_texts.specs.Steps.PrecedenceLaws.{precedence_total, precedence-same}
 use Rattle.version_sets.proofs.SetLaws.{contains-release, contains-pre_release}
@@ -29,18 +31,32 @@ exact v w = (
   λ e. ap is_eq (ap (precedence v) (sym e) ∙ tied_itself precedence_total v),
 )
 
+one_reading : (d e : Digits) → same_digits d e ≡ true → d ≡ e
+one_reading Kept Kept is = refl
+one_reading Kept AnySize is = cc
+one_reading AnySize Kept is = cc
+one_reading AnySize AnySize is = refl
+
+read_alike : (d : Digits) → same_digits d d ≡ true
+read_alike Kept = refl
+read_alike AnySize = refl
+
 -- it is to be one set
-pub same_is : (a b : SetValue) (r : Bool) → r ≡ same_boundaries a b → (r ≡ true) ↔ (a ≡ b)
+pub same_is : (a b : SetValue) (r : Bool) → r ≡ same_set a b → (r ≡ true) ↔ (a ≡ b)
 same_is a b r e =
     let releases = pointwise_decides exact a.releases b.releases in
     let pre_releases = pointwise_decides exact a.pre_releases b.pre_releases in (
-      λ h. let both = and_parts _ _ (sym e ∙ h) in λ i. record { releases = releases.0 both.0 i; pre_releases = pre_releases.0 both.1 i },
-      λ is. e ∙ ap₂ (λ p q. p && q) (releases.1 (ap (λ s. s.releases) is)) (pre_releases.1 (ap (λ s. s.pre_releases) is)),
+      λ h. let both = and_parts _ _ (sym e ∙ h) in
+          let lists = and_parts _ _ both.1 in
+          let digits = one_reading a.digits b.digits both.0 in
+          λ i. record { releases = releases.0 lists.0 i; pre_releases = pre_releases.0 lists.1 i; digits = digits i },
+      λ is. e ∙ ap₂ (λ p q. p && q) (ap (same_digits a.digits) (ap (λ (s : SetValue). s.digits) (sym is)) ∙ read_alike a.digits)
+          (ap₂ (λ p q. p && q) (releases.1 (ap (λ s. s.releases) is)) (pre_releases.1 (ap (λ s. s.pre_releases) is))),
     )
 
--- sets in the normal form with the same versions are one
-pub one_set : (a b : SetValue) → IsNormal a → IsNormal b → ((v : PlainVersion) → IsIn v a ↔ IsIn v b) → a ≡ b
-one_set a b s t h =
+-- sets in the normal form that read digits alike and have the same versions are one
+pub one_set : (a b : SetValue) → IsNormal a → IsNormal b → a.digits ≡ b.digits → ((v : PlainVersion) → IsIn v a ↔ IsIn v b) → a ≡ b
+one_set a b s t digits h =
     let alike = λ (v : PlainVersion) (fits : Fits v).
     one_answer (contains a v) (contains b v) (λ i. ((h v).0 (fits, i)).1) (λ i. ((h v).1 (fits, i)).1) in
     let releases = one_list precedence precedence_total precedence-same _ a.releases b.releases
@@ -49,13 +65,18 @@ one_set a b s t h =
     let pre_releases = one_list precedence precedence_total precedence-same _ a.pre_releases b.pre_releases s.pre_releases.increase
     t.pre_releases.increase s.pre_releases.are_of_kind t.pre_releases.are_of_kind
     (λ v k. sym (contains-pre_release a v k.1) ∙ alike v k.0 ∙ contains-pre_release b v k.1) in
-    λ i. record { releases = releases i; pre_releases = pre_releases i }
+    λ i. record { releases = releases i; pre_releases = pre_releases i; digits = digits i }
 
-pub same_versions : (a b : SetValue) → IsNormal a → IsNormal b → (r : Bool) → r ≡ same_boundaries a b
-    → (r ≡ true) ↔ ((v : PlainVersion) → IsIn v a ↔ IsIn v b)
+pub same_versions : (a b : SetValue) → IsNormal a → IsNormal b → (r : Bool) → r ≡ same_set a b
+    → (r ≡ true) ↔ ((a.digits ≡ b.digits) × ((v : PlainVersion) → IsIn v a ↔ IsIn v b))
 same_versions a b s t r e =
-    let is = same_is a b r e in
-    (λ h v. subst (λ c. IsIn v a ↔ IsIn v c) (is.0 h) (λ i. i, λ i. i), λ h. is.1 (one_set a b s t h))
+    let is = same_is a b r e in (
+      λ h. (ap (λ (s : SetValue). s.digits) (is.0 h), λ v. subst (λ c. IsIn v a ↔ IsIn v c) (is.0 h) (λ i. i, λ i. i)),
+      λ h. is.1 (one_set a b s t h.0 h.1),
+    )
+
+is_true : (k : Bool) → not k ≡ false → k ≡ true
+is_true k e = grind arith
 
 -- a set is within another where nothing is in it alone
 pub tells_within : (a b : SetValue) (k : Bool) → (k ≡ true) ↔ KeepsSome Difference a b
@@ -83,3 +104,19 @@ tells_apart a b k some = (
       absurd (h found.0 (found.1.0, parts.0) (found.1.0, parts.1)))
       (λ f. ap not f),
 )
+
+-- and where it isn't, some version is in it alone
+pub some_alone : (a b : SetValue) (k : Bool) → (k ≡ true) ↔ KeepsSome Difference a b → not k ≡ false
+    → (v : PlainVersion) × IsIn v a × (¬ (IsIn v b))
+some_alone a b k some e =
+    let found = some.0 (is_true k e) in
+    let parts = and_parts _ _ found.1.1 in
+    (found.0, (found.1.0, parts.0), λ g. true≢false (sym parts.1 ∙ ap not g.1))
+
+-- where two aren't apart, some version is in both
+pub some_shared : (a b : SetValue) (k : Bool) → (k ≡ true) ↔ KeepsSome Intersection a b → not k ≡ false
+    → (v : PlainVersion) × IsIn v a × IsIn v b
+some_shared a b k some e =
+    let found = some.0 (is_true k e) in
+    let parts = and_parts _ _ found.1.1 in
+    (found.0, (found.1.0, parts.0), (found.1.0, parts.1))

@@ -2,7 +2,6 @@ pub mod Boundaries
 pub mod Releases
 pub mod VersionSets
 pub mod Comparisons
-pub mod Highest
 pub mod PreReleaseRules
 pub mod PreReleaseTable
 pub mod SetRanges

@@ -1,7 +1,7 @@
 -- The versions of one kind in a set as ranges of plain comparators, one for each interval, and the
 -- text of these.
 use Rattle.std.specs.Prelude.{◌≡◌, ◌+◌, ◌==◌, Bool, true, false, ◌&&◌, if◌then◌else◌, IsTrue}
-use Rattle.std.specs.Prelude.{Option, Some, None, List, [], ◌∷◌, ◌++◌, codes}
+use Rattle.std.specs.Prelude.{Option, Some, None, List, [], ◌∷◌, ◌++◌, codes, option_map}
 use Rattle.std.specs.Ordering.{is_eq}
 use Rattle.semver_ranges.specs.declared.range.Op.{Op}
 use Rattle.semver_ranges.specs.declared.range.Op.TheVariants.{Lt, Gte, Eq}
@@ -45,38 +45,73 @@ is_same_end None None = true
 is_same_end (Some v) (Some w) = is_eq (precedence v w)
 is_same_end _ _ = false
 
+-- an interval of releases ends below its end
+abbrev pub release_end : PlainVersion → PlainVersion → PlainVersion
+release_end from to = to
+
+-- the lowest pre-release of a version's numbers
+abbrev pub lowest_pre_release : PlainVersion → PlainVersion
+lowest_pre_release v = record v { pre = numeric 0 ∷ [] }
+
+-- the lowest pre-release of the numbers right above those of a version, if there are any: 1.2.4-0 of
+-- 1.2.3-a
+abbrev pub pre_release_above : PlainVersion → Option PlainVersion
+pre_release_above v =
+    option_map lowest_pre_release (next_release (record v { pre = [] }))
+
+-- an interval of pre-releases ends below its end; but if it has all the pre-releases of its numbers
+-- that are left, and no other, it ends below their release, as a reader expects: `>=1.2.3-a <1.2.3`,
+-- and not `<1.2.4-0`
+abbrev pub pre_release_end : PlainVersion → PlainVersion → PlainVersion
+pre_release_end from to =
+    if is_same_end (Some to) (pre_release_above from) then record from { pre = [] } else to
+
 -- the bounds of an interval, which begins with a version and ends below another, if there is one.
 -- Below the lowest there is none, so it is no bound
-abbrev pub bounds : PlainVersion → Option PlainVersion → List PlainComparator
-bounds from None = comparator Gte from ∷ []
-bounds from (Some to) =
-    if is_lowest from then comparator Lt to ∷ []
-    else (comparator Gte from ∷ comparator Lt to ∷ [])
+abbrev pub bounds : (PlainVersion → PlainVersion → PlainVersion) → PlainVersion
+    → Option PlainVersion → List PlainComparator
+bounds end from None = comparator Gte from ∷ []
+bounds end from (Some to) =
+    if is_lowest from then comparator Lt (end from to) ∷ []
+    else (comparator Gte from ∷ comparator Lt (end from to) ∷ [])
+
+-- what is right above a version, and below what an interval ends
+pub record Kind : Type 0 where
+  pub next : PlainVersion → Option PlainVersion
+  pub end : PlainVersion → PlainVersion → PlainVersion
+
+abbrev pub of_releases : Kind
+of_releases = record { next = next_release; end = release_end }
+
+abbrev pub of_pre_releases : Kind
+of_pre_releases = record { next = next_pre_release; end = pre_release_end }
 
 -- the comparators of an interval: `=` if it has one version only, else its bounds
-abbrev pub interval : (PlainVersion → Option PlainVersion) → PlainVersion → Option PlainVersion
-    → List PlainComparator
-interval next from to =
-    if is_same_end to (next from) then comparator Eq from ∷ [] else bounds from to
+abbrev pub interval : Kind → PlainVersion → Option PlainVersion → List PlainComparator
+interval kind from to =
+    if is_same_end to (kind.next from) then comparator Eq from ∷ [] else bounds kind.end from to
 
 -- comparators as a range in npm mode
 abbrev pub npm_range : List PlainComparator → PlainRange
 npm_range comparators = record { comparators = comparators; compat = Npm }
 
 -- a range for each interval: the first boundary begins it, and the second, if there is one, ends it
-abbrev pub intervals : (PlainVersion → Option PlainVersion) → List PlainVersion → List PlainRange
-intervals next [] = []
-intervals next (from ∷ []) = npm_range (interval next from None) ∷ []
-intervals next (from ∷ to ∷ boundaries) =
-    npm_range (interval next from (Some to)) ∷ intervals next boundaries
+abbrev pub intervals : Kind → List PlainVersion → List PlainRange
+intervals kind [] = []
+intervals kind (from ∷ []) = npm_range (interval kind from None) ∷ []
+intervals kind (from ∷ to ∷ boundaries) =
+    npm_range (interval kind from (Some to)) ∷ intervals kind boundaries
+
+-- ranges as a set in npm mode
+abbrev pub npm_set : List PlainRange → PlainSet
+npm_set ranges = record { ranges = ranges; compat = Npm }
 
 -- the ranges of the releases in a set, and those of the pre-releases
 abbrev pub release_ranges : SetValue → PlainSet
-release_ranges set = record { ranges = intervals next_release set.releases; compat = Npm }
+release_ranges set = npm_set (intervals of_releases set.releases)
 
 abbrev pub pre_release_ranges : SetValue → PlainSet
-pre_release_ranges set =
-    record { ranges = intervals next_pre_release set.pre_releases; compat = Npm }
+pre_release_ranges set = npm_set (intervals of_pre_releases set.pre_releases)
 
 -- whether ranges are `>=0.0.0` or `>=0.0.0-0` alone: all of a kind
 abbrev pub is_at_least : Op → Bool
@@ -96,6 +131,16 @@ abbrev pub ranges_text : PlainSet → Text
 ranges_text set =
     if is_empty set.ranges then codes "<0.0.0-0"
     else (if is_whole set.ranges then codes "*" else set_text set)
+
+-- the text of a set: that of its releases, and if it has pre-releases, `pre-releases ` and theirs
+-- after a comma; that of pre-releases alone has no comma before it
+abbrev pub kinds_text : SetValue → Text
+kinds_text set =
+    if is_empty set.pre_releases then ranges_text (release_ranges set)
+    else (if is_empty set.releases
+    then codes "pre-releases " ++ ranges_text (pre_release_ranges set)
+    else (ranges_text (release_ranges set)
+    ++ (codes ", pre-releases " ++ ranges_text (pre_release_ranges set))))
 
 -- a version of a kind meets the comparators of a text in npm mode exactly if it is in a set
 abbrev pub ReadsBack : Text → (PlainVersion → Type 0) → SetValue → Type 0

@@ -8,4 +8,5 @@ pub mod Sweeps
 pub mod Between
 pub mod SweepViews
 pub mod Combined
-pub mod SameBoundaries
+pub mod SameSets
+pub mod ShownBounds

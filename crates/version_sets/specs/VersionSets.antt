@@ -5,15 +5,20 @@ use Rattle.std.specs.List.{AllByRecursion}
 use Rattle.std.specs.Ordering.{eq_by_cmp}
 use Rattle.std.specs.Cmp.Lexicographic.{pointwise}
 use Rattle.std.specs.declared.cmp.Ordering.TheVariants.{Less}
+use Rattle.semver_texts.specs.Digits.{plain_by}
 use Rattle.semver_texts.specs.Texts.{is_empty}
 use Rattle.semver_texts.specs.Versions.{PlainVersion}
+use Rattle.semver_texts.specs.declared.grammar.Digits.{Digits}
+use Rattle.semver_texts.specs.declared.grammar.Digits.TheVariants.{Kept, AnySize}
 use Rattle.semver_texts.specs.Precedence.{precedence}
 use Rattle.version_sets.specs.Boundaries.{is_inside, IsIncreasing}
 
--- the boundaries of the releases, and those of the pre-releases
+-- the boundaries of the releases, and those of the pre-releases; and how identifiers of digits alone
+-- are read in the versions that are looked up
 pub record SetValue : Type 0 where
   pub releases : List PlainVersion
   pub pre_releases : List PlainVersion
+  pub digits : Digits
 
 -- whether a version is in a set: the boundaries of its kind say so
 abbrev pub contains : SetValue → PlainVersion → Bool
@@ -21,15 +26,27 @@ contains set v =
     if is_empty v.pre
     then is_inside precedence set.releases v else is_inside precedence set.pre_releases v
 
+-- whether a version as it is kept is in a set, which says how its identifiers of digits alone are
+-- read
+abbrev pub contains_kept : SetValue → PlainVersion → Bool
+contains_kept set v = contains set (plain_by set.digits v)
+
 -- its numbers fit 64 bits
 abbrev pub Fits : PlainVersion → Type 0
 Fits v = (v.major < 2 ^ 64) × (v.minor < 2 ^ 64) × (v.patch < 2 ^ 64)
 
--- whether two sets have the same boundaries
-abbrev pub same_boundaries : SetValue → SetValue → Bool
-same_boundaries a b =
-    pointwise (eq_by_cmp precedence) a.releases b.releases
-    && pointwise (eq_by_cmp precedence) a.pre_releases b.pre_releases
+-- whether identifiers of digits alone are read in the same way
+abbrev pub same_digits : Digits → Digits → Bool
+same_digits Kept Kept = true
+same_digits AnySize AnySize = true
+same_digits _ _ = false
+
+-- whether two sets read digits in the same way and have the same boundaries
+abbrev pub same_set : SetValue → SetValue → Bool
+same_set a b =
+    same_digits a.digits b.digits
+    && (pointwise (eq_by_cmp precedence) a.releases b.releases
+    && pointwise (eq_by_cmp precedence) a.pre_releases b.pre_releases)
 
 -- a version whose numbers fit, as those of every `Version` do, is in the set
 abbrev pub IsIn : PlainVersion → SetValue → Type 0

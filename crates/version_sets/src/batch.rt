@@ -2,42 +2,23 @@
 
 ghost use Rattle.std.specs.Prelude.{◌≡◌, length, map};
 ghost use Rattle.std.specs.List.{AllByRecursion};
-ghost use Rattle.semver_texts.specs.Digits.{plain_by};
 ghost use Rattle.semver_texts.specs.VersionViews.{version_value};
-ghost use Rattle.version_sets.specs.VersionSets.{contains as is_in, Fits};
+ghost use Rattle.version_sets.specs.VersionSets.{contains_kept, Fits};
 ghost use Rattle.version_sets.specs.Steps.Between.{is_release_between as between};
 
 use crate::release::Release;
 use crate::version_set::VersionSet;
-use semver_texts::grammar::Digits;
 use semver_versions::version::Version;
 
 /// Whether each version is in the set.
 pub(crate) fn contains(set: &VersionSet, versions: &[Version], answers: &mut [bool])
     requires { length answers.old ≡ length versions.now }
     ensures each { answers.new
-        ≡ map (λ v. is_in set.now (version_value v).plain) versions.now }
+        ≡ map (λ v. contains_kept set.now (version_value v).plain) versions.now }
     ensures fit { AllByRecursion (λ v. Fits (version_value v).plain) versions.now }
 {
     for at in 0..versions.len() {
         answers[at] = set.contains(&versions[at]);
-    }
-}
-
-/// Whether each version is in the set, if its identifiers of digits alone are read so.
-pub(crate) fn contains_by(
-    set: &VersionSet,
-    versions: &[Version],
-    digits: Digits,
-    answers: &mut [bool],
-)
-    requires { length answers.old ≡ length versions.now }
-    ensures each { answers.new
-        ≡ map (λ v. is_in set.now (plain_by digits (version_value v).plain)) versions.now }
-    ensures fit { AllByRecursion (λ v. Fits (version_value v).plain) versions.now }
-{
-    for at in 0..versions.len() {
-        answers[at] = set.contains_by(&versions[at], digits);
     }
 }
 

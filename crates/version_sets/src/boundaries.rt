@@ -4,7 +4,7 @@ ghost use Rattle.std.specs.Prelude.{◌≡◌, ◌%◌, map, nat_eq};
 ghost use Rattle.std.specs.Ordering.{eq_by_cmp};
 ghost use Rattle.std.specs.Cmp.Lexicographic.{pointwise};
 ghost use Rattle.semver_texts.specs.Digits.{plain_by};
-ghost use Rattle.semver_versions.specs.Outlines.{version_of};
+ghost use Rattle.semver_versions.specs.Outlines.{kept_version_of};
 ghost use Rattle.semver_texts.specs.Precedence.{precedence};
 ghost use Rattle.semver_versions.specs.ReadVersions.{read_plain};
 ghost use Rattle.version_sets.specs.Steps.Places.{version_place};
@@ -62,19 +62,24 @@ pub(crate) fn contains_release(boundaries: &[Release], release: &Release) -> boo
     is_in
 }
 
-/// Whether an odd number of the boundaries are at or below the version of an outline. It takes time
-/// in the logarithm of their number, and does not allocate.
+/// Whether an odd number of the boundaries are at or below the version of an outline, whose
+/// identifiers of digits alone are read so. It takes time in the logarithm of their number, and does
+/// not allocate.
 #[inline(always)]
-pub(crate) fn contains_outline(boundaries: &[ReadVersion], outline: &Outline<'_>) -> bool
+pub(crate) fn contains_outline(
+    boundaries: &[ReadVersion],
+    outline: &Outline<'_>,
+    digits: Digits,
+) -> bool
     requires { IsIncreasing precedence (map read_plain boundaries.now) }
     ensures { result ≡ is_inside precedence (map read_plain boundaries.now)
-        (version_of outline.now).plain }
+        (plain_by digits (kept_version_of outline.now).plain) }
 {
     let mut low = 0;
     let mut high = boundaries.len();
     while low < high {
         let middle = low + (high - low) / 2;
-        if boundaries[middle].compared_outline(outline).is_ge() {
+        if boundaries[middle].compared_outline(outline, digits).is_ge() {
             low = middle + 1;
         } else {
             high = middle;

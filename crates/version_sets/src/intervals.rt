@@ -1,7 +1,7 @@
 //! The intervals of a set's boundaries as ranges of comparators.
 
-ghost use Rattle.std.specs.Prelude.{◌≡◌, ◌<◌, ◌++◌, ◌∷◌, [], length, map, option_map, Option};
-ghost use Rattle.std.specs.Prelude.{IfOk, IfErr};
+ghost use Rattle.std.specs.Prelude.{◌≡◌, ◌<◌, ◌++◌, ◌∷◌, [], length, map, option_map, Option, Some};
+ghost use Rattle.std.specs.Prelude.{IfOk, IfErr, IfNone, IfSome};
 ghost use Rattle.std.specs.Ordering.{is_eq};
 ghost use Rattle.semver_texts.specs.Precedence.{pre_cmp};
 ghost use Rattle.semver_ranges.specs.RangeViews.{comparator_of, identifier_of, range_of};
@@ -10,10 +10,11 @@ ghost use Rattle.semver_texts.specs.Versions.{numeric, PlainVersion};
 ghost use Rattle.semver_texts.specs.VersionViews.{identifier_value};
 ghost use Rattle.semver_texts.specs.Digits.{as_kept, identifier_by, identifiers_by};
 ghost use Rattle.version_sets.specs.DigitViews.{comparator_kept, range_kept};
-ghost use Rattle.version_sets.specs.SetRanges.{interval, intervals, is_lowest, is_same_end};
+ghost use Rattle.version_sets.specs.SetRanges.{Kind, interval, intervals, is_lowest, is_same_end};
 ghost use Rattle.version_sets.specs.SetRanges.{is_lowest_pre as lowest_pre};
 ghost use Rattle.semver_versions.specs.ReadVersions.{read_plain};
-ghost use Rattle.version_sets.specs.SetRanges.{npm_range, bounds as plain_bounds};
+ghost use Rattle.version_sets.specs.SetRanges.{npm_range, pre_release_above};
+ghost use Rattle.version_sets.specs.Steps.ShownBounds.{interval_value, shown_value};
 
 use crate::boundary::Boundary;
 use crate::release::{Release, next_numbers};
@@ -26,9 +27,33 @@ use semver_versions::read_version::ReadVersion;
 use semver_versions::version;
 use std::alloc::{AllocError, Global};
 
+/// A comparator of a boundary, whose identifiers are borrowed from it.
+#[derive(Drop)]
+pub(crate) struct Shown<'a> {
+    pub(crate) op: Op,
+    pub(crate) numbers: Release,
+    pub(crate) pre: &'a [version::Identifier],
+    pub(crate) digits: Digits,
+}
+
+impl Shown<'_> {
+    /// The comparator with identifiers of its own. `Err` is out of memory.
+    fn comparator(self, alloc: Global) -> Result<Comparator, AllocError>
+        ensures { IfOk result (λ made. comparator_of made ≡ comparator_kept (shown_value self.entry)) }
+    {
+        Ok(Comparator {
+            op: self.op,
+            major: self.numbers.major,
+            minor: self.numbers.minor,
+            patch: self.numbers.patch,
+            pre: copied(alloc, self.pre, self.digits)?,
+        })
+    }
+}
+
 /// A boundary as a bound of an interval.
 pub(crate) trait Bound: Boundary {
-    ghost next_place: { PlainVersion → Option PlainVersion };
+    ghost kind: { Kind };
 
     /// Whether it is at the lowest version of its kind.
     fn is_lowest(&self) -> bool
@@ -38,18 +63,22 @@ pub(crate) trait Bound: Boundary {
     /// one.
     fn is_alone(&self, to: Option<&Self>) -> bool
         ensures { result ≡ is_same_end (option_map (λ x. Self.place x.now) to.entry)
-            (next_place (Self.place self.now)) };
+            (kind.next (Self.place self.now)) };
 
-    /// The comparator of an operator and its version. `Err` is out of memory.
-    fn comparator(&self, alloc: Global, op: Op) -> Result<Comparator, AllocError>
-        ensures { IfOk result (λ made.
-            comparator_of made ≡ comparator_kept (plain_comparator op (Self.place self.now))) };
+    /// The comparator of an operator and its version.
+    fn shown<'a>(&'a self, op: Op) -> Shown<'a>
+        ensures { shown_value result ≡ plain_comparator op (Self.place self.now) };
+
+    /// The comparator that is below the end of an interval from itself on and below another.
+    fn shown_end<'a>(&self, to: &'a Self) -> Shown<'a>
+        ensures { shown_value result
+            ≡ plain_comparator Op.Lt (kind.end (Self.place self.now) (Self.place to.now)) };
 }
 
 impl Bound for Release {
-    ghost use Rattle.version_sets.specs.SetRanges.{next_release};
+    ghost use Rattle.version_sets.specs.SetRanges.{of_releases};
 
-    ghost next_place = { next_release };
+    ghost kind = { of_releases };
 
     fn is_lowest(&self) -> bool {
         self.major == 0 && self.minor == 0 && self.patch == 0
@@ -63,22 +92,24 @@ impl Bound for Release {
         }
     }
 
-    /// It does not allocate.
-    fn comparator(&self, alloc: Global, op: Op) -> Result<Comparator, AllocError> {
-        Ok(Comparator {
+    fn shown<'a>(&'a self, op: Op) -> Shown<'a> {
+        Shown {
             op,
-            major: self.major,
-            minor: self.minor,
-            patch: self.patch,
-            pre: Vec::new(alloc),
-        })
+            numbers: *self,
+            pre: &[],
+            digits: Digits::Kept,
+        }
+    }
+
+    fn shown_end<'a>(&self, to: &'a Release) -> Shown<'a> {
+        to.shown(Op::Lt)
     }
 }
 
 impl Bound for ReadVersion {
-    ghost use Rattle.version_sets.specs.SetRanges.{next_pre_release};
+    ghost use Rattle.version_sets.specs.SetRanges.{of_pre_releases};
 
-    ghost next_place = { next_pre_release };
+    ghost kind = { of_pre_releases };
 
     fn is_lowest(&self) -> bool {
         let version = &self.version;
@@ -100,14 +131,40 @@ impl Bound for ReadVersion {
         }
     }
 
-    fn comparator(&self, alloc: Global, op: Op) -> Result<Comparator, AllocError> {
-        Ok(Comparator {
+    fn shown<'a>(&'a self, op: Op) -> Shown<'a> {
+        Shown {
             op,
-            major: self.version.major,
-            minor: self.version.minor,
-            patch: self.version.patch,
-            pre: copied(alloc, &self.version.pre, self.digits)?,
-        })
+            numbers: Release::of(&self.version),
+            pre: self.version.pre.as_slice(),
+            digits: self.digits,
+        }
+    }
+
+    fn shown_end<'a>(&self, to: &'a ReadVersion) -> Shown<'a> {
+        if !begins_next_numbers(to, self) {
+            return to.shown(Op::Lt);
+        }
+        Shown {
+            op: Op::Lt,
+            numbers: Release::of(&self.version),
+            pre: &[],
+            digits: Digits::Kept,
+        }
+    }
+}
+
+/// Whether a boundary is at the lowest pre-release of the numbers right above those of another.
+fn begins_next_numbers(boundary: &ReadVersion, below: &ReadVersion) -> bool
+    ensures { result ≡ is_same_end (Some (read_plain boundary.now))
+        (pre_release_above (read_plain below.now)) }
+{
+    match next_numbers(Release::of(&below.version)) {
+        Some(next) => {
+            Release::of(&boundary.version).compare(&next).is_eq()
+                && !boundary.version.pre.is_empty()
+                && has_lowest_pre(&boundary.version.pre, boundary.digits)
+        }
+        None => false,
     }
 }
 
@@ -161,55 +218,86 @@ fn copy_of(identifier: &version::Identifier, digits: Digits) -> Result<Identifie
     }
 }
 
+/// The comparators of an interval: one, or two.
+#[derive(Drop)]
+pub(crate) struct Interval<'a> {
+    pub(crate) first: Shown<'a>,
+    pub(crate) second: Option<Shown<'a>>,
+}
+
+/// The comparators of the versions from one on and below another, if there is one. None is below
+/// the lowest.
+fn interval_of<'a, T: Bound>(from: &'a T, to: Option<&'a T>) -> Interval<'a>
+    ensures { interval_value result ≡ interval T.kind (T.place from.now)
+        (option_map (λ x. T.place x.now) to.entry) }
+{
+    if from.is_alone(to) {
+        return Interval {
+            first: from.shown(Op::Eq),
+            second: None,
+        };
+    }
+    match to {
+        None => Interval {
+            first: from.shown(Op::Gte),
+            second: None,
+        },
+        Some(to) if from.is_lowest() => Interval {
+            first: from.shown_end(to),
+            second: None,
+        },
+        Some(to) => Interval {
+            first: from.shown(Op::Gte),
+            second: Some(from.shown_end(to)),
+        },
+    }
+}
+
+/// The first interval of boundaries, and the boundaries that are left; `None` if there is none.
+pub(crate) fn first_interval<'a, T: Bound>(boundaries: &'a [T]) -> Option<(Interval<'a>, &'a [T])>
+    ensures none { IfNone result (boundaries.entry.now ≡ []) }
+    ensures first { IfSome result (λ found. intervals T.kind (map T.place boundaries.entry.now)
+        ≡ npm_range (interval_value found.0) ∷ intervals T.kind (map T.place found.1.now)) }
+    ensures fewer { IfSome result (λ found. length found.1.now < length boundaries.entry.now) }
+{
+    match boundaries {
+        [] => None,
+        [from] => Some((interval_of(from, None), &[])),
+        [from, to, others @ ..] => Some((interval_of(from, Some(to)), others)),
+    }
+}
+
+impl Interval<'_> {
+    /// The interval as a range of comparators. `Err` is out of memory.
+    fn range(self, alloc: Global) -> Result<Range, AllocError>
+        ensures { IfOk result (λ range.
+            range_of range ≡ range_kept (npm_range (interval_value self.entry))) }
+    {
+        let first = self.first.comparator(alloc)?;
+        let comparator_set = match self.second {
+            None => vec![in alloc; first]?,
+            Some(second) => vec![in alloc; first, second.comparator(alloc)?]?,
+        };
+        Ok(Range {
+            comparator_set,
+            compat: Compat::Npm,
+        })
+    }
+}
+
 /// The ranges of increasing boundaries in npm mode, one for each interval. It allocates only if
 /// there is a boundary. `Err` is out of memory.
 pub(crate) fn ranges_of<T: Bound>(alloc: Global, boundaries: &[T]) -> Result<Vec<Range>, AllocError>
     ensures ranges { IfOk result (λ ranges.
         map range_of ranges.items
-        ≡ map range_kept (intervals T.next_place (map T.place boundaries.now))) }
+        ≡ map range_kept (intervals T.kind (map T.place boundaries.now))) }
     ensures out_of_memory { IfErr result (λ _. 0 < length boundaries.now) }
 {
     let mut ranges = Vec::new(alloc);
     let mut left = boundaries;
-    while let [from, others @ ..] = left {
-        let (to, others) = match others {
-            [to, others @ ..] => (Some(to), others),
-            [] => (None, others),
-        };
-        ranges.push(range_between(alloc, from, to)?)?;
+    while let Some((first, others)) = first_interval(left) {
+        ranges.push(first.range(alloc)?)?;
         left = others;
     }
     Ok(ranges)
-}
-
-/// The range of the versions from one on and below another, if there is one.
-fn range_between<T: Bound>(alloc: Global, from: &T, to: Option<&T>) -> Result<Range, AllocError>
-    ensures { IfOk result (λ range. range_of range ≡ range_kept (npm_range (interval T.next_place
-        (T.place from.now) (option_map (λ x. T.place x.now) to.entry)))) }
-{
-    let comparator_set = if from.is_alone(to) {
-        vec![in alloc; from.comparator(alloc, Op::Eq)?]?
-    } else {
-        bounds(alloc, from, to)?
-    };
-    Ok(Range {
-        comparator_set,
-        compat: Compat::Npm,
-    })
-}
-
-/// The comparators of the versions from one on and below another, if there is one. None is below
-/// the lowest.
-fn bounds<T: Bound>(alloc: Global, from: &T, to: Option<&T>) -> Result<Vec<Comparator>, AllocError>
-    ensures { IfOk result (λ made. map comparator_of made.items ≡ map comparator_kept
-        (plain_bounds (T.place from.now) (option_map (λ x. T.place x.now) to.entry))) }
-{
-    match to {
-        None => Ok(vec![in alloc; from.comparator(alloc, Op::Gte)?]?),
-        Some(to) if from.is_lowest() => Ok(vec![in alloc; to.comparator(alloc, Op::Lt)?]?),
-        Some(to) => {
-            let from = from.comparator(alloc, Op::Gte)?;
-            Ok(vec![in alloc; from, to.comparator(alloc, Op::Lt)?]?)
-        }
-    }
 }

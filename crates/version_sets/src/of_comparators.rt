@@ -63,6 +63,7 @@ impl VersionSet {
             → contains s v.plain ≡ meets_with pre_releases (set_of set.now) v) }
         // Identifiers that can be read back from their texts are kept so.
         ensures printable { HasPrintableRanges (set_of set.now) → IfOk result IsPrintable }
+        ensures digits { IfOk result (λ s. s.digits ≡ SomeDigits.Kept) }
         // Memory runs out only where there is a range.
         ensures out_of_memory { IfErr result (λ _. 0 < length (set_of set.now).ranges) }
     {
@@ -83,15 +84,16 @@ impl VersionSet {
             → contains s v.plain ≡ meets_with pre_releases (set_by digits set.now) v) }
         // Identifiers that can be read back from their texts are kept so.
         ensures printable { HasPrintableRanges (set_of set.now) → IfOk result IsPrintable }
+        ensures digits { IfOk result (λ s. s.digits ≡ digits) }
         // Memory runs out only where there is a range.
         ensures out_of_memory { IfErr result (λ _. 0 < length (set_of set.now).ranges) }
     {
         if set.ranges.is_empty() {
-            return Ok(VersionSet::empty(alloc));
+            return Ok(VersionSet::empty(alloc, digits));
         }
         let releases = releases_of(alloc, &set.ranges)?;
         let pre_releases = pre_releases_of(alloc, &set.ranges, pre_releases, digits)?;
-        Ok(VersionSet::of_boundaries(releases, pre_releases))
+        Ok(VersionSet::of_boundaries(digits, releases, pre_releases))
     }
 }
 

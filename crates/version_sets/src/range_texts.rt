@@ -6,6 +6,7 @@ ghost use Rattle.semver_ranges.specs.RangeTexts.{RefusesExactly};
 ghost use Rattle.semver_ranges.specs.RangeTree.{SetTree, Spells};
 ghost use Rattle.semver_ranges.specs.RangeViews.{set_of};
 ghost use Rattle.semver_texts.specs.Versions.{VersionValue};
+ghost use Rattle.semver_texts.specs.declared.grammar.Digits.TheVariants.{Kept};
 ghost use Rattle.version_sets.specs.Printable.{IsPrintable};
 ghost use Rattle.version_sets.specs.PreReleaseRules.{meant_with, meets_text_with, meets_with};
 ghost use Rattle.version_sets.specs.VersionSets.{contains, Fits};
@@ -56,6 +57,7 @@ impl VersionSet {
             → contains s v.plain ≡ meant_with pre_releases compat tree v) }
         // Its identifiers can be read back from their texts.
         ensures printable { IfOk result IsPrintable }
+        ensures digits { IfOk result (λ s. s.digits ≡ Kept) }
     {
         let set = read_set(alloc, range, compat, pre_releases)?;
         match VersionSet::of_set(alloc, &set, pre_releases) {

@@ -1,16 +1,16 @@
 //! How two sets differ: what is lost, gained and shared, and whether one is a subset of the other,
 //! disjoint from it, or the same.
 
-ghost use Rattle.std.specs.Prelude.{IfErr, IfOk, true, ◌↔◌, ◌≡◌, ◌⊎◌};
+ghost use Rattle.std.specs.Prelude.{Err, IfErr, IfOk, false, true, ◌↔◌, ◌≡◌, ◌≢◌, ◌⊎◌};
 ghost use Rattle.semver_texts.specs.Versions.{PlainVersion};
 ghost use Rattle.version_sets.specs.Comparisons.{IsInBoth, IsInFirstAlone};
 ghost use Rattle.version_sets.specs.Comparisons.{LowestIsPreRelease, TellsLowest};
 ghost use Rattle.version_sets.specs.Steps.Combined.{IsKept, KeepsSome};
-ghost use Rattle.version_sets.specs.VersionSets.{IsIn, same_boundaries};
+ghost use Rattle.version_sets.specs.VersionSets.{IsIn, same_set};
 
 use crate::boundaries::are_same;
 use crate::lowest::lower_one;
-use crate::set_operations::Combination;
+use crate::set_operations::{Combination, SetError};
 use crate::version_set::VersionSet;
 use semver_versions::version::Version;
 use std::alloc::{AllocError, Global};
@@ -46,8 +46,12 @@ impl VersionSet {
     ///
     /// Both sets have the same versions exactly where nothing is lost or gained.
     ///
-    /// It allocates only for the identifiers of a pre-release that is answered. `Err` is out of
-    /// memory.
+    /// It allocates only for the identifiers of a pre-release that is answered.
+    ///
+    /// # Errors
+    ///
+    /// `DifferentDigits` if the sets read identifiers of digits alone differently, and `OutOfMemory`
+    /// if an allocation failed.
     ///
     /// ```
     /// use semver_parser::{sets, Dialect};
@@ -59,7 +63,9 @@ impl VersionSet {
     /// assert_eq!(comparison.shared.unwrap().to_string(), "1.4.0");
     /// # Ok::<(), semver_parser::RangeError>(())
     /// ```
-    pub fn compare(&self, alloc: Global, new: &VersionSet) -> Result<Comparison, AllocError>
+    pub fn compare(&self, alloc: Global, new: &VersionSet) -> Result<Comparison, SetError>
+        ensures refused { (result ≡ Err SetError.DifferentDigits)
+            ↔ (self.now.digits ≢ new.now.digits) }
         ensures lost { IfOk result (λ answer.
             TellsLowest (IsInFirstAlone self.now new.now) answer.lost) }
         ensures gained { IfOk result (λ answer.
@@ -67,6 +73,28 @@ impl VersionSet {
         ensures shared { IfOk result (λ answer.
             TellsLowest (IsInBoth self.now new.now) answer.shared) }
         // Memory runs out only where the lowest that is lost, gained or shared is a pre-release.
+        ensures out_of_memory { result ≡ Err SetError.OutOfMemory
+            → LowestIsPreRelease (IsInFirstAlone self.now new.now)
+            ⊎ LowestIsPreRelease (IsInFirstAlone new.now self.now)
+            ⊎ LowestIsPreRelease (IsInBoth self.now new.now) }
+    {
+        if self.digits != new.digits {
+            return Err(SetError::DifferentDigits);
+        }
+        match self.compared(alloc, new) {
+            Ok(comparison) => Ok(comparison),
+            Err(_) => Err(SetError::OutOfMemory),
+        }
+    }
+
+    /// Compares the set with a new one that reads digits in the same way.
+    fn compared(&self, alloc: Global, new: &VersionSet) -> Result<Comparison, AllocError>
+        ensures lost { IfOk result (λ answer.
+            TellsLowest (IsInFirstAlone self.now new.now) answer.lost) }
+        ensures gained { IfOk result (λ answer.
+            TellsLowest (IsInFirstAlone new.now self.now) answer.gained) }
+        ensures shared { IfOk result (λ answer.
+            TellsLowest (IsInBoth self.now new.now) answer.shared) }
         ensures out_of_memory { IfErr result (λ _.
             LowestIsPreRelease (IsInFirstAlone self.now new.now)
             ⊎ LowestIsPreRelease (IsInFirstAlone new.now self.now)
@@ -116,38 +144,65 @@ impl VersionSet {
     /// Whether each version that is in the set is in the other, too. It takes time in the number of
     /// their boundaries, and does not allocate.
     ///
+    /// # Errors
+    ///
+    /// `DifferentDigits` if the sets read identifiers of digits alone differently, and no other.
+    ///
     /// ```
     /// use semver_parser::{sets, Dialect};
     ///
     /// let (narrow, wide) = (sets::read("~1.2", Dialect::Npm)?, sets::read("^1", Dialect::Npm)?);
-    /// assert!(narrow.is_subset(&wide));
-    /// assert!(!wide.is_subset(&narrow));
+    /// assert_eq!(narrow.is_subset(&wide), Ok(true));
+    /// assert_eq!(wide.is_subset(&narrow), Ok(false));
     /// # Ok::<(), semver_parser::RangeError>(())
     /// ```
-    pub fn is_subset(&self, other: &VersionSet) -> bool
-        ensures { (result ≡ true)
-            ↔ ((v : PlainVersion) → IsIn v self.now → IsIn v other.now) }
+    pub fn is_subset(&self, other: &VersionSet) -> Result<bool, SetError>
+        ensures refused { (result ≡ Err SetError.DifferentDigits)
+            ↔ (self.now.digits ≢ other.now.digits) }
+        ensures no_memory { result ≢ Err SetError.OutOfMemory }
+        ensures subset { IfOk result (λ is. (is ≡ true)
+            ↔ ((v : PlainVersion) → IsIn v self.now → IsIn v other.now)) }
+        // If it isn't one, some version is in the set and not in the other.
+        ensures witness { IfOk result (λ is. is ≡ false → (v : PlainVersion)
+            × IsIn v self.now × (¬ IsIn v other.now)) }
     {
-        !self.keeps_some(Combination::Difference, other)
+        if self.digits != other.digits {
+            return Err(SetError::DifferentDigits);
+        }
+        Ok(!self.keeps_some(Combination::Difference, other))
     }
 
     // Answer: equation.
     /// Whether no version is in both sets. It takes time in the number of their boundaries, and
     /// does not allocate.
     ///
+    /// # Errors
+    ///
+    /// `DifferentDigits` if the sets read identifiers of digits alone differently, and no other.
+    ///
     /// ```
     /// use semver_parser::{sets, Dialect};
     ///
     /// let set = sets::read("^1.2.0", Dialect::Npm)?;
-    /// assert!(set.is_disjoint(&sets::read("<1.2.0", Dialect::Npm)?));
-    /// assert!(!set.is_disjoint(&sets::read("<=1.2.0", Dialect::Npm)?)); // 1.2.0 is in both
+    /// let (below, to) = (sets::read("<1.2.0", Dialect::Npm)?, sets::read("<=1.2.0", Dialect::Npm)?);
+    /// assert_eq!(set.is_disjoint(&below), Ok(true));
+    /// assert_eq!(set.is_disjoint(&to), Ok(false)); // 1.2.0 is in both
     /// # Ok::<(), semver_parser::RangeError>(())
     /// ```
-    pub fn is_disjoint(&self, other: &VersionSet) -> bool
-        ensures { (result ≡ true)
-            ↔ ((v : PlainVersion) → IsIn v self.now → ¬ IsIn v other.now) }
+    pub fn is_disjoint(&self, other: &VersionSet) -> Result<bool, SetError>
+        ensures refused { (result ≡ Err SetError.DifferentDigits)
+            ↔ (self.now.digits ≢ other.now.digits) }
+        ensures no_memory { result ≢ Err SetError.OutOfMemory }
+        ensures disjoint { IfOk result (λ is. (is ≡ true)
+            ↔ ((v : PlainVersion) → IsIn v self.now → ¬ IsIn v other.now)) }
+        // If they aren't disjoint, some version is in both.
+        ensures witness { IfOk result (λ is. is ≡ false → (v : PlainVersion)
+            × IsIn v self.now × IsIn v other.now) }
     {
-        !self.keeps_some(Combination::Intersection, other)
+        if self.digits != other.digits {
+            return Err(SetError::DifferentDigits);
+        }
+        Ok(!self.keeps_some(Combination::Intersection, other))
     }
 
     /// Whether some version is in a combination of two sets.
@@ -161,31 +216,34 @@ impl VersionSet {
 
 // Answer: equation.
 impl PartialEq for VersionSet {
-    ghost use Rattle.version_sets.specs.VersionSets.{same_boundaries};
+    ghost use Rattle.version_sets.specs.VersionSets.{same_set};
     ghost use Rattle.std.specs.Cmp.{partial_equiv_from_equiv};
-    ghost use Rattle.version_sets.specs.Steps.SameBoundaries.{boundaries_equiv};
+    ghost use Rattle.version_sets.specs.Steps.SameSets.{sets_equiv};
 
-    ghost eq = { same_boundaries };
+    ghost eq = { same_set };
 
-    ghost laws = { partial_equiv_from_equiv boundaries_equiv };
+    ghost laws = { partial_equiv_from_equiv sets_equiv };
 
-    /// Whether both sets have the same versions. It takes time in the number of their boundaries,
-    /// and does not allocate.
+    /// Whether both sets read identifiers of digits alone in the same way, and have the same
+    /// versions. It takes time in the number of their boundaries, and does not allocate.
     ///
     /// Those of `>=1.0.0 <2.0.0 || >=2.0.0 <3.0.0` and of `>=1.0.0 <3.0.0` are equal.
     fn eq(&self, other: &VersionSet) -> bool
-        ensures value { result ≡ same_boundaries self.now other.now }
-        ensures same_versions { (result ≡ true)
-            ↔ ((v : PlainVersion) → IsIn v self.now ↔ IsIn v other.now) }
+        ensures value { result ≡ same_set self.now other.now }
+        ensures same_versions { (result ≡ true) ↔ ((self.now.digits ≡ other.now.digits)
+            × ((v : PlainVersion) → IsIn v self.now ↔ IsIn v other.now)) }
         ensures one_form { (result ≡ true) ↔ (self.now ≡ other.now) }
     {
+        if self.digits != other.digits {
+            return false;
+        }
         are_same(&self.releases, &other.releases)
             && are_same(&self.pre_releases, &other.pre_releases)
     }
 }
 
 impl Eq for VersionSet {
-    ghost use Rattle.version_sets.specs.Steps.SameBoundaries.{boundaries_equiv};
+    ghost use Rattle.version_sets.specs.Steps.SameSets.{sets_equiv};
 
-    ghost laws = { boundaries_equiv };
+    ghost laws = { sets_equiv };
 }

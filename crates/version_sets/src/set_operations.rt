@@ -1,7 +1,7 @@
 //! What is in one set or another, in both, or in the first alone.
 
-ghost use Rattle.std.specs.Prelude.{IfErr, IfOk, false, map, not, option_map};
-ghost use Rattle.std.specs.Prelude.{slice_get, true, ◌&&◌, ◌||◌, ◌≡◌, ◌⊎◌};
+ghost use Rattle.std.specs.Prelude.{Err, IfErr, IfOk, false, map, not, option_map};
+ghost use Rattle.std.specs.Prelude.{slice_get, true, ◌&&◌, ◌||◌, ◌≡◌, ◌≢◌, ◌⊎◌, ◌↔◌};
 ghost use Rattle.semver_texts.specs.Versions.{PlainVersion};
 ghost use Rattle.version_sets.specs.Printable.{IsPrintable};
 ghost use Rattle.version_sets.specs.Steps.Combined.{KeepsSome, combined, keeps, keeps_some, pieces};
@@ -11,6 +11,41 @@ use crate::boundary::Boundary;
 use crate::sweep::Sweep;
 use crate::version_set::VersionSet;
 use std::alloc::{AllocError, Global};
+use thiserror::Error;
+
+/// Why two sets can't be combined or compared.
+///
+/// ```
+/// use semver_parser::sets::{self, SetError};
+/// use semver_parser::Dialect;
+///
+/// let set = sets::read("^1.2", Dialect::Npm)?;
+/// let other = sets::read("^1.2", Dialect::CrateNpm)?;
+/// assert_eq!(set.union(&other).unwrap_err(), SetError::DifferentDigits);
+/// # Ok::<(), semver_parser::RangeError>(())
+/// ```
+#[derive(Debug, PartialEq, Eq, Error, Drop)]
+pub enum SetError {
+    /// The sets read identifiers of digits alone from 2^64 on differently: one as texts, and the
+    /// other as numbers.
+    #[error("the sets read numbers from 2^64 on differently")]
+    DifferentDigits,
+    /// An allocation failed.
+    #[error("out of memory")]
+    OutOfMemory,
+}
+
+// Answer: equation.
+impl From<AllocError> for SetError {
+    ghost use Rattle.std.specs.Prelude.{◌≡◌};
+    ghost use Rattle.version_sets.specs.declared.set_operations.SetError.TheVariants.{OutOfMemory};
+
+    ghost from_gives = { λ _ e. e ≡ OutOfMemory };
+
+    fn from(_error: AllocError) -> SetError {
+        SetError::OutOfMemory
+    }
+}
 
 /// What of two sets is in their combination.
 #[derive(Clone, Copy)]
@@ -86,8 +121,12 @@ impl VersionSet {
     // Answer: law answer_laws::sets::one_union.
     /// The versions of one set or the other. It takes time in the number of their boundaries.
     ///
-    /// The result is allocated as it grows, and not at all if it is empty. `Err` is out of
-    /// memory.
+    /// The result is allocated as it grows, and not at all if it is empty.
+    ///
+    /// # Errors
+    ///
+    /// `DifferentDigits` if the sets read identifiers of digits alone differently, and `OutOfMemory`
+    /// if an allocation failed.
     ///
     /// ```
     /// use semver_parser::{sets, Dialect};
@@ -95,26 +134,33 @@ impl VersionSet {
     /// let set = |range| sets::read(range, Dialect::Npm).unwrap();
     /// let union = set(">=1.0.0 <1.5.0").union(&set(">=1.2.0 <2.0.0"))?;
     /// assert_eq!(union, set(">=1.0.0 <2.0.0"));
-    /// # Ok::<(), semver_parser::AllocError>(())
+    /// # Ok::<(), sets::SetError>(())
     /// ```
-    pub fn union(&self, alloc: Global, other: &VersionSet) -> Result<VersionSet, AllocError>
+    pub fn union(&self, alloc: Global, other: &VersionSet) -> Result<VersionSet, SetError>
+        ensures refused { (result ≡ Err SetError.DifferentDigits)
+            ↔ (self.now.digits ≢ other.now.digits) }
         ensures contains { IfOk result (λ set. (v : PlainVersion)
             → contains set v ≡ (contains self.now v || contains other.now v)) }
+        ensures digits { IfOk result (λ set. set.digits ≡ self.now.digits) }
         // Identifiers that can be read back from their texts are kept so.
         ensures printable { IsPrintable self.now → IsPrintable other.now
             → IfOk result IsPrintable }
         // Memory runs out only where the answer has a version.
-        ensures out_of_memory { IfErr result (λ _. (v : PlainVersion)
-            × (IsIn v self.now ⊎ IsIn v other.now)) }
+        ensures out_of_memory { result ≡ Err SetError.OutOfMemory → (v : PlainVersion)
+            × (IsIn v self.now ⊎ IsIn v other.now) }
     {
-        self.combined(alloc, Combination::Union, other)
+        self.checked(alloc, Combination::Union, other)
     }
 
     // Answer: law answer_laws::sets::one_intersection.
     /// The versions of both sets. It takes time in the number of their boundaries.
     ///
-    /// The result is allocated as it grows, and not at all if it is empty. `Err` is out of
-    /// memory.
+    /// The result is allocated as it grows, and not at all if it is empty.
+    ///
+    /// # Errors
+    ///
+    /// `DifferentDigits` if the sets read identifiers of digits alone differently, and `OutOfMemory`
+    /// if an allocation failed.
     ///
     /// ```
     /// use semver_parser::{sets, Dialect};
@@ -122,27 +168,34 @@ impl VersionSet {
     /// let set = |range| sets::read(range, Dialect::Npm).unwrap();
     /// let intersection = set(">=1.0.0 <1.5.0").intersection(&set(">=1.2.0 <2.0.0"))?;
     /// assert_eq!(intersection, set(">=1.2.0 <1.5.0"));
-    /// # Ok::<(), semver_parser::AllocError>(())
+    /// # Ok::<(), sets::SetError>(())
     /// ```
-    pub fn intersection(&self, alloc: Global, other: &VersionSet) -> Result<VersionSet, AllocError>
+    pub fn intersection(&self, alloc: Global, other: &VersionSet) -> Result<VersionSet, SetError>
+        ensures refused { (result ≡ Err SetError.DifferentDigits)
+            ↔ (self.now.digits ≢ other.now.digits) }
         ensures contains { IfOk result (λ set. (v : PlainVersion)
             → contains set v ≡ (contains self.now v && contains other.now v)) }
+        ensures digits { IfOk result (λ set. set.digits ≡ self.now.digits) }
         // Identifiers that can be read back from their texts are kept so.
         ensures printable { IsPrintable self.now → IsPrintable other.now
             → IfOk result IsPrintable }
         // Memory runs out only where the answer has a version.
-        ensures out_of_memory { IfErr result (λ _. (v : PlainVersion)
-            × IsIn v self.now × IsIn v other.now) }
+        ensures out_of_memory { result ≡ Err SetError.OutOfMemory → (v : PlainVersion)
+            × IsIn v self.now × IsIn v other.now }
     {
-        self.combined(alloc, Combination::Intersection, other)
+        self.checked(alloc, Combination::Intersection, other)
     }
 
     // Answer: law answer_laws::sets::one_difference.
     /// The versions of the first set that the other doesn't have. It takes time in the number of
     /// their boundaries.
     ///
-    /// The result is allocated as it grows, and not at all if it is empty. `Err` is out of
-    /// memory.
+    /// The result is allocated as it grows, and not at all if it is empty.
+    ///
+    /// # Errors
+    ///
+    /// `DifferentDigits` if the sets read identifiers of digits alone differently, and `OutOfMemory`
+    /// if an allocation failed.
     ///
     /// ```
     /// use semver_parser::{sets, Dialect};
@@ -150,23 +203,52 @@ impl VersionSet {
     /// let set = |range| sets::read(range, Dialect::Npm).unwrap();
     /// let difference = set(">=1.0.0 <1.5.0").difference(&set(">=1.2.0 <2.0.0"))?;
     /// assert_eq!(difference, set(">=1.0.0 <1.2.0"));
-    /// # Ok::<(), semver_parser::AllocError>(())
+    /// # Ok::<(), sets::SetError>(())
     /// ```
-    pub fn difference(&self, alloc: Global, other: &VersionSet) -> Result<VersionSet, AllocError>
+    pub fn difference(&self, alloc: Global, other: &VersionSet) -> Result<VersionSet, SetError>
+        ensures refused { (result ≡ Err SetError.DifferentDigits)
+            ↔ (self.now.digits ≢ other.now.digits) }
         ensures contains { IfOk result (λ set. (v : PlainVersion)
             → contains set v ≡ (contains self.now v && not (contains other.now v))) }
+        ensures digits { IfOk result (λ set. set.digits ≡ self.now.digits) }
         // Identifiers that can be read back from their texts are kept so.
         ensures printable { IsPrintable self.now → IsPrintable other.now
             → IfOk result IsPrintable }
         // Memory runs out only where the answer has a version.
-        ensures out_of_memory { IfErr result (λ _. (v : PlainVersion)
-            × IsIn v self.now × (¬ IsIn v other.now)) }
+        ensures out_of_memory { result ≡ Err SetError.OutOfMemory → (v : PlainVersion)
+            × IsIn v self.now × (¬ IsIn v other.now) }
     {
-        self.combined(alloc, Combination::Difference, other)
+        self.checked(alloc, Combination::Difference, other)
+    }
+
+    /// The versions of a combination of sets that read digits in the same way.
+    fn checked(
+        &self,
+        alloc: Global,
+        how: Combination,
+        other: &VersionSet,
+    ) -> Result<VersionSet, SetError>
+        ensures refused { (result ≡ Err SetError.DifferentDigits)
+            ↔ (self.now.digits ≢ other.now.digits) }
+        ensures contains { IfOk result (λ set. (v : PlainVersion)
+            → contains set v ≡ keeps how (contains self.now v) (contains other.now v)) }
+        ensures digits { IfOk result (λ set. set.digits ≡ self.now.digits) }
+        ensures printable { IsPrintable self.now → IsPrintable other.now
+            → IfOk result IsPrintable }
+        ensures out_of_memory { result ≡ Err SetError.OutOfMemory
+            → KeepsSome how self.now other.now }
+    {
+        if self.digits != other.digits {
+            return Err(SetError::DifferentDigits);
+        }
+        match self.combined(alloc, how, other) {
+            Ok(set) => Ok(set),
+            Err(_) => Err(SetError::OutOfMemory),
+        }
     }
 
     /// The versions of a combination.
-    pub(crate) fn combined(
+    fn combined(
         &self,
         alloc: Global,
         how: Combination,
@@ -174,12 +256,13 @@ impl VersionSet {
     ) -> Result<VersionSet, AllocError>
         ensures contains { IfOk result (λ set. (v : PlainVersion)
             → contains set v ≡ keeps how (contains self.now v) (contains other.now v)) }
+        ensures digits { IfOk result (λ set. set.digits ≡ self.now.digits) }
         ensures printable { IsPrintable self.now → IsPrintable other.now
             → IfOk result IsPrintable }
         ensures out_of_memory { IfErr result (λ _. KeepsSome how self.now other.now) }
     {
         let releases = how.of(alloc, &self.releases, &other.releases)?;
         let pre_releases = how.of(alloc, &self.pre_releases, &other.pre_releases)?;
-        Ok(VersionSet::of_boundaries(releases, pre_releases))
+        Ok(VersionSet::of_boundaries(self.digits, releases, pre_releases))
     }
 }

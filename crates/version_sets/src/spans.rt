@@ -2,10 +2,12 @@
 
 ghost use Rattle.std.specs.Prelude.{◌≡◌, ◌&&◌, ◌||◌, ◌++◌, Bool, true, false, Some, map};
 ghost use Rattle.std.specs.Prelude.{option_map, MatchOption, IfOk, IfSome};
+ghost use Rattle.std.specs.Cmp.{IsTotalOrder};
 ghost use Rattle.std.specs.List.{AllByRecursion, list_all};
 ghost use Rattle.semver_texts.specs.Versions.{PlainVersion};
 ghost use Rattle.semver_texts.specs.Precedence.{precedence};
 ghost use Rattle.version_sets.specs.Boundaries.{is_inside};
+ghost use Rattle.version_sets.specs.declared.spans.Span.{Span};
 ghost use Rattle.version_sets.specs.VersionSets.{AreBoundaries};
 ghost use Rattle.version_sets.specs.Steps.Spans.{is_in, IsSpan, later, earlier};
 ghost use Rattle.version_sets.specs.Steps.Spans.{is_below, span_boundaries, all_joined, some_empty};
@@ -179,6 +181,9 @@ pub(crate) fn boundaries_of<L: Endpoint>(
     ensures holds { IfOk result (λ boundaries. (p : PlainVersion → Bool)
         → spans_hold L.place p spans.old ≡ true
         → list_all p (map L.Boundary.place boundaries.items) ≡ true) }
+    // What the sort compares by is a total order, which Rust demands.
+    ensures total_order { IsTotalOrder (λ (s t : Span L). precedence (L.place s.from)
+        (L.place t.from)) }
 {
     spans.sort_unstable_by(|span, other| span.from.compare(&other.from));
     joined(alloc, spans)

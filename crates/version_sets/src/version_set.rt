@@ -7,10 +7,10 @@ ghost use Rattle.semver_texts.specs.Texts.{Text, is_empty};
 ghost use Rattle.semver_texts.specs.Versions.{PlainVersion, VersionValue};
 ghost use Rattle.semver_texts.specs.VersionGrammar.{SpellsVersion};
 ghost use Rattle.semver_texts.specs.VersionViews.{version_value};
-ghost use Rattle.semver_versions.specs.Outlines.{IsOutlineOf, version_of};
+ghost use Rattle.semver_versions.specs.Outlines.{IsOutlineOf, kept_version_of};
 ghost use Rattle.version_sets.specs.Printable.{IsPrintable};
 ghost use Rattle.version_sets.specs.Releases.{release_value};
-ghost use Rattle.version_sets.specs.VersionSets.{contains, Fits, IsNormal};
+ghost use Rattle.version_sets.specs.VersionSets.{contains, contains_kept, Fits, IsNormal};
 ghost use Rattle.version_sets.specs.Steps.Places.{set_of};
 
 use crate::release::Release;
@@ -25,6 +25,10 @@ use std::marker::Model;
 /// A set of versions, in one normal form: for releases and for pre-releases a list of boundaries,
 /// each below the next by precedence (SemVer 2.0.0, section 11). A version is in the set exactly if
 /// an odd number of its kind's boundaries are at or below it; its build doesn't count.
+///
+/// A set also says what an identifier of digits alone is from 2^64 on: a number, as in the dialects
+/// of Cargo and npm, or a text, as in those of the crate. Sets that differ in this can't be combined
+/// or compared.
 ///
 /// The releases of `>=1.2.0 <2.0.0 || 3.1.4` have the boundaries 1.2.0, 2.0.0, 3.1.4 and 3.1.5.
 ///
@@ -42,6 +46,8 @@ pub struct VersionSet {
     pub(crate) releases: Vec<Release>,
     /// The boundaries of the pre-releases. Each has a pre-release.
     pub(crate) pre_releases: Vec<ReadVersion>,
+    /// How identifiers of digits alone are read.
+    pub(crate) digits: Digits,
 }
 
 impl Model for VersionSet {
@@ -50,39 +56,59 @@ impl Model for VersionSet {
 
     ghost Value = { SetValue };
 
-    ghost view = { λ s. set_of s.releases.items s.pre_releases.items };
+    ghost view = { λ s. set_of s.digits s.releases.items s.pre_releases.items };
 
-    ghost invariant = { λ s. IsNormal (set_of s.releases.items s.pre_releases.items) };
+    ghost invariant = { λ s. IsNormal (set_of s.digits s.releases.items s.pre_releases.items) };
 }
 
 impl VersionSet {
     // Answer: law answer_laws::sets::one_empty.
-    /// The set without versions. It does not allocate.
+    /// The set without versions, which reads identifiers of digits alone so. It does not allocate.
     ///
     /// ```
     /// use semver_parser::sets::VersionSet;
+    /// use semver_parser::Digits;
     ///
-    /// assert!(VersionSet::empty().is_empty());
+    /// assert!(VersionSet::empty(Digits::AnySize).is_empty());
     /// ```
-    pub fn empty(alloc: Global) -> VersionSet
+    pub fn empty(alloc: Global, digits: Digits) -> VersionSet
         ensures empty { (v : PlainVersion) → contains result v ≡ false }
         ensures printable { IsPrintable result }
+        ensures digits { result.digits ≡ digits }
     {
-        VersionSet::of_boundaries(Vec::new(alloc), Vec::new(alloc))
+        VersionSet::of_boundaries(digits, Vec::new(alloc), Vec::new(alloc))
     }
 
     /// The set with these boundaries, which are in the normal form. It does not allocate.
     pub(crate) fn of_boundaries(
+        digits: Digits,
         releases: Vec<Release>,
         pre_releases: Vec<ReadVersion>,
     ) -> VersionSet
-        requires { IsNormal (set_of releases.items pre_releases.items) }
-        ensures { result ≡ set_of releases.items pre_releases.items }
+        requires { IsNormal (set_of digits releases.items pre_releases.items) }
+        ensures { result ≡ set_of digits releases.items pre_releases.items }
     {
         VersionSet {
             releases,
             pre_releases,
+            digits,
         }
+    }
+
+    // Answer: equation.
+    /// What an identifier of digits alone is from 2^64 on, in the versions of the set.
+    ///
+    /// ```
+    /// use semver_parser::{sets, Dialect, Digits};
+    ///
+    /// assert_eq!(sets::read("^1.2.0", Dialect::Cargo)?.digits(), Digits::AnySize);
+    /// assert_eq!(sets::read("^1.2.0", Dialect::CrateCargo)?.digits(), Digits::Kept);
+    /// # Ok::<(), semver_parser::RangeError>(())
+    /// ```
+    pub fn digits(&self) -> Digits
+        ensures { result ≡ self.now.digits }
+    {
+        self.digits
     }
 
     // Answer: law answer_laws::sets::one_only_releases.
@@ -101,8 +127,9 @@ impl VersionSet {
         ensures releases { (v : PlainVersion) → contains result v
             ≡ (is_empty v.pre && contains self v) }
         ensures printable { IsPrintable result }
+        ensures digits { result.digits ≡ self.digits }
     {
-        VersionSet::of_boundaries(self.releases, Vec::new(alloc))
+        VersionSet::of_boundaries(self.digits, self.releases, Vec::new(alloc))
     }
 
     // Answer: law answer_laws::sets::one_only_pre_releases.
@@ -121,17 +148,17 @@ impl VersionSet {
             ≡ (not (is_empty v.pre) && contains self v) }
         // Identifiers that can be read back from their texts are kept so.
         ensures printable { IsPrintable self → IsPrintable result }
+        ensures digits { result.digits ≡ self.digits }
     {
-        VersionSet::of_boundaries(Vec::new(alloc), self.pre_releases)
+        VersionSet::of_boundaries(self.digits, Vec::new(alloc), self.pre_releases)
     }
 
     // Answer: equation.
     /// Whether a version is in the set; its build doesn't count. It takes time in the logarithm of
     /// the number of boundaries, and does not allocate.
     ///
-    /// An identifier of digits from 2^64 on is a text here, as the version keeps it. By Cargo and
-    /// npm it is a number, as [`VersionSet::contains_by`] and [`VersionSet::contains_outline`] read
-    /// it.
+    /// An identifier of digits alone from 2^64 on, which a `Version` keeps as a text, is read as the
+    /// set says.
     ///
     /// ```
     /// use semver_parser::{sets, version, Dialect};
@@ -139,10 +166,14 @@ impl VersionSet {
     /// let set = sets::read("^1.2.0", Dialect::Cargo)?;
     /// assert!(set.contains(&version::parse("1.9.0+b5")?));
     /// assert!(!set.contains(&version::parse("2.0.0")?));
+    ///
+    /// let set = sets::read("<1.0.0-10a", Dialect::Cargo)?;
+    /// let large = version::parse("1.0.0-18446744073709551616")?;
+    /// assert!(set.contains(&large)); // to Cargo it is a number, and a number is below `10a`
     /// # Ok::<(), String>(())
     /// ```
     pub fn contains(&self, version: &Version) -> bool
-        ensures contains { result ≡ contains self.now (version_value version.now).plain }
+        ensures contains { result ≡ contains_kept self.now (version_value version.now).plain }
         // The numbers of a version fit 64 bits.
         ensures fits { Fits (version_value version.now).plain }
     {
@@ -155,52 +186,7 @@ impl VersionSet {
         if is_release {
             return self.contains_release(release);
         }
-        boundaries::contains_version(&self.pre_releases, version, Digits::Kept)
-    }
-
-    // Answer: equation.
-    /// Whether a version is in the set, as [`VersionSet::contains`] says, if an identifier of
-    /// digits alone from 2^64 on is what `digits` says.
-    ///
-    /// ```
-    /// use semver_parser::version::{self, Grammar};
-    /// use semver_parser::{sets, Dialect};
-    ///
-    /// let set = sets::read("<1.0.0-10a", Dialect::Cargo)?;
-    /// let version = version::parse("1.0.0-18446744073709551616")?;
-    /// assert!(set.contains_by(&version, Grammar::Cargo.digits()));
-    /// assert!(!set.contains(&version));
-    /// # Ok::<(), String>(())
-    /// ```
-    pub fn contains_by(&self, version: &Version, digits: Digits) -> bool
-        ensures contains { result
-            ≡ contains self.now (plain_by digits (version_value version.now).plain) }
-        // The numbers of a version fit 64 bits.
-        ensures fits { Fits (version_value version.now).plain }
-    {
-        let release = Release::of(version);
-        if version.pre.is_empty() {
-            return self.contains_release(release);
-        }
-        boundaries::contains_version(&self.pre_releases, version, digits)
-    }
-
-    // Answer: equation.
-    /// Whether each of some versions is in the set, as [`VersionSet::contains_by`] says of one. It
-    /// does not allocate.
-    ///
-    /// `answers` has to have as many places as there are versions.
-    pub fn contains_each_by(&self, versions: &[Version], digits: Digits, answers: &mut [bool])
-        requires { length answers.old ≡ length versions.now }
-        ensures each { answers.new
-            ≡ map (λ v. contains self.now (plain_by digits (version_value v).plain)) versions.now }
-        // The numbers of each version fit 64 bits.
-        ensures fit { AllByRecursion (λ v. Fits (version_value v).plain) versions.now }
-    {
-        match digits {
-            Digits::Kept => self.contains_each(versions, answers),
-            Digits::AnySize => batch::contains_by(self, versions, digits, answers),
-        }
+        boundaries::contains_version(&self.pre_releases, version, self.digits)
     }
 
     // Answer: equation.
@@ -213,7 +199,7 @@ impl VersionSet {
     pub fn contains_each(&self, versions: &[Version], answers: &mut [bool])
         requires { length answers.old ≡ length versions.now }
         ensures each { answers.new
-            ≡ map (λ v. contains self.now (version_value v).plain) versions.now }
+            ≡ map (λ v. contains_kept self.now (version_value v).plain) versions.now }
         // The numbers of each version fit 64 bits.
         ensures fit { AllByRecursion (λ v. Fits (version_value v).plain) versions.now }
     {
@@ -251,7 +237,8 @@ impl VersionSet {
 
     // Answer: equation.
     /// Whether the version of an outline is in the set, as [`VersionSet::contains`] says of a
-    /// version. Its identifiers are compared as they are in the text. It does not allocate.
+    /// version. Its identifiers are compared as they are in the text, and those of digits alone are
+    /// read as the set says, whatever the dialect of the outline. It does not allocate.
     ///
     /// ```
     /// use semver_parser::{sets, version, Dialect};
@@ -266,13 +253,13 @@ impl VersionSet {
     pub fn contains_outline(&self, outline: &Outline<'_>) -> bool
         // It is that of the version of each text that has this outline.
         ensures contains { (text : Text) (v : VersionValue) → IsOutlineOf text outline.now
-            → SpellsVersion v text → result ≡ contains self.now v.plain }
+            → SpellsVersion v text → result ≡ contains_kept self.now v.plain }
         // So of the version that the outline is of.
-        ensures of_version { result ≡ contains self.now (version_of outline.now).plain }
+        ensures of_version { result ≡ contains_kept self.now (kept_version_of outline.now).plain }
     {
         laws::one_outlined_version();
         if outline.is_pre_release() {
-            return boundaries::contains_outline(&self.pre_releases, outline);
+            return boundaries::contains_outline(&self.pre_releases, outline, self.digits);
         }
         self.contains_release(Release {
             major: outline.major(),

@@ -120,10 +120,12 @@ pub fn outermost<'a>(
 pub fn compare<'a>(
     range: &'a VersionRange,
     other: &'a VersionRange,
-    ask: impl Fn(&VersionRange, &VersionRange) -> bool,
+    ask: impl Fn(&VersionRange, &VersionRange) -> Result<bool, OperationError>,
 ) -> Answer<'a, bool> {
-    let is_same = range.meaning() == other.meaning();
-    is_same.then(|| ask(range, other)).ok_or(Problem::Argument)
+    if range.meaning() != other.meaning() {
+        return Err(Problem::Argument);
+    }
+    ask(range, other).map_err(|_| Problem::Argument)
 }
 
 pub fn combine<'a>(
@@ -133,8 +135,8 @@ pub fn combine<'a>(
 ) -> Answer<'a, *mut VersionRange> {
     match combined(range, other) {
         Ok(made) => Ok(moved(made)?),
-        Err(OperationError::DifferentMeanings) => Err(Problem::Argument),
         Err(OperationError::OutOfMemory) => Err(Problem::Memory),
+        Err(_) => Err(Problem::Argument),
     }
 }
 

@@ -114,7 +114,7 @@ functions! {
     semver_parser_range_difference(range: &Range, other: &Range)
         -> made: *mut Range = |range, other| calls::combine(range, other, Range::difference);
     semver_parser_range_equal(range: &Range, other: &Range)
-        -> equal: bool = |range, other| calls::compare(range, other, Range::eq);
+        -> equal: bool = |range, other| calls::compare(range, other, |range, other| Ok(range == other));
     semver_parser_range_is_subset(range: &Range, other: &Range)
         -> is_subset: bool = |range, other| calls::compare(range, other, Range::is_subset);
     semver_parser_range_is_disjoint(range: &Range, other: &Range)

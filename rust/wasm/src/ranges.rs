@@ -192,24 +192,29 @@ pub extern "C" fn range_is_empty(range: &Range) -> i32 {
     range.is_empty().into()
 }
 
-/// Returns 1 if each version of a range is in the other.
+/// Returns 1 if each version of a range is in the other, and a status if these are in dialects that
+/// can't be compared.
 #[no_mangle]
 pub extern "C" fn range_is_within(range: &Range, other: &Range) -> i32 {
-    range.versions().is_subset(other.versions()).into()
+    range.is_subset(other).map_or(status::INVALID_RANGE, i32::from)
 }
 
-/// Returns 1 if a version is in both ranges.
+/// Returns 1 if no version is in both ranges, and a status if these are in dialects that can't be
+/// compared.
 #[no_mangle]
-pub extern "C" fn range_overlaps(range: &Range, other: &Range) -> i32 {
-    (!range.versions().is_disjoint(other.versions())).into()
+pub extern "C" fn range_is_apart(range: &Range, other: &Range) -> i32 {
+    range.is_disjoint(other).map_or(status::INVALID_RANGE, i32::from)
 }
 
 /// Returns what is in a range and not in the other, as a range with the meaning of the first; null if
-/// memory ran out. The meaning of the other may be another one, as in JavaScript each range has its own.
+/// memory ran out. The other may have another rule for pre-releases, as in JavaScript each range has
+/// its own.
 #[no_mangle]
 pub extern "C" fn range_difference(range: &Range, other: &Range) -> *mut Range {
-    let versions = range.versions().difference(other.versions());
-    versions.map_or(null_mut(), |it| kept(Range::of_versions(it, range.meaning())))
+    let Ok(versions) = range.versions().difference(other.versions()) else {
+        return null_mut();
+    };
+    Range::of_versions(versions, range.meaning()).map_or(null_mut(), kept)
 }
 
 /// Returns the lowest version in a range as a string, empty if there is none.

@@ -152,7 +152,7 @@ pub fn here_within(text: &str, times: u64) -> u64 {
     let (Some(set), Some(other)) = (set_of(text), set_of(text)) else {
         return REFUSED;
     };
-    (0..times).map(|_| u64::from(black_box(&set).is_subset(&other))).sum()
+    (0..times).map(|_| u64::from(black_box(&set).is_subset(&other) == Ok(true))).sum()
 }
 
 /// Versions read and filtered by each of the ranges here, a line each: how many are kept in all.

@@ -2,6 +2,7 @@
 
 use super::Ending;
 use semver_parser::{Compat, RangeError, RangeSet, version};
+use semver_texts::grammar::Digits;
 use std::alloc::{AllocError, Global};
 use tool_ranges::dialect::Dialect;
 use tool_ranges::meaning::{self, Meaning};
@@ -152,7 +153,7 @@ pub fn of_refused_bounds(alloc: Global) -> Ending {
 pub fn union(alloc: Global, first: &VersionSet, second: &VersionSet) -> Ending {
     match first.union(alloc, second) {
         Ok(set) => Ending::full_if(
-            first.is_subset(&set) && second.is_subset(&set) && begins_at(&set, 0),
+            is_within(first, &set) && is_within(second, &set) && begins_at(&set, 0),
         ),
         Err(_) => Ending::Refused,
     }
@@ -162,7 +163,7 @@ pub fn union(alloc: Global, first: &VersionSet, second: &VersionSet) -> Ending {
 pub fn intersection(alloc: Global, first: &VersionSet, second: &VersionSet) -> Ending {
     match first.intersection(alloc, second) {
         Ok(set) => Ending::full_if(
-            set.is_subset(first) && set.is_subset(second) && begins_at(&set, 1),
+            is_within(&set, first) && is_within(&set, second) && begins_at(&set, 1),
         ),
         Err(_) => Ending::Refused,
     }
@@ -172,7 +173,7 @@ pub fn intersection(alloc: Global, first: &VersionSet, second: &VersionSet) -> E
 pub fn difference(alloc: Global, first: &VersionSet, second: &VersionSet) -> Ending {
     match second.difference(alloc, first) {
         Ok(set) => Ending::full_if(
-            set.is_subset(second) && set.is_disjoint(first) && begins_at(&set, 0),
+            is_within(&set, second) && set.is_disjoint(first) == Ok(true) && begins_at(&set, 0),
         ),
         Err(_) => Ending::Refused,
     }
@@ -210,7 +211,7 @@ pub fn release_ranges(alloc: Global, first: &VersionSet) -> Ending {
     }
 }
 
-/// The pre-releases of the first set are `>=1.2.0-b.c <1.2.1-0`.
+/// The pre-releases of the first set are `>=1.2.0-b.c <1.2.0`.
 pub fn pre_release_ranges(alloc: Global, first: &VersionSet) -> Ending {
     match first.pre_release_ranges(alloc) {
         Ok(ranges) => Ending::full_if(has_bounds(&ranges, 2)),
@@ -221,11 +222,11 @@ pub fn pre_release_ranges(alloc: Global, first: &VersionSet) -> Ending {
 /// What is asked of sets without a request: also the lowest version where there is none, a
 /// combination that has no version, a comparison of sets that have none, and their ranges.
 pub fn without_requests(alloc: Global, first: &VersionSet, second: &VersionSet) -> Ending {
-    let empty = VersionSet::empty(alloc);
+    let empty = VersionSet::empty(alloc, Digits::Kept);
     let is_told = empty.is_empty()
         && !first.is_empty()
-        && !first.is_subset(second)
-        && !first.is_disjoint(second)
+        && first.is_subset(second) == Ok(false)
+        && first.is_disjoint(second) == Ok(false)
         && first != second
         && begins_at(first, 1);
     let has_both = contains(alloc, first, "1.9.0") && contains(alloc, second, "1.9.0");
@@ -273,6 +274,11 @@ fn contains(alloc: Global, set: &VersionSet, text: &str) -> bool {
 /// Whether a version, which is looked at without a request, is in a set.
 fn has_stated(set: &VersionSet, text: &str) -> bool {
     version::outline(text).is_some_and(|outline| set.contains_outline(&outline))
+}
+
+/// Whether each version of a set is in another.
+fn is_within(set: &VersionSet, other: &VersionSet) -> bool {
+    set.is_subset(other) == Ok(true)
 }
 
 /// Whether the lowest release of a set has this major number.

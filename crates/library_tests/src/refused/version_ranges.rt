@@ -56,7 +56,7 @@ fn ends(combined: Result<VersionRange, OperationError>, wanted: [bool; 3]) -> En
     let range = match combined {
         Ok(range) => range,
         Err(OperationError::OutOfMemory) => return Ending::Refused,
-        Err(OperationError::DifferentMeanings) => return Ending::Wrong,
+        Err(_) => return Ending::Wrong,
     };
     let texts: [&[u8]; 3] = [b"1.2.0", b"1.5.0", b"2.0.0"];
     let mut is_right = true;

@@ -3,9 +3,9 @@ use Rattle.std.specs.Prelude.{Bool, ◌&&◌}
 use Rattle.semver_texts.specs.VersionViews.{version_value}
 use Rattle.semver_texts.specs.declared.version.Version.{Version}
 use Rattle.version_sets.specs.PreReleaseRules.{numbers_fit}
-use Rattle.version_sets.specs.VersionSets.{SetValue, contains}
+use Rattle.version_sets.specs.VersionSets.{SetValue, contains_kept}
 
 -- the numbers of a version fit, and it is in the set
 abbrev pub is_member : SetValue → Version → Bool
 is_member set version =
-    numbers_fit (version_value version).plain && contains set (version_value version).plain
+    numbers_fit (version_value version).plain && contains_kept set (version_value version).plain

@@ -6,7 +6,6 @@ use Rattle.std.specs.Option.{option_map}
 use Rattle.tool_ranges.specs.VersionRanges.{versions_grammar}
 use Rattle.semver_versions.specs.Outlines.{OutlineValue, version_of}
 use Rattle.semver_texts.specs.Texts.{Text, is_empty}
-use Rattle.semver_texts.specs.VersionViews.{version_value}
 use Rattle.semver_texts.specs.Versions.{PlainVersion}
 use Rattle.release_filter.specs.LineTexts.{line_text}
 use Rattle.release_filter.specs.Pieces.{LinesValue, TakesAll}

@@ -5,6 +5,7 @@ ghost use Rattle.std.specs.List.{flat_map};
 ghost use Rattle.semver_ranges.specs.RangeTree.{Simple as SimpleTree};
 ghost use Rattle.semver_texts.specs.Texts.{Text};
 ghost use Rattle.semver_texts.specs.Versions.{PlainVersion};
+ghost use Rattle.semver_texts.specs.declared.grammar.Digits.TheVariants.{AnySize};
 ghost use Rattle.semver_ranges.specs.Meeting.{meets_set};
 ghost use Rattle.semver_ranges.specs.RangeViews.{range_of};
 ghost use Rattle.version_sets.specs.Printable.{IsPrintable};
@@ -49,6 +50,7 @@ pub fn read(alloc: Global, requirement: &str) -> Result<VersionSet, RangeError>
         → contains set v ≡ meets_requirement tree v) }
     // Its identifiers can be read back from their texts.
     ensures printable { IfOk result IsPrintable }
+    ensures digits { IfOk result (λ set. set.digits ≡ AnySize) }
 {
     let surveyed = match survey(requirement) {
         Ok(surveyed) => surveyed,
@@ -67,6 +69,7 @@ pub(crate) fn read_with_all(alloc: Global, requirement: &str) -> Result<VersionS
         → SpellsRequirement tree requirement.now → Fits v
         → contains set v ≡ meets_requirement_with_all tree v) }
     ensures printable { IfOk result IsPrintable }
+    ensures digits { IfOk result (λ set. set.digits ≡ AnySize) }
 {
     let surveyed = match survey(requirement) {
         Ok(surveyed) => surveyed,
@@ -89,6 +92,7 @@ fn checked(
         → IsSurveyedAs t tree surveyed.now → Fits v
         → contains set v ≡ meets_set v (set_any (checks checked tree))) }
     ensures printable { IfOk result IsPrintable }
+    ensures digits { IfOk result (λ set. set.digits ≡ AnySize) }
 {
     let (ranges, _) = build(alloc, surveyed, checked, false)?;
     let checks = RangeSet {
@@ -104,6 +108,7 @@ fn meant(alloc: Global, surveyed: &Surveyed<'_>) -> Result<VersionSet, AllocErro
     ensures meaning { IfOk result (λ set. (t : Text) (tree : List SimpleTree) (v : PlainVersion)
         → IsSurveyedAs t tree surveyed.now → Fits v → contains set v ≡ meets_requirement tree v) }
     ensures printable { IfOk result IsPrintable }
+    ensures digits { IfOk result (λ set. set.digits ≡ AnySize) }
 {
     let (ranges, counting) = build(alloc, surveyed, VersionKind::Releases, true)?;
     let rewritten = RangeSet {
@@ -114,7 +119,10 @@ fn meant(alloc: Global, surveyed: &Surveyed<'_>) -> Result<VersionSet, AllocErro
     if counting.is_empty() {
         return Ok(releases);
     }
-    releases.union(alloc, &counted(alloc, surveyed, counting)?)
+    match releases.union(alloc, &counted(alloc, surveyed, counting)?) {
+        Ok(set) => Ok(set),
+        Err(_) => Err(AllocError),
+    }
 }
 
 /// The pre-releases that count, and satisfy each comparator.
@@ -131,11 +139,16 @@ fn counted(
         → contains set v ≡ (meets_set v (set_any (checks checked.PreReleases tree))
         && meets_set v (set_any (counting tree)))) }
     ensures printable { IfOk result IsPrintable }
+    ensures digits { IfOk result (λ set. set.digits ≡ AnySize) }
 {
     let counting = RangeSet {
         ranges,
         compat: Compat::Cargo,
     };
     let checked = checked(alloc, surveyed, VersionKind::PreReleases)?;
-    checked.intersection(alloc, &set_of(alloc, &counting, PreReleases::Included)?)
+    let counted = set_of(alloc, &counting, PreReleases::Included)?;
+    match checked.intersection(alloc, &counted) {
+        Ok(set) => Ok(set),
+        Err(_) => Err(AllocError),
+    }
 }

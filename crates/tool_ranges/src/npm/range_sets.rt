@@ -5,6 +5,7 @@ ghost use Rattle.std.specs.List.{list_all, list_any};
 ghost use Rattle.semver_ranges.specs.RangeTree.{SetTree};
 ghost use Rattle.semver_ranges.specs.RangeViews.{comparator_of, range_of, set_of};
 ghost use Rattle.semver_texts.specs.Versions.{PlainVersion};
+ghost use Rattle.semver_texts.specs.declared.grammar.Digits.TheVariants.{AnySize};
 ghost use Rattle.version_sets.specs.Printable.{HasPrintableRanges, IsPrintable};
 ghost use Rattle.version_sets.specs.VersionSets.{contains, Fits};
 ghost use Rattle.tool_ranges.specs.AnySize.{set_any};
@@ -46,6 +47,7 @@ pub fn read(alloc: Global, range: &str) -> Result<VersionSet, RangeError>
         → SpellsNpmRange tree range.now → Fits v → contains set v ≡ meets_npm tree v) }
     // Its identifiers can be read back from their texts.
     ensures printable { IfOk result IsPrintable }
+    ensures digits { IfOk result (λ set. set.digits ≡ AnySize) }
 {
     let rewritten = match rewrite(alloc, range) {
         Ok(rewritten) => rewritten,
@@ -64,6 +66,7 @@ pub(crate) fn read_with_all(alloc: Global, range: &str) -> Result<VersionSet, Ra
     ensures meaning { IfOk result (λ set. (tree : SetTree) (v : PlainVersion)
         → SpellsNpmRange tree range.now → Fits v → contains set v ≡ meets_npm_with_all tree v) }
     ensures printable { IfOk result IsPrintable }
+    ensures digits { IfOk result (λ set. set.digits ≡ AnySize) }
 {
     let set = match rewritten(alloc, range, LowerBounds::Lowest) {
         Ok(set) => set,
@@ -80,6 +83,7 @@ fn meant(alloc: Global, rewritten: RangeSet) -> Result<VersionSet, AllocError>
     ensures meaning { IfOk result (λ set. (v : PlainVersion) → Fits v
         → contains set v ≡ is_meant (set_any (set_of rewritten)) v) }
     ensures printable { HasPrintableRanges (set_of rewritten) → IfOk result IsPrintable }
+    ensures digits { IfOk result (λ set. set.digits ≡ AnySize) }
 {
     if some_has_no_other(&rewritten.ranges) {
         return any_size::set_of(alloc, &rewritten, PreReleases::Excluded);

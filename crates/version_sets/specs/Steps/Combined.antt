@@ -30,6 +30,7 @@ abbrev pub combined_sets : Combination → SetValue → SetValue → SetValue
 combined_sets how a b = record {
   releases = combined how (pieces a.releases b.releases);
   pre_releases = combined how (pieces a.pre_releases b.pre_releases);
+  digits = a.digits;
 }
 
 -- a version is in the combination of two sets

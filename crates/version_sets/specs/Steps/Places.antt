@@ -3,6 +3,7 @@
 use Rattle.std.specs.Prelude.{List, map}
 use Rattle.semver_texts.specs.Versions.{PlainVersion}
 use Rattle.semver_texts.specs.VersionViews.{version_value}
+use Rattle.semver_texts.specs.declared.grammar.Digits.{Digits}
 use Rattle.semver_texts.specs.declared.version.Version.{Version}
 use Rattle.version_sets.specs.Releases.{release_value}
 use Rattle.version_sets.specs.VersionSets.{SetValue}
@@ -13,8 +14,9 @@ use Rattle.version_sets.specs.declared.release.Release.{Release}
 abbrev pub version_place : Version → PlainVersion
 version_place v = (version_value v).plain
 
-abbrev pub set_of : List Release → List ReadVersion → SetValue
-set_of releases pre_releases = record {
+abbrev pub set_of : Digits → List Release → List ReadVersion → SetValue
+set_of digits releases pre_releases = record {
   releases = map release_value releases;
   pre_releases = map read_plain pre_releases;
+  digits = digits;
 }

@@ -6,7 +6,7 @@ use crate::rattle_std::prelude::*;
 use crate::proved::compare_ranges_main::arguments::{Extent, Options};
 use crate::proved::semver_parser::version::Version;
 use crate::rattle_std::AllocError;
-use crate::proved::version_sets::{SetRanges, VersionSet};
+use crate::proved::version_sets::{SetError, SetRanges, VersionSet};
 
 /// What is written, so far.
 pub struct Output {
@@ -40,7 +40,7 @@ impl Output {
         &mut self,
         old: &VersionSet,
         new: &VersionSet,
-    ) -> Result<(), AllocError> {
+    ) -> Result<(), SetError> {
         match self.options.extent {
             Extent::Whole => {
                 self.push_whole("lost", &old.difference(new)?)?;

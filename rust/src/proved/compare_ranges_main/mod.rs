@@ -17,6 +17,7 @@ use crate::rattle_std::process::ExitCode;
 use crate::proved::tool_ranges::dialect::Dialect;
 use crate::proved::tool_ranges::meaning::Meaning;
 use crate::proved::tool_ranges::version_range::VersionRange;
+use crate::proved::version_sets::SetError;
 
 /// The program.
 const PROGRAM: Program = Program {
@@ -162,17 +163,17 @@ fn of_two(
     question: &Question,
     range: &VersionRange,
     new: &VersionRange,
-) -> Result<String, AllocError> {
+) -> Result<String, SetError> {
     let mut output = Output::new(question.options);
     output.push_two(range.versions(), new.versions())?;
-    output.finish()
+    Ok(output.finish()?)
 }
 
 /// Whether the change is there that the exit status reports.
 fn is_changed(question: &Question, range: &VersionRange, new: &VersionRange) -> bool {
     match question.options.fails_on {
-        Some(Change::Lost) => !range.is_subset(new),
-        Some(Change::Gained) => !new.is_subset(range),
+        Some(Change::Lost) => range.is_subset(new) != Ok(true),
+        Some(Change::Gained) => new.is_subset(range) != Ok(true),
         Some(Change::Any) | None => range.versions() != new.versions(),
     }
 }

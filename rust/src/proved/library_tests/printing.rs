@@ -3,7 +3,7 @@
 #![cfg(feature = "std")]
 
 use crate::rattle_std::prelude::*;
-use super::writers::{Limited, Refusal};
+use super::writers::{ALL_AT_ONCE, Limited, Refusal};
 use crate::proved::semver_parser::parser::{Error, Parser};
 use crate::proved::semver_parser::{Comparator, Compat, Range, RangeError, RangeSet, version};
 use crate::rattle_std::fmt::Write;
@@ -146,7 +146,7 @@ fn write_printed<T: fmt::Display>(
 /// Whether the value prints as the text to a writer of so many bytes: all of it where all is taken,
 /// and else a beginning, an error, and nothing more.
 fn prints<T: fmt::Display>(value: &T, text: &str, left: usize) -> bool {
-    let mut out = Limited::new(left, usize::MAX, Refusal::Fail);
+    let mut out = Limited::new(left, ALL_AT_ONCE, Refusal::Fail);
     let is_printed = write!(out, "{value}").is_ok();
     let is_whole = out.taken.as_slice() == text.as_bytes();
     let is_front = text.as_bytes().starts_with(out.taken.as_slice());

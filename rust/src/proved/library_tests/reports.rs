@@ -3,7 +3,7 @@
 #![cfg(feature = "std")]
 
 use crate::rattle_std::prelude::*;
-use super::writers::{Limited, Refusal};
+use super::writers::{ALL_AT_ONCE, Limited, Refusal};
 use crate::proved::semver_parser::report;
 use crate::rattle_std::io;
 
@@ -14,7 +14,7 @@ const REPORT: &str = "version: 1.2.3\ncargo: >=1.2.3 <2.0.0\nnpm: =1.2.3\n";
 pub fn write_report(rt: &impl Print) -> io::Result<()> {
     let mut refusals = 0u32;
     for refusal in [Refusal::Fail, Refusal::Interrupt, Refusal::TakeNone] {
-        for most in [1, usize::MAX] {
+        for most in [1, ALL_AT_ONCE] {
             for left in 0..=REPORT.len() {
                 if !ends_with(left, most, refusal) {
                     crate::rattle_std::fallible_println!(rt; "report: wrong after {left} bytes")?;

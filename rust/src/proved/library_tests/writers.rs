@@ -18,6 +18,9 @@ pub enum Refusal {
     TakeNone,
 }
 
+/// More bytes than any writer here takes at a call.
+pub const ALL_AT_ONCE: usize = 0xffff_ffff;
+
 /// Takes so many bytes, refuses the call that brings more, and then takes everything. So what is
 /// written after a refusal is seen.
 pub struct Limited {

@@ -3,7 +3,7 @@
 #![cfg(feature = "std")]
 
 use crate::rattle_std::prelude::*;
-use super::writers::{Limited, Refusal};
+use super::writers::{ALL_AT_ONCE, Limited, Refusal};
 use crate::proved::semver_texts::writing::write_whole;
 use crate::rattle_std::io;
 use crate::rattle_std::io::ErrorKind;
@@ -16,7 +16,7 @@ const BYTES: &[u8] = b"1.2.3";
 pub fn write_writes(rt: &impl Print) -> io::Result<()> {
     let mut writes = 0u32;
     for refusal in [Refusal::Fail, Refusal::Interrupt, Refusal::TakeNone] {
-        for most in [1, usize::MAX] {
+        for most in [1, ALL_AT_ONCE] {
             let (count, wrong) = count_writes(most, refusal);
             writes = writes.saturating_add(count);
             if wrong > 0 {

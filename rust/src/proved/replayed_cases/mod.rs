@@ -24,7 +24,6 @@ mod tools;
 mod versions;
 
 use checksum::Checksum;
-use filtering::write_greatest as highest;
 use crate::proved::semver_parser::version::Grammar;
 use crate::proved::semver_parser::{Compat, version};
 use crate::rattle_std::io;
@@ -114,9 +113,24 @@ fn answer<W: Write>(
         "copy-tags" => filtering::write_copied(text, "v", steps, out),
         "greatest-line" => filtering::write_greatest_line(text, "", steps, out),
         "greatest-tag" => filtering::write_greatest_line(text, "v", steps, out),
-        "greatest-release" => highest(text, PreReleases::Excluded, steps, out),
-        "greatest-stated" => highest(text, PreReleases::Default, steps, out),
-        "greatest-of-all" => highest(text, PreReleases::Included, steps, out),
+        "greatest-release" => filtering::write_greatest(
+            text,
+            PreReleases::Excluded,
+            steps,
+            out,
+        ),
+        "greatest-stated" => filtering::write_greatest(
+            text,
+            PreReleases::Default,
+            steps,
+            out,
+        ),
+        "greatest-of-all" => filtering::write_greatest(
+            text,
+            PreReleases::Included,
+            steps,
+            out,
+        ),
         "refused-range-as-cargo" => places::write_refused(text, Dialect::Cargo, out),
         "refused-range-as-npm" => places::write_refused(text, Dialect::Npm, out),
         "refused-range-as-crate-cargo" => {

@@ -6,10 +6,8 @@ use crate::rattle_std::prelude::*;
 use crate::proved::replayed_cases::filtering::versions_of;
 use crate::proved::semver_parser::version::{self, Version};
 use crate::proved::semver_parser::{Compat, RangeError};
-use crate::rattle_std::AllocError;
-use crate::rattle_std::io;
-use crate::rattle_std::io::Write;
-use crate::proved::version_sets::{PreReleases, VersionSet};
+use crate::rattle_std::io::{self, ErrorKind, Write};
+use crate::proved::version_sets::{PreReleases, SetError, VersionSet};
 
 /// A rule for pre-releases, and a mode.
 pub type Dialect = (PreReleases, Compat);
@@ -65,7 +63,9 @@ pub fn write_pair<W: Write>(
     let Some(versions) = versions_of(list)? else {
         return write!(out, "not all are versions");
     };
-    let parts = Parts::of(&first, &second)?;
+    let Ok(parts) = Parts::of(&first, &second) else {
+        return Err(io::Error::from(ErrorKind::OutOfMemory));
+    };
     write_compared(&first, &second, &parts, out)?;
     for version in versions.iter() {
         write!(out, "; {version}:")?;
@@ -102,7 +102,9 @@ pub fn write_whole_pair<W: Write>(
         Ok(set) => set,
         Err(error) => return write!(out, "{error}"),
     };
-    let parts = Parts::of(&first, &second)?;
+    let Ok(parts) = Parts::of(&first, &second) else {
+        return Err(io::Error::from(ErrorKind::OutOfMemory));
+    };
     write!(out, "lost ")?;
     write_ranges(&parts.lost, out)?;
     write!(out, "; gained ")?;
@@ -127,7 +129,7 @@ struct Parts {
 }
 
 impl Parts {
-    fn of(first: &VersionSet, second: &VersionSet) -> Result<Parts, AllocError> {
+    fn of(first: &VersionSet, second: &VersionSet) -> Result<Parts, SetError> {
         Ok(Parts {
             lost: first.difference(second)?,
             gained: second.difference(first)?,
@@ -151,7 +153,8 @@ fn write_compared<W: Write>(
     write_lowest(&parts.gained, out)?;
     write!(out, ", shared ")?;
     write_lowest(&parts.shared, out)?;
-    let (within, overlaps) = (first.is_subset(second), !first.is_disjoint(second));
+    let within = first.is_subset(second) == Ok(true);
+    let overlaps = first.is_disjoint(second) == Ok(false);
     let same = first == second;
     write!(out, ", within {within}, overlaps {overlaps}, same {same}")
 }

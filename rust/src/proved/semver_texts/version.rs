@@ -110,7 +110,9 @@ impl Identifier {
 
 /// The number's decimal and then the text, in one allocation.
 fn number_and(number: u64, text: &str) -> Result<String, AllocError> {
-    let digits = number.checked_ilog10().map_or(1, |log| log as usize + 1);
+    let digits = number
+        .checked_ilog10()
+        .map_or(1, |log| usize::from(log as u8) + 1);
     let mut whole = String::fallible_with_capacity(digits.saturating_add(text.len()))?;
     write!(whole, "{number}{text}")?;
     Ok(whole)

@@ -183,7 +183,14 @@ impl<'t> Outline<'t> {
     /// taken. It does not allocate.
     #[inline(always)]
     pub fn compared_pre(&self) -> ByDigits<Joined<'t, InVersions>> {
-        ByDigits::of(Joined::of(self.pre, InVersions), self.digits)
+        self.pre_by(self.digits)
+    }
+
+    /// The identifiers of the pre-release, as they are compared if those of digits alone are read
+    /// so.
+    #[inline(always)]
+    pub(crate) fn pre_by(&self, digits: Digits) -> ByDigits<Joined<'t, InVersions>> {
+        ByDigits::of(Joined::of(self.pre, InVersions), digits)
     }
 
     /// The identifiers of the pre-release. Digits from 2^64 on are kept as a text.

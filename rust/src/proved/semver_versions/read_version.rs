@@ -75,12 +75,13 @@ impl ReadVersion {
         )
     }
 
-    /// Returns how the version of an outline compares with it by precedence.
+    /// Returns how the version of an outline compares with it by precedence, if the outline's
+    /// identifiers of digits alone are read so.
     #[inline(always)]
-    pub fn compared_outline(&self, outline: &Outline<'_>) -> Ordering {
+    pub fn compared_outline(&self, outline: &Outline<'_>, digits: Digits) -> Ordering {
         compare(
             (outline.major, outline.minor, outline.patch),
-            outline.compared_pre(),
+            outline.pre_by(digits),
             (self.version.major, self.version.minor, self.version.patch),
             self.pre(),
         )

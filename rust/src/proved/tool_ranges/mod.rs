@@ -6,6 +6,7 @@ mod any_size;
 pub mod cargo;
 mod desugaring;
 pub mod dialect;
+mod highest;
 pub mod meaning;
 pub mod npm;
 pub mod offset;

@@ -3,8 +3,9 @@
 
 use crate::rattle_std::prelude::*;
 use crate::proved::tool_ranges::version_range::VersionRange;
+use crate::proved::version_sets::SetError;
 
-/// Why two ranges can't be combined.
+/// Why two ranges can't be combined or compared.
 ///
 /// ```
 /// use semver_parser::{Dialect, OperationError, VersionRange};
@@ -18,6 +19,9 @@ use crate::proved::tool_ranges::version_range::VersionRange;
 pub enum OperationError {
     /// The dialects of the ranges differ, or which pre-releases count.
     DifferentMeanings,
+    /// They read identifiers of digits alone from 2^64 on differently: to Cargo and npm these are
+    /// numbers, and to the crate they are texts.
+    DifferentDigits,
     /// An allocation failed.
     OutOfMemory,
 }
@@ -26,6 +30,7 @@ impl crate::rattle_std::fmt::Display for OperationError {
     fn fmt(&self, f: &mut crate::rattle_std::fmt::Formatter<'_>) -> crate::rattle_std::fmt::Result {
         match self {
             OperationError::DifferentMeanings => write!(f, "the ranges have different meanings"),
+            OperationError::DifferentDigits => write!(f, "the ranges read numbers from 2^64 on differently"),
             OperationError::OutOfMemory => write!(f, "out of memory"),
         }
     }
@@ -55,8 +60,12 @@ impl VersionRange {
             return Err(OperationError::DifferentMeanings);
         }
         match self.versions.union(&other.versions) {
-            Ok(versions) => Ok(VersionRange::of_versions(versions, self.meaning)),
-            Err(_) => Err(OperationError::OutOfMemory),
+            Ok(versions) => Ok(VersionRange {
+                versions,
+                meaning: self.meaning,
+            }),
+            Err(SetError::DifferentDigits) => Err(OperationError::DifferentDigits),
+            Err(SetError::OutOfMemory) => Err(OperationError::OutOfMemory),
         }
     }
 
@@ -83,8 +92,12 @@ impl VersionRange {
             return Err(OperationError::DifferentMeanings);
         }
         match self.versions.intersection(&other.versions) {
-            Ok(versions) => Ok(VersionRange::of_versions(versions, self.meaning)),
-            Err(_) => Err(OperationError::OutOfMemory),
+            Ok(versions) => Ok(VersionRange {
+                versions,
+                meaning: self.meaning,
+            }),
+            Err(SetError::DifferentDigits) => Err(OperationError::DifferentDigits),
+            Err(SetError::OutOfMemory) => Err(OperationError::OutOfMemory),
         }
     }
 
@@ -111,36 +124,81 @@ impl VersionRange {
             return Err(OperationError::DifferentMeanings);
         }
         match self.versions.difference(&other.versions) {
-            Ok(versions) => Ok(VersionRange::of_versions(versions, self.meaning)),
-            Err(_) => Err(OperationError::OutOfMemory),
+            Ok(versions) => Ok(VersionRange {
+                versions,
+                meaning: self.meaning,
+            }),
+            Err(SetError::DifferentDigits) => Err(OperationError::DifferentDigits),
+            Err(SetError::OutOfMemory) => Err(OperationError::OutOfMemory),
         }
     }
 
-    /// Returns whether the other range contains each version that this one does, whatever their
-    /// meanings. It does not allocate.
+    /// Returns whether the other range contains each version that this one does. Their meanings may
+    /// differ. It does not allocate.
+    ///
+    /// # Errors
+    ///
+    /// `DifferentDigits` if one range is in a dialect of the crate and the other in Cargo's or
+    /// npm's, and no other: a version with an identifier of digits alone from 2^64 on isn't the same
+    /// to both.
     ///
     /// ```
-    /// use semver_parser::{Dialect, VersionRange};
+    /// use semver_parser::{Dialect, OperationError, VersionRange};
     ///
     /// let cargo = VersionRange::parse("1.2", Dialect::Cargo)?;
     /// let npm = VersionRange::parse("1.2", Dialect::Npm)?;
-    /// assert!(npm.is_subset(&cargo) && !cargo.is_subset(&npm));
+    /// assert_eq!(npm.is_subset(&cargo), Ok(true));
+    /// assert_eq!(cargo.is_subset(&npm), Ok(false));
+    ///
+    /// let kept = VersionRange::parse("1.2", Dialect::CrateNpm)?;
+    /// assert_eq!(npm.is_subset(&kept), Err(OperationError::DifferentDigits));
     /// # Ok::<(), semver_parser::RangeError>(())
     /// ```
-    pub fn is_subset(&self, other: &VersionRange) -> bool {
-        self.versions.is_subset(&other.versions)
+    pub fn is_subset(&self, other: &VersionRange) -> Result<bool, OperationError> {
+        match self.versions.is_subset(&other.versions) {
+            Ok(is) => Ok(is),
+            Err(_) => Err(OperationError::DifferentDigits),
+        }
     }
 
-    /// Returns whether no version is in both ranges, whatever their meanings. It does not allocate.
+    /// Returns whether no version is in both ranges. Their meanings may differ. It does not
+    /// allocate.
+    ///
+    /// # Errors
+    ///
+    /// Those of [`VersionRange::is_subset`].
     ///
     /// ```
     /// use semver_parser::{Dialect, VersionRange};
     ///
     /// let range = VersionRange::parse("^1.2", Dialect::Npm)?;
-    /// assert!(range.is_disjoint(&VersionRange::parse(">=2.0.0", Dialect::Npm)?));
+    /// assert_eq!(range.is_disjoint(&VersionRange::parse(">=2.0.0", Dialect::Npm)?), Ok(true));
     /// # Ok::<(), semver_parser::RangeError>(())
     /// ```
-    pub fn is_disjoint(&self, other: &VersionRange) -> bool {
-        self.versions.is_disjoint(&other.versions)
+    pub fn is_disjoint(&self, other: &VersionRange) -> Result<bool, OperationError> {
+        match self.versions.is_disjoint(&other.versions) {
+            Ok(is) => Ok(is),
+            Err(_) => Err(OperationError::DifferentDigits),
+        }
     }
+}
+
+impl PartialEq for VersionRange {
+    /// Whether both ranges have the same meaning and contain the same versions. It does not
+    /// allocate.
+    ///
+    /// ```
+    /// use semver_parser::{Dialect, VersionRange};
+    ///
+    /// let range = VersionRange::parse("^1.2", Dialect::Npm)?;
+    /// assert!(range == VersionRange::parse(">=1.2.0 <2.0.0-0", Dialect::Npm)?);
+    /// assert!(range != VersionRange::parse("^1.2", Dialect::Cargo)?);
+    /// # Ok::<(), semver_parser::RangeError>(())
+    /// ```
+    fn eq(&self, other: &VersionRange) -> bool {
+        self.meaning == other.meaning && self.versions == other.versions
+    }
+}
+
+impl Eq for VersionRange {
 }

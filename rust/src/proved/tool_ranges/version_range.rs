@@ -3,9 +3,11 @@
 
 use crate::rattle_std::prelude::*;
 use crate::proved::tool_ranges::meaning::{self, Meaning};
+use crate::proved::tool_ranges::range_operations::OperationError;
 use crate::proved::tool_ranges::satisfying::SatisfiesError;
 use crate::proved::semver_ranges::RangeError;
 use crate::proved::semver_versions::version::{Outline, Version, outline_in};
+use crate::rattle_std::fmt;
 use crate::proved::version_sets::VersionSet;
 
 /// A range that was read once: the versions that it contains, its dialect, and which pre-releases
@@ -17,7 +19,8 @@ use crate::proved::version_sets::VersionSet;
 /// let old = VersionRange::parse("^1.2", Dialect::Cargo)?;
 /// let new = VersionRange::parse(">=1.2.1, <1.9", Dialect::Cargo)?;
 /// assert_eq!((&old - &new).to_string(), "=1.2.0 || >=1.9.0 <2.0.0");
-/// assert!(new.is_subset(&old) && old.contains("1.2.0") == Ok(true));
+/// assert_eq!(new.is_subset(&old), Ok(true));
+/// assert_eq!(old.contains("1.2.0"), Ok(true));
 /// # Ok::<(), semver_parser::RangeError>(())
 /// ```
 #[derive(Debug)]
@@ -50,16 +53,32 @@ impl VersionRange {
 
     /// Returns the range of the versions of a set.
     ///
+    /// # Errors
+    ///
+    /// `DifferentDigits` if the set reads identifiers of digits alone otherwise than the dialect,
+    /// and no other.
+    ///
     /// ```
     /// use semver_parser::sets::VersionSet;
-    /// use semver_parser::{Dialect, VersionRange};
+    /// use semver_parser::{Dialect, Digits, OperationError, VersionRange};
     ///
-    /// let none = VersionRange::of_versions(VersionSet::empty(), Dialect::Npm.into());
-    /// assert!(none == VersionRange::parse(">1 <1", Dialect::Npm)?);
+    /// let none = VersionSet::empty(Digits::AnySize);
+    /// let range = VersionRange::of_versions(none, Dialect::Npm.into()).unwrap();
+    /// assert!(range == VersionRange::parse(">1 <1", Dialect::Npm)?);
+    ///
+    /// let kept = VersionSet::empty(Digits::Kept);
+    /// let refused = VersionRange::of_versions(kept, Dialect::Npm.into());
+    /// assert_eq!(refused.unwrap_err(), OperationError::DifferentDigits);
     /// # Ok::<(), semver_parser::RangeError>(())
     /// ```
-    pub fn of_versions(versions: VersionSet, meaning: Meaning) -> VersionRange {
-        VersionRange { versions, meaning }
+    pub fn of_versions(
+        versions: VersionSet,
+        meaning: Meaning,
+    ) -> Result<VersionRange, OperationError> {
+        if versions.digits() != meaning.dialect.grammar().digits() {
+            return Err(OperationError::DifferentDigits);
+        }
+        Ok(VersionRange { versions, meaning })
     }
 
     /// Returns the dialect of the range, and which pre-releases count.
@@ -113,7 +132,8 @@ impl VersionRange {
         }
     }
 
-    /// Returns whether the range contains the version of an outline. It does not allocate.
+    /// Returns whether the range contains the version of an outline. Its identifiers of digits alone
+    /// are read by the range's dialect. It does not allocate.
     ///
     /// ```
     /// use semver_parser::{version, Dialect, VersionRange};
@@ -142,41 +162,7 @@ impl VersionRange {
     /// # Ok::<(), String>(())
     /// ```
     pub fn contains_version(&self, version: &Version) -> bool {
-        let digits = self.meaning.dialect.grammar().digits();
-        self.versions.contains_by(version, digits)
-    }
-
-    /// Returns the index of the highest of many versions that the range contains, by precedence
-    /// (SemVer 2.0.0, section 11), the first of equal ones, or `None` if it contains none of them.
-    /// Strings that aren't versions of the dialect are skipped. It does not allocate.
-    ///
-    /// ```
-    /// use semver_parser::{Dialect, VersionRange};
-    ///
-    /// let range = VersionRange::parse("^1.2", Dialect::Npm)?;
-    /// let versions: [&[u8]; 4] = [b"1.2.0", b"latest", b"1.10.0", b"2.0.0"];
-    /// assert_eq!(range.highest_of(&versions), Some(2));
-    /// assert_eq!(range.highest_of(&[b"2.0.0"]), None);
-    /// # Ok::<(), semver_parser::RangeError>(())
-    /// ```
-    pub fn highest_of(&self, versions: &[&[u8]]) -> Option<usize> {
-        self.versions
-            .highest_of(versions, self.meaning.dialect.grammar())
-    }
-
-    /// Returns the index of the lowest of many versions that the range contains, as
-    /// [`VersionRange::highest_of`] that of the highest.
-    ///
-    /// ```
-    /// use semver_parser::{Dialect, VersionRange};
-    ///
-    /// let range = VersionRange::parse("^1.2", Dialect::Npm)?;
-    /// assert_eq!(range.lowest_of(&[b"1.1.0", b"1.10.0", b"v1.2.0"]), Some(2));
-    /// # Ok::<(), semver_parser::RangeError>(())
-    /// ```
-    pub fn lowest_of(&self, versions: &[&[u8]]) -> Option<usize> {
-        self.versions
-            .lowest_of(versions, self.meaning.dialect.grammar())
+        self.versions.contains(version)
     }
 
     /// Returns whether the range contains no version.
@@ -189,5 +175,24 @@ impl VersionRange {
     /// ```
     pub fn is_empty(&self) -> bool {
         self.versions.is_empty()
+    }
+}
+
+impl fmt::Display for VersionRange {
+    /// Writes the releases that the range contains as a range in npm's syntax, `<0.0.0-0` if it has
+    /// none, and if it has pre-releases, these after `, pre-releases `, to be compared by
+    /// precedence. Of pre-releases alone the first comma is missing. It does not allocate, and its
+    /// only error is the writer's.
+    ///
+    /// ```
+    /// use semver_parser::{Dialect, VersionRange};
+    ///
+    /// let shown = |range| VersionRange::parse(range, Dialect::Npm).unwrap().to_string();
+    /// assert_eq!(shown("1.2.0 || ~1.9"), "=1.2.0 || >=1.9.0 <1.10.0");
+    /// assert_eq!(shown("^1.2.3-b"), ">=1.2.3 <2.0.0, pre-releases >=1.2.3-b <1.2.3");
+    /// ```
+    fn fmt(&self, f: &mut fmt::Formatter<'_>) -> fmt::Result {
+        let versions = &self.versions;
+        write!(f, "{versions}")
     }
 }

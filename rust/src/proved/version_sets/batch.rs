@@ -4,25 +4,12 @@
 use crate::rattle_std::prelude::*;
 use crate::proved::version_sets::release::Release;
 use crate::proved::version_sets::version_set::VersionSet;
-use crate::proved::semver_texts::grammar::Digits;
 use crate::proved::semver_versions::version::Version;
 
 /// Whether each version is in the set.
 pub(crate) fn contains(set: &VersionSet, versions: &[Version], answers: &mut [bool]) {
     for at in 0..versions.len() {
         answers[at] = set.contains(&versions[at]);
-    }
-}
-
-/// Whether each version is in the set, if its identifiers of digits alone are read so.
-pub(crate) fn contains_by(
-    set: &VersionSet,
-    versions: &[Version],
-    digits: Digits,
-    answers: &mut [bool],
-) {
-    for at in 0..versions.len() {
-        answers[at] = set.contains_by(&versions[at], digits);
     }
 }
 

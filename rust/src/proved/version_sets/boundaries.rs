@@ -42,15 +42,20 @@ pub(crate) fn contains_release(boundaries: &[Release], release: &Release) -> boo
     is_in
 }
 
-/// Whether an odd number of the boundaries are at or below the version of an outline. It takes time
-/// in the logarithm of their number, and does not allocate.
+/// Whether an odd number of the boundaries are at or below the version of an outline, whose
+/// identifiers of digits alone are read so. It takes time in the logarithm of their number, and does
+/// not allocate.
 #[inline(always)]
-pub(crate) fn contains_outline(boundaries: &[ReadVersion], outline: &Outline<'_>) -> bool {
+pub(crate) fn contains_outline(
+    boundaries: &[ReadVersion],
+    outline: &Outline<'_>,
+    digits: Digits,
+) -> bool {
     let mut low = 0;
     let mut high = boundaries.len();
     while low < high {
         let middle = low + (high - low) / 2;
-        if boundaries[middle].compared_outline(outline).is_ge() {
+        if boundaries[middle].compared_outline(outline, digits).is_ge() {
             low = middle + 1;
         } else {
             high = middle;

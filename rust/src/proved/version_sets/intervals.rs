@@ -13,6 +13,27 @@ use crate::proved::semver_versions::read_version::ReadVersion;
 use crate::proved::semver_versions::version;
 use crate::rattle_std::AllocError;
 
+/// A comparator of a boundary, whose identifiers are borrowed from it.
+pub(crate) struct Shown<'a> {
+    pub(crate) op: Op,
+    pub(crate) numbers: Release,
+    pub(crate) pre: &'a [version::Identifier],
+    pub(crate) digits: Digits,
+}
+
+impl Shown<'_> {
+    /// The comparator with identifiers of its own. `Err` is out of memory.
+    fn comparator(self) -> Result<Comparator, AllocError> {
+        Ok(Comparator {
+            op: self.op,
+            major: self.numbers.major,
+            minor: self.numbers.minor,
+            patch: self.numbers.patch,
+            pre: copied(self.pre, self.digits)?,
+        })
+    }
+}
+
 /// A boundary as a bound of an interval.
 pub(crate) trait Bound: Boundary {
     /// Whether it is at the lowest version of its kind.
@@ -22,8 +43,11 @@ pub(crate) trait Bound: Boundary {
     /// one.
     fn is_alone(&self, to: Option<&Self>) -> bool;
 
-    /// The comparator of an operator and its version. `Err` is out of memory.
-    fn comparator(&self, op: Op) -> Result<Comparator, AllocError>;
+    /// The comparator of an operator and its version.
+    fn shown<'a>(&'a self, op: Op) -> Shown<'a>;
+
+    /// The comparator that is below the end of an interval from itself on and below another.
+    fn shown_end<'a>(&self, to: &'a Self) -> Shown<'a>;
 }
 
 impl Bound for Release {
@@ -39,15 +63,17 @@ impl Bound for Release {
         }
     }
 
-    /// It does not allocate.
-    fn comparator(&self, op: Op) -> Result<Comparator, AllocError> {
-        Ok(Comparator {
+    fn shown<'a>(&'a self, op: Op) -> Shown<'a> {
+        Shown {
             op,
-            major: self.major,
-            minor: self.minor,
-            patch: self.patch,
-            pre: Vec::new(),
-        })
+            numbers: *self,
+            pre: &[],
+            digits: Digits::Kept,
+        }
+    }
+
+    fn shown_end<'a>(&self, to: &'a Release) -> Shown<'a> {
+        to.shown(Op::Lt)
     }
 }
 
@@ -72,14 +98,37 @@ impl Bound for ReadVersion {
         }
     }
 
-    fn comparator(&self, op: Op) -> Result<Comparator, AllocError> {
-        Ok(Comparator {
+    fn shown<'a>(&'a self, op: Op) -> Shown<'a> {
+        Shown {
             op,
-            major: self.version.major,
-            minor: self.version.minor,
-            patch: self.version.patch,
-            pre: copied(&self.version.pre, self.digits)?,
-        })
+            numbers: Release::of(&self.version),
+            pre: self.version.pre.as_slice(),
+            digits: self.digits,
+        }
+    }
+
+    fn shown_end<'a>(&self, to: &'a ReadVersion) -> Shown<'a> {
+        if !begins_next_numbers(to, self) {
+            return to.shown(Op::Lt);
+        }
+        Shown {
+            op: Op::Lt,
+            numbers: Release::of(&self.version),
+            pre: &[],
+            digits: Digits::Kept,
+        }
+    }
+}
+
+/// Whether a boundary is at the lowest pre-release of the numbers right above those of another.
+fn begins_next_numbers(boundary: &ReadVersion, below: &ReadVersion) -> bool {
+    match next_numbers(Release::of(&below.version)) {
+        Some(next) => {
+            Release::of(&boundary.version).compare(&next).is_eq()
+                && !boundary.version.pre.is_empty()
+                && has_lowest_pre(&boundary.version.pre, boundary.digits)
+        }
+        None => false,
     }
 }
 
@@ -119,44 +168,69 @@ fn copy_of(identifier: &version::Identifier, digits: Digits) -> Result<Identifie
     }
 }
 
+/// The comparators of an interval: one, or two.
+pub(crate) struct Interval<'a> {
+    pub(crate) first: Shown<'a>,
+    pub(crate) second: Option<Shown<'a>>,
+}
+
+/// The comparators of the versions from one on and below another, if there is one. None is below
+/// the lowest.
+fn interval_of<'a, T: Bound>(from: &'a T, to: Option<&'a T>) -> Interval<'a> {
+    if from.is_alone(to) {
+        return Interval {
+            first: from.shown(Op::Eq),
+            second: None,
+        };
+    }
+    match to {
+        None => Interval {
+            first: from.shown(Op::Gte),
+            second: None,
+        },
+        Some(to) if from.is_lowest() => Interval {
+            first: from.shown_end(to),
+            second: None,
+        },
+        Some(to) => Interval {
+            first: from.shown(Op::Gte),
+            second: Some(from.shown_end(to)),
+        },
+    }
+}
+
+/// The first interval of boundaries, and the boundaries that are left; `None` if there is none.
+pub(crate) fn first_interval<'a, T: Bound>(boundaries: &'a [T]) -> Option<(Interval<'a>, &'a [T])> {
+    match boundaries {
+        [] => None,
+        [from] => Some((interval_of(from, None), &[])),
+        [from, to, others @ ..] => Some((interval_of(from, Some(to)), others)),
+    }
+}
+
+impl Interval<'_> {
+    /// The interval as a range of comparators. `Err` is out of memory.
+    fn range(self) -> Result<Range, AllocError> {
+        let first = self.first.comparator()?;
+        let comparator_set = match self.second {
+            None => crate::rattle_std::fallible_vec![first]?,
+            Some(second) => crate::rattle_std::fallible_vec![first, second.comparator()?]?,
+        };
+        Ok(Range {
+            comparator_set,
+            compat: Compat::Npm,
+        })
+    }
+}
+
 /// The ranges of increasing boundaries in npm mode, one for each interval. It allocates only if
 /// there is a boundary. `Err` is out of memory.
 pub(crate) fn ranges_of<T: Bound>(boundaries: &[T]) -> Result<Vec<Range>, AllocError> {
     let mut ranges = Vec::new();
     let mut left = boundaries;
-    while let [from, others @ ..] = left {
-        let (to, others) = match others {
-            [to, others @ ..] => (Some(to), others),
-            [] => (None, others),
-        };
-        ranges.fallible_push(range_between(from, to)?)?;
+    while let Some((first, others)) = first_interval(left) {
+        ranges.fallible_push(first.range()?)?;
         left = others;
     }
     Ok(ranges)
-}
-
-/// The range of the versions from one on and below another, if there is one.
-fn range_between<T: Bound>(from: &T, to: Option<&T>) -> Result<Range, AllocError> {
-    let comparator_set = if from.is_alone(to) {
-        crate::rattle_std::fallible_vec![from.comparator(Op::Eq)?]?
-    } else {
-        bounds(from, to)?
-    };
-    Ok(Range {
-        comparator_set,
-        compat: Compat::Npm,
-    })
-}
-
-/// The comparators of the versions from one on and below another, if there is one. None is below
-/// the lowest.
-fn bounds<T: Bound>(from: &T, to: Option<&T>) -> Result<Vec<Comparator>, AllocError> {
-    match to {
-        None => Ok(crate::rattle_std::fallible_vec![from.comparator(Op::Gte)?]?),
-        Some(to) if from.is_lowest() => Ok(crate::rattle_std::fallible_vec![to.comparator(Op::Lt)?]?),
-        Some(to) => {
-            let from = from.comparator(Op::Gte)?;
-            Ok(crate::rattle_std::fallible_vec![from, to.comparator(Op::Lt)?]?)
-        }
-    }
 }

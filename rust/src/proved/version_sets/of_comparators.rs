@@ -48,11 +48,11 @@ impl VersionSet {
         digits: Digits,
     ) -> Result<VersionSet, AllocError> {
         if set.ranges.is_empty() {
-            return Ok(VersionSet::empty());
+            return Ok(VersionSet::empty(digits));
         }
         let releases = releases_of(&set.ranges)?;
         let pre_releases = pre_releases_of(&set.ranges, pre_releases, digits)?;
-        Ok(VersionSet::of_boundaries(releases, pre_releases))
+        Ok(VersionSet::of_boundaries(digits, releases, pre_releases))
     }
 }
 

@@ -5,7 +5,7 @@
 use crate::rattle_std::prelude::*;
 use crate::proved::version_sets::boundaries::are_same;
 use crate::proved::version_sets::lowest::lower_one;
-use crate::proved::version_sets::set_operations::Combination;
+use crate::proved::version_sets::set_operations::{Combination, SetError};
 use crate::proved::version_sets::version_set::VersionSet;
 use crate::proved::semver_versions::version::Version;
 use crate::rattle_std::AllocError;
@@ -40,8 +40,12 @@ impl VersionSet {
     ///
     /// Both sets have the same versions exactly where nothing is lost or gained.
     ///
-    /// It allocates only for the identifiers of a pre-release that is answered. `Err` is out of
-    /// memory.
+    /// It allocates only for the identifiers of a pre-release that is answered.
+    ///
+    /// # Errors
+    ///
+    /// `DifferentDigits` if the sets read identifiers of digits alone differently, and `OutOfMemory`
+    /// if an allocation failed.
     ///
     /// ```
     /// use semver_parser::{sets, Dialect};
@@ -53,7 +57,18 @@ impl VersionSet {
     /// assert_eq!(comparison.shared.unwrap().to_string(), "1.4.0");
     /// # Ok::<(), semver_parser::RangeError>(())
     /// ```
-    pub fn compare(&self, new: &VersionSet) -> Result<Comparison, AllocError> {
+    pub fn compare(&self, new: &VersionSet) -> Result<Comparison, SetError> {
+        if self.digits != new.digits {
+            return Err(SetError::DifferentDigits);
+        }
+        match self.compared(new) {
+            Ok(comparison) => Ok(comparison),
+            Err(_) => Err(SetError::OutOfMemory),
+        }
+    }
+
+    /// Compares the set with a new one that reads digits in the same way.
+    fn compared(&self, new: &VersionSet) -> Result<Comparison, AllocError> {
         Ok(Comparison {
             lost: self.lowest_combined(Combination::Difference, new)?,
             gained: new.lowest_combined(Combination::Difference, self)?,
@@ -89,31 +104,46 @@ impl VersionSet {
     /// Whether each version that is in the set is in the other, too. It takes time in the number of
     /// their boundaries, and does not allocate.
     ///
+    /// # Errors
+    ///
+    /// `DifferentDigits` if the sets read identifiers of digits alone differently, and no other.
+    ///
     /// ```
     /// use semver_parser::{sets, Dialect};
     ///
     /// let (narrow, wide) = (sets::read("~1.2", Dialect::Npm)?, sets::read("^1", Dialect::Npm)?);
-    /// assert!(narrow.is_subset(&wide));
-    /// assert!(!wide.is_subset(&narrow));
+    /// assert_eq!(narrow.is_subset(&wide), Ok(true));
+    /// assert_eq!(wide.is_subset(&narrow), Ok(false));
     /// # Ok::<(), semver_parser::RangeError>(())
     /// ```
-    pub fn is_subset(&self, other: &VersionSet) -> bool {
-        !self.keeps_some(Combination::Difference, other)
+    pub fn is_subset(&self, other: &VersionSet) -> Result<bool, SetError> {
+        if self.digits != other.digits {
+            return Err(SetError::DifferentDigits);
+        }
+        Ok(!self.keeps_some(Combination::Difference, other))
     }
 
     /// Whether no version is in both sets. It takes time in the number of their boundaries, and
     /// does not allocate.
     ///
+    /// # Errors
+    ///
+    /// `DifferentDigits` if the sets read identifiers of digits alone differently, and no other.
+    ///
     /// ```
     /// use semver_parser::{sets, Dialect};
     ///
     /// let set = sets::read("^1.2.0", Dialect::Npm)?;
-    /// assert!(set.is_disjoint(&sets::read("<1.2.0", Dialect::Npm)?));
-    /// assert!(!set.is_disjoint(&sets::read("<=1.2.0", Dialect::Npm)?)); // 1.2.0 is in both
+    /// let (below, to) = (sets::read("<1.2.0", Dialect::Npm)?, sets::read("<=1.2.0", Dialect::Npm)?);
+    /// assert_eq!(set.is_disjoint(&below), Ok(true));
+    /// assert_eq!(set.is_disjoint(&to), Ok(false)); // 1.2.0 is in both
     /// # Ok::<(), semver_parser::RangeError>(())
     /// ```
-    pub fn is_disjoint(&self, other: &VersionSet) -> bool {
-        !self.keeps_some(Combination::Intersection, other)
+    pub fn is_disjoint(&self, other: &VersionSet) -> Result<bool, SetError> {
+        if self.digits != other.digits {
+            return Err(SetError::DifferentDigits);
+        }
+        Ok(!self.keeps_some(Combination::Intersection, other))
     }
 
     /// Whether some version is in a combination of two sets.
@@ -124,11 +154,14 @@ impl VersionSet {
 }
 
 impl PartialEq for VersionSet {
-    /// Whether both sets have the same versions. It takes time in the number of their boundaries,
-    /// and does not allocate.
+    /// Whether both sets read identifiers of digits alone in the same way, and have the same
+    /// versions. It takes time in the number of their boundaries, and does not allocate.
     ///
     /// Those of `>=1.0.0 <2.0.0 || >=2.0.0 <3.0.0` and of `>=1.0.0 <3.0.0` are equal.
     fn eq(&self, other: &VersionSet) -> bool {
+        if self.digits != other.digits {
+            return false;
+        }
         are_same(&self.releases, &other.releases)
             && are_same(&self.pre_releases, &other.pre_releases)
     }

@@ -7,6 +7,44 @@ use crate::proved::version_sets::sweep::Sweep;
 use crate::proved::version_sets::version_set::VersionSet;
 use crate::rattle_std::AllocError;
 
+/// Why two sets can't be combined or compared.
+///
+/// ```
+/// use semver_parser::sets::{self, SetError};
+/// use semver_parser::Dialect;
+///
+/// let set = sets::read("^1.2", Dialect::Npm)?;
+/// let other = sets::read("^1.2", Dialect::CrateNpm)?;
+/// assert_eq!(set.union(&other).unwrap_err(), SetError::DifferentDigits);
+/// # Ok::<(), semver_parser::RangeError>(())
+/// ```
+#[derive(Debug, PartialEq, Eq)]
+pub enum SetError {
+    /// The sets read identifiers of digits alone from 2^64 on differently: one as texts, and the
+    /// other as numbers.
+    DifferentDigits,
+    /// An allocation failed.
+    OutOfMemory,
+}
+
+impl crate::rattle_std::fmt::Display for SetError {
+    fn fmt(&self, f: &mut crate::rattle_std::fmt::Formatter<'_>) -> crate::rattle_std::fmt::Result {
+        match self {
+            SetError::DifferentDigits => write!(f, "the sets read numbers from 2^64 on differently"),
+            SetError::OutOfMemory => write!(f, "out of memory"),
+        }
+    }
+}
+
+#[cfg(feature = "std")]
+impl crate::rattle_std::Error for SetError {}
+
+impl From<AllocError> for SetError {
+    fn from(_error: AllocError) -> SetError {
+        SetError::OutOfMemory
+    }
+}
+
 /// What of two sets is in their combination.
 #[derive(Clone, Copy)]
 pub(crate) enum Combination {
@@ -66,8 +104,12 @@ impl Combination {
 impl VersionSet {
     /// The versions of one set or the other. It takes time in the number of their boundaries.
     ///
-    /// The result is allocated as it grows, and not at all if it is empty. `Err` is out of
-    /// memory.
+    /// The result is allocated as it grows, and not at all if it is empty.
+    ///
+    /// # Errors
+    ///
+    /// `DifferentDigits` if the sets read identifiers of digits alone differently, and `OutOfMemory`
+    /// if an allocation failed.
     ///
     /// ```
     /// use semver_parser::{sets, Dialect};
@@ -75,16 +117,20 @@ impl VersionSet {
     /// let set = |range| sets::read(range, Dialect::Npm).unwrap();
     /// let union = set(">=1.0.0 <1.5.0").union(&set(">=1.2.0 <2.0.0"))?;
     /// assert_eq!(union, set(">=1.0.0 <2.0.0"));
-    /// # Ok::<(), semver_parser::AllocError>(())
+    /// # Ok::<(), sets::SetError>(())
     /// ```
-    pub fn union(&self, other: &VersionSet) -> Result<VersionSet, AllocError> {
-        self.combined(Combination::Union, other)
+    pub fn union(&self, other: &VersionSet) -> Result<VersionSet, SetError> {
+        self.checked(Combination::Union, other)
     }
 
     /// The versions of both sets. It takes time in the number of their boundaries.
     ///
-    /// The result is allocated as it grows, and not at all if it is empty. `Err` is out of
-    /// memory.
+    /// The result is allocated as it grows, and not at all if it is empty.
+    ///
+    /// # Errors
+    ///
+    /// `DifferentDigits` if the sets read identifiers of digits alone differently, and `OutOfMemory`
+    /// if an allocation failed.
     ///
     /// ```
     /// use semver_parser::{sets, Dialect};
@@ -92,17 +138,21 @@ impl VersionSet {
     /// let set = |range| sets::read(range, Dialect::Npm).unwrap();
     /// let intersection = set(">=1.0.0 <1.5.0").intersection(&set(">=1.2.0 <2.0.0"))?;
     /// assert_eq!(intersection, set(">=1.2.0 <1.5.0"));
-    /// # Ok::<(), semver_parser::AllocError>(())
+    /// # Ok::<(), sets::SetError>(())
     /// ```
-    pub fn intersection(&self, other: &VersionSet) -> Result<VersionSet, AllocError> {
-        self.combined(Combination::Intersection, other)
+    pub fn intersection(&self, other: &VersionSet) -> Result<VersionSet, SetError> {
+        self.checked(Combination::Intersection, other)
     }
 
     /// The versions of the first set that the other doesn't have. It takes time in the number of
     /// their boundaries.
     ///
-    /// The result is allocated as it grows, and not at all if it is empty. `Err` is out of
-    /// memory.
+    /// The result is allocated as it grows, and not at all if it is empty.
+    ///
+    /// # Errors
+    ///
+    /// `DifferentDigits` if the sets read identifiers of digits alone differently, and `OutOfMemory`
+    /// if an allocation failed.
     ///
     /// ```
     /// use semver_parser::{sets, Dialect};
@@ -110,20 +160,35 @@ impl VersionSet {
     /// let set = |range| sets::read(range, Dialect::Npm).unwrap();
     /// let difference = set(">=1.0.0 <1.5.0").difference(&set(">=1.2.0 <2.0.0"))?;
     /// assert_eq!(difference, set(">=1.0.0 <1.2.0"));
-    /// # Ok::<(), semver_parser::AllocError>(())
+    /// # Ok::<(), sets::SetError>(())
     /// ```
-    pub fn difference(&self, other: &VersionSet) -> Result<VersionSet, AllocError> {
-        self.combined(Combination::Difference, other)
+    pub fn difference(&self, other: &VersionSet) -> Result<VersionSet, SetError> {
+        self.checked(Combination::Difference, other)
+    }
+
+    /// The versions of a combination of sets that read digits in the same way.
+    fn checked(
+        &self,
+        how: Combination,
+        other: &VersionSet,
+    ) -> Result<VersionSet, SetError> {
+        if self.digits != other.digits {
+            return Err(SetError::DifferentDigits);
+        }
+        match self.combined(how, other) {
+            Ok(set) => Ok(set),
+            Err(_) => Err(SetError::OutOfMemory),
+        }
     }
 
     /// The versions of a combination.
-    pub(crate) fn combined(
+    fn combined(
         &self,
         how: Combination,
         other: &VersionSet,
     ) -> Result<VersionSet, AllocError> {
         let releases = how.of(&self.releases, &other.releases)?;
         let pre_releases = how.of(&self.pre_releases, &other.pre_releases)?;
-        Ok(VersionSet::of_boundaries(releases, pre_releases))
+        Ok(VersionSet::of_boundaries(self.digits, releases, pre_releases))
     }
 }

@@ -23,7 +23,7 @@ use crate::rattle_std::fmt;
 /// let text = |set: VersionSet| set.release_ranges().unwrap().to_string();
 /// assert_eq!(text(sets::read("1.2.0 || ~1.9", Dialect::Npm)?), "=1.2.0 || >=1.9.0 <1.10.0");
 /// assert_eq!(text(sets::read("x", Dialect::Npm)?), "*");
-/// assert_eq!(text(VersionSet::empty()), "<0.0.0-0");
+/// assert_eq!(text(sets::read("<0.0.0", Dialect::Npm)?), "<0.0.0-0");
 /// # Ok::<(), semver_parser::RangeError>(())
 /// ```
 #[derive(Debug)]

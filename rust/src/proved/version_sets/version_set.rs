@@ -12,6 +12,10 @@ use crate::proved::semver_versions::version::{Outline, Version};
 /// each below the next by precedence (SemVer 2.0.0, section 11). A version is in the set exactly if
 /// an odd number of its kind's boundaries are at or below it; its build doesn't count.
 ///
+/// A set also says what an identifier of digits alone is from 2^64 on: a number, as in the dialects
+/// of Cargo and npm, or a text, as in those of the crate. Sets that differ in this can't be combined
+/// or compared.
+///
 /// The releases of `>=1.2.0 <2.0.0 || 3.1.4` have the boundaries 1.2.0, 2.0.0, 3.1.4 and 3.1.5.
 ///
 /// ```
@@ -28,29 +32,47 @@ pub struct VersionSet {
     pub(crate) releases: Vec<Release>,
     /// The boundaries of the pre-releases. Each has a pre-release.
     pub(crate) pre_releases: Vec<ReadVersion>,
+    /// How identifiers of digits alone are read.
+    pub(crate) digits: Digits,
 }
 
 impl VersionSet {
-    /// The set without versions. It does not allocate.
+    /// The set without versions, which reads identifiers of digits alone so. It does not allocate.
     ///
     /// ```
     /// use semver_parser::sets::VersionSet;
+    /// use semver_parser::Digits;
     ///
-    /// assert!(VersionSet::empty().is_empty());
+    /// assert!(VersionSet::empty(Digits::AnySize).is_empty());
     /// ```
-    pub fn empty() -> VersionSet {
-        VersionSet::of_boundaries(Vec::new(), Vec::new())
+    pub fn empty(digits: Digits) -> VersionSet {
+        VersionSet::of_boundaries(digits, Vec::new(), Vec::new())
     }
 
     /// The set with these boundaries, which are in the normal form. It does not allocate.
     pub(crate) fn of_boundaries(
+        digits: Digits,
         releases: Vec<Release>,
         pre_releases: Vec<ReadVersion>,
     ) -> VersionSet {
         VersionSet {
             releases,
             pre_releases,
+            digits,
         }
+    }
+
+    /// What an identifier of digits alone is from 2^64 on, in the versions of the set.
+    ///
+    /// ```
+    /// use semver_parser::{sets, Dialect, Digits};
+    ///
+    /// assert_eq!(sets::read("^1.2.0", Dialect::Cargo)?.digits(), Digits::AnySize);
+    /// assert_eq!(sets::read("^1.2.0", Dialect::CrateCargo)?.digits(), Digits::Kept);
+    /// # Ok::<(), semver_parser::RangeError>(())
+    /// ```
+    pub fn digits(&self) -> Digits {
+        self.digits
     }
 
     /// The releases of the set. It does not allocate.
@@ -65,7 +87,7 @@ impl VersionSet {
     /// # Ok::<(), String>(())
     /// ```
     pub fn only_releases(self) -> VersionSet {
-        VersionSet::of_boundaries(self.releases, Vec::new())
+        VersionSet::of_boundaries(self.digits, self.releases, Vec::new())
     }
 
     /// The pre-releases of the set. It does not allocate.
@@ -79,15 +101,14 @@ impl VersionSet {
     /// # Ok::<(), String>(())
     /// ```
     pub fn only_pre_releases(self) -> VersionSet {
-        VersionSet::of_boundaries(Vec::new(), self.pre_releases)
+        VersionSet::of_boundaries(self.digits, Vec::new(), self.pre_releases)
     }
 
     /// Whether a version is in the set; its build doesn't count. It takes time in the logarithm of
     /// the number of boundaries, and does not allocate.
     ///
-    /// An identifier of digits from 2^64 on is a text here, as the version keeps it. By Cargo and
-    /// npm it is a number, as [`VersionSet::contains_by`] and [`VersionSet::contains_outline`] read
-    /// it.
+    /// An identifier of digits alone from 2^64 on, which a `Version` keeps as a text, is read as the
+    /// set says.
     ///
     /// ```
     /// use semver_parser::{sets, version, Dialect};
@@ -95,6 +116,10 @@ impl VersionSet {
     /// let set = sets::read("^1.2.0", Dialect::Cargo)?;
     /// assert!(set.contains(&version::parse("1.9.0+b5")?));
     /// assert!(!set.contains(&version::parse("2.0.0")?));
+    ///
+    /// let set = sets::read("<1.0.0-10a", Dialect::Cargo)?;
+    /// let large = version::parse("1.0.0-18446744073709551616")?;
+    /// assert!(set.contains(&large)); // to Cargo it is a number, and a number is below `10a`
     /// # Ok::<(), String>(())
     /// ```
     pub fn contains(&self, version: &Version) -> bool {
@@ -107,39 +132,7 @@ impl VersionSet {
         if is_release {
             return self.contains_release(release);
         }
-        boundaries::contains_version(&self.pre_releases, version, Digits::Kept)
-    }
-
-    /// Whether a version is in the set, as [`VersionSet::contains`] says, if an identifier of
-    /// digits alone from 2^64 on is what `digits` says.
-    ///
-    /// ```
-    /// use semver_parser::version::{self, Grammar};
-    /// use semver_parser::{sets, Dialect};
-    ///
-    /// let set = sets::read("<1.0.0-10a", Dialect::Cargo)?;
-    /// let version = version::parse("1.0.0-18446744073709551616")?;
-    /// assert!(set.contains_by(&version, Grammar::Cargo.digits()));
-    /// assert!(!set.contains(&version));
-    /// # Ok::<(), String>(())
-    /// ```
-    pub fn contains_by(&self, version: &Version, digits: Digits) -> bool {
-        let release = Release::of(version);
-        if version.pre.is_empty() {
-            return self.contains_release(release);
-        }
-        boundaries::contains_version(&self.pre_releases, version, digits)
-    }
-
-    /// Whether each of some versions is in the set, as [`VersionSet::contains_by`] says of one. It
-    /// does not allocate.
-    ///
-    /// `answers` has to have as many places as there are versions.
-    pub(crate) fn contains_each_by(&self, versions: &[Version], digits: Digits, answers: &mut [bool]) {
-        match digits {
-            Digits::Kept => self.contains_each(versions, answers),
-            Digits::AnySize => batch::contains_by(self, versions, digits, answers),
-        }
+        boundaries::contains_version(&self.pre_releases, version, self.digits)
     }
 
     /// Whether each of some versions is in the set, as [`VersionSet::contains`] says of one. Of
@@ -179,7 +172,8 @@ impl VersionSet {
     }
 
     /// Whether the version of an outline is in the set, as [`VersionSet::contains`] says of a
-    /// version. Its identifiers are compared as they are in the text. It does not allocate.
+    /// version. Its identifiers are compared as they are in the text, and those of digits alone are
+    /// read as the set says, whatever the dialect of the outline. It does not allocate.
     ///
     /// ```
     /// use semver_parser::{sets, version, Dialect};
@@ -193,7 +187,7 @@ impl VersionSet {
     #[inline(always)]
     pub fn contains_outline(&self, outline: &Outline<'_>) -> bool {
         if outline.is_pre_release() {
-            return boundaries::contains_outline(&self.pre_releases, outline);
+            return boundaries::contains_outline(&self.pre_releases, outline, self.digits);
         }
         self.contains_release(Release {
             major: outline.major(),

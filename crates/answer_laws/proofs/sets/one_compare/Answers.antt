@@ -1,6 +1,7 @@
 use Rattle.answer_laws.specs.SameSets.{comparison_value}
 use Rattle.answer_laws.proofs.LowestVersions.{one_lowest}
-use Rattle.answer_laws.proofs.OneAnswer.{one_made, said}
+use Rattle.answer_laws.proofs.OneAnswer.{said}
+use Rattle.answer_laws.proofs.SameSets.{one_combined_answer}
 use Rattle.answer_laws.proofs.sets.one_compare.Goals as goal
 
 pub returns : goal.returns
@@ -9,7 +10,7 @@ returns c =
     let r = c.compare.ensures in
     let s = c.compare-2.ensures in
     record {
-      one = one_made comparison_value _ _ (λ a b is is'.
+      one = one_combined_answer comparison_value _ _ _ r.refused s.refused (λ a b is is'.
           let lost = one_lowest law.total law.same _ a.lost b.lost (said _ is r.lost) (said _ is' s.lost) in
           let gained = one_lowest law.total law.same _ a.gained b.gained (said _ is r.gained) (said _ is' s.gained) in
           let shared = one_lowest law.total law.same _ a.shared b.shared (said _ is r.shared) (said _ is' s.shared) in

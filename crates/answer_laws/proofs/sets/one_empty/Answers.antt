@@ -3,4 +3,4 @@ use Rattle.answer_laws.proofs.sets.one_empty.Goals as goal
 
 pub returns : goal.returns
 returns c =
-    record { one = c.are_alike.ensures.alike (λ v fits. c.empty-first.ensures.empty v ∙ sym (c.empty-second.ensures.empty v)) }
+    record { one = c.are_alike.ensures.alike (c.empty-first.ensures.digits ∙ sym c.empty-second.ensures.digits) (λ v fits. c.empty-first.ensures.empty v ∙ sym (c.empty-second.ensures.empty v)) }

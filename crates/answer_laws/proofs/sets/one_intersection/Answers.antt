@@ -1,8 +1,11 @@
-use Rattle.answer_laws.proofs.SameSets.{by_test, one_set_made}
+use Rattle.answer_laws.proofs.SameSets.{by_test, one_set_combined}
 use Rattle.answer_laws.proofs.sets.one_intersection.Goals as goal
 
 pub returns : goal.returns
 returns c =
     let r = c.intersection-first.ensures in
     let s = c.intersection-second.ensures in
-    record { one = one_set_made _ _ c.answers_are_alike.ensures.alike r.contains s.contains (by_test _) }
+    record {
+      one = one_set_combined _ c.args.set.now.digits _ _ r.refused s.refused c.answers_are_alike.ensures.alike r.digits s.digits
+          r.contains s.contains (by_test _);
+    }

@@ -1,3 +1,5 @@
+use Rattle.semver_texts.specs.Digits.{digits_in}
+use Rattle.tool_ranges.specs.Dialects.{grammar_of}
 use Rattle.std.proofs.Common.{sym, ◌∙◌}
 use Rattle.answer_laws.proofs.SameSets.{one_read, plainly}
 use Rattle.answer_laws.proofs.sets.one_read.Goals as goal
@@ -7,6 +9,6 @@ returns c =
     let r = c.read-first.ensures in
     let s = c.read-second.ensures in
     record {
-      one = one_read _ _ r.refusals s.refusals c.answers_are_alike.ensures.alike r.meaning s.meaning
+      one = one_read (digits_in (grammar_of c.args.meaning.dialect)) _ _ r.refusals s.refusals c.answers_are_alike.ensures.alike r.digits s.digits r.meaning s.meaning
           (λ text a b p q v fits. p text.0 (plainly v) text.1 fits ∙ sym (q text.0 (plainly v) text.1 fits));
     }

@@ -1,4 +1,7 @@
-use Rattle.std.proofs.Common.{◌≡◌, Bool, Result, Ok, sym, ◌∙◌}
+use Rattle.std.proofs.Common.{◌≡◌, Bool, Result, Ok, ap, sym, ◌∙◌}
+use Rattle.semver_texts.specs.Digits.{plain_by}
+use Rattle.semver_versions.specs.Outlines.{kept_version_of}
+use Rattle.version_sets.specs.VersionSets.{contains}
 use Rattle.semver_parser.specs.Outlines.{version_of}
 use Rattle.tool_ranges.specs.Dialects.{HasSetAs, IsTextAs, IsTooLargeAs}
 use Rattle.tool_ranges.proofs.ReadSets.{same_refusal}
@@ -25,6 +28,8 @@ returns c =
             o.in-Ok.ensures.refusals)
             r.refusals
             (λ a b is is' text. sym (inner is) ∙ o.contains_outline.ensures.of_version
+            ∙ ap (λ d. contains o.in-Ok.set (plain_by d (kept_version_of c.args.version.now).plain))
+            (o.in-Ok.ensures.digits ∙ sym c.requires)
             ∙ o.in-Ok.ensures.meaning text.0 w text.1 (c.numbers_of_outlines_fit.ensures.major, c.numbers_of_outlines_fit.ensures.minor, c.numbers_of_outlines_fit.ensures.patch) ∙ sym (said _ is' r.meaning text.0 text.1)));
       }
       | in-Err o ↦ record {

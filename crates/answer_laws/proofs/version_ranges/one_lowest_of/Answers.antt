@@ -1,6 +1,6 @@
 use Rattle.std.specs.Prelude.{true}
 use Rattle.tool_ranges.specs.VersionRanges.{versions_grammar}
-use Rattle.version_sets.proofs.OneHighest.{one_found}
+use Rattle.tool_ranges.proofs.OneHighest.{one_found}
 use Rattle.answer_laws.proofs.version_ranges.one_lowest_of.Goals as goal
 
 pub returns : goal.returns

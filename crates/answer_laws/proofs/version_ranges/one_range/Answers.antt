@@ -1,7 +1,6 @@
 use Rattle.std.proofs.Common.{sym, ◌∙◌}
 use Rattle.answer_laws.specs.OneAnswer.{itself}
 use Rattle.answer_laws.proofs.OneAnswer.{one, said}
-use Rattle.answer_laws.proofs.RangeAnswers.{one_value}
 use Rattle.answer_laws.proofs.SameSets.{plainly}
 use Rattle.answer_laws.proofs.version_ranges.one_range.Goals as goal
 
@@ -11,7 +10,6 @@ returns c =
     let s = c.parse-second.ensures in
     record {
       one = one itself _ _ r.refusals s.refusals (λ a b is is' text.
-          one_value a b (said _ is' (said _ is c.answers_are_alike.ensures.alike))
-          (λ v fits. said _ is r.contains text.0 (plainly v) text.1 fits ∙ sym (said _ is' s.contains text.0 (plainly v) text.1 fits))
-          (said _ is r.meaning ∙ sym (said _ is' s.meaning)));
+          said _ is' (said _ is c.answers_are_alike.ensures.alike) (said _ is r.meaning ∙ sym (said _ is' s.meaning))
+          (λ v fits. said _ is r.contains text.0 (plainly v) text.1 fits ∙ sym (said _ is' s.contains text.0 (plainly v) text.1 fits)));
     }

@@ -7,5 +7,5 @@ returns c =
     let s = c.union-second.ensures in
     record {
       one = one_combined c.args.range.now.meaning c.args.other.now.meaning _ _ _ c.answers_are_alike.ensures.alike r.refused s.refused
-          r.contains s.contains r.meaning s.meaning;
+          r.same_digits s.same_digits r.contains s.contains r.meaning s.meaning;
     }

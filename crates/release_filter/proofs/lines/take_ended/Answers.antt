@@ -50,7 +50,7 @@ returns-then-may_hold-clause-takes c =
     (after_mark c.args.at_front all) given c.check_line-checked.result old old true
     (c.after_mark-line.ensures ∙ ap (after_mark c.args.at_front) marked) checks
     (λ plain matches. takes_best rule.ending held (held_value c.hold_whole.new.self) counts (counts_value c.add-then-may_hold.new.self) given
-    c.check_line-checked.result c.in-Matches.outline plain version old best.0 may.0 c.in-Matches.is matches (λ of. c.in_ok-version.ensures ∙ sym of)
+    c.check_line-checked.result c.in-Matches.outline plain version old best.0 may.0 c.in-Matches.is matches (λ of. c.in_ok-version.ensures.plain ∙ sym of)
     found best.2 c.add-then-may_hold.ensures)
 
 pub returns-clause-takes : goal.returns-clause-takes

@@ -1,3 +1,4 @@
+use Rattle.semver_texts.specs.declared.grammar.Digits.TheVariants.{AnySize}
 use Rattle.std.proofs.Common.{IfOk, Result, subst, sym}
 use Rattle.semver_ranges.specs.declared.range_set.RangeError.{RangeError}
 use Rattle.semver_texts.specs.Texts.{Text}
@@ -18,14 +19,14 @@ returns-in-Default c =
     let e = c.read.ensures in
     let means = subst (Answers c.args.range.now c.read.result) (sym c.in-Default.is)
     (if_ok c.read.result (λ set means tree v. means tree v.plain) e.meaning) in
-    record { refusals = e.refusals; meaning = means; printable = e.printable }
+    record { refusals = e.refusals; meaning = means; printable = e.printable; digits = e.digits }
 
 pub returns-in-Included : goal.returns-in-Included
 returns-in-Included c =
     let e = c.read_with_all.ensures in
     let means = subst (Answers c.args.range.now c.read_with_all.result) (sym c.in-Included.is)
     (if_ok c.read_with_all.result (λ set means tree v. means tree v.plain) e.meaning) in
-    record { refusals = e.refusals; meaning = means; printable = e.printable }
+    record { refusals = e.refusals; meaning = means; printable = e.printable; digits = e.digits }
 
 pub returns-in-Excluded : goal.returns-in-Excluded
 returns-in-Excluded c =
@@ -33,4 +34,4 @@ returns-in-Excluded c =
     let r = c.releases_of in
     let means = subst (Answers c.args.range.now r.result) (sym c.in-Excluded.is)
     (if_ok r.result (λ set means tree v. means tree v.plain) (r.ensures.releases Npm c.args.range.now meets_npm e.meaning)) in
-    record { refusals = r.ensures.refusals Npm c.args.range.now e.refusals; meaning = means; printable = r.ensures.printable }
+    record { refusals = r.ensures.refusals Npm c.args.range.now e.refusals; meaning = means; printable = r.ensures.printable; digits = r.ensures.digits AnySize e.digits }

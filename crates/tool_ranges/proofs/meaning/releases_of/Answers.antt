@@ -1,4 +1,4 @@
-use Rattle.std.proofs.Common.{subst, ap, ◌∙◌, ◌&&◌, Result, IfOk}
+use Rattle.std.proofs.Common.{◌≡◌, subst, ap, ◌∙◌, ◌&&◌, Result, IfOk}
 use Rattle.semver_ranges.specs.declared.range_set.RangeError.{RangeError}
 use Rattle.semver_texts.specs.Texts.{is_empty}
 use Rattle.version_sets.specs.declared.version_set.VersionSet.{VersionSet}
@@ -17,6 +17,9 @@ returns-in-Ok c = record {
       let is = subst (λ (r : Result VersionSet RangeError). IfOk r (λ set. IsSetBy dialect t meets set)) c.in-Ok.is means in
       c.only_releases.ensures.releases v ∙ ap (λ b. is_empty v.pre && b) (is tree v spells small);
   printable = c.only_releases.ensures.printable;
+  digits = λ digits told.
+      c.only_releases.ensures.digits
+      ∙ subst (λ (r : Result VersionSet RangeError). IfOk r (λ set. set.digits ≡ digits)) c.in-Ok.is told;
 }
 
 pub returns-in-Err : goal.returns-in-Err
@@ -26,4 +29,5 @@ returns-in-Err c = record {
       (subst (λ (r : Result VersionSet RangeError). RefusesAs dialect t r) c.in-Err.is refused);
   releases = λ _ _ _ _. tt;
   printable = tt;
+  digits = λ _ _. tt;
 }

@@ -1,9 +1,9 @@
 -- The answers on the versions so far are written.
 use Rattle.version_sets.specs.Steps.Places.{version_place}
-use Rattle.version_sets.specs.VersionSets.{contains as is_in, Fits}
+use Rattle.version_sets.specs.VersionSets.{contains_kept, Fits}
 use Rattle.version_sets.proofs.EachAnswer.{AreTold}
 use Rattle.version_sets.proofs.batch.contains.Given as goal
 
 abbrev pub invariant-loop-at : goal.invariant-loop-at
 invariant-loop-at l =
-    AreTold (λ v. is_in l.set (version_place v)) (λ v. Fits (version_place v)) l.versions l.answers l.at
+    AreTold (λ v. contains_kept l.set (version_place v)) (λ v. Fits (version_place v)) l.versions l.answers l.at

@@ -1,6 +1,7 @@
 use Rattle.std.proofs.Common.{◌≡◌, ◌+◌, ◌-◌, ◌/◌, ◌<◌, ◌∙◌, ap, is_ge, arith, subst, length, false}
 use Rattle.std.specs.List.{AllWithin}
-use Rattle.semver_versions.specs.Outlines.{version_of}
+use Rattle.semver_texts.specs.Digits.{plain_by}
+use Rattle.semver_versions.specs.Outlines.{kept_version_of}
 use Rattle.semver_texts.specs.Precedence.{precedence}
 use Rattle.semver_texts.specs.Steps.PrecedenceLaws.{precedence_total}
 use Rattle.semver_versions.specs.ReadVersions.{read_plain}
@@ -11,7 +12,7 @@ use Rattle.version_sets.proofs.boundaries.contains_outline.Goals as goal
 pub returns : goal.returns
 returns c =
     let xs = c.args.boundaries.now in
-    let v = (version_of c.args.outline.now).plain in
+    let v = (plain_by c.args.digits (kept_version_of c.args.outline.now).plain) in
     let known = c.loop-low.invariant.2 in
     let met : c.loop-low.high ≡ c.loop-low.low = omega (arith, c.loop-low.invariant.0, c.loop-low-test.false) in
     c.is_odd.ensures
@@ -24,7 +25,7 @@ loop-low-preserved-then-is_ge c =
     let below : middle < c.loop-low.high = omega (arith, c.loop-low-test.true) in (
       omega (arith, below),
       c.loop-low.invariant.1,
-      narrowed_below (version_of c.args.outline.now).plain c.args.boundaries.now c.requires c.loop-low.low c.loop-low.high middle
+      narrowed_below (plain_by c.args.digits (kept_version_of c.args.outline.now).plain) c.args.boundaries.now c.requires c.loop-low.low c.loop-low.high middle
           c.loop-low.invariant.2 c.index-boundaries-middle.result (omega (arith, below, c.loop-low.invariant.1))
           c.index-boundaries-middle.is c.is_ge.result (c.is_ge.ensures ∙ ap is_ge c.compared_outline.ensures) c.if-is_ge.true,
     )
@@ -35,7 +36,7 @@ loop-low-preserved c =
     let below : middle < c.loop-low.high = omega (arith, c.loop-low-test.true) in (
       omega arith,
       omega (arith, below, c.loop-low.invariant.1),
-      narrowed_above (version_of c.args.outline.now).plain c.args.boundaries.now c.requires c.loop-low.low c.loop-low.high middle
+      narrowed_above (plain_by c.args.digits (kept_version_of c.args.outline.now).plain) c.args.boundaries.now c.requires c.loop-low.low c.loop-low.high middle
           c.loop-low.invariant.2 c.index-boundaries-middle.result (omega (arith, below, c.loop-low.invariant.1))
           c.index-boundaries-middle.is c.is_ge.result (c.is_ge.ensures ∙ ap is_ge c.compared_outline.ensures) c.if-is_ge.false,
     )

@@ -5,14 +5,14 @@ use Rattle.version_sets.specs.DigitViews.{range_kept}
 use Rattle.version_sets.specs.SetRanges.{intervals}
 use Rattle.version_sets.proofs.intervals.ranges_of.Given as goal
 
-abbrev pub invariant-loop-left : goal.invariant-loop-left
-invariant-loop-left g l =
+abbrev pub invariant-loop-first : goal.invariant-loop-first
+invariant-loop-first g l =
     let place = g.T.Boundary.place in
-    let next = g.T.Bound.next_place in record {
-      told : map range_of l.ranges.items ++ map range_kept (intervals next (map place l.left))
-          ≡ map range_kept (intervals next (map place l.boundaries));
+    let kind = g.T.Bound.kind in record {
+      told : map range_of l.ranges.items ++ map range_kept (intervals kind (map place l.left))
+          ≡ map range_kept (intervals kind (map place l.boundaries));
       within : length l.left ≤ length l.boundaries;
     }
 
-abbrev pub decreases-loop-left : goal.decreases-loop-left
-decreases-loop-left g l = length l.left
+abbrev pub decreases-loop-first : goal.decreases-loop-first
+decreases-loop-first g l = length l.left

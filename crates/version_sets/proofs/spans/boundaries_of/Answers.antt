@@ -1,4 +1,5 @@
 use Rattle.std.proofs.Common.{rules, map}
+use Rattle.std.proofs.lemmas.Cmp.{on_total}
 use Rattle.std.proofs.lemmas.List.Sorted.{ranks_by}
 use Rattle.semver_texts.specs.Steps.PrecedenceLaws.{precedence_total}
 use Rattle.version_sets.specs.declared.spans.Span.{Span}
@@ -21,4 +22,5 @@ returns g c =
       holds = answered_so _ c.joined.result c.joined.ensures (λ boundaries is p.
           boundaries_hold place p c.args.spans.now _ c.sort_unstable_by.ensures.permutation (map g.L.Boundary.Boundary.place boundaries.items)
           is.1);
+      total_order = on_total (λ (s : Span g.row.L.Denot). place s.from) precedence_total;
     }

@@ -5,6 +5,7 @@
 use crate::rattle_std::prelude::*;
 use super::Ending;
 use crate::proved::semver_parser::{Compat, RangeError, RangeSet, version};
+use crate::proved::semver_texts::grammar::Digits;
 use crate::rattle_std::AllocError;
 use crate::proved::tool_ranges::dialect::Dialect;
 use crate::proved::tool_ranges::meaning::{self, Meaning};
@@ -154,7 +155,7 @@ pub fn of_refused_bounds() -> Ending {
 pub fn union(first: &VersionSet, second: &VersionSet) -> Ending {
     match first.union(second) {
         Ok(set) => Ending::full_if(
-            first.is_subset(&set) && second.is_subset(&set) && begins_at(&set, 0),
+            is_within(first, &set) && is_within(second, &set) && begins_at(&set, 0),
         ),
         Err(_) => Ending::Refused,
     }
@@ -164,7 +165,7 @@ pub fn union(first: &VersionSet, second: &VersionSet) -> Ending {
 pub fn intersection(first: &VersionSet, second: &VersionSet) -> Ending {
     match first.intersection(second) {
         Ok(set) => Ending::full_if(
-            set.is_subset(first) && set.is_subset(second) && begins_at(&set, 1),
+            is_within(&set, first) && is_within(&set, second) && begins_at(&set, 1),
         ),
         Err(_) => Ending::Refused,
     }
@@ -174,7 +175,7 @@ pub fn intersection(first: &VersionSet, second: &VersionSet) -> Ending {
 pub fn difference(first: &VersionSet, second: &VersionSet) -> Ending {
     match second.difference(first) {
         Ok(set) => Ending::full_if(
-            set.is_subset(second) && set.is_disjoint(first) && begins_at(&set, 0),
+            is_within(&set, second) && set.is_disjoint(first) == Ok(true) && begins_at(&set, 0),
         ),
         Err(_) => Ending::Refused,
     }
@@ -212,7 +213,7 @@ pub fn release_ranges(first: &VersionSet) -> Ending {
     }
 }
 
-/// The pre-releases of the first set are `>=1.2.0-b.c <1.2.1-0`.
+/// The pre-releases of the first set are `>=1.2.0-b.c <1.2.0`.
 pub fn pre_release_ranges(first: &VersionSet) -> Ending {
     match first.pre_release_ranges() {
         Ok(ranges) => Ending::full_if(has_bounds(&ranges, 2)),
@@ -223,11 +224,11 @@ pub fn pre_release_ranges(first: &VersionSet) -> Ending {
 /// What is asked of sets without a request: also the lowest version where there is none, a
 /// combination that has no version, a comparison of sets that have none, and their ranges.
 pub fn without_requests(first: &VersionSet, second: &VersionSet) -> Ending {
-    let empty = VersionSet::empty();
+    let empty = VersionSet::empty(Digits::Kept);
     let is_told = empty.is_empty()
         && !first.is_empty()
-        && !first.is_subset(second)
-        && !first.is_disjoint(second)
+        && first.is_subset(second) == Ok(false)
+        && first.is_disjoint(second) == Ok(false)
         && first != second
         && begins_at(first, 1);
     let has_both = contains(first, "1.9.0") && contains(second, "1.9.0");
@@ -275,6 +276,11 @@ fn contains(set: &VersionSet, text: &str) -> bool {
 /// Whether a version, which is looked at without a request, is in a set.
 fn has_stated(set: &VersionSet, text: &str) -> bool {
     version::outline(text).is_some_and(|outline| set.contains_outline(&outline))
+}
+
+/// Whether each version of a set is in another.
+fn is_within(set: &VersionSet, other: &VersionSet) -> bool {
+    set.is_subset(other) == Ok(true)
 }
 
 /// Whether the lowest release of a set has this major number.

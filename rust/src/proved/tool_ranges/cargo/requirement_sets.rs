@@ -69,7 +69,10 @@ fn meant(surveyed: &Surveyed<'_>) -> Result<VersionSet, AllocError> {
     if counting.is_empty() {
         return Ok(releases);
     }
-    releases.union(&counted(surveyed, counting)?)
+    match releases.union(&counted(surveyed, counting)?) {
+        Ok(set) => Ok(set),
+        Err(_) => Err(AllocError),
+    }
 }
 
 /// The pre-releases that count, and satisfy each comparator.
@@ -82,5 +85,9 @@ fn counted(
         compat: Compat::Cargo,
     };
     let checked = checked(surveyed, VersionKind::PreReleases)?;
-    checked.intersection(&set_of(&counting, PreReleases::Included)?)
+    let counted = set_of(&counting, PreReleases::Included)?;
+    match checked.intersection(&counted) {
+        Ok(set) => Ok(set),
+        Err(_) => Err(AllocError),
+    }
 }

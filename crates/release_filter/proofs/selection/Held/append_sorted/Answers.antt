@@ -8,7 +8,7 @@ use Rattle.release_filter.specs.declared.selection.IndexedLine.{IndexedLine}
 use Rattle.release_filter.specs.declared.selection.SelectedLine.{SelectedLine}
 use Rattle.release_filter.proofs.HeldLines.{best_list, seen_lines}
 use Rattle.release_filter.proofs.OneOrder.{AreIndexed, one_more_indexed}
-use Rattle.release_filter.proofs.SortedLines.{compares, index_of, is_below, ranks, sorts}
+use Rattle.release_filter.proofs.SortedLines.{by_version_total, compares, index_of, is_below, ranks, sorts}
 use Rattle.release_filter.proofs.selection.Held.append_sorted.Goals as goal
 use Rattle.release_filter.proofs.selection.Held.append_sorted.Goals.{in-Some+in_ok-push-2, in_default}
 
@@ -21,6 +21,18 @@ loop-line-preserved c = record {
   indexed = subst (AreIndexed index_of) (sym c.in_ok-push.ensures.items)
       (one_more_indexed index_of c.loop-line.lines.items _ c.loop-line.invariant.indexed (search rules));
 }
+
+pub returns-clause-total_order : goal.returns-clause-total_order
+returns-clause-total_order c = by_version_total c.precedence_is_total.ensures.total
+
+pub returns-in_err-push-clause-total_order : goal.returns-in_err-push-clause-total_order
+returns-in_err-push-clause-total_order c = by_version_total c.precedence_is_total.ensures.total
+
+pub returns-in_err-push-2-clause-total_order : goal.returns-in_err-push-2-clause-total_order
+returns-in_err-push-2-clause-total_order c = by_version_total c.precedence_is_total.ensures.total
+
+pub returns-in_err-append_ended-clause-total_order : goal.returns-in_err-append_ended-clause-total_order
+returns-in_err-append_ended-clause-total_order c = by_version_total c.precedence_is_total.ensures.total
 
 pub returns-clause-sorts : goal.returns-clause-sorts
 returns-clause-sorts c =

@@ -10,7 +10,7 @@ returns-in_ok-hold_best-in-Highest-clause-holds c = λ plain of.
     let h = held_value c.args.self.now in
     let line = c.args.line.now in
     let held = c.in_ok-hold_best-in-Highest.ensures.best in
-    let best = rw (c.in_ok-version-in-Highest.ensures ∙ sym of) at held.1 in (
+    let best = rw (c.in_ok-version-in-Highest.ensures.plain ∙ sym of) at held.1 in (
       [],
       holds_best c.args.self.now.selection c.in-Highest.is h (held_value c.hold_best.new.self) _
           held.0

@@ -3,8 +3,8 @@ use Rattle.semver_texts.specs.Digits.{identifiers_by}
 use Rattle.semver_texts.specs.VersionViews.{identifier_value}
 use Rattle.semver_versions.proofs.read_version.ReadVersion.of.Goals as goal
 
-pub returns : goal.returns
-returns c = λ i. record {
+pub returns-clause-plain : goal.returns-clause-plain
+returns-clause-plain c = λ i. record {
   major = c.major.ensures i;
   minor = c.minor.ensures i;
   patch = c.patch.ensures i;

@@ -11,7 +11,7 @@ use Rattle.version_sets.proofs.version_set.VersionSet.is_empty.Goals as goal
 
 pub returns-then-is_empty : goal.returns-then-is_empty
 returns-then-is_empty c =
-    let set = set_of c.self.inside.releases.items c.self.inside.pre_releases.items in
+    let set = set_of c.self.inside.digits c.self.inside.releases.items c.self.inside.pre_releases.items in
     let r = c.is_empty-then-is_empty.result in
     let first = none_left release_value c.self.inside.releases.items _ _ c.is_empty.ensures (search rules) in
     let second = none_left read_plain c.self.inside.pre_releases.items _ _ c.is_empty-then-is_empty.ensures (search rules) in
@@ -20,7 +20,7 @@ returns-then-is_empty c =
 
 pub returns-else-is_empty : goal.returns-else-is_empty
 returns-else-is_empty c =
-    let set = set_of c.self.inside.releases.items c.self.inside.pre_releases.items in
+    let set = set_of c.self.inside.digits c.self.inside.releases.items c.self.inside.pre_releases.items in
     let r = c.is_empty.result in
     let first = none_left release_value c.self.inside.releases.items _ _ c.is_empty.ensures (search rules) in
     subst (λ s. (r ≡ true) ↔ ((v : PlainVersion) → ¬ IsIn v s)) c.self.view_is

@@ -18,10 +18,10 @@ told c =
     let releases = c.self.inside.releases.items in
     let pre_releases = c.self.inside.pre_releases.items in
     subst (λ s. TellsPlain Fits s (answer c)) c.self.view_is
-    (subst (TellsPlain Fits (set_of releases pre_releases))
+    (subst (TellsPlain Fits (set_of c.self.inside.digits releases pre_releases))
     (sym (ap₂ lower (first_copied release_value c.first.result _ releases c.first.ensures.value c.deref.ensures.value)
     (first_copied read_plain c.first-2.result _ pre_releases c.first-2.ensures.value c.deref-2.ensures.value)))
-    (first_is (set_of releases pre_releases) c.self.invariant))
+    (first_is (set_of c.self.inside.digits releases pre_releases) c.self.invariant))
 
 pub returns-clause-lowest : goal.returns-clause-lowest
 returns-clause-lowest c =
@@ -41,6 +41,6 @@ returns-clause-out_of_memory c =
     failed_so _ c.lower_one.result c.lower_one.ensures.out_of_memory (λ _ (p, is, first). (
       p,
       subst (TellsPlain Fits c.args.self.now) first (told c),
-      pre_release_is (set_of c.self.inside.releases.items pre_releases) c.self.invariant p
+      pre_release_is (set_of c.self.inside.digits c.self.inside.releases.items pre_releases) c.self.invariant p
           (sym (first_copied read_plain c.first-2.result _ pre_releases c.first-2.ensures.value c.deref-2.ensures.value) ∙ is),
     ))

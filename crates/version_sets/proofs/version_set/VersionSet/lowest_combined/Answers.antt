@@ -14,10 +14,10 @@ use Rattle.version_sets.proofs.SetLaws.{combined-normal}
 use Rattle.version_sets.proofs.version_set.VersionSet.lowest_combined.Goals as goal
 
 abbrev first : goal.After-lower_one → SetValue
-first c = set_of c.self.inside.releases.items c.self.inside.pre_releases.items
+first c = set_of c.self.inside.digits c.self.inside.releases.items c.self.inside.pre_releases.items
 
 abbrev second : goal.After-lower_one → SetValue
-second c = set_of c.other.inside.releases.items c.other.inside.pre_releases.items
+second c = set_of c.other.inside.digits c.other.inside.releases.items c.other.inside.pre_releases.items
 
 abbrev answer : goal.After-lower_one → Option PlainVersion
 answer c =

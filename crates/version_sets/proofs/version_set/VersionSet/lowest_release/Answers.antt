@@ -11,9 +11,9 @@ told c =
     let xs = c.self.inside.releases.items in
     let is : c.copied.result ≡ slice_get xs 0 = search rules in
     subst (λ s. TellsPlain IsRelease s (option_map release_value c.copied.result)) c.self.view_is
-    (subst (TellsPlain IsRelease (set_of xs c.self.inside.pre_releases.items))
+    (subst (TellsPlain IsRelease (set_of c.self.inside.digits xs c.self.inside.pre_releases.items))
     (sym (ap (option_map release_value) is ∙ first_map release_value xs))
-    (first_release (set_of xs c.self.inside.pre_releases.items) c.self.invariant))
+    (first_release (set_of c.self.inside.digits xs c.self.inside.pre_releases.items) c.self.invariant))
 
 pub returns-clause-lowest : goal.returns-clause-lowest
 returns-clause-lowest c = told_some release_value IsRelease c.args.self.now c.copied.result (told c)

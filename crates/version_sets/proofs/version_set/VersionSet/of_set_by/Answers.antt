@@ -14,6 +14,7 @@ use Rattle.semver_texts.specs.Texts.{is_empty}
 use Rattle.semver_texts.specs.Versions.{PlainVersion, VersionValue}
 use Rattle.version_sets.specs.Printable.{are_printable, IsPrintable, is_printable_boundary, prints_by}
 use Rattle.version_sets.specs.PreReleaseRules.{is_release, meets_with}
+use Rattle.version_sets.specs.Steps.Places.{set_of}
 use Rattle.version_sets.specs.VersionSets.{contains}
 use Rattle.version_sets.specs.Steps.RangeRules.{meets_range_with}
 use Rattle.version_sets.specs.declared.rules.PreReleases.{PreReleases}
@@ -62,12 +63,13 @@ returns-clause-meaning c = λ v fits.
     let d = c.args.digits in
     let set = c.args.set.now in
     let whole = sym (list_any-map (meets_range_with rule v.plain) (range_by d) set.ranges.items) ∙ by_rule rule (set_by d set) v in
+    let made = set_of d c.in_ok-releases.releases.items c.in_ok-pre_releases.pre_releases.items in
     ap (λ s. contains s v.plain) c.of_boundaries.ensures
     ∙ by_test (is_empty v.plain.pre)
-    (λ e. contains-release _ v.plain e ∙ c.in_ok-releases.ensures.meaning d v.plain (fits, e)
+    (λ e. contains-release made v.plain e ∙ c.in_ok-releases.ensures.meaning d v.plain (fits, e)
     ∙ ap (λ (rs : List Range). list_any (λ range. meets_range v.plain (range_by d range)) rs) c.deref.ensures.value
     ∙ (λ i. list_any (λ range. released rule v.plain (range_by d range) e i) set.ranges.items) ∙ whole)
-    (λ e. contains-pre_release _ v.plain e ∙ c.in_ok-pre_releases.ensures.meaning v.plain (fits, e)
+    (λ e. contains-pre_release made v.plain e ∙ c.in_ok-pre_releases.ensures.meaning v.plain (fits, e)
     ∙ ap (λ (rs : List Range). list_any (λ range. meets_range_with rule v.plain (range_by d range)) rs) c.deref-2.ensures.value ∙ whole)
 
 pub returns-clause-printable : goal.returns-clause-printable

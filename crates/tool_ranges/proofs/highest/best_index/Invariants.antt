@@ -1,0 +1,9 @@
+use Rattle.std.specs.Prelude.{option_map}
+use Rattle.semver_versions.specs.Outlines.{version_of}
+use Rattle.tool_ranges.specs.VersionRanges.{versions_grammar}
+use Rattle.tool_ranges.proofs.HighestMembers.{IsBest}
+use Rattle.tool_ranges.proofs.highest.best_index.Given as goal
+
+abbrev pub invariant-loop-at : goal.invariant-loop-at
+invariant-loop-at l =
+    IsBest l.lowest (versions_grammar l.range) l.range.versions l.versions l.at l.found (option_map (λ o. (version_of o).plain) l.best)

@@ -1,0 +1,120 @@
+//! The text of a set, written from its boundaries.
+
+ghost use Rattle.std.specs.Prelude.{◌≡◌, map};
+ghost use Rattle.std.specs.Fmt.{WritesOnOk};
+ghost use Rattle.version_sets.specs.SetRanges.{intervals, is_whole, npm_set, ranges_text};
+ghost use Rattle.version_sets.specs.Steps.ShownBounds.{others_text};
+
+use crate::intervals::{Bound, Interval, Shown, first_interval};
+use crate::version_set::VersionSet;
+use semver_texts::printing::write_part;
+use std::fmt;
+
+impl fmt::Display for Shown<'_> {
+    ghost use Rattle.std.specs.Prelude.{Some};
+    ghost use Rattle.semver_ranges.specs.PrintedRanges.{comparator_text};
+    ghost use Rattle.version_sets.specs.Steps.ShownBounds.{shown_value};
+
+    ghost output = { λ s. Some (comparator_text (shown_value s)) };
+
+    /// Writes the comparator as a `Comparator` of the same parts.
+    fn fmt<W: fmt::Write>(&self, f: &mut fmt::Formatter<W>) -> fmt::Result {
+        let (op, numbers) = (&self.op, self.numbers);
+        let (major, minor, patch) = (numbers.major, numbers.minor, numbers.patch);
+        write!(f, "{op}{major}.{minor}.{patch}")?;
+        write_part(f, "-", self.pre)
+    }
+}
+
+impl fmt::Display for Interval<'_> {
+    ghost use Rattle.std.specs.Prelude.{Some};
+    ghost use Rattle.semver_ranges.specs.PrintedRanges.{range_text};
+    ghost use Rattle.version_sets.specs.SetRanges.{npm_range};
+    ghost use Rattle.version_sets.specs.Steps.ShownBounds.{interval_value};
+
+    ghost output = { λ i. Some (range_text (npm_range (interval_value i))) };
+
+    /// Writes the comparators with a space between them.
+    fn fmt<W: fmt::Write>(&self, f: &mut fmt::Formatter<W>) -> fmt::Result {
+        let first = &self.first;
+        match &self.second {
+            None => write!(f, "{first}"),
+            Some(second) => write!(f, "{first} {second}"),
+        }
+    }
+}
+
+// Answer: equation.
+impl fmt::Display for VersionSet {
+    ghost use Rattle.std.specs.Prelude.{Some};
+    ghost use Rattle.version_sets.specs.SetRanges.{kinds_text};
+
+    ghost output = { λ set. Some (kinds_text set) };
+
+    /// Writes the releases of the set as a range in npm's syntax, `<0.0.0-0` if it has none, and if
+    /// it has pre-releases, these after `, pre-releases `, to be compared by precedence. Of
+    /// pre-releases alone the first comma is missing. It does not allocate, and its only error is
+    /// the writer's.
+    ///
+    /// ```
+    /// use semver_parser::{sets, Dialect};
+    ///
+    /// let shown = |range| sets::read(range, Dialect::Npm).unwrap().to_string();
+    /// assert_eq!(shown("1.2.0 || ~1.9"), "=1.2.0 || >=1.9.0 <1.10.0");
+    /// assert_eq!(shown("^1.2.3-b"), ">=1.2.3 <2.0.0, pre-releases >=1.2.3-b <1.2.3");
+    /// ```
+    fn fmt<W: fmt::Write>(&self, f: &mut fmt::Formatter<W>) -> fmt::Result {
+        if self.pre_releases.is_empty() {
+            return write_ranges(f, &self.releases);
+        }
+        if self.releases.is_empty() {
+            f.write_str("pre-releases ")?;
+            return write_ranges(f, &self.pre_releases);
+        }
+        write_ranges(f, &self.releases)?;
+        f.write_str(", pre-releases ")?;
+        write_ranges(f, &self.pre_releases)
+    }
+}
+
+/// Writes the intervals of increasing boundaries as a range text of npm mode, separated by ` || `:
+/// `*` for all of a kind, and `<0.0.0-0` for none.
+fn write_ranges<W: fmt::Write, T: Bound>(f: &mut fmt::Formatter<W>, boundaries: &[T]) -> fmt::Result
+    ensures { WritesOnOk W.write_str_gives f.old result
+        (ranges_text (npm_set (intervals T.kind (map T.place boundaries.now)))) f.new }
+{
+    if is_whole(boundaries) {
+        return f.write_str("*");
+    }
+    let Some((first, others)) = first_interval(boundaries) else {
+        return f.write_str("<0.0.0-0");
+    };
+    write!(f, "{first}")?;
+    write_others(f, others)
+}
+
+/// Writes these intervals after others.
+fn write_others<W: fmt::Write, T: Bound>(f: &mut fmt::Formatter<W>, boundaries: &[T]) -> fmt::Result
+    ensures { WritesOnOk W.write_str_gives f.old result
+        (others_text (intervals T.kind (map T.place boundaries.now))) f.new }
+{
+    let mut left = boundaries;
+    while let Some((next, others)) = first_interval(left) {
+        write!(f, " || {next}")?;
+        left = others;
+    }
+    Ok(())
+}
+
+/// Whether all versions of a kind are in the intervals. The last release, which has no end either,
+/// is alone in its interval.
+fn is_whole<T: Bound>(boundaries: &[T]) -> bool
+    ensures { result ≡ is_whole (intervals T.kind (map T.place boundaries.now)) }
+{
+    match boundaries {
+        [only, others @ ..] if others.is_empty() => {
+            only.is_lowest() && !only.is_alone(others.first())
+        }
+        _ => false,
+    }
+}

@@ -1,0 +1,119 @@
+// Made by tools/erase.py from crates/tool_ranges/src/highest.rt; not edited by hand.
+//! Which of many version strings is the highest that a range contains, or the lowest.
+
+use crate::rattle_std::prelude::*;
+use crate::proved::tool_ranges::version_range::VersionRange;
+use crate::proved::semver_versions::version::{Outline, outline_in};
+
+impl VersionRange {
+    /// Returns the index of the highest of many versions that the range contains, by precedence
+    /// (SemVer 2.0.0, section 11), the first of equal ones, or `None` if it contains none of them.
+    /// Strings that aren't versions of the dialect are skipped. It does not allocate.
+    ///
+    /// ```
+    /// use semver_parser::{Dialect, VersionRange};
+    ///
+    /// let range = VersionRange::parse("^1.2", Dialect::Npm)?;
+    /// let versions: [&[u8]; 4] = [b"1.2.0", b"latest", b"1.10.0", b"2.0.0"];
+    /// assert_eq!(range.highest_of(&versions), Some(2));
+    /// assert_eq!(range.highest_of(&[b"2.0.0"]), None);
+    /// # Ok::<(), semver_parser::RangeError>(())
+    /// ```
+    pub fn highest_of(&self, versions: &[&[u8]]) -> Option<usize> {
+        best_index(self, versions, false)
+    }
+
+    /// Returns the index of the lowest of many versions that the range contains, as
+    /// [`VersionRange::highest_of`] that of the highest.
+    ///
+    /// ```
+    /// use semver_parser::{Dialect, VersionRange};
+    ///
+    /// let range = VersionRange::parse("^1.2", Dialect::Npm)?;
+    /// assert_eq!(range.lowest_of(&[b"1.1.0", b"1.10.0", b"v1.2.0"]), Some(2));
+    /// # Ok::<(), semver_parser::RangeError>(())
+    /// ```
+    pub fn lowest_of(&self, versions: &[&[u8]]) -> Option<usize> {
+        best_index(self, versions, true)
+    }
+
+    /// Returns the highest of the versions that the range contains, by precedence (SemVer 2.0.0,
+    /// section 11), the first of equal ones, or `None` if it contains none of them. Strings that
+    /// aren't versions of the dialect are skipped. It does not allocate.
+    pub(crate) fn highest_among<'v, I: Iterator<Item = &'v str> >(
+        &self,
+        versions: I,
+    ) -> Option<&'v str> {
+        best_string(self, versions, false)
+    }
+
+    /// Returns the lowest of the versions that the range contains, as [`VersionRange::highest_among`]
+    /// the highest.
+    pub(crate) fn lowest_among<'v, I: Iterator<Item = &'v str> >(
+        &self,
+        versions: I,
+    ) -> Option<&'v str> {
+        best_string(self, versions, true)
+    }
+}
+
+/// The highest of some strings, or the lowest if `lowest`.
+fn best_string<'v, I: Iterator<Item = &'v str> >(
+    range: &VersionRange,
+    versions: I,
+    lowest: bool,
+) -> Option<&'v str> {
+    let mut found: Option<&'v str> = None;
+    let mut best: Option<Outline<'v>> = None;
+    for version in versions {
+        let Some(outline) = member(range, version.as_bytes()) else {
+            continue;
+        };
+        if is_above(&outline, &best, lowest) {
+            best = Some(outline);
+            found = Some(version);
+        }
+    }
+    found
+}
+
+/// The index of the highest, or of the lowest if `lowest`.
+fn best_index(range: &VersionRange, versions: &[&[u8]], lowest: bool) -> Option<usize> {
+    let mut found = 0;
+    let mut best: Option<Outline<'_>> = None;
+    for at in 0..versions.len() {
+        let Some(outline) = member(range, versions[at]) else {
+            continue;
+        };
+        if is_above(&outline, &best, lowest) {
+            best = Some(outline);
+            found = at;
+        }
+    }
+    match best {
+        Some(_) => Some(found),
+        None => None,
+    }
+}
+
+/// The outline of a version that a range contains.
+#[inline(always)]
+fn member<'t>(range: &VersionRange, version: &'t [u8]) -> Option<Outline<'t>> {
+    let outline = outline_in(version, range.meaning.dialect.grammar())?;
+    if !range.contains_outline(&outline) {
+        return None;
+    }
+    Some(outline)
+}
+
+/// Whether a version is above the best one so far, if there is one, or below it if `lowest`.
+fn is_above(version: &Outline<'_>, best: &Option<Outline<'_>>, lowest: bool) -> bool {
+    let Some(best) = best else {
+        return true;
+    };
+    if lowest {
+        version.compare(best).is_lt()
+    } else {
+        best.compare(version).is_lt()
+    }
+}

@@ -1,0 +1,90 @@
+// Made by tools/erase.py from crates/version_sets/src/printing.rt; not edited by hand.
+//! The text of a set, written from its boundaries.
+
+use crate::rattle_std::prelude::*;
+use crate::proved::version_sets::intervals::{Bound, Interval, Shown, first_interval};
+use crate::proved::version_sets::version_set::VersionSet;
+use crate::proved::semver_texts::printing::write_part;
+use crate::rattle_std::fmt;
+
+impl fmt::Display for Shown<'_> {
+    /// Writes the comparator as a `Comparator` of the same parts.
+    fn fmt(&self, f: &mut fmt::Formatter<'_>) -> fmt::Result {
+        let (op, numbers) = (&self.op, self.numbers);
+        let (major, minor, patch) = (numbers.major, numbers.minor, numbers.patch);
+        write!(f, "{op}{major}.{minor}.{patch}")?;
+        write_part(f, "-", self.pre)
+    }
+}
+
+impl fmt::Display for Interval<'_> {
+    /// Writes the comparators with a space between them.
+    fn fmt(&self, f: &mut fmt::Formatter<'_>) -> fmt::Result {
+        let first = &self.first;
+        match &self.second {
+            None => write!(f, "{first}"),
+            Some(second) => write!(f, "{first} {second}"),
+        }
+    }
+}
+
+impl fmt::Display for VersionSet {
+    /// Writes the releases of the set as a range in npm's syntax, `<0.0.0-0` if it has none, and if
+    /// it has pre-releases, these after `, pre-releases `, to be compared by precedence. Of
+    /// pre-releases alone the first comma is missing. It does not allocate, and its only error is
+    /// the writer's.
+    ///
+    /// ```
+    /// use semver_parser::{sets, Dialect};
+    ///
+    /// let shown = |range| sets::read(range, Dialect::Npm).unwrap().to_string();
+    /// assert_eq!(shown("1.2.0 || ~1.9"), "=1.2.0 || >=1.9.0 <1.10.0");
+    /// assert_eq!(shown("^1.2.3-b"), ">=1.2.3 <2.0.0, pre-releases >=1.2.3-b <1.2.3");
+    /// ```
+    fn fmt(&self, f: &mut fmt::Formatter<'_>) -> fmt::Result {
+        if self.pre_releases.is_empty() {
+            return write_ranges(f, &self.releases);
+        }
+        if self.releases.is_empty() {
+            f.write_str("pre-releases ")?;
+            return write_ranges(f, &self.pre_releases);
+        }
+        write_ranges(f, &self.releases)?;
+        f.write_str(", pre-releases ")?;
+        write_ranges(f, &self.pre_releases)
+    }
+}
+
+/// Writes the intervals of increasing boundaries as a range text of npm mode, separated by ` || `:
+/// `*` for all of a kind, and `<0.0.0-0` for none.
+fn write_ranges<T: Bound>(f: &mut fmt::Formatter<'_>, boundaries: &[T]) -> fmt::Result {
+    if is_whole(boundaries) {
+        return f.write_str("*");
+    }
+    let Some((first, others)) = first_interval(boundaries) else {
+        return f.write_str("<0.0.0-0");
+    };
+    write!(f, "{first}")?;
+    write_others(f, others)
+}
+
+/// Writes these intervals after others.
+fn write_others<T: Bound>(f: &mut fmt::Formatter<'_>, boundaries: &[T]) -> fmt::Result {
+    let mut left = boundaries;
+    while let Some((next, others)) = first_interval(left) {
+        write!(f, " || {next}")?;
+        left = others;
+    }
+    Ok(())
+}
+
+/// Whether all versions of a kind are in the intervals. The last release, which has no end either,
+/// is alone in its interval.
+fn is_whole<T: Bound>(boundaries: &[T]) -> bool {
+    match boundaries {
+        [only, others @ ..] if others.is_empty() => {
+            only.is_lowest() && !only.is_alone(others.first())
+        }
+        _ => false,
+    }
+}
