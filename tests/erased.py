@@ -1,7 +1,9 @@
 #!/usr/bin/env python3
 """Compares rust/src/proved with crates/, token by token, by the rules of docs/ERASURE.md, and what
 it counted with the table of that page. Then it plants changes in a copy, and fails if one of them
-isn't refused. tests/erasure.py has the rules; neither shares anything with tools/erase.py.
+isn't refused. tests/erasure.py has the rules, tests/erasure_refusals.py what is refused before
+anything is compared, and tests/erasure_attacks.py changes to plant, beside those of
+tests/attacks.py at which tools/erase.py has to stop. Nothing here is shared with tools/erase.py.
 
 tests/erased.py --counts  prints the table.
 """
@@ -13,7 +15,10 @@ import sys
 import tempfile
 
 sys.dont_write_bytecode = True
-from erasure import Source, World, below, read, tokens_of  # noqa: E402
+from erasure import Source, World, below, read  # noqa: E402
+from attacks import ATTACKS as EDITS_FOR_THE_ERASER  # noqa: E402
+from erasure_attacks import ATTACKS  # noqa: E402
+from erasure_tokens import Refused, tokens_of  # noqa: E402
 
 BEGIN, END = '<!-- counts -->\n', '\n<!-- end of counts -->'
 LABELS = {
@@ -22,18 +27,20 @@ LABELS = {
     9: 'other names', 10: '`derive(Error)`', 11: '`derive(Clone)`', 12: 'calls that allocate',
     13: 'macros', 14: 'files that need `std`', 15: 'formatters', 16: 'beginnings of paths',
     17: '`main`', 18: 'first lines'}
-NEVER = {'unsafe', 'ghost', 'requires', 'ensures', 'tactic', 'alloc', 'Global', 'laws', 'Drop'}
+NEVER = {'Drop', 'Global', 'Model', 'alloc', 'ensures', 'ghost', 'laws', 'requires', 'tactic',
+         'unsafe'}
 
 
 def difference(source, text, name, written):
     """The first difference between a generated file and the tokens of its source, or None."""
     where, there = f'crates/{source.crate}/src/{source.path}', f'rust/src/proved/{name}'
-    found, due = tokens_of(written), [token.text for token in tokens_of(source.expected())]
-    source.counts.update(files=1, source=len(tokens_of(text)), written=len(found))
+    found = tokens_of(there, written)
+    due = [token.text for token in tokens_of(there, source.expected())]
+    source.counts.update(files=1, source=sum(map(size, tokens_of(where, text))), written=len(found))
     if written.split('\n')[0] != f'// Made by tools/erase.py from {where}; not edited by hand.':
         return f'{there}:1: not the first line of what is made of {where}'
     for token in found:
-        if token.kind == 'word' and token.text in NEVER:
+        if token.kind in NEVER or token.kind == 'word' and token.text in NEVER:
             return f'{there}:{token.line}: `{token.text}`, which no rule writes'
     here = [token.text for token in found]
     if here == due:
@@ -42,12 +49,17 @@ def difference(source, text, name, written):
              min(len(here), len(due)))
     shown = [' '.join(texts[max(i - 6, 0):i + 6]) for texts in (here, due)]
     line = found[i].line if i < len(found) else 'end'
-    return f'{there}:{line}: {shown[0]}\n  {where}:{line_after(text, due[:i])}: {shown[1]}'
+    return f'{there}:{line}: {shown[0]}\n  {where}:{line_after(where, text, due[:i])}: {shown[1]}'
 
 
-def line_after(text, before):
+def size(token):
+    """How many tokens a token is, if those of a clause or ghost item are counted."""
+    return len(re.findall(r'\w+|[^\w\s]', token.text)) if token.kind in NEVER else 1
+
+
+def line_after(where, text, before):
     """The line of a source where the last of these tokens of Rust end, as far as it has them."""
-    tokens = tokens_of(text)
+    tokens = tokens_of(where, text)
     texts = [token.text for token in tokens]
     sizes = ((size, i) for size in range(12, 0, -1) for i in range(size, len(texts)))
     return next((tokens[i].line for size, i in sizes if texts[i - size:i] == before[-size:]), 1)
@@ -55,8 +67,12 @@ def line_after(text, before):
 
 def names_crates(world, text):
     """Whether mod.rs has each crate once, a program only for tests, and nothing else."""
+    try:
+        tokens = tokens_of('rust/src/proved/mod.rs', text)
+    except Refused:
+        return False
     code = re.sub(r'\A(# ! \[ (?:allow|warn) \( [\w :,]*\) \] )*', '', ''.join(
-        token.text + ' ' for token in tokens_of(text) if token.kind != 'inner'))
+        token.text + ' ' for token in tokens if token.kind != 'inner'))
     lines = [f'{"# [ cfg ( test ) ] " * ((crate, "main.rt") in world.files)}pub mod {crate} '
              for crate in world.crates]
     return sorted(code.split('; ')[:-1]) == sorted(lines) and code.endswith('; ')
@@ -66,6 +82,8 @@ def check(top, right):
     """The differences, as pairs of a generated file and a message; and the counts. Files without
     a difference are added to `right`, and those in it aren't compared again."""
     world, counts, made = World(top), collections.Counter(), {'mod.rs'}
+    if world.refused:
+        return [(refused.where, str(refused)) for refused in world.refused], counts
     wrong = [] if names_crates(world, read(f'{top}/rust/src/proved/mod.rs')) else \
         [('mod.rs', 'rust/src/proved/mod.rs: not exactly the crates')]
     for (crate, path), text in world.files.items():
@@ -77,7 +95,10 @@ def check(top, right):
         written = read(f'{top}/rust/src/proved/{name}') if name in world.generated else ''
         if (name, text, written) not in right:
             source = Source(world, crate, path)
-            message = difference(source, text, name, written)
+            try:
+                message = difference(source, text, name, written)
+            except Refused as refused:
+                message = str(refused)
             counts.update(source.counts)
             wrong += [(name, message)] if message else []
             right |= set() if message else {(name, text, written)}
@@ -146,11 +167,35 @@ def plants(top):
     yield 'a statement moved to a clause', name, {source: clause + text[match.end(3):]}
 
 
+def attacks(top):
+    """Each attack: its name, the file to be named, words of the message, and new texts of files."""
+    for what, said, name, edits in ATTACKS:
+        changed = {}
+        for path, text in edits.items():
+            before = read(f'{top}/{path}') if os.path.exists(f'{top}/{path}') else ''
+            changed[f'{top}/{path}'] = before.replace(*text) if isinstance(text, tuple) \
+                else before + text
+        yield what, name, said, changed
+
+
+def edits_for_the_eraser(top):
+    """The edits at which tools/erase.py has to stop, with what a careless one would write: each by
+    its name, and new texts of files."""
+    for attack in EDITS_FOR_THE_ERASER:
+        changed = {}
+        edits = [*attack.edits, *((f'rust/src/proved/{it[0]}', *it[1:]) for it in attack.careless)]
+        for path, old, new in edits:
+            whole = f'{top}/{path}'
+            before = changed.get(whole, read(whole) if os.path.exists(whole) else '')
+            changed[whole] = before.replace(old, new, 1) if old else before + new
+        yield attack.name, changed
+
+
 def refused(top, right, changed):
-    """The generated files that are refused if files have these texts; None is no file."""
+    """What is refused if files have these texts, as files and messages; None is no file."""
     kept = {path: read(path) if os.path.exists(path) else None for path in changed}
     write(changed)
-    wrong = [name for name, _ in check(top, right)[0]]
+    wrong = check(top, right)[0]
     write(kept)
     return wrong
 
@@ -160,7 +205,8 @@ def write(texts):
         if text is None:
             os.remove(path)
             continue
-        with open(path, 'w', encoding='utf-8') as file:
+        os.makedirs(os.path.dirname(path), exist_ok=True)
+        with open(path, 'w', encoding='utf-8', newline='') as file:
             file.write(text)
 
 
@@ -172,8 +218,17 @@ def must_fail(top, right):
             shutil.copytree(f'{top}/{part}', f'{copy}/{part}')
         shutil.copy(f'{top}/crates.txt', copy)
         for what, name, changed in plants(copy):
-            if refused(copy, right, changed) != [name]:
+            if [file for file, _ in refused(copy, right, changed)] != [name]:
                 missed.append(f'not refused: {what}, {name}')
+            count += 1
+        for what, name, said, changed in attacks(copy):
+            wrong = refused(copy, right, changed)
+            if not any(said in message for _, message in wrong if message.startswith(f'{name}:')):
+                missed.append(f'not refused: {what}, {name}: {said}, but {wrong}')
+            count += 1
+        for what, changed in edits_for_the_eraser(copy):
+            if not refused(copy, right, changed):
+                missed.append(f'not refused: {what}')
             count += 1
         name, match = next(places(f'{copy}/rust/src/proved', r';(?=\n)'))
         text = f'{match.string[:match.end()]} // Planted.{match.string[match.end():]}'

@@ -1,61 +1,41 @@
-"""The rules of docs/ERASURE.md, for tests/erased.py: the tokens that a source in Rattle has in Rust.
-Doc comments are tokens, other comments aren't. Nothing here is of tools/erase.py.
+"""The rules of docs/ERASURE.md, for tests/erased.py: the tokens that a source in Rattle has in
+Rust. Nothing here is of tools/erase.py.
 """
 import collections
 import functools
 import os
 import re
-import sys
 
-TOKEN = re.compile(r'''(?P<space>\s+)|(?P<inner>//![^\n]*)|(?P<doc>///(?!/)[^\n]*)
-    |//\ In\ Rust:\ (?P<name>\w+)\.|(?P<comment>//[^\n]*)
-    |(?P<literal>b?"(?:[^"\\]|\\.)*"|b?r(?P<hashes>\#*)".*?"(?P=hashes)
-    |b?'(?:[^'\\\n]|\\(?:[^ux]|x..|u\{[^}]*\}))')|(?P<life>'[^\W\d]\w*)
-    |(?P<number>\d\w*(?:\.\d\w*)?)|(?P<word>[^\W\d]\w*)
-    |(?P<sign>::|->|=>|\.\.=|\.\.\.|\.\.|[=!<>+\-*/%&|^]=|&&|\|\||.)''', re.X | re.S)
-Token = collections.namedtuple('Token', 'kind text line')
+from erasure_refusals import refusals
+from erasure_tokens import Refused, line_of, tokens_of
+
 NO_CALL = {'match ', 'return ', 'in ', 'let ', 'if ', 'while ', 'else '}
-
-
-@functools.lru_cache(maxsize=None)
-def tokens_of(text):
-    """The tokens of a text. `// In Rust: NAME.` is one, too."""
-    found, line = [], 1
-    for match in TOKEN.finditer(text):
-        kind = 'literal' if match['hashes'] is not None else match.lastgroup
-        if kind not in ('space', 'comment'):
-            found.append(Token(kind, match[kind].rstrip(), line))
-        line += match[0].count('\n')
-    return found
 
 
 @functools.lru_cache(maxsize=None)
 def coded(where, text):
     """The tokens of a text in one line, a blank after each, so that patterns can find what is
-    between two brackets: each has the number of its pair, as in `{3 "7 }3 `. Literals and doc
-    comments are the numbers of their texts, which are the second result. An allocator that isn't
-    between the brackets of a call gets a word that no pattern has.
+    between two brackets: each has the number of its pair, as in `{3 "7 }3 `. Literals, doc
+    comments, clauses and ghost items are the numbers of their texts, which are the second result.
+    An allocator that isn't between the brackets of a call gets a word that no pattern has.
     """
-    code, texts, pairs, numbers = [], [], [], {'inner': '//!', 'doc': '///', 'literal': '"'}
-    for token in tokens_of(text):
+    code, texts, pairs, numbers = [], [], [], {
+        'inner': '//!', 'doc': '///', 'literal': '"',
+        'ghost': 'ghost$', 'requires': 'requires$', 'ensures': 'ensures$'}
+    for token in tokens_of(where, text):
         word = '@' * (token.kind == 'name') + token.text
         if word in ('(', '[', '{'):
-            pairs.append((word, len(code)))
+            pairs.append(len(code))
             word += str(len(code))
         elif word in (')', ']', '}'):
-            opening, number = pairs.pop() if pairs else ('', 0)
-            if opening + word not in ('()', '[]', '{}'):
-                sys.exit(f'{where}:{token.line}: `{word}` closes nothing')
-            word += str(number)
+            word += str(pairs.pop())
         elif word == 'alloc' and pairs and code[-1] != ':: ':
-            before = code[pairs[-1][1] - 1]
+            before = code[pairs[-1] - 1]
             word += '' if re.match(r'[\w>!]', before) and before not in NO_CALL else ' outside'
         elif token.kind in numbers:
             texts.append(token.text)
             word = f'{numbers[token.kind]}{len(texts) - 1}'
         code.append(word + ' ')
-    if pairs:
-        sys.exit(f'{where}: nothing closes a `{pairs[-1][0]}`')
     return ''.join(code), texts
 
 
@@ -76,19 +56,19 @@ def pair(name, brackets='{}'):
 
 PUBLIC = r'(?:pub (?:\(\d+ crate \)\d+ )?)?'
 ITEM = rf'(?:///\d+ |# {pair("a", "[]")})*{PUBLIC}'
-CLAUSE = rf'(requires|ensures) (?:\w+ )?{pair("c")}'
+CLAUSE = r'(requires|ensures)\$\d+ '
 ALLOCATOR = r'(?:alloc|rt \. alloc \(\d+ \)\d+|_?alloc : Global) '
 ERROR = re.compile(r'# \[(\d+) error \(\d+ "(\d+) \)\d+ \]\1 ')
 STD = re.compile(r'\bstd :: (?:\{\d+ [^}]*\b)?(?:io|env|fs|process|rt) '
                  r'|\b(?:HostRuntime|AllocGlobal|Print|Eprint) ')
-USE = re.compile(r'(?<!ghost )\buse (?P<path>[^;{]*)(?:\{(?P<b>\d+) (?P<names>.*?)\}(?P=b) )?; ')
+USE = re.compile(r'\buse (?P<path>[^;{]*)(?:\{(?P<b>\d+) (?P<names>.*?)\}(?P=b) )?; ')
 WRITE, FORMATTER = '(?:fmt :: )?Write ', r'\((?P<f>\d+) (?:(?!\)(?P=f) ).)*?\bFormatter <'
 # Patterns in code, and what they become, each with the number of its rule.
 FIRST = (
-    (1, rf'{ITEM}ghost (?:use [^;]*; |\w+ = {pair("g")}; |\w+ : {pair("h")}[,;] )', ''),
-    (3, rf'{ITEM}impl (?:<[^{{]*?> )?Model for [^{{]*{pair("g")}', ''),
+    (1, rf'{ITEM}ghost\$\d+ ', ''),
+    (3, rf'{ITEM}impl (?:<[^{{]*?> )?Model for [^{{]*\{{(?P<m>\d+) \}}(?P=m) ', ''),
     (4, rf'# (?:! )?\[(\d+) tactic .*?\]\1 ', ''),
-    (8, r'pub (?=trait [^{]*\{(\d+) .*?requires .*?\}\1 )', 'pub(crate) '))
+    (8, r'pub (?=trait [^{]*\{(\d+) .*?requires\$.*?\}\1 )', 'pub(crate) '))
 LAST = (
     (5, r'(?<=: )Drop (?=\{)', 'Sized '),
     (5, r': Drop (?=[,>])|\+ Drop |Drop \+ ', ''),
@@ -116,6 +96,11 @@ class Source:
         self.world, self.crate, self.path = world, crate, path
         self.code, self.texts = world.codes[crate, path]
         self.counts = collections.Counter()
+
+    def refused(self, text, what):
+        source = self.world.files[self.crate, self.path]
+        return Refused(f'crates/{self.crate}/src/{self.path}', line_of(source, source.find(text)),
+                       f'`{text}`, {what}')
 
     def put(self, rule, pattern, instead):
         self.code, times = re.subn(pattern, instead, self.code)
@@ -189,7 +174,10 @@ class Source:
         return f'{spelled(path, bracket, names)} => Ok({spelled(path, bracket, copies)}), '
 
     def shown(self, path, bracket, fields, message):
-        text = re.sub(r'{(\d)', r'{_\1', self.texts[int(message[2])])
+        given = self.texts[int(message[2])]
+        text = re.sub(r'{(\d)', r'{_\1', given)
+        for name in set(re.findall(r'{(\w+)', text)) - {name for name, _ in fields}:
+            raise self.refused(given, f'of which `{name}` is no field')
         names = [name if re.search(rf'{{{name}[:}}]', text) else
                  f'{name}: _' if bracket == '{' else '_' for name, _ in fields]
         self.texts = self.texts + [text]
@@ -228,6 +216,9 @@ class Source:
         sub(rf'(?P<before># \[(?P<d>\d+) derive \(\d+ (?P<derived>[^)]*)\)\d+ \](?P=d) {ITEM}'
             r'(?P<kind>struct|enum) (?P<name>\w+) )\{(?P<b>\d+) (?P<body>.*?)\}(?P=b) ', self.item)
         sub(r'# \[(\d+) derive \(\d+ ([^)]*)\)\d+ \]\1 ', self.derives)
+        left = re.search(r'(?:ghost|requires|ensures)\$(\d+)', self.code)
+        if left:
+            raise self.refused(self.texts[int(left[1])], 'that no function begins with')
         self.put(9, rf'@(\w+) ({ITEM}fn )\w+ ', r'\2\1 ')
         for (owner, old), (new, count) in self.world.renames.items():
             self.put(9, rf'\b{owner} :: {old}\b', f'{owner} :: {new}')
@@ -264,6 +255,9 @@ class World:
         self.files = {(crate, path): read(f'{top}/crates/{crate}/src/{path}')
                       for crate in self.crates
                       for path in below(f'{top}/crates/{crate}/src', '.rt')}
+        self.refused = refusals(self.files, tuple(self.names))
+        if self.refused:
+            return
         self.codes = {(crate, path): coded(f'crates/{crate}/src/{path}', text)
                       for (crate, path), text in self.files.items()}
         derived = [found for code, _ in self.codes.values() for found in re.findall(
@@ -306,7 +300,7 @@ def renames(code):
 
 
 def read(path):
-    with open(path, encoding='utf-8') as file:
+    with open(path, encoding='utf-8', newline='') as file:
         return file.read()
 
 

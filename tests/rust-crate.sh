@@ -1,9 +1,10 @@
 #!/bin/sh
 # Tests the Rust crate of rust/, which cargo builds: rust/src/proved is what tools/erase.py writes, to
-# the byte, and is of crates/ token by token; tools/erase.py stops at what it doesn't know; cargo's
-# tests pass, with and without the feature std; the programs write what the kit's build does; the
-# documentation has no warning, nor clippy, where it is there; each public item has an example; and
-# what is packed passes by itself.
+# the byte, and is of crates/ token by token; tools/erase.py stops at what it doesn't know, and at
+# what it would write wrongly; docs/ERASURE.md has each call of std; cargo's tests pass, with and
+# without the feature std; the programs write what the kit's build does; the documentation has no
+# warning, nor clippy, where it is there; each public item has an example; and what is packed passes
+# by itself.
 set -eu
 unset CDPATH
 cd "$(dirname "$0")/.."
@@ -37,7 +38,7 @@ made_anew() {
 # tools/erase.py has to name the file, that line and why.
 stops_at() {
     rm -rf "$work/copy" && mkdir -p "$work/copy/tools"
-    cp tools/erase.py "$work/copy/tools" && cp crates.txt "$work/copy"
+    cp tools/erase*.py tools/rattle_source.py "$work/copy/tools" && cp crates.txt "$work/copy"
     for crate in crates/*; do
         mkdir -p "$work/copy/$crate" && cp -R "$crate/src" "$work/copy/$crate"
     done
@@ -64,6 +65,31 @@ stops_at_what_it_does_not_know() {
     stops_at 'use std::thread;' 'no rule for an import of this line: use'
     stops_at 'fn f() { laws::g } ' 'a law that is no call of its own: laws'
     stops_at 'struct S<T: Drop + Copy>(T);' 'no rule for this word: Drop'
+    stops_at 'fn f() { /* a */ }' 'no rule for what begins here: /* a */ }'
+    stops_at 'fn f() { g(r"a") }' 'no rule for what begins here: r"a") }'
+    stops_at 'fn f() { r#g() }' 'no rule for what begins here: r#g() }'
+    stops_at 'fn f() { g(1.5) }' 'no rule for what begins here: 1.5) }'
+    stops_at 'fn f() { g(--1) }' 'no rule for what begins here: --1) }'
+    stops_at 'fn f() { g("a) }' 'no rule for what begins here: "a) }'
+    stops_at 'fn f() { ξ() }' 'no rule for what begins here: ξ() }'
+    stops_at 'fn f() { |x| requires { x } { x } }' \
+        'no rule for a clause of this form, or at this place: requires { x } { x } }'
+    stops_at 'fn f() ensures { x // }' 'no rule for this in a clause or ghost item: // }'
+    stops_at 'fn f() ensures { x "{" }' 'no rule for this in a clause or ghost item: "{" }'
+    stops_at 'ghost x = { y } z' 'no rule for a ghost item of this form: ghost x = { y } z'
+    stops_at '#[inline] ghost x = { y };' \
+        'no rule for a ghost item at this place: ghost x = { y };'
+    stops_at 'mod laws;' 'laws that are not in the file laws.rt of a crate: mod'
+    stops_at 'use crate::bytes::*;' 'no rule for an import of this line: use'
+    stops_at 'use std::mem as fmt;' 'no rule for an import under another name: use'
+    stops_at 'struct String;' 'no rule for an item of this name, String: struct'
+    stops_at 'mod m { }' 'no rule for a module within a file: mod'
+    stops_at '#[derive(Default)] struct S;' 'no rule for one of these derives: derive'
+    stops_at 'struct S; impl Model for S { fn f() {} }' \
+        'no rule for a model with code, or at this place: impl'
+    stops_at 'fn f(place: Global) {}' 'no rule for an allocator of another name: ('
+    stops_at 'fn f(x: u64) -> i64 { x as i64 }' 'no rule for this word: i64'
+    stops_at 'fn f() { drop(1) }' 'no rule for this call: drop'
 }
 
 programs_run() {
@@ -94,6 +120,8 @@ packed_by_itself() {
 
 made_anew
 tests/erased.py
+tests/eraser-attacks.py
+tests/std-calls.py
 stops_at_what_it_does_not_know
 cargo_tests
 programs_run

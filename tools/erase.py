@@ -2,219 +2,41 @@
 """Writes rust/src/proved (or the directory that is given) from crates/*/src: plain Rust of proved
 Rattle, without its contracts. docs/ERASURE.md has the rules; `Rule N` below is that of its table. A
 crate becomes a module of one Rust crate, and rust/src/rattle_std.rs stands for Rattle's std. At a
-word that no rule knows it stops, with file and line, and writes nothing."""
+word that no rule knows it stops, with file and line, and writes nothing. tools/rattle_source.py
+reads the sources, and tools/erase_stops.py has most of what stops it."""
 import glob
 import os
 import re
 import shutil
 import sys
 
-TOP = os.path.dirname(os.path.dirname(os.path.realpath(__file__)))
+sys.dont_write_bytecode = True
+from rattle_source import NO_CALLEES, SILENT, TOP, Code, begins_item  # noqa: E402
+from erase_stops import (DERIVES, MACROS, PREFIX, SAME_ATTRIBUTES, SAME_CALLS, around,  # noqa: E402
+                         check, check_message, check_use, crate_of_laws, does_nothing, stops,
+                         tidied)
+
 # Crates that hold laws alone.
 NOT_ERASED = {'answer_laws'}
 
 # Rule 12. Methods and functions of std that return a `Result` in Rattle because they allocate, by
 # the number of arguments without the allocator. They get the prefix, and are in rattle_std.
-PREFIX = 'fallible_'
 METHODS = {('push', 1), ('push_str', 1), ('extend_from_slice', 1), ('reserve_exact', 1),
            ('clone', 0)}
 # This only if an allocator was passed: without one it is another method.
 METHODS_IN = {('to_string', 0)}
 FUNCTIONS = {('Vec', 'with_capacity'), ('Vec', 'from_slice'), ('Vec', 'from_elem'),
              ('String', 'with_capacity'), ('String', 'from_str')}
-# Rule 13. Macros that take an allocator or the runtime in Rattle.
-MACROS = {'vec', 'format', 'println', 'eprintln'}
 # Rule 14. What only Rust's std has, and not its core.
 OF_STD = (r'\bstd :: (\{ [^}]*)?\b(io|env|fs|process|rt)\b'
           r'|\b(HostRuntime|AllocGlobal|Eprint|Print)\b')
 
-# What means the same in both languages, and is left as it is; any other call of std, macro or
-# attribute stops the run. Of these types and modules of std each function is listed.
-OWNERS = set('Vec String Box Rc Option Result Iterator str mem io env fs iter slice char'.split())
-SAME_FUNCTIONS = set('''Vec::new String::new str::from_utf8 mem::replace mem::swap io::writer
-    env::args fs::open'''.split())
-SAME_CALLS = set('''
-    all and_then any args as_bytes as_mut_slice as_ref as_slice as_str by_ref bytes chars
-    checked_add checked_ilog10 checked_mul clear cmp copy_from_slice enumerate escape_ascii
-    flush from from_utf8 get get_mut into is_ascii is_ascii_alphanumeric is_ascii_digit
-    is_char_boundary is_eq is_err is_ge is_gt is_le is_lt is_ne is_none is_ok is_ok_and is_some
-    is_some_and is_terminal iter iter_mut kind last len lines map_err map_or min new ok open partition_point
-    println push_reserved reader replace retain reverse rsplit_once saturating_add
-    saturating_mul saturating_sub skip sort_unstable_by split split_at split_first split_last
-    split_once starts_with stderr stdin stdout strip_prefix strip_suffix swap take take_while then
-    then_some transpose trim_start trim_start_matches truncate unwrap_or unwrap_or_default
-    unwrap_or_else valid_up_to wrapping_add write_all writer zip'''.split())
-MODULES = set('alloc as cmp env fmt fs io iter marker mem process rt self str'.split())
-NO_CALLEES = {'else', 'if', 'in', 'match', 'return', 'while'}
 ALLOCATORS = [['alloc'], ['rt', '.', 'alloc', '(', ')']]
-SAME_MACROS, SAME_ATTRIBUTES = {'matches', 'unreachable', 'write'}, {'derive', 'inline', 'repr'}
-# Words that have no meaning in Rust: none may be left.
-LEFT = set('ghost requires ensures tactic alloc _alloc Global Model unsafe Drop prove laws'.split())
-OPEN, CLOSE = {'(', '[', '{'}, {')', ']', '}'}
-
-TOKEN = re.compile(r'''
-    (?P<space>\s+)
-  | (?P<doc>//[/!](?!/)[^\n]*)
-  | (?P<comment>//[^\n]*|/\*(?:.|\n)*?\*/)
-  | (?P<text>(?:b|c)?"(?:\\(?:.|\n)|[^"\\])*"|(?:b|c)?r(?P<h>\#*)"(?:.|\n)*?"(?P=h))
-  | (?P<char>b?'(?:\\(?:x[0-9a-fA-F]{2}|u\{[^}]*\}|.)|[^'\\])')
-  | (?P<word>'?[A-Za-z_]\w*)
-  | (?P<number>\d\w*(?:\.\d\w*)?)
-  | (?P<sign>::|->|=>|\.\.=|\.\.|&&|\|\||[<>=!+\-*/%^&|]=|<<|.)
-''', re.X)
-SILENT = {'space', 'comment', 'doc'}
+# Rule 7. What leaves a function or a loop is no argument.
+LEAVING = {'break', 'continue', 'return'}
 
 
-class Token:
-    def __init__(self, kind, text, line):
-        self.kind, self.text, self.line = kind, text, line
-        self.owes = False  # of a `fn`: whether the function has a `requires`
-
-
-# ---------------------------------------------------------------- reading, without contracts
-def end_of_contract(source, at, stops):
-    """Where a definition or condition ends: at one of the stops, outside of braces and texts."""
-    depth = 0
-    while True:
-        sign = source[at]
-        if source.startswith('//', at):
-            at = source.index('\n', at)
-        elif sign == '"':
-            at += 1
-            while source[at] != '"':
-                at += 2 if source[at] == '\\' else 1
-        elif depth == 0 and sign in stops + '}':
-            return at
-        depth += (sign == '{') - (sign == '}')
-        if sign == '}' and depth == 0 and '}' in stops:
-            return at
-        at += 1
-
-
-def read(source):
-    """The tokens of a file without ghost items (rule 1) and clauses (rule 2)."""
-    tokens, at, line = [], 0, 1
-    while at < len(source):
-        begin, found = at, TOKEN.match(source, at)
-        kind, text, at = found.lastgroup, found.group(), found.end()
-        if (kind, text) == ('word', 'ghost'):
-            while tokens and (tokens[-1].kind in SILENT and not tokens[-1].text.startswith('//!')
-                              or tokens[-1].text == 'pub'):
-                tokens.pop()
-            at = end_of_contract(source, at, ';,')
-            at += source[at] != '}'
-        elif kind == 'word' and text in ('requires', 'ensures'):
-            while tokens[-1].kind in ('space', 'comment'):
-                tokens.pop()
-            at = end_of_contract(source, source.index('{', at), '}') + 1
-            if text == 'requires':
-                next(t for t in reversed(tokens) if (t.kind, t.text) == ('word', 'fn')).owes = True
-        else:
-            tokens.append(Token('text' if kind == 'h' else kind, text, line))
-        line += source.count('\n', begin, at)
-    return tokens
-
-
-class Code:
-    """The tokens of a file, with a view on those that are no comments."""
-    def __init__(self, crate, module, path):
-        self.crate, self.module, self.path = crate, module, path
-        self.t = read(open(f'{TOP}/{path}').read())
-
-    def stop(self, i, why):
-        sys.exit(f'tools/erase.py: {self.path}:{self.t[i].line}: {why}: {self.t[i].text}')
-
-    def text(self, i):
-        return '' if i is None else self.t[i].text
-
-    def at(self, i):
-        """The first token at `i` or after it that is no comment."""
-        return next((k for k in range(i, len(self.t)) if self.t[k].kind not in SILENT), None)
-
-    def after(self, i):
-        return self.at(i + 1)
-
-    def before(self, i):
-        return next((k for k in range(i - 1, -1, -1) if self.t[k].kind not in SILENT), None)
-
-    def close(self, i):
-        """The bracket that closes the one at `i`."""
-        depth, angle = 0, self.text(i) == '<'
-        for j in range(i, len(self.t)):
-            if self.t[j].kind == 'sign':
-                opens = self.text(j) in OPEN or angle and self.text(j) == '<'
-                depth += opens - (self.text(j) in CLOSE or angle and self.text(j) == '>')
-                if depth == 0:
-                    return j
-        self.stop(i, 'a bracket that nothing closes')
-
-    def parts(self, opened, angles=False):
-        """What is between the commas in the brackets that are opened there, as pairs of places."""
-        parts, begin, i, end = [], opened + 1, opened + 1, self.close(opened)
-        while i < end:
-            text = self.text(i)
-            if text == '|' and self.text(self.before(i)) in ('(', ',', 'move'):
-                i += 1
-                while self.text(i) != '|':  # the parameters of a closure
-                    i += 1
-            elif text in OPEN and self.t[i].kind == 'sign' or angles and text == '<':
-                i = self.close(i)
-            elif text == ',':
-                parts.append((begin, i))
-                begin = i + 1
-            i += 1
-        return parts + [(begin, end)] if (self.at(begin) or end) < end else parts
-
-    def words(self, begin, end):
-        return [t.text for t in self.t[begin:end] if t.kind not in SILENT]
-
-    def source(self, begin, end):
-        return ''.join(t.text for t in self.t[begin:end])
-
-    def drop(self, begin, end):
-        for token in self.t[begin:end]:
-            token.kind, token.text = 'space', ''
-
-    def drop_lines(self, begin, end):
-        """Drops what has lines of its own: of the white space around it one side stays."""
-        around = [self.t[i] for i in (begin - 1, end)
-                  if 0 <= i < len(self.t) and self.t[i].kind == 'space']
-        self.drop(begin, end)
-        if len(around) == 2:
-            around[0].text, around[1].text = '', max((t.text for t in around), key=len)
-
-    def drop_part(self, parts, k):
-        """Drops one of the parts between commas, with a comma."""
-        if k:
-            self.drop(parts[k - 1][1], parts[k][1])
-        elif len(parts) > 1:
-            self.drop(self.at(parts[0][0]), self.at(parts[1][0]))
-        else:
-            self.drop(parts[k][0], parts[k][1] + (self.text(parts[k][1]) == ','))
-
-    def find(self, *texts):
-        """The places where these tokens follow each other."""
-        for i, token in enumerate(self.t):
-            places = [i] if token.kind not in SILENT and token.text == texts[0] else []
-            while places and len(places) < len(texts):
-                place = self.after(places[-1])
-                places = places + [place] if self.text(place) == texts[len(places)] else []
-            if places:
-                yield places
-
-    def find_from(self, i, text):
-        return next(k for k in range(i, len(self.t)) if self.text(k) == text)
-
-    def item(self, i):
-        """Where the item at `i` begins, with its `pub`, and where it ends."""
-        end = i
-        while self.text(end) not in (';', '{'):
-            end = self.close(end) if self.text(end) in ('(', '[') else end + 1
-        end = self.close(end) if self.text(end) == '{' else end
-        before = self.before(i)
-        return (before if self.text(before) == 'pub' else i), end + 1
-
-
+# ---------------------------------------------------------------- attributes
 def skip_attributes(code, i):
     """Where an item or variant begins after its attributes and `pub`, and its `#[error(..)]`."""
     message = None
@@ -260,10 +82,11 @@ def pattern(path, names, named):
     return path if named is None else f'{path} {{ {inner} }}' if named else f'{path}({inner})'
 
 
-def displayed(name, found):
+def displayed(code, i, name, found):
     """Rule 10: what `derive(Error)` writes: a sentence for each case."""
     arms = ''
     for path, members, named, message in found:
+        check_message(code, i, [member for member, _ in members], message)
         message = re.sub(r'\{(\d)', r'{_\1', message)
         shown = [n if re.search(r'\{' + n + r'\b', message) else f'{n}: _' if named else '_'
                  for n, _ in members]
@@ -296,12 +119,16 @@ def attributes(code, copied):
             continue
         opened = code.after(i)
         opened = code.after(opened) if code.text(opened) == '!' else opened
+        if code.text(opened) != '[':
+            code.stop(i, 'no rule for this sign')
         end, name = code.close(opened) + 1, code.after(opened)
         if code.text(name) == 'tactic':
             code.drop(i, code.at(end))
         elif code.text(name) == 'derive':
             begin = code.after(name)
             names = [code.source(*part).strip() for part in code.parts(begin)]
+            if not set(names) <= DERIVES:
+                code.stop(name, 'no rule for one of these derives')
             write_derives(code, end, set(names), copied)
             kept = [n for n in names if n not in ('Drop', 'Error')]
             code.drop(begin + 1, code.close(begin))
@@ -319,7 +146,7 @@ def write_derives(code, i, names, copied):
     at, message = skip_attributes(code, i)
     name, found = code.text(code.after(at)), cases(code, at, message)
     last = code.t[code.item(at)[1] - 1]
-    last.text += displayed(name, found) if 'Error' in names else ''
+    last.text += displayed(code, at, name, found) if 'Error' in names else ''
     last.text += cloned(name, found, copied) if 'Clone' in names else ''
 
 
@@ -338,21 +165,25 @@ def models(code):
         j = code.after(i)
         j = code.after(code.close(j)) if code.text(j) == '<' else j
         if code.text(j) == 'Model':
-            code.drop_lines(*code.item(i))
+            begin, end = code.item(i)
+            if code.before(end - 1) != code.find_from(i, '{') or not begins_item(code.t, begin):
+                code.stop(i, 'no rule for a model with code, or at this place')
+            code.drop_lines(begin, end)
 
 
-def uses(code):
+def uses(code, crates):
     """Rules 3, 6, 7 and 10: names that have no meaning in Rust go from imports."""
     gone = {'Model', 'Global', 'laws'}
     for (i,) in code.find('use'):
         end = code.find_from(i, ';')
         words = code.words(i, end)
-        if words[1] == 'std' and {w for w in words[2:] if w.islower()} - MODULES:
-            code.stop(i, 'no rule for an import of this line')
+        check_use(code, i, words, {'std', 'crate', 'super', 'thiserror', *crates})
         opened = next((k for k in range(i, end) if code.text(k) == '{'), None)
         parts = code.parts(opened) if opened else []
-        kept = [code.source(*p).strip() for p in parts if code.words(*p)[0] not in gone]
+        kept = [code.source(*p).strip() for p in parts if code.words(*p) not in [[g] for g in gone]]
         if words[1] == 'thiserror' or words[-1] in gone or parts and not kept:
+            if not begins_item(code.t, i):
+                code.stop(i, 'no rule for an import of this, with pub or an attribute')
             code.drop_lines(i, end + 1)
         elif len(kept) < len(parts):
             code.drop(opened + 1, code.close(opened))
@@ -361,18 +192,28 @@ def uses(code):
             code.t[opened].text = ('' if one else '{') + ', '.join(kept)
 
 
-def laws(code):
+def laws(code, files):
     """Rule 7: the module `laws`, and the calls of its functions, which do nothing."""
     for places in code.find('mod', 'laws', ';'):
+        if code.module != 'lib' or code.crate not in files:
+            code.stop(places[0], 'laws that are not in the file laws.rt of a crate')
         code.drop_lines(*code.item(places[0]))
     for places in code.find('laws', '::'):
-        opened = code.after(code.after(places[1]))
+        name = code.after(places[1])
+        opened = code.after(name)
         begin = places[0]
         while code.text(code.before(begin)) == '::':
             begin = code.before(code.before(begin))
         end = code.after(code.close(opened)) if code.text(opened) == '(' else None
         if code.text(end) != ';' or code.text(code.before(begin)) not in ('{', ';', '}'):
             code.stop(places[0], 'a law that is no call of its own')
+        for part in code.parts(opened):
+            named = code.source(*part).strip().removeprefix('&')
+            if not named.isidentifier() or named in LEAVING:
+                code.stop(places[0], 'an argument of a law that is more than a name or its reference')
+        crate = crate_of_laws(code, begin, places[0])
+        if crate not in files or not does_nothing(files[crate], code.text(name)):
+            code.stop(name, 'a function that is not known to be a law')
         code.drop_lines(begin, end + 1)
 
 
@@ -389,16 +230,32 @@ def visible(code):
             code.t[places[0]].text = 'pub(crate)'
 
 
-def names_for_rust(code):
+def is_method(code, name):
+    """Whether the function of this name has a `self`."""
+    opened = code.after(name)
+    opened = code.after(code.close(opened)) if code.text(opened) == '<' else opened
+    parts = code.parts(opened)
+    return bool(parts) and 'self' in code.words(*parts[0])
+
+
+def names_for_rust(code, codes):
     """Rule 9: the names that functions have in Rust, by type (none for methods) and name."""
     for i, token in enumerate(code.t):
-        found = re.match(r'// In Rust: (\w+)\.', token.text)
-        if found:
-            i = next(j for j in range(i, len(code.t)) if code.text(j) == 'fn')
-            name, owner = code.after(i), max(p[0] for p in code.find('impl') if p[0] < i)
-            method = 'self' in code.words(*code.parts(code.after(name))[0])
-            yield ('' if method else code.text(code.after(owner)), code.text(name)), found[1]
-            code.t[name].text = found[1]
+        if not token.text.startswith('// In Rust:'):
+            continue
+        found = re.fullmatch(r'// In Rust: (\w+)\.', token.text) or code.stop(i, 'no rule for this')
+        fn = code.find_from(i, 'fn')
+        name, new, block = code.after(fn), found[1], code.around(fn)
+        owner = max((p[0] for p in code.find('impl') if p[0] < i), default=0)
+        if set(code.words(i, fn)) & {';', '{', '}'} or block != code.find_from(owner, '{'):
+            code.stop(i, 'no rule for this name at another place than a function of a type')
+        method, of = is_method(code, name), code.text(code.after(owner))
+        if method and (code.text(name) in SAME_CALLS or new != f'try_{code.text(name)}') or any(
+                method or of in around(each, place[0])
+                for each in codes for place in each.find('fn', new)):
+            code.stop(i, 'no rule for this name, which another function has or may have')
+        yield ('' if method else of, code.text(name)), new
+        code.t[name].text = new
 
 
 # ---------------------------------------------------------------- signatures and calls
@@ -409,6 +266,8 @@ def bounds(code):
             code.t[drop].text = 'Sized'  # as each type is that is `Drop`
         elif code.text(code.after(drop)) != '+':
             code.drop(colon, drop + 1)
+    for plus, drop in code.find('+', 'Drop'):
+        code.drop(plus, drop + 1)
 
 
 def formatters(code):
@@ -425,7 +284,7 @@ def formatters(code):
                     code.drop_part(parts, k)
 
 
-def calls(code, names):
+def calls(code, names, defined):
     """Rule 6: allocators go, as parameters and arguments. Rules 9 and 12: what is renamed."""
     for i, token in enumerate(code.t):
         callee = code.t[code.before(i) or 0]
@@ -435,6 +294,8 @@ def calls(code, names):
         parts = code.parts(i)
         words = [code.words(*part) for part in parts]
         passed = [k for k, w in enumerate(words) if w in ALLOCATORS or w[1:] == [':', 'Global']]
+        if any(w[1:] == [':', 'Global'] and w[0] not in ('alloc', '_alloc') for w in words):
+            code.stop(i, 'no rule for an allocator of another name')
         for k in passed:
             code.drop_part(parts, k)
         count, name = len(parts) - len(passed), code.before(i)
@@ -443,10 +304,17 @@ def calls(code, names):
         owner = code.text(code.before(dot)) if how == '::' else ''
         if how == '.' and (text, count) in (METHODS_IN if passed else METHODS):
             code.t[name].text = PREFIX + text
+        elif how == '::' and not owner.islower() and text in {
+                known for known, _ in METHODS | METHODS_IN}:
+            code.stop(name, 'no rule for this call but after a dot')
         elif how == '::' and (owner, text) in FUNCTIONS:
             code.t[name].text = PREFIX + text
         elif how in ('.', '::') and (owner, text) in names:
+            if not owner and text in defined:
+                code.stop(name, 'no rule for the name of two functions, of which one is renamed')
             code.t[name].text = names[owner, text]
+        elif how == '::' and not owner.islower() and text in {known for _, known in names}:
+            code.stop(name, 'no rule for this call but by the name of its type')
 
 
 def macros(code):
@@ -455,10 +323,13 @@ def macros(code):
         for places in code.find(name, '!'):
             code.t[places[0]].text = f'crate::rattle_std::{PREFIX}{name}'
             first = code.after(code.after(places[1]))
+            if code.text(first) != 'in' and (
+                    name in ('vec', 'format') or code.text(code.after(first)) != ';'):
+                code.stop(first, 'no rule for this macro without an allocator or the runtime')
             if code.text(first) == 'in':
-                end = first
-                while code.text(end) != ';':
-                    end = code.after(code.close(end) if code.text(end) == '(' else end)
+                end = code.find_from(first, ';')
+                if code.words(first + 1, end) not in ALLOCATORS:
+                    code.stop(first, 'no rule for an allocator of another form')
                 code.drop(first, code.at(end + 1))
 
 
@@ -478,27 +349,6 @@ def roots(code, crates):
             second = code.after(code.after(i))
             if code.text(second) == 'alloc':
                 code.drop(second, code.after(second) + 1)
-
-
-def check(code, defined):
-    """Stops at what no rule knows: a word of contracts, a macro, or a call of std."""
-    for i, token in enumerate(code.t):
-        if token.kind != 'word' or '::' in token.text:
-            continue
-        text, before, after = token.text, code.text(code.before(i)), code.after(i)
-        if text in LEFT:
-            code.stop(i, 'no rule for this word')
-        if code.text(after) == '!' and code.text(code.after(after)) in OPEN:
-            if text not in SAME_MACROS:
-                code.stop(i, 'no rule for this macro')
-        if code.text(after) == '::' and code.text(code.after(after)) == '<':
-            after = code.after(code.close(code.after(after)))
-        if code.text(after) != '(' or before not in ('.', '::') or text.startswith(PREFIX):
-            continue
-        owner = code.text(code.before(code.before(i))).split('::')[-1] if before == '::' else ''
-        known = defined | SAME_CALLS if owner not in OWNERS else set()
-        if text[0].islower() and text not in known and f'{owner}::{text}' not in SAME_FUNCTIONS:
-            code.stop(i, 'no rule for this call')
 
 
 def needs_std(code):
@@ -531,10 +381,7 @@ def layout(code, of_std):
     """Rule 18: the text of a file, after its first lines."""
     text = ''.join(token.text for token in code.t
                    if not re.match(r'// (Answer|In Rust): ', token.text))
-    text = re.sub(r'[ \t]+\n', '\n', text)
-    text = re.sub(r'([^\s{};,])\n *\{\n', r'\1 {\n', text)
-    text = re.sub(r'\n{3,}', '\n\n', text)
-    text = re.sub(r'([{(])\n\n', r'\1\n', text)
+    text = tidied(text)
     head = re.match(r'(?:\s*//![^\n]*\n)*', text).end()
     first = f'// Made by tools/erase.py from {code.path}; not edited by hand.\n'
     return (first + text[:head].lstrip('\n') + '#![cfg(feature = "std")]\n' * of_std
@@ -561,13 +408,27 @@ def files(name):
             yield Code(name, module, f'{root}/{module}.rt')
 
 
+def law_files(crates):
+    """The laws of each crate that has some."""
+    paths = {name: f'crates/{name}/src/laws.rt' for name in crates}
+    return {name: Code(name, 'laws', path) for name, path in paths.items()
+            if os.path.exists(f'{TOP}/{path}')}
+
+
 def erase():
     """Each file of the result, with its text."""
     crates = re.findall(r'^(\w+)[^:#\n]*:', open(f'{TOP}/crates.txt').read(), re.M)
     crates = [name for name in crates if name not in NOT_ERASED]
+    missing = [name for name in crates if not list(files(name))]
+    if missing:
+        sys.exit(f'tools/erase.py: crates.txt names crates without sources: {", ".join(missing)}')
     codes = [code for name in crates for code in files(name)]
-    names = {name: new for code in codes for name, new in names_for_rust(code)}
+    of_laws = law_files(crates)
+    stops(codes, crates)
+    names = {name: new for code in codes for name, new in names_for_rust(code, codes)}
     defined = {code.text(code.after(p[0])) for code in codes for p in code.find('fn')}
+    methods = {code.text(code.after(p[0])) for code in codes for p in code.find('fn')
+               if is_method(code, code.after(p[0]))}
     copied = {'u8', 'u32', 'u64', 'usize', 'bool', 'char'}
     copied |= {name for code in codes for name in copied_types(code)}
     needing = of_std(codes)
@@ -575,15 +436,15 @@ def erase():
     for code in codes:
         attributes(code, copied)
         models(code)
-        laws(code)
-        uses(code)
+        laws(code, of_laws)
+        uses(code, crates)
         visible(code)
         bounds(code)
         formatters(code)
-        calls(code, names)
+        calls(code, names, defined)
         macros(code)
         roots(code, crates)
-        check(code, defined)
+        check(code, defined, methods)
         inner = 'mod' if code.module in ('lib', 'main') else code.module
         yield f'{code.crate}/{inner}.rs', layout(code, (code.crate, code.module) in needing)
 
