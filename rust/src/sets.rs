@@ -9,9 +9,9 @@
 //! assert_eq!(new.is_subset(&old), Ok(true));
 //! assert!(old.contains(&version::parse("1.2.0").unwrap()));
 //!
-//! let lost = old.difference(&new)?.release_ranges()?.range_set;
+//! let lost = old.difference(&new).unwrap();
 //! assert_eq!(lost.to_string(), "=1.2.0 || >=1.9.0 <2.0.0");
-//! # Ok::<(), Box<dyn std::error::Error>>(())
+//! # Ok::<(), semver_parser::RangeError>(())
 //! ```
 
 use crate::proved::tool_ranges::meaning;

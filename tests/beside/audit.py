@@ -1,8 +1,10 @@
 #!/usr/bin/env python3
 """Runs the commands of the audit in docs/PROVED.md as they are written, one after the other, in a clone of the last
-commit: each has to print what is written below it. It is beside the gate, and needs what proves."""
+commit, and prints each step with its commands and what they printed. Each has to print what is written below it. It is
+beside the gate, and needs what proves."""
 import os
 import re
+import shutil
 import subprocess
 import sys
 import tempfile
@@ -10,27 +12,47 @@ import tempfile
 TOP = os.path.dirname(os.path.dirname(os.path.dirname(os.path.abspath(__file__))))
 
 
-def steps():
-    """The commands of the audit, each with what it prints."""
-    with open(os.path.join(TOP, 'docs/PROVED.md'), encoding='utf-8') as file:
-        audit = re.search(r'^## An audit.*?(?=^## )', file.read(), re.M | re.S)[0]
-    for block in re.findall(r'^ {7}\$ (.*\n(?: {7}(?!\$).*\n)*)', audit, re.M):
-        command, *output = (line.removeprefix(' ' * 7) for line in block.splitlines())
-        yield command, ''.join(f'{line}\n' for line in output)
+def steps(page):
+    """The steps of the audit: of each its number, its sentence in bold, and its commands with what they print."""
+    audit = re.search(r'^## An audit.*?(?=^## )', page, re.M | re.S)[0]
+    for number, title, text in re.findall(r'^(\d)\. \*\*(.*?)\*\*(.*?)(?=^\d\. |\Z)', audit, re.M | re.S):
+        commands = []
+        for block in re.findall(r'^ {7}\$ (.*\n(?: {7}(?!\$).*\n)*)', text, re.M):
+            command, *output = (line.removeprefix(' ' * 7) for line in block.splitlines())
+            commands.append((command, ''.join(f'{line}\n' for line in output)))
+        yield number, title.replace('\n', ' '), commands
+
+
+def is_printed(command, output, work):
+    """Whether a command prints what is written below it; it prints both if not."""
+    print(f'   $ {command}', flush=True)
+    ran = subprocess.run(['sh', '-c', command], cwd=work, capture_output=True, text=True, check=False)
+    print(''.join(f'   {line}\n' for line in ran.stdout.splitlines()), end='', flush=True)
+    if ran.stdout == output:
+        return True
+    print(f'   {ran.stderr[-2000:]}but docs/PROVED.md has\n{output}', end='', flush=True)
+    return False
 
 
 def main():
-    count, failed = 0, False
+    if not shutil.which('rt'):
+        sys.exit('audit: rt, the command of the kit, is needed')
+    with open(os.path.join(TOP, 'docs/PROVED.md'), encoding='utf-8') as file:
+        page = file.read()
+    count, failed = 0, []
     with tempfile.TemporaryDirectory() as work:
         subprocess.run(['git', 'clone', '-q', TOP, work], check=True)
-        for command, output in steps():
-            ran = subprocess.run(['sh', '-c', command], cwd=work, capture_output=True, text=True, check=False)
-            count += 1
-            if ran.stdout != output:
-                failed = True
-                print(f'{command}\n{ran.stdout}{ran.stderr[-2000:]}in place of\n{output}', end='')
-    print('audit: failed' if failed or count < 3 else f'audit: {count} commands, passed')
-    return 1 if failed or count < 3 else 0
+        for number, title, commands in steps(page):
+            print(f'{number}. {title}' + ('' if commands else ' (to be read)'), flush=True)
+            for command, output in commands:
+                count += 1
+                if not is_printed(command, output, work):
+                    failed.append(number)
+    if failed or count < 8:
+        print(f'audit: failed, {count} commands, steps {", ".join(failed) or "missing"}')
+        return 1
+    print(f'audit: {count} commands, passed')
+    return 0
 
 
 sys.exit(main())
