@@ -97,16 +97,6 @@ def refusal(code, i, what):
     return Refused(code.where, code.tokens[i].line, what)
 
 
-def of_and_for(head):
-    """The words of an `impl` before its `for`, and the first one after it, or '' without `for`."""
-    at = next((i for i in range(len(head) - 1) if head[i] == 'for' and head[i + 1] != '<'), None)
-    return (head, '') if at is None else (head[:at], head[at + 1])
-
-
-def is_name(word):
-    return re.fullmatch(r'[A-Za-z_]\w*', word) is not None
-
-
 def is_listed(entry, entries):
     """Whether texts are among others, but for blanks."""
     return tuple(map(squeezed, entry)) in {tuple(map(squeezed, known)) for known in entries}
