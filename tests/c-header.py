@@ -108,7 +108,7 @@ def constants_in_rust():
         yield 'OP_' + operators[name], number
     yield 'REASON_NONE', '0'
     for path, kind, function, prefix in (
-        ('text_prefixes/reasons', 'Reason', 'row', 'REASON'), ('tool_ranges/dialect', 'Dialect', 'number', 'DIALECT'),
+        ('invalid_strings/reasons', 'Reason', 'row', 'REASON'), ('tool_ranges/dialect', 'Dialect', 'number', 'DIALECT'),
         ('version_sets/rules', 'PreReleases', 'number', 'PRE_RELEASES'),
     ):
         body = re.search(rf'fn {function}\(.*?\n    \}}', read(f'rust/src/proved/{path}.rs'), re.S)[0]

@@ -12,11 +12,11 @@
 //! ```
 
 use crate::original::out_of_memory;
-use crate::proved::{text_prefixes, tool_ranges};
+use crate::proved::{invalid_strings, tool_ranges};
 use crate::{AllocError, Dialect};
 
-pub use crate::proved::text_prefixes::reasons::Reason;
-pub use crate::proved::text_prefixes::refusals::Refusal as VersionRefusal;
+pub use crate::proved::invalid_strings::reasons::Reason;
+pub use crate::proved::invalid_strings::refusals::Refusal as VersionRefusal;
 pub use crate::proved::tool_ranges::refusals::Refusal as RangeRefusal;
 
 /// Returns where and why a string isn't a version of a dialect, or `None` if it is one.
@@ -51,7 +51,7 @@ pub fn try_of_version(
     version: &[u8],
     dialect: Dialect,
 ) -> Result<Option<VersionRefusal>, AllocError> {
-    text_prefixes::refusals::explain(version, dialect.grammar())
+    invalid_strings::refusals::explain(version, dialect.grammar())
 }
 
 /// Returns where and why a string isn't a range of a dialect, or `None` if it is one.

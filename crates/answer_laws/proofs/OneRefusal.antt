@@ -4,9 +4,9 @@ use Rattle.std.proofs.Common.{◌≡◌, ◌∙◌, ℕ, Option, Some, None, ref
 use Rattle.semver_texts.specs.Texts.{Text}
 use Rattle.semver_parser.specs.declared.RangeError.{RangeError}
 use Rattle.semver_parser.specs.declared.RangeError.TheVariants.{NotARange, NumberTooLarge, OutOfMemory}
-use Rattle.text_prefixes.specs.Prefixes.{IsLongestPrefix}
-use Rattle.text_prefixes.specs.Reasons.{byte_at}
-use Rattle.text_prefixes.specs.declared.reasons.Reason.{Reason}
+use Rattle.invalid_strings.specs.Prefixes.{IsLongestPrefix}
+use Rattle.invalid_strings.specs.Reasons.{byte_at}
+use Rattle.invalid_strings.specs.declared.reasons.Reason.{Reason}
 use Rattle.tool_ranges.specs.Prefixes.{BeginsAs}
 use Rattle.tool_ranges.specs.RangeReasons.{IsReasonAs}
 use Rattle.tool_ranges.specs.TooLarge.{IsLimitOffset}

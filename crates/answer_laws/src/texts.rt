@@ -5,11 +5,11 @@ ghost use Rattle.std.specs.Char.{is_ascii_digit};
 ghost use Rattle.answer_laws.specs.OneAnswer.{AreOne, itself};
 ghost use Rattle.answer_laws.specs.SeenTexts.{seen_numbers, seen_text};
 
+use invalid_strings::laws::{one_longest_prefix, one_reason};
+use invalid_strings::refusals::{Refusal, explain};
 use semver_texts::grammar::Grammar;
 use semver_texts::{decimals, dotted};
 use std::alloc::{AllocError, Global};
-use text_prefixes::laws::{one_longest_prefix, one_reason};
-use text_prefixes::refusals::{Refusal, explain};
 
 /// A text is one number, or none.
 pub fn one_whole_number(text: &str) -> (Option<u64>, Option<u64>)

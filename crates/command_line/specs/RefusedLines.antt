@@ -4,7 +4,7 @@ use Rattle.semver_parser.specs.Texts.{Text}
 use Rattle.semver_parser.specs.declared.RangeError.{RangeError}
 use Rattle.semver_parser.specs.declared.RangeError.TheVariants.{NotARange, NumberTooLarge}
 use Rattle.semver_parser.specs.declared.RangeError.TheVariants.{OutOfMemory}
-use Rattle.text_prefixes.specs.ReasonTable.{sentence_of}
+use Rattle.invalid_strings.specs.ReasonTable.{sentence_of}
 use Rattle.tool_ranges.specs.declared.refusals.Refusal.{Refusal}
 
 -- what is wrong

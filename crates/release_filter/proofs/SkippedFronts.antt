@@ -6,7 +6,7 @@ use Rattle.std.specs.Prelude.{is_some}
 use Rattle.std.proofs.lemmas.List.{append_cancel_left}
 use Rattle.semver_texts.specs.Texts.{Text}
 use Rattle.semver_texts.specs.declared.grammar.Grammar.{Grammar}
-use Rattle.text_prefixes.specs.VersionPrefixes.{IsPrefixIn}
+use Rattle.invalid_strings.specs.VersionPrefixes.{IsPrefixIn}
 use Rattle.release_filter.specs.Skipping.{BeginsAfter}
 use Rattle.std.proofs.lemmas.Grind.{common_steps}
 

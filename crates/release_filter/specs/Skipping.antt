@@ -4,7 +4,7 @@ use Rattle.std.specs.Prelude.{IsTrue, length, take}
 use Rattle.std.specs.Io.BufRead.{strip_last}
 use Rattle.semver_texts.specs.Texts.{Text}
 use Rattle.semver_texts.specs.declared.grammar.Grammar.{Grammar}
-use Rattle.text_prefixes.specs.VersionPrefixes.{IsPrefixIn}
+use Rattle.invalid_strings.specs.VersionPrefixes.{IsPrefixIn}
 use Rattle.release_filter.specs.LineTexts.{after_mark}
 use Rattle.release_filter.specs.Verdicts.{tried}
 

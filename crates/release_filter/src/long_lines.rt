@@ -11,9 +11,9 @@ ghost use Rattle.release_filter.specs.Verdicts.{tried};
 
 use crate::line_filter::LineFilter;
 use crate::line_texts::{after_mark, without_last};
+use invalid_strings::bytes::is_prefix;
 use semver_versions::version::Grammar;
 use std::alloc::AllocError;
-use text_prefixes::bytes::is_prefix;
 
 /// A line of so many bytes is checked first: it is skipped if no version can follow.
 const FIRST_LOOK: usize = 4096;

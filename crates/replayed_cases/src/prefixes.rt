@@ -1,10 +1,10 @@
 //! Texts that are no versions: where and why.
 
+use invalid_strings::refusals::explain;
 use semver_parser::version::Grammar;
 use std::alloc::Global;
 use std::io;
 use std::io::Write;
-use text_prefixes::refusals::explain;
 
 /// Writes where and why the text is no version, or that it is one.
 pub fn write_refused<W: Write>(

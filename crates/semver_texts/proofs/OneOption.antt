@@ -1,4 +1,4 @@
--- serves: text_prefixes::laws::one_reason_of_number
+-- serves: invalid_strings::laws::one_reason_of_number
 -- What some call finds is one, if no two things are right.
 use Rattle.std.proofs.Common.{◌≡◌, MatchOption, Option, Some, None, ap, refl}
 

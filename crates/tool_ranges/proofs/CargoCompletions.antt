@@ -13,11 +13,11 @@ use Rattle.semver_texts.proofs.Lists.{by_test}
 use Rattle.semver_ranges.specs.Partials.{stated, states_nothing}
 use Rattle.semver_ranges.specs.RangeTree.{Form, bare, equal, less, at_most, greater, at_least, tilde, caret, is_bare, AreBlanks}
 use Rattle.semver_ranges.specs.RangeTree.{PartialTree, one, two, three, Simple, SpellsPartial, is_component, is_wildcard}
-use Rattle.text_prefixes.proofs.Completions.{CompletesBy, AtMost, Seq, among, both, byte_by, choice, in_bytes, optional, same, seq}
-use Rattle.text_prefixes.proofs.Completions as prefixes
-use Rattle.text_prefixes.proofs.Cores.{Marked, marked_from, marked_to}
-use Rattle.text_prefixes.proofs.Leaves.{IsBuild, IsPre}
-use Rattle.text_prefixes.proofs.VersionPrefixes.{all_true, parts_from, parts_to}
+use Rattle.invalid_strings.proofs.Completions.{CompletesBy, AtMost, Seq, among, both, byte_by, choice, in_bytes, optional, same, seq}
+use Rattle.invalid_strings.proofs.Completions as prefixes
+use Rattle.invalid_strings.proofs.Cores.{Marked, marked_from, marked_to}
+use Rattle.invalid_strings.proofs.Leaves.{IsBuild, IsPre}
+use Rattle.invalid_strings.proofs.VersionPrefixes.{all_true, parts_from, parts_to}
 use Rattle.tool_ranges.specs.CargoGrammar.{SpellsComparator, SpellsComparators, SpellsRequirement}
 use Rattle.tool_ranges.specs.CargoGrammar.{is_of_cargo, is_every, is_one, is_partial_of_cargo, sign, stands_alone, wildcards_are_last}
 use Rattle.tool_ranges.proofs.RangeLeaves.{blanks, blanks_append, closed, nothing, number_prefix, part, wildcard_prefix}

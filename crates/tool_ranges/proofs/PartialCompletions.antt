@@ -7,7 +7,7 @@ use Rattle.std.specs.List.{list_all}
 use Rattle.std.specs.Prelude.{◌&&◌}
 use Rattle.semver_texts.specs.Texts.{Text, is_part, marked}
 use Rattle.semver_ranges.specs.RangeTree.{one, two, three, SpellsPartial, is_component}
-use Rattle.text_prefixes.proofs.Completions.{CompletesBy, Joined, Seq, both, byte_by, in_bytes, joined, optional, seq}
+use Rattle.invalid_strings.proofs.Completions.{CompletesBy, Joined, Seq, both, byte_by, in_bytes, joined, optional, seq}
 
 -- identifiers after their mark
 abbrev pub Mark : ℕ → (Text → Type 0) → Text → Type 0

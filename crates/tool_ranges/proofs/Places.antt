@@ -10,8 +10,8 @@ use Rattle.semver_texts.specs.Texts.{Text}
 use Rattle.semver_texts.specs.declared.grammar.Grammar.{Grammar}
 use Rattle.semver_texts.specs.declared.grammar.Grammar.TheVariants as grammar
 use Rattle.semver_ranges.specs.RangeTree.{SpellsRangeIn, bare, empty, one}
-use Rattle.text_prefixes.specs.Prefixes.{AreCompletions, Begins, IsLongestPrefix}
-use Rattle.text_prefixes.proofs.LongestPrefixes.{ascii_utf8}
+use Rattle.invalid_strings.specs.Prefixes.{AreCompletions, Begins, IsLongestPrefix}
+use Rattle.invalid_strings.proofs.LongestPrefixes.{ascii_utf8}
 use Rattle.tool_ranges.specs.declared.dialect.Dialect.{Dialect}
 use Rattle.tool_ranges.specs.declared.dialect.Dialect.TheVariants.{Cargo, Npm, CrateCargo, CrateNpm}
 use Rattle.tool_ranges.specs.Prefixes.{BeginsAs}

@@ -13,9 +13,9 @@ use Rattle.semver_ranges.specs.RangeTree.{hyphen, simples}
 use Rattle.semver_ranges.specs.RangeTree.{PartialTree, SetTree, Role, after_form, after_hyphen, AreBlanks, AreSomeBlanks, SpellsForm}
 use Rattle.semver_ranges.specs.RangeTree.{SpellsRangeIn}
 use Rattle.semver_ranges.specs.RangeTree.{SpellsPadded, SpellsRange, SpellsSimple, SpellsSimples, SpellsWord}
-use Rattle.text_prefixes.proofs.Completions.{CompletesBy, Separated, Seq, among, both, byte_by, choice, dependent, in_bytes}
-use Rattle.text_prefixes.proofs.Completions.{many, optional, same, seq}
-use Rattle.text_prefixes.proofs.Leaves.{either}
+use Rattle.invalid_strings.proofs.Completions.{CompletesBy, Separated, Seq, among, both, byte_by, choice, dependent, in_bytes}
+use Rattle.invalid_strings.proofs.Completions.{many, optional, same, seq}
+use Rattle.invalid_strings.proofs.Leaves.{either}
 use Rattle.tool_ranges.proofs.RangeLeaves.{blanks, blanks_append, closed, some_blanks}
 use Rattle.tool_ranges.proofs.WordCompletions.{IsWord, word_completions}
 

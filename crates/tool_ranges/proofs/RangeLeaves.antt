@@ -9,8 +9,8 @@ use Rattle.semver_texts.specs.Texts.{Text, is_number, is_part}
 use Rattle.semver_texts.specs.declared.grammar.Grammar.{Grammar}
 use Rattle.semver_texts.specs.declared.grammar.Grammar.TheVariants.{Crate, Cargo, Npm}
 use Rattle.semver_ranges.specs.RangeTree.{AreBlanks, AreSomeBlanks, is_blank, is_component, is_wildcard}
-use Rattle.text_prefixes.proofs.Completions.{CompletesBy, IsCompletedBy, in_bytes, is_cut}
-use Rattle.text_prefixes.proofs.Leaves.{IsPartWith, byte_apart, digits_prefix, letter_part}
+use Rattle.invalid_strings.proofs.Completions.{CompletesBy, IsCompletedBy, in_bytes, is_cut}
+use Rattle.invalid_strings.proofs.Leaves.{IsPartWith, byte_apart, digits_prefix, letter_part}
 
 -- each prefix of a text of the language is of it, but for nothing
 pub closed : (Is : Text → Type 0) (lowest : Text) → Is lowest → is_cut lowest ≡ false → ((t : Text) → Is t → length lowest ≤ length t)

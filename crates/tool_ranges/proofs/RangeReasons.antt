@@ -2,8 +2,8 @@
 -- Why a text is not a range has one answer.
 use Rattle.std.proofs.Common.{◌≡◌, ◌∙◌, ℕ, Option, sym}
 use Rattle.semver_texts.specs.Texts.{Text}
-use Rattle.text_prefixes.specs.declared.reasons.Reason.{Reason}
-use Rattle.text_prefixes.proofs.VersionLaws.{same_test}
+use Rattle.invalid_strings.specs.declared.reasons.Reason.{Reason}
+use Rattle.invalid_strings.proofs.VersionLaws.{same_test}
 use Rattle.tool_ranges.specs.declared.dialect.Dialect.{Dialect}
 use Rattle.tool_ranges.specs.RangeReasons.{IsReasonAs, reason_by}
 

@@ -9,8 +9,8 @@ use Rattle.std.proofs.lemmas.List.Folds.{list_all-append}
 use Rattle.std.proofs.lemmas.Str.{chars-append}
 use Rattle.semver_texts.specs.Texts.{Text}
 use Rattle.semver_texts.specs.declared.grammar.Grammar.TheVariants as grammar
-use Rattle.text_prefixes.specs.Prefixes.{GoesOn}
-use Rattle.text_prefixes.proofs.Completions.{bytes_go_on}
+use Rattle.invalid_strings.specs.Prefixes.{GoesOn}
+use Rattle.invalid_strings.proofs.Completions.{bytes_go_on}
 use Rattle.tool_ranges.specs.declared.dialect.Dialect.{Dialect}
 use Rattle.tool_ranges.specs.declared.dialect.Dialect.TheVariants.{Cargo, Npm, CrateCargo, CrateNpm}
 use Rattle.tool_ranges.specs.NpmGrammar.{may_stand}

@@ -19,10 +19,10 @@ use Rattle.semver_ranges.specs.NpmLengths.{is_short_number, is_short_pre, is_sho
 use Rattle.semver_ranges.specs.RangeTree.{bare, tilde, caret, PartialTree, one, two, three, Role, after_form, after_hyphen, SpellsPartial}
 use Rattle.semver_ranges.specs.RangeTree.{SpellsWord, has_short_parts, has_short_version, is_component, is_taken_whole, is_wildcard}
 use Rattle.semver_ranges.specs.RangeTree.{is_word_of_npm, numbers_and_pre}
-use Rattle.text_prefixes.proofs.Completions.{CompletesBy, Seq, among, any, both, byte_by, in_bytes, limited, optional, same, seq}
-use Rattle.text_prefixes.proofs.Cores.{Marked, marked_from, marked_to}
-use Rattle.text_prefixes.proofs.Leaves.{IsBuild, IsPartWith}
-use Rattle.text_prefixes.proofs.VersionPrefixes.{all_true, parts_from, parts_to}
+use Rattle.invalid_strings.proofs.Completions.{CompletesBy, Seq, among, any, both, byte_by, in_bytes, limited, optional, same, seq}
+use Rattle.invalid_strings.proofs.Cores.{Marked, marked_from, marked_to}
+use Rattle.invalid_strings.proofs.Leaves.{IsBuild, IsPartWith}
+use Rattle.invalid_strings.proofs.VersionPrefixes.{all_true, parts_from, parts_to}
 use Rattle.tool_ranges.proofs.RangeLeaves.{closed, component_prefix, part, some_component, wildcard_prefix}
 use Rattle.tool_ranges.proofs.PartialCompletions.{Mark, Partial, IsThree, build_mark, cases, components_of_three, one_text, partial}
 use Rattle.tool_ranges.proofs.PartialCompletions.{pre_mark, spelled_one, spelled_two, spelled_three, three_is, three_text, two_text}

@@ -7,17 +7,17 @@ use Rattle.std.specs.Char.{is_ascii_digit}
 use Rattle.std.specs.Int.{is_in_range}
 use Rattle.std.specs.List.{list_all}
 use Rattle.semver_texts.specs.Texts.{Text, is_dotted_byte}
-use Rattle.text_prefixes.specs.Reasons.{ends_in_digit, ends_in_zero, from_end, has_no_digit}
-use Rattle.text_prefixes.specs.Reasons as version
-use Rattle.text_prefixes.specs.declared.reasons.Reason.{Reason}
-use Rattle.text_prefixes.specs.declared.reasons.Reason.TheVariants.{Empty, NotThreeNumbers}
-use Rattle.text_prefixes.specs.declared.reasons.Reason.TheVariants.{LeadingZero, EmptyIdentifier}
-use Rattle.text_prefixes.specs.declared.reasons.Reason.TheVariants.{UnexpectedCharacter, TooLong}
-use Rattle.text_prefixes.specs.declared.reasons.Reason.TheVariants.{NumberExpected, UnexpectedEnd}
-use Rattle.text_prefixes.specs.declared.reasons.Reason.TheVariants.{CargoBars, CargoCommas}
-use Rattle.text_prefixes.specs.declared.reasons.Reason.TheVariants.{CargoHyphen, CargoV}
-use Rattle.text_prefixes.specs.declared.reasons.Reason.TheVariants.{CargoWildcard, NpmComma}
-use Rattle.text_prefixes.specs.declared.reasons.Reason.TheVariants.{CrateComma, CrateV}
+use Rattle.invalid_strings.specs.Reasons.{ends_in_digit, ends_in_zero, from_end, has_no_digit}
+use Rattle.invalid_strings.specs.Reasons as version
+use Rattle.invalid_strings.specs.declared.reasons.Reason.{Reason}
+use Rattle.invalid_strings.specs.declared.reasons.Reason.TheVariants.{Empty, NotThreeNumbers}
+use Rattle.invalid_strings.specs.declared.reasons.Reason.TheVariants.{LeadingZero, EmptyIdentifier}
+use Rattle.invalid_strings.specs.declared.reasons.Reason.TheVariants.{UnexpectedCharacter, TooLong}
+use Rattle.invalid_strings.specs.declared.reasons.Reason.TheVariants.{NumberExpected, UnexpectedEnd}
+use Rattle.invalid_strings.specs.declared.reasons.Reason.TheVariants.{CargoBars, CargoCommas}
+use Rattle.invalid_strings.specs.declared.reasons.Reason.TheVariants.{CargoHyphen, CargoV}
+use Rattle.invalid_strings.specs.declared.reasons.Reason.TheVariants.{CargoWildcard, NpmComma}
+use Rattle.invalid_strings.specs.declared.reasons.Reason.TheVariants.{CrateComma, CrateV}
 use Rattle.tool_ranges.specs.declared.dialect.Dialect.{Dialect}
 use Rattle.tool_ranges.specs.declared.dialect.Dialect.TheVariants.{Cargo, Npm, CrateCargo}
 use Rattle.tool_ranges.specs.declared.dialect.Dialect.TheVariants.{CrateNpm}

@@ -4,8 +4,8 @@ use Rattle.semver_texts.specs.Texts.{Text}
 use Rattle.semver_ranges.specs.declared.range_set.RangeError.TheVariants.{NotARange}
 use Rattle.semver_ranges.specs.declared.range_set.RangeError.TheVariants.{NumberTooLarge}
 use Rattle.semver_ranges.specs.declared.range_set.RangeError.TheVariants.{OutOfMemory}
-use Rattle.text_prefixes.specs.Prefixes.{IsLongestPrefix}
-use Rattle.text_prefixes.specs.Reasons.{byte_at, too_large_in}
+use Rattle.invalid_strings.specs.Prefixes.{IsLongestPrefix}
+use Rattle.invalid_strings.specs.Reasons.{byte_at, too_large_in}
 use Rattle.tool_ranges.specs.Dialects.{HasSetAs, IsTextAs, IsTooLargeAs, grammar_of}
 use Rattle.tool_ranges.specs.Prefixes.{BeginsAs}
 use Rattle.tool_ranges.specs.RangeReasons.{IsReasonAs}

@@ -3,11 +3,11 @@
 ghost use Rattle.std.specs.Prelude.{◌≡◌, ◌++◌, ℕ, [], Option};
 ghost use Rattle.semver_texts.specs.Digits.{digits_in};
 ghost use Rattle.semver_texts.specs.Texts.{Text};
-ghost use Rattle.text_prefixes.specs.Prefixes.{IsLongestPrefix};
+ghost use Rattle.invalid_strings.specs.Prefixes.{IsLongestPrefix};
 ghost use Rattle.tool_ranges.specs.Prefixes.{BeginsAs};
 ghost use Rattle.tool_ranges.specs.declared.dialect.Dialect.{Dialect as SomeDialect};
 ghost use Rattle.tool_ranges.specs.Dialects.{IsTextAs, SpellsAs, TreeOf};
-ghost use Rattle.text_prefixes.specs.declared.reasons.Reason.{Reason as SomeReason};
+ghost use Rattle.invalid_strings.specs.declared.reasons.Reason.{Reason as SomeReason};
 ghost use Rattle.tool_ranges.specs.RangeReasons.{IsReasonAs};
 ghost use Rattle.tool_ranges.specs.TooLarge.{IsLimitOffset};
 ghost use Rattle.tool_ranges.specs.VersionRanges.{versions_grammar};

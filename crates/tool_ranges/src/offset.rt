@@ -3,15 +3,15 @@
 //! grammar.
 
 ghost use Rattle.std.specs.Prelude.{◌≡◌, ◌≢◌, ◌↔◌, IfErr, IfOk, IsTrue};
-ghost use Rattle.text_prefixes.specs.Prefixes.{IsLongestPrefix};
+ghost use Rattle.invalid_strings.specs.Prefixes.{IsLongestPrefix};
 ghost use Rattle.tool_ranges.specs.Dialects.{IsTextAs, RefusesAs};
 ghost use Rattle.tool_ranges.specs.Prefixes.{BeginsAs};
 
 use crate::dialect::Dialect;
 use crate::meaning::{self, Meaning};
+use invalid_strings::longest::{Language, longest_prefix};
 use semver_ranges::RangeError;
 use std::alloc::{AllocError, Global};
-use text_prefixes::longest::{Language, longest_prefix};
 use version_sets::PreReleases;
 
 /// What completes a prefix. Nothing is missing after a number; a wildcard after a dot, an operator

@@ -4,7 +4,7 @@
 
 ghost use Rattle.std.specs.Prelude.{◌≡◌, IfOk, take};
 ghost use Rattle.std.specs.Str.{IsCharBoundary};
-ghost use Rattle.text_prefixes.specs.Reasons.{byte_at};
+ghost use Rattle.invalid_strings.specs.Reasons.{byte_at};
 ghost use Rattle.tool_ranges.specs.RangeReasons.{IsReasonAs, begins_partial, ends_identifier};
 ghost use Rattle.tool_ranges.specs.RangeReasons.{ends_in_component, expects_number};
 ghost use Rattle.tool_ranges.specs.RangeReasons.{has_leading_zero, is_begun, is_long, is_open};
@@ -16,11 +16,11 @@ ghost use Rattle.tool_ranges.specs.RangeReasons.{reason_of_npm};
 use crate::dialect::Dialect;
 use crate::offset::is_range;
 use crate::overflow_offset::is_separator;
+use invalid_strings::buffers::join;
+use invalid_strings::prefix_bytes::{self, byte_at, ends_in_zero, from_end, has_no_digit};
+use invalid_strings::reasons::Reason;
 use semver_texts::bytes::is_part_byte;
 use std::alloc::{AllocError, Global};
-use text_prefixes::buffers::join;
-use text_prefixes::prefix_bytes::{self, byte_at, ends_in_zero, from_end, has_no_digit};
-use text_prefixes::reasons::Reason;
 
 /// What npm bounds is no shorter.
 const LONG: usize = 250;

@@ -3,9 +3,9 @@
 ghost use Rattle.std.specs.Prelude.{◌≡◌, ◌≢◌, IfErr, IfOk, take};
 ghost use Rattle.semver_ranges.specs.declared.range_set.RangeError.TheVariants.{NotARange};
 ghost use Rattle.semver_ranges.specs.declared.range_set.RangeError.TheVariants.{NumberTooLarge};
-ghost use Rattle.text_prefixes.specs.Prefixes.{IsLongestPrefix};
+ghost use Rattle.invalid_strings.specs.Prefixes.{IsLongestPrefix};
 ghost use Rattle.tool_ranges.specs.Prefixes.{BeginsAs};
-ghost use Rattle.text_prefixes.specs.Reasons.{byte_at, too_large_in};
+ghost use Rattle.invalid_strings.specs.Reasons.{byte_at, too_large_in};
 ghost use Rattle.tool_ranges.specs.Dialects.{IsTextAs, SpellsAs, TreeOf, grammar_of};
 ghost use Rattle.tool_ranges.specs.RangeReasons.{IsReasonAs};
 ghost use Rattle.tool_ranges.specs.Refusals.{IsRefusalAs};
@@ -15,9 +15,9 @@ use crate::dialect::Dialect;
 use crate::offset::{check, prefix_end};
 use crate::overflow_offset::limit_offset;
 use crate::reasons::reason_at;
+use invalid_strings::reasons::Reason;
 use semver_ranges::RangeError;
 use std::alloc::{AllocError, Global};
-use text_prefixes::reasons::Reason;
 
 /// Where and why a text gives no range.
 ///

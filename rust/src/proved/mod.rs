@@ -6,7 +6,7 @@
 pub mod semver_texts;
 pub mod semver_tokens;
 pub mod semver_versions;
-pub mod text_prefixes;
+pub mod invalid_strings;
 pub mod semver_ranges;
 pub mod semver_parser;
 pub mod version_sets;

@@ -2,13 +2,13 @@
 
 use super::Ending;
 use super::fixed::Fixed;
+use invalid_strings::reasons::Reason;
+use invalid_strings::refusals::explain;
 use semver_parser::parser::Error;
 use semver_parser::version::{Grammar, Version};
 use semver_parser::{lexer, version};
 use std::alloc::Global;
 use std::fmt::Write as _;
-use text_prefixes::reasons::Reason;
-use text_prefixes::refusals::explain;
 
 /// Texts whose longest front holds no identifier are answered without a request.
 pub fn without_identifiers(alloc: Global) -> Ending {

@@ -4,9 +4,9 @@
 use crate::rattle_std::prelude::*;
 use crate::proved::release_filter::line_filter::LineFilter;
 use crate::proved::release_filter::line_texts::{after_mark, without_last};
+use crate::proved::invalid_strings::bytes::is_prefix;
 use crate::proved::semver_versions::version::Grammar;
 use crate::rattle_std::AllocError;
-use crate::proved::text_prefixes::bytes::is_prefix;
 
 /// A line of so many bytes is checked first: it is skipped if no version can follow.
 const FIRST_LOOK: usize = 4096;

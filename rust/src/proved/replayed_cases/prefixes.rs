@@ -3,10 +3,10 @@
 #![cfg(feature = "std")]
 
 use crate::rattle_std::prelude::*;
+use crate::proved::invalid_strings::refusals::explain;
 use crate::proved::semver_parser::version::Grammar;
 use crate::rattle_std::io;
 use crate::rattle_std::io::Write;
-use crate::proved::text_prefixes::refusals::explain;
 
 /// Writes where and why the text is no version, or that it is one.
 pub fn write_refused<W: Write>(

@@ -6,9 +6,9 @@
 use crate::rattle_std::prelude::*;
 use crate::proved::tool_ranges::dialect::Dialect;
 use crate::proved::tool_ranges::meaning::{self, Meaning};
+use crate::proved::invalid_strings::longest::{Language, longest_prefix};
 use crate::proved::semver_ranges::RangeError;
 use crate::rattle_std::AllocError;
-use crate::proved::text_prefixes::longest::{Language, longest_prefix};
 use crate::proved::version_sets::PreReleases;
 
 /// What completes a prefix. Nothing is missing after a number; a wildcard after a dot, an operator

@@ -7,11 +7,11 @@ use crate::rattle_std::prelude::*;
 use crate::proved::tool_ranges::dialect::Dialect;
 use crate::proved::tool_ranges::offset::is_range;
 use crate::proved::tool_ranges::overflow_offset::is_separator;
+use crate::proved::invalid_strings::buffers::join;
+use crate::proved::invalid_strings::prefix_bytes::{self, byte_at, ends_in_zero, from_end, has_no_digit};
+use crate::proved::invalid_strings::reasons::Reason;
 use crate::proved::semver_texts::bytes::is_part_byte;
 use crate::rattle_std::AllocError;
-use crate::proved::text_prefixes::buffers::join;
-use crate::proved::text_prefixes::prefix_bytes::{self, byte_at, ends_in_zero, from_end, has_no_digit};
-use crate::proved::text_prefixes::reasons::Reason;
 
 /// What npm bounds is no shorter.
 const LONG: usize = 250;

@@ -6,9 +6,9 @@ use crate::proved::tool_ranges::dialect::Dialect;
 use crate::proved::tool_ranges::offset::{check, prefix_end};
 use crate::proved::tool_ranges::overflow_offset::limit_offset;
 use crate::proved::tool_ranges::reasons::reason_at;
+use crate::proved::invalid_strings::reasons::Reason;
 use crate::proved::semver_ranges::RangeError;
 use crate::rattle_std::AllocError;
-use crate::proved::text_prefixes::reasons::Reason;
 
 /// Where and why a text gives no range.
 ///

@@ -1,5 +1,5 @@
 use Rattle.std.proofs.Common.{take}
-use Rattle.text_prefixes.specs.Reasons.{byte_at}
+use Rattle.invalid_strings.specs.Reasons.{byte_at}
 use Rattle.answer_laws.specs.OneAnswer.{itself}
 use Rattle.answer_laws.proofs.OneAnswer.{one_made, said}
 use Rattle.answer_laws.proofs.OneRefusal.{one_refused}

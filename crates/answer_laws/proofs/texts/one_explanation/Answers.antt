@@ -2,10 +2,10 @@ use Rattle.std.proofs.Common.{◌≡◌, ℕ, Option, Some, None, MatchOption, r
 use Rattle.semver_texts.specs.Texts.{Text}
 use Rattle.semver_texts.specs.ToolVersions.{IsVersionTextIn}
 use Rattle.semver_texts.specs.declared.grammar.Grammar.{Grammar}
-use Rattle.text_prefixes.specs.Reasons.{IsReason, byte_at}
-use Rattle.text_prefixes.specs.VersionPrefixes.{IsLongestVersionPrefix}
-use Rattle.text_prefixes.specs.declared.reasons.Reason.{Reason}
-use Rattle.text_prefixes.specs.declared.refusals.Refusal.{Refusal}
+use Rattle.invalid_strings.specs.Reasons.{IsReason, byte_at}
+use Rattle.invalid_strings.specs.VersionPrefixes.{IsLongestVersionPrefix}
+use Rattle.invalid_strings.specs.declared.reasons.Reason.{Reason}
+use Rattle.invalid_strings.specs.declared.refusals.Refusal.{Refusal}
 use Rattle.answer_laws.proofs.OneAnswer.{one_made, said}
 use Rattle.answer_laws.specs.OneAnswer.{itself}
 use Rattle.answer_laws.proofs.texts.one_explanation.Goals as goal

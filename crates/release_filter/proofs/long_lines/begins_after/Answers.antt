@@ -1,5 +1,5 @@
 use Rattle.std.proofs.Common.{◌-◌, [], ◌++◌, ◌∙◌, IsTrue, ◌↔◌, ap, append-nil, arith, length, length-append, length-take, subst, sym}
-use Rattle.text_prefixes.specs.VersionPrefixes.{IsPrefixIn}
+use Rattle.invalid_strings.specs.VersionPrefixes.{IsPrefixIn}
 use Rattle.release_filter.specs.Skipping.{without_room}
 use Rattle.release_filter.proofs.Prefixes.{Strips, after}
 use Rattle.release_filter.proofs.Rooms.{part_is}

@@ -1,4 +1,4 @@
-use Rattle.text_prefixes.proofs.LongestPrefixes.{one_longest}
+use Rattle.invalid_strings.proofs.LongestPrefixes.{one_longest}
 use Rattle.tool_ranges.specs.Prefixes.{BeginsAs}
 use Rattle.tool_ranges.proofs.laws.one_offset.Goals as goal
 

@@ -1,4 +1,4 @@
-use Rattle.text_prefixes.proofs.LongestPrefixes.{whole_text_longest}
+use Rattle.invalid_strings.proofs.LongestPrefixes.{whole_text_longest}
 use Rattle.tool_ranges.specs.Dialects.{IsTextAs}
 use Rattle.tool_ranges.specs.Steps.Places.{range_completions}
 use Rattle.tool_ranges.proofs.Places.{completed, longest_as}

@@ -1,7 +1,7 @@
 use Rattle.std.proofs.Common.{ℕ, Ok, Err}
 use Rattle.std.specs.Prelude.{IfOk, Result}
 use Rattle.semver_texts.specs.Texts.{Text}
-use Rattle.text_prefixes.specs.Prefixes.{Begins, IsLongestPrefix}
+use Rattle.invalid_strings.specs.Prefixes.{Begins, IsLongestPrefix}
 use Rattle.tool_ranges.specs.Dialects.{IsTextAs}
 use Rattle.tool_ranges.specs.Prefixes.{BeginsAs}
 use Rattle.tool_ranges.specs.declared.dialect.Dialect.{Dialect}

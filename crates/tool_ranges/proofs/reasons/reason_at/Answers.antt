@@ -1,7 +1,7 @@
 use Rattle.std.proofs.Common.{◌≡◌, ◌∙◌, ◌++◌, ap, codes, subst, take, rules}
 use Rattle.std.specs.Prelude.{◌↔◌, IsTrue}
 use Rattle.semver_texts.specs.Texts.{Text}
-use Rattle.text_prefixes.specs.Reasons.{byte_at}
+use Rattle.invalid_strings.specs.Reasons.{byte_at}
 use Rattle.tool_ranges.specs.Dialects.{IsTextAs}
 use Rattle.tool_ranges.specs.RangeReasons.{reason_by}
 use Rattle.tool_ranges.proofs.reasons.reason_at.Goals as goal

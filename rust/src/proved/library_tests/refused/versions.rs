@@ -5,12 +5,12 @@
 use crate::rattle_std::prelude::*;
 use super::Ending;
 use super::fixed::Fixed;
+use crate::proved::invalid_strings::reasons::Reason;
+use crate::proved::invalid_strings::refusals::explain;
 use crate::proved::semver_parser::parser::Error;
 use crate::proved::semver_parser::version::{Grammar, Version};
 use crate::proved::semver_parser::{lexer, version};
 use crate::rattle_std::fmt::Write as _;
-use crate::proved::text_prefixes::reasons::Reason;
-use crate::proved::text_prefixes::refusals::explain;
 
 /// Texts whose longest front holds no identifier are answered without a request.
 pub fn without_identifiers() -> Ending {

@@ -1,0 +1,51 @@
+-- The reasons why a text is refused: a row for each.
+use Rattle.std.specs.Prelude.{ℤ, pos, codes}
+use Rattle.semver_texts.specs.Texts.{Text}
+use Rattle.invalid_strings.specs.declared.reasons.Reason.{Reason}
+use Rattle.invalid_strings.specs.declared.reasons.Reason.TheVariants as reason
+
+-- its number in C, Python and JavaScript, its name for programs, and its sentence for people
+abbrev pub row_of : Reason → ℤ × Text × Text
+row_of reason.Empty = (pos 1, codes "empty", codes "the string is empty")
+row_of reason.NotThreeNumbers =
+    (pos 2, codes "not-three-numbers", codes "there are fewer than three numbers")
+row_of reason.LeadingZero =
+    (pos 3, codes "leading-zero", codes "numbers and identifiers of digits may not have a leading zero")
+row_of reason.EmptyIdentifier = (pos 4, codes "empty-identifier", codes "an identifier is empty")
+row_of reason.UnexpectedCharacter =
+    (pos 5, codes "unexpected-character", codes "unexpected character")
+row_of reason.TooLarge =
+    (pos 6, codes "too-large", codes "numbers and raised bounds are at most 2^64 - 1")
+row_of reason.TooLong = (
+  pos 7,
+  codes "too-long",
+  codes "npm takes no version above 256 characters, and no build identifier above 250",
+)
+row_of reason.TextAfter = (pos 8, codes "text-after", codes "text follows the version")
+row_of reason.NotUtf8 = (pos 9, codes "not-utf8", codes "the string isn't UTF-8")
+row_of reason.NumberExpected = (pos 10, codes "number-expected", codes "a number is expected")
+row_of reason.UnexpectedEnd = (pos 11, codes "unexpected-end", codes "something is missing")
+row_of reason.CargoCommas =
+    (pos 12, codes "cargo-commas", codes "Cargo separates comparators by commas")
+row_of reason.CargoWildcard =
+    (pos 13, codes "cargo-wildcard", codes "Cargo takes * without numbers before it only alone")
+row_of reason.CargoBars = (pos 14, codes "cargo-bars", codes "Cargo takes no ||; npm does")
+row_of reason.CargoV = (pos 15, codes "cargo-v", codes "Cargo takes no leading v; npm does")
+row_of reason.CargoHyphen =
+    (pos 16, codes "cargo-hyphen", codes "Cargo takes no hyphen ranges; npm does")
+row_of reason.NpmComma =
+    (pos 17, codes "npm-comma", codes "npm separates comparators by spaces; Cargo takes commas")
+row_of reason.CrateComma =
+    (pos 18, codes "crate-comma", codes "the crate takes no commas; Cargo does")
+row_of reason.CrateV = (pos 19, codes "crate-v", codes "the crate takes no leading v; npm does")
+row_of reason.NpmTooLarge =
+    (pos 20, codes "npm-too-large", codes "npm's numbers and raised bounds are at most 2^53 - 1")
+
+abbrev pub number_of : Reason → ℤ
+number_of r = (row_of r).0
+
+abbrev pub name_of : Reason → Text
+name_of r = (row_of r).1
+
+abbrev pub sentence_of : Reason → Text
+sentence_of r = (row_of r).2

@@ -1,0 +1,55 @@
+//! The bytes at the end of a prefix, and the one after it.
+
+ghost use Rattle.std.specs.Prelude.{◌≡◌};
+ghost use Rattle.invalid_strings.specs.Reasons.{byte_at, ends_in_zero, from_end, has_no_digit};
+ghost use Rattle.invalid_strings.specs.Reasons.{is_separator};
+
+use semver_texts::white_space::is_ascii_white_space;
+
+// Answer: equation.
+/// Returns the byte at an offset, if there is one.
+pub fn byte_at(text: &[u8], offset: usize) -> Option<u8>
+    ensures { result ≡ byte_at text.now offset }
+{
+    if offset < text.len() {
+        Some(text[offset])
+    } else {
+        None
+    }
+}
+
+// Answer: equation.
+/// Returns a byte by its offset from the end; 0 before the first.
+pub fn from_end(prefix: &[u8], offset: usize) -> u8
+    ensures { result ≡ from_end prefix.now offset }
+{
+    if offset < prefix.len() {
+        prefix[prefix.len() - 1 - offset]
+    } else {
+        0
+    }
+}
+
+// Answer: equation.
+/// Whether it ends in a zero with no digit before it.
+pub fn ends_in_zero(prefix: &[u8]) -> bool
+    ensures { result ≡ ends_in_zero prefix.now }
+{
+    from_end(prefix, 0) == b'0' && !from_end(prefix, 1).is_ascii_digit()
+}
+
+// Answer: equation.
+/// Whether it has no digit.
+pub fn has_no_digit(prefix: &[u8]) -> bool
+    ensures { result ≡ has_no_digit prefix.now }
+{
+    prefix.iter().all(|byte| !byte.is_ascii_digit())
+}
+
+// Answer: equation.
+/// Whether the byte follows a number or an identifier in some versions.
+pub fn is_separator(byte: u8) -> bool
+    ensures { result ≡ is_separator byte }
+{
+    matches!(byte, b'.' | b'-' | b'+') || is_ascii_white_space(byte)
+}

@@ -1,0 +1,51 @@
+//! The versions of a dialect as a language.
+
+use crate::longest::Language;
+use semver_texts::bytes::count_dots;
+use semver_texts::grammar::Grammar;
+use semver_versions::version::outline_in;
+
+/// What completes a prefix of a version: nothing is missing after a number or an identifier; a
+/// letter is in an identifier, and numbers before them.
+const COMPLETIONS: [&str; 7] = ["", "a", "0", ".0", "0.0", ".0.0", "0.0.0"];
+
+/// The versions of a dialect.
+#[derive(Clone, Copy)]
+pub(crate) struct Versions {
+    pub grammar: Grammar,
+}
+
+impl Language for Versions {
+    ghost use Rattle.std.specs.Prelude.{◌<◌, length};
+    ghost use Rattle.semver_texts.specs.ToolVersions.{IsVersionTextIn};
+    ghost use Rattle.invalid_strings.specs.VersionCompletions.{version_completions};
+
+    ghost is_text = { λ versions. IsVersionTextIn versions.grammar };
+
+    ghost completions = { λ versions. version_completions };
+
+    fn contains(&self, text: &str) -> bool {
+        outline_in(text.as_bytes(), self.grammar).is_some()
+    }
+
+    fn all_completions(&self) -> &[&str] {
+        &COMPLETIONS
+    }
+
+    /// By how many of the numbers are missing.
+    fn likely(&self, prefix: &str) -> usize {
+        let dots = count_dots(prefix.as_bytes());
+        let ends = prefix
+            .as_bytes()
+            .last()
+            .is_some_and(u8::is_ascii_alphanumeric);
+        match (dots, ends) {
+            (0, false) => 6,
+            (0, true) => 5,
+            (1, false) => 4,
+            (1, true) => 3,
+            (_, false) => 2,
+            (_, true) => 0,
+        }
+    }
+}

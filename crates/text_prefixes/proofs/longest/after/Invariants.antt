@@ -1,7 +1,0 @@
-use Rattle.std.proofs.Common.{ℕ, ◌<◌}
-use Rattle.std.specs.Str.{IsCharBoundary}
-use Rattle.text_prefixes.proofs.longest.after.Given as goal
-
--- no offset so far is between two characters
-abbrev pub invariant-loop-at : goal.invariant-loop-at
-invariant-loop-at l = (k : ℕ) → l.offset < k → k < l.at → ¬ (IsCharBoundary l.text k)

@@ -1,0 +1,88 @@
+// Made by tools/erase.py from crates/invalid_strings/src/bytes.rt; not edited by hand.
+//! Whether some version begins with bytes, which may end within a character.
+
+use crate::rattle_std::prelude::*;
+use crate::proved::invalid_strings::buffers::write;
+use crate::proved::semver_texts::grammar::Grammar;
+use crate::proved::semver_versions::version::{is_version_at_any_length, outline_in};
+
+/// What completes a prefix.
+const COMPLETIONS: [&[u8]; 23] = [
+    b"",
+    b"a",
+    b"0",
+    b".0",
+    b"0.0",
+    b".0.0",
+    b"0.0.0",
+    &[0xA0],
+    &[0x9A, 0x80],
+    &[0x80, 0x80],
+    &[0x81, 0x9F],
+    &[0xBB, 0xBF],
+    &[0x80],
+    &[0x9F],
+    &[0xBF],
+    b"\xA00.0.0",
+    b"\x9A\x800.0.0",
+    b"\x80\x800.0.0",
+    b"\x81\x9F0.0.0",
+    b"\xBB\xBF0.0.0",
+    b"\x800.0.0",
+    b"\x9F0.0.0",
+    b"\xBF0.0.0",
+];
+
+/// How long a version may be.
+#[derive(Clone, Copy)]
+pub(crate) enum Length {
+    /// As long as its dialect allows.
+    Allowed,
+    /// Of any length.
+    Any,
+}
+
+/// Returns whether some version begins with these bytes but for the last 8, which are free for
+/// completions. The prefix may end within a character: `1.2.` and byte 0xC2 alone begin versions of
+/// npm, and `1.x` begins none.
+///
+/// All bytes are afterwards as they were. It does not allocate.
+pub(crate) fn is_prefix(bytes: &mut [u8], grammar: Grammar) -> bool {
+    let end = bytes.len() - 8;
+    let mut saved = [0; 8];
+    saved.copy_from_slice(&bytes[end..]);
+    let found = goes_on(bytes, end, &COMPLETIONS, Length::Allowed, grammar);
+    bytes[end..].copy_from_slice(&saved);
+    found
+}
+
+/// Whether some version of such a length begins with the bytes.
+pub(crate) fn begins(prefix: &[u8], len: Length, grammar: Grammar, buffer: &mut [u8]) -> bool {
+    write(buffer, 0, prefix);
+    goes_on(buffer, prefix.len(), &COMPLETIONS, len, grammar)
+}
+
+/// Whether the bytes up to an offset and one of the completions are a version of such a length.
+fn goes_on(
+    buffer: &mut [u8],
+    end: usize,
+    completions: &[&[u8]],
+    len: Length,
+    grammar: Grammar,
+) -> bool {
+    for completion in completions {
+        write(buffer, end, completion);
+        if is_version(&buffer[..end + completion.len()], len, grammar) {
+            return true;
+        }
+    }
+    false
+}
+
+/// Whether the bytes are a version of such a length.
+pub(crate) fn is_version(bytes: &[u8], len: Length, grammar: Grammar) -> bool {
+    match len {
+        Length::Allowed => outline_in(bytes, grammar).is_some(),
+        Length::Any => is_version_at_any_length(bytes, grammar),
+    }
+}

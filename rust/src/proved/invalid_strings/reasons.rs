@@ -1,0 +1,215 @@
+// Made by tools/erase.py from crates/invalid_strings/src/reasons.rt; not edited by hand.
+//! Why a text is refused: the one list of reasons, with their numbers, names and sentences.
+
+use crate::rattle_std::prelude::*;
+use crate::proved::semver_texts::grammar::Grammar;
+use crate::rattle_std::fmt;
+
+/// Why a text is no valid version, or not a range. It prints as its sentence.
+///
+/// ```
+/// use semver_parser::refusals::{self, Reason};
+/// use semver_parser::Dialect;
+///
+/// let of_version = |text| refusals::of_version(text, Dialect::Cargo).unwrap().reason;
+/// assert_eq!(of_version("1.2"), Reason::NotThreeNumbers);
+/// assert_eq!(of_version("1.2.3-01"), Reason::LeadingZero);
+/// assert_eq!(of_version("1.2.3 x"), Reason::TextAfter);
+///
+/// let of_range = |text| refusals::of_range(text, Dialect::Cargo).unwrap().reason;
+/// assert_eq!(of_range(">="), Reason::NumberExpected);
+/// assert_eq!(of_range(">=1 <2"), Reason::CargoCommas);
+/// assert_eq!(Reason::CargoCommas.to_string(), "Cargo separates comparators by commas");
+/// ```
+#[derive(Clone, Copy, PartialEq, Eq, Debug)]
+pub enum Reason {
+    /// The text is empty, or only white space that the dialect takes before a version.
+    Empty,
+    /// There are fewer than three numbers: the version `1.2`, the range `1.2-rc`.
+    NotThreeNumbers,
+    /// A number, or a pre-release identifier of digits only, has a leading zero: `01.2.3`,
+    /// `1.2.3-01`.
+    LeadingZero,
+    /// An identifier is empty: `1.2.3-`, `1.2.3-a..b`. In the crate's dialect also what is before
+    /// or after a hyphen: `1.2.3--a`.
+    EmptyIdentifier,
+    /// No version, or range, has this character there: the version `1.x`, the range `1.2.3.4`.
+    UnexpectedCharacter,
+    /// A number or a raised bound is above 2^64 - 1.
+    TooLarge,
+    /// Each version that begins so is longer than npm's 256 characters, or a build identifier
+    /// than 250.
+    TooLong,
+    /// Text follows a version and white space: `1.2.3 x`. In Cargo's dialect also the white space
+    /// itself, and in the crate's a vertical tab or a form feed.
+    TextAfter,
+    /// The bytes aren't UTF-8. No call on a `&str` returns this.
+    NotUtf8,
+    /// A number is expected: `1..3`, `>=`.
+    NumberExpected,
+    /// The range needs more at its end.
+    UnexpectedEnd,
+    /// Cargo separates comparators by commas.
+    CargoCommas,
+    /// Cargo takes `*` without numbers before it only alone.
+    CargoWildcard,
+    /// Cargo takes no `||`; npm does.
+    CargoBars,
+    /// Cargo takes no leading `v`, of a version or of a range; npm does.
+    CargoV,
+    /// Cargo takes no hyphen ranges; npm does.
+    CargoHyphen,
+    /// npm separates comparators by spaces; Cargo takes commas.
+    NpmComma,
+    /// The crate takes no commas; Cargo does.
+    CrateComma,
+    /// The crate takes no leading `v`, of a version or of a range; npm does.
+    CrateV,
+    /// To npm, a number or a raised bound is above 2^53 - 1.
+    NpmTooLarge,
+}
+
+impl Reason {
+    /// Returns the reason of a number that is above the limit of a dialect.
+    ///
+    /// ```
+    /// use semver_parser::refusals::Reason;
+    /// use semver_parser::version::Grammar;
+    ///
+    /// assert_eq!(Reason::too_large_in(Grammar::Cargo), Reason::TooLarge);
+    /// assert_eq!(Reason::too_large_in(Grammar::Npm), Reason::NpmTooLarge);
+    /// ```
+    pub fn too_large_in(grammar: Grammar) -> Reason {
+        match grammar {
+            Grammar::Npm => Reason::NpmTooLarge,
+            Grammar::Crate | Grammar::Cargo => Reason::TooLarge,
+        }
+    }
+
+    /// Returns its number in C, Python and JavaScript.
+    ///
+    /// ```
+    /// use semver_parser::refusals::Reason;
+    ///
+    /// assert_eq!(Reason::LeadingZero.number(), 3);
+    /// ```
+    pub fn number(self) -> i32 {
+        self.row().0
+    }
+
+    /// Returns the reason of a number, or `None` if no reason has it.
+    ///
+    /// ```
+    /// use semver_parser::refusals::Reason;
+    ///
+    /// assert_eq!(Reason::of_number(3), Some(Reason::LeadingZero));
+    /// assert_eq!(Reason::of_number(0), None);
+    /// ```
+    pub fn of_number(number: i32) -> Option<Reason> {
+        match number {
+            1 => Some(Reason::Empty),
+            2 => Some(Reason::NotThreeNumbers),
+            3 => Some(Reason::LeadingZero),
+            4 => Some(Reason::EmptyIdentifier),
+            5 => Some(Reason::UnexpectedCharacter),
+            6 => Some(Reason::TooLarge),
+            7 => Some(Reason::TooLong),
+            8 => Some(Reason::TextAfter),
+            9 => Some(Reason::NotUtf8),
+            10 => Some(Reason::NumberExpected),
+            11 => Some(Reason::UnexpectedEnd),
+            12 => Some(Reason::CargoCommas),
+            13 => Some(Reason::CargoWildcard),
+            14 => Some(Reason::CargoBars),
+            15 => Some(Reason::CargoV),
+            16 => Some(Reason::CargoHyphen),
+            17 => Some(Reason::NpmComma),
+            18 => Some(Reason::CrateComma),
+            19 => Some(Reason::CrateV),
+            20 => Some(Reason::NpmTooLarge),
+            _ => None,
+        }
+    }
+
+    /// Returns its name for programs, in lower case with hyphens.
+    ///
+    /// ```
+    /// use semver_parser::refusals::Reason;
+    ///
+    /// assert_eq!(Reason::LeadingZero.name(), "leading-zero");
+    /// ```
+    pub fn name(self) -> &'static str {
+        self.row().1
+    }
+
+    /// Returns its sentence for people, without a full stop.
+    ///
+    /// ```
+    /// use semver_parser::refusals::Reason;
+    ///
+    /// assert_eq!(Reason::CargoBars.sentence(), "Cargo takes no ||; npm does");
+    /// ```
+    pub fn sentence(self) -> &'static str {
+        self.row().2
+    }
+
+    /// Its number, its name and its sentence.
+    fn row(self) -> (i32, &'static str, &'static str) {
+        match self {
+            Reason::Empty => (1, "empty", "the string is empty"),
+            Reason::NotThreeNumbers => (
+                2,
+                "not-three-numbers",
+                "there are fewer than three numbers",
+            ),
+            Reason::LeadingZero => (
+                3,
+                "leading-zero",
+                "numbers and identifiers of digits may not have a leading zero",
+            ),
+            Reason::EmptyIdentifier => (4, "empty-identifier", "an identifier is empty"),
+            Reason::UnexpectedCharacter => (5, "unexpected-character", "unexpected character"),
+            Reason::TooLarge => (
+                6,
+                "too-large",
+                "numbers and raised bounds are at most 2^64 - 1",
+            ),
+            Reason::TooLong => (
+                7,
+                "too-long",
+                "npm takes no version above 256 characters, and no build identifier above 250",
+            ),
+            Reason::TextAfter => (8, "text-after", "text follows the version"),
+            Reason::NotUtf8 => (9, "not-utf8", "the string isn't UTF-8"),
+            Reason::NumberExpected => (10, "number-expected", "a number is expected"),
+            Reason::UnexpectedEnd => (11, "unexpected-end", "something is missing"),
+            Reason::CargoCommas => (12, "cargo-commas", "Cargo separates comparators by commas"),
+            Reason::CargoWildcard => (
+                13,
+                "cargo-wildcard",
+                "Cargo takes * without numbers before it only alone",
+            ),
+            Reason::CargoBars => (14, "cargo-bars", "Cargo takes no ||; npm does"),
+            Reason::CargoV => (15, "cargo-v", "Cargo takes no leading v; npm does"),
+            Reason::CargoHyphen => (16, "cargo-hyphen", "Cargo takes no hyphen ranges; npm does"),
+            Reason::NpmComma => (
+                17,
+                "npm-comma",
+                "npm separates comparators by spaces; Cargo takes commas",
+            ),
+            Reason::CrateComma => (18, "crate-comma", "the crate takes no commas; Cargo does"),
+            Reason::CrateV => (19, "crate-v", "the crate takes no leading v; npm does"),
+            Reason::NpmTooLarge => (
+                20,
+                "npm-too-large",
+                "npm's numbers and raised bounds are at most 2^53 - 1",
+            ),
+        }
+    }
+}
+
+impl fmt::Display for Reason {
+    fn fmt(&self, f: &mut fmt::Formatter<'_>) -> fmt::Result {
+        f.write_str(self.sentence())
+    }
+}
