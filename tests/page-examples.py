@@ -6,6 +6,7 @@ tests/page-examples.py --list       prints the commands.
 """
 import os
 import re
+import shutil
 import subprocess
 import sys
 from typing import Iterator, List, Tuple
@@ -63,6 +64,10 @@ def main() -> int:
             print(f'{page}: {command}')
         return 0
     directory = os.path.abspath(sys.argv[1]) if sys.argv[1:] else TOP
+    missing = [name for name in PROGRAMS if not shutil.which(name, path=directory)]
+    if missing:
+        print(f'page examples: failed: {directory} has no {", ".join(missing)}')
+        return 1
     environment = {**os.environ, 'PATH': f'{directory}:{os.environ["PATH"]}'}
     count, failed = 0, False
     for page, command, output in examples():
