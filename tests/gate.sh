@@ -43,12 +43,13 @@ make_copy() {
         stub "$copy/tests/beside/$script" ''
     done
     for command in cargo npm; do stub "$work/bin/$command" ''; done
-    # What it builds has to be newer than the file that ./test makes before.
+    # What it builds has to be newer than the file that ./test makes before, and executable.
     stub "$work/bin/rt" 'if [ $1 = ci ]; then
     sleep 0.1
     for name in semver_parser_main release_filter_main compare_ranges_main; do
         mkdir -p crates/$name/out
         : > crates/$name/out/$name.by-rattle
+        chmod +x crates/$name/out/$name.by-rattle
     done
 fi'
 }
