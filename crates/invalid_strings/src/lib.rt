@@ -1,4 +1,4 @@
-//! Where and why a string is invalid. It is invalid behind its longest prefix with which some valid
+//! Where and why a string is invalid. It is invalid after its longest prefix with which some valid
 //! string begins, and the reason says what is wrong with the character there.
 //!
 //! A language says which strings are its own, and which few strings complete a prefix; there is no

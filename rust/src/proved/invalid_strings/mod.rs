@@ -1,5 +1,5 @@
 // Made by tools/erase.py from crates/invalid_strings/src/lib.rt; not edited by hand.
-//! Where and why a string is invalid. It is invalid behind its longest prefix with which some valid
+//! Where and why a string is invalid. It is invalid after its longest prefix with which some valid
 //! string begins, and the reason says what is wrong with the character there.
 //!
 //! A language says which strings are its own, and which few strings complete a prefix; there is no
