@@ -4,6 +4,7 @@ use Rattle.std.proofs.Common.{◌+◌, ◌≤◌, ◌++◌, arith, length, lengt
 use Rattle.std.proofs.lemmas.List.Elements.{All-contains, All-from_recursion}
 use Rattle.std.proofs.lemmas.List.Sums.{count_by-le-length}
 use Rattle.std.specs.Prelude.{not}
+use Rattle.semver_texts.specs.NpmLimits.{max_length}
 use Rattle.semver_texts.specs.Texts.{Text}
 use Rattle.semver_texts.specs.ToolVersions.{IsVersionTextIn, characters, goes_on}
 use Rattle.semver_texts.specs.declared.grammar.Grammar.{Grammar}
@@ -14,12 +15,12 @@ use Rattle.invalid_strings.specs.Reasons.{IsTooLong}
 use Rattle.invalid_strings.specs.declared.bytes.Length.TheVariants.{Any}
 use Rattle.invalid_strings.proofs.VersionPrefixes.{known}
 
-short_version : (d : Grammar) (t : Text) → characters t ≤ 256 → IsVersionAtAnyLength d t → IsVersionTextIn d t
+short_version : (d : Grammar) (t : Text) → characters t ≤ max_length → IsVersionAtAnyLength d t → IsVersionTextIn d t
 short_version Crate t short w = w
 short_version Cargo t short w = w
 short_version Npm t short w = (w.0, (w.1, short))
 
-pub never_too_long : (d : Grammar) (t : Text) → length t + 8 ≤ 256 → ¬ (IsTooLong d t)
+pub never_too_long : (d : Grammar) (t : Text) → length t + 8 ≤ max_length → ¬ (IsTooLong d t)
 never_too_long d t short w =
     let goes = (known d).bytes Any t w.0.0 w.0.1 in
     let few : length goes.1 ≤ 8 = All-contains (λ completion. length completion ≤ 8) byte_completions goes.1

@@ -7,6 +7,7 @@ use Rattle.std.specs.Str.{IsUtf8}
 use Rattle.std.proofs.lemmas.Bool.{and_parts, and_from}
 use Rattle.semver_texts.specs.Texts.{Text, has_no_leading_zero, is_part, is_space, marked}
 use Rattle.semver_texts.specs.Digits.{identifiers_by}
+use Rattle.semver_texts.specs.NpmLimits.{max_length}
 use Rattle.semver_texts.specs.ToolVersions.{IsKeptAs, IsVersionTextIn, SpellsSemver}
 use Rattle.semver_texts.specs.WhiteSpace.{AreWhiteSpaces, is_white_space}
 use Rattle.semver_texts.specs.VersionGrammar.{IsIdentifierText, SpellsIdentifier}
@@ -163,7 +164,7 @@ npm =
     let semver = semver_prefixes (2 ^ 53) (omega arith) (omega arith) in
     let any_length = seq (many white) (seq (optional (byte 118 (omega arith))) (seq semver (many white))) in
     let all = same any_length (IsVersionAtAnyLength Npm) to from in
-    let short = same (limited all 256 (omega arith)) (IsVersionTextIn Npm)
+    let short = same (limited all max_length (omega arith)) (IsVersionTextIn Npm)
     (λ t w. (w.0.0, (w.0.1, w.1))) (λ t w. ((w.0, w.1.0), w.1.1)) in
     record {
       completions = are_completions short version_completions (search rules) refl;

@@ -1,5 +1,6 @@
 -- The reasons why a text is refused: a row for each.
-use Rattle.std.specs.Prelude.{ℤ, pos, codes}
+use Rattle.std.specs.Prelude.{◌++◌, ℤ, pos, codes, decimal}
+use Rattle.semver_texts.specs.NpmLimits.{max_build_length, max_length}
 use Rattle.semver_texts.specs.Texts.{Text}
 use Rattle.invalid_strings.specs.declared.reasons.Reason.{Reason}
 use Rattle.invalid_strings.specs.declared.reasons.Reason.TheVariants as reason
@@ -19,7 +20,9 @@ row_of reason.TooLarge =
 row_of reason.TooLong = (
   pos 7,
   codes "too-long",
-  codes "npm takes no version above 256 characters, and no build identifier above 250",
+  codes "npm takes no version above "
+      ++ (decimal max_length
+      ++ (codes " characters, and no build identifier above " ++ decimal max_build_length)),
 )
 row_of reason.TextAfter = (pos 8, codes "text-after", codes "text follows the version")
 row_of reason.NotUtf8 = (pos 9, codes "not-utf8", codes "the string isn't UTF-8")

@@ -1,5 +1,5 @@
 -- serves: semver_ranges::events::Events::next_in
--- Words that are too long to npm: what their bytes say of their numbers and identifiers, and that no word of up to 250 bytes is one.
+-- Words that are too long to npm: what their bytes say of their numbers and identifiers, and that none is within the smallest limit.
 use Rattle.std.proofs.Common.{◌≡◌, ℕ, ◌+◌, ◌-◌, ◌≤◌, Bool, true, false, ◌&&◌, ◌||◌, not, List, [], ◌∷◌, ◌++◌, codes, length, take}
 use Rattle.std.proofs.Common.{refl, sym, ap, ◌∙◌}
 use Rattle.std.proofs.Common.{◌<◌, Some, None, arith, length-append, subst, append-nil}
@@ -10,6 +10,7 @@ use Rattle.std.specs.Str.{all_ascii_digits}
 use Rattle.std.proofs.lemmas.Bool.Decides.{nat_tests}
 use Rattle.std.proofs.lemmas.Bool.{and_parts, and_from}
 use Rattle.std.proofs.lemmas.List.Sums.{prefix_len-le-length}
+use Rattle.semver_texts.specs.NpmLimits.{max_build_length, max_length}
 use Rattle.semver_texts.specs.Texts.{Text, cut_at_dots, is_dot, marked, marked_length}
 use Rattle.semver_texts.proofs.Lists.{all_more, by_test, each_passes}
 use Rattle.semver_ranges.specs.declared.partial.Components.{Components}
@@ -89,7 +90,7 @@ sizes p c t h w =
       front = rw whole (take_front (numbers_of p) (marked (codes "-") (pre_parts p) ++ marked (codes "+") (build_parts p)));
     }
 
--- ---- up to 250 bytes
+-- ---- up to `max_build_length` bytes, which is the smallest limit
 
 within : (n m : ℕ) → n ≤ m → nat_le n m ≡ true
 within n m h = grind (arith, nat_tests)
@@ -106,19 +107,24 @@ marked_short : (passes : Text → Bool) (n : ℕ) → ((t : Text) → length t �
 marked_short passes n each mark [] short = refl
 marked_short passes n each mark (x ∷ xs) short = joined_short passes n each x xs (omega arith)
 
-short_pre : (t : Text) → length t ≤ 250 → is_short_pre t ≡ true
+short_number : (t : Text) → length t ≤ max_build_length → is_short_number t ≡ true
+short_number t h = within (length t) (max_length + 1) (omega arith)
+
+short_build : (t : Text) → length t ≤ max_build_length → is_short_build t ≡ true
+short_build t h = within (length t) max_build_length h
+
+short_pre : (t : Text) → length t ≤ max_build_length → is_short_pre t ≡ true
 short_pre t h =
     let digits = prefix_len-le-length is_ascii_digit t in
     by_test (leading_digits t == length t)
-    (λ y. rw y (within (length t) 257 (omega arith)))
-    (λ n. rw n (and_from _ _ (within (leading_digits t) 256 (omega (arith, digits)))
-    (within (length t) (leading_digits t + 251) (omega (arith, digits)))))
+    (λ y. rw y (short_number t h))
+    (λ n. rw n (and_from _ _ (within (leading_digits t) max_length (omega (arith, digits)))
+    (within (length t) (leading_digits t + (max_build_length + 1)) (omega (arith, digits)))))
 
-components_short : (p : PartialTree) → length (numbers_of p) ≤ 250 → list_all is_short_number (components p) ≡ true
-components_short (one a) h = joined_short is_short_number 250 (λ t e. within (length t) 257 (omega arith)) a [] h
-components_short (two a b) h = joined_short is_short_number 250 (λ t e. within (length t) 257 (omega arith)) a (b ∷ []) h
-components_short (three a b c pre build) h =
-    joined_short is_short_number 250 (λ t e. within (length t) 257 (omega arith)) a (b ∷ c ∷ []) h
+components_short : (p : PartialTree) → length (numbers_of p) ≤ max_build_length → list_all is_short_number (components p) ≡ true
+components_short (one a) h = joined_short is_short_number max_build_length short_number a [] h
+components_short (two a b) h = joined_short is_short_number max_build_length short_number a (b ∷ []) h
+components_short (three a b c pre build) h = joined_short is_short_number max_build_length short_number a (b ∷ c ∷ []) h
 
 -- what is told of the parts and the version
 pub parts_told : (p : PartialTree) (c : Components) (t front : Text) (n : ℕ) → SpellsPartial p t → AreWritten p c
@@ -138,7 +144,7 @@ pub marks_within : (p : PartialTree) (c : Components) (t : Text) → SpellsParti
     → marked_length c.pre.now + marked_length c.build.now ≤ length t
 marks_within p c t h w = let size = sizes p c t h w in omega (arith, size.numbers)
 
-pub short_word : (role : Role) (p : PartialTree) (t : Text) (n : ℕ) → SpellsPartial p t → length t ≤ n → n ≤ 250
+pub short_word : (role : Role) (p : PartialTree) (t : Text) (n : ℕ) → SpellsPartial p t → length t ≤ n → n ≤ max_build_length
     → is_short_word role p n ≡ true
 short_word role p t n h less small =
     let pre = marked (codes "-") (pre_parts p) in
@@ -147,12 +153,12 @@ short_word role p t n h less small =
     ap length (spelled_parts p t h) ∙ length-append (numbers_of p) (pre ++ build)
     ∙ ap (λ k. length (numbers_of p) + k) (length-append pre build) in
     let parts : has_short_parts p ≡ true = and_from _ _ (components_short p (omega (arith, whole)))
-    (and_from _ _ (marked_short is_short_pre 250 short_pre 45 (pre_parts p) (omega (arith, whole)))
-    (marked_short is_short_build 250 (λ t e. within (length t) 250 e) 43 (build_parts p) (omega (arith, whole)))) in
+    (and_from _ _ (marked_short is_short_pre max_build_length short_pre 45 (pre_parts p) (omega (arith, whole)))
+    (marked_short is_short_build max_build_length short_build 43 (build_parts p) (omega (arith, whole)))) in
     let version : is_short_version (if is_taken_whole role p then n else length (numbers_and_pre p)) ≡ true = by_test
     (is_taken_whole role p)
-    (λ y. rw y (within n 256 (omega arith)))
-    (λ no. rw no (within (length (numbers_of p ++ pre)) 256 (omega (arith, whole, length-append (numbers_of p) pre)))) in
+    (λ y. rw y (within n max_length (omega arith)))
+    (λ no. rw no (within (length (numbers_of p ++ pre)) max_length (omega (arith, whole, length-append (numbers_of p) pre)))) in
     and_from _ _ parts (rw version (or_true (not (states_three p)))) where
       or_true : (b : Bool) → (b || true) ≡ true
       or_true true = refl

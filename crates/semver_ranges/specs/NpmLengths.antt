@@ -1,12 +1,14 @@
 -- How long the numbers and identifiers of a range text may be to npm. They are the bounds of
--- node-semver 7.6.2, by its constants `MAX_LENGTH`, 256, and `MAX_SAFE_BUILD_LENGTH`, 250.
+-- node-semver 7.6.2, by its constants `MAX_LENGTH`, here `max_length`, and
+-- `MAX_SAFE_BUILD_LENGTH`, here `max_build_length`. Its regular expressions repeat a digit at most
+-- `MAX_LENGTH` times, and a letter, digit or hyphen at most `MAX_SAFE_BUILD_LENGTH` times.
 use Rattle.std.specs.Prelude.{ℕ, ◌+◌, Bool, ◌&&◌, ◌==◌, if◌then◌else◌, nat_le, length}
 use Rattle.std.specs.Char.{is_ascii_digit}
 use Rattle.std.specs.List.{prefix_len}
 use Rattle.semver_texts.specs.Texts.{Text}
 use Rattle.semver_texts.specs.NpmLimits.{max_build_length, max_length}
 
--- a number: at most 257 digits, a first and 256 more
+-- a number: a first digit, and at most `max_length` more
 abbrev pub is_short_number : Text → Bool
 is_short_number t = nat_le (length t) (max_length + 1)
 
@@ -14,18 +16,18 @@ is_short_number t = nat_le (length t) (max_length + 1)
 abbrev pub leading_digits : Text → ℕ
 leading_digits t = prefix_len is_ascii_digit t
 
--- an identifier of a pre-release: a number; or at most 256 digits, a letter or a hyphen, and at
--- most 250 characters more
+-- an identifier of a pre-release: a number; or at most `max_length` digits, a letter or a hyphen,
+-- and at most `max_build_length` characters more
 abbrev pub is_short_pre : Text → Bool
 is_short_pre t =
     if leading_digits t == length t then is_short_number t
     else nat_le (leading_digits t) max_length
     && nat_le (length t) (leading_digits t + (max_build_length + 1))
 
--- an identifier of a build: at most 250 characters
+-- an identifier of a build
 abbrev pub is_short_build : Text → Bool
 is_short_build t = nat_le (length t) max_build_length
 
--- the version of a comparator: at most 256 characters
+-- the version of a comparator
 abbrev pub is_short_version : ℕ → Bool
 is_short_version n = nat_le n max_length

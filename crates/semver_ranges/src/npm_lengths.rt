@@ -1,4 +1,5 @@
-//! Which words are too long to npm. Up to 250 bytes none is, so little of this runs.
+//! Which words are too long to npm. None of up to `MAX_SAFE_BUILD_LENGTH` bytes is, so little of
+//! this runs.
 
 ghost use Rattle.std.specs.Prelude.{◌≡◌, length};
 ghost use Rattle.std.specs.List.{list_all};

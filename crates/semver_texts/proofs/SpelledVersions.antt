@@ -8,6 +8,7 @@ use Rattle.std.proofs.lemmas.List.Folds.{list_all-map}
 use Rattle.std.specs.Str.Parse.{digits_value}
 use Rattle.std.proofs.lemmas.Bool.{and_parts}
 use Rattle.semver_texts.specs.Digits.{any_size, version_by}
+use Rattle.semver_texts.specs.NpmLimits.{max_length}
 use Rattle.semver_texts.specs.Texts.{Text, IsRun, has_no_leading_zero, is_large, is_number, is_part, is_part_byte, marked}
 use Rattle.semver_texts.specs.declared.grammar.Digits.TheVariants.{AnySize}
 use Rattle.semver_texts.specs.Versions.{IdentifierValue, numeric, alphanumeric, VersionValue, numbers}
@@ -55,7 +56,7 @@ no_white_space : AreWhiteSpaces []
 no_white_space = record { each = []; are = refl; whole = refl }
 
 pub semver_is_npm : (v : VersionValue) (text : Text) → SpellsSemver v text → v.plain.major < 2 ^ 53 → v.plain.minor < 2 ^ 53
-    → v.plain.patch < 2 ^ 53 → characters text ≤ 256 → SpellsNpm v text
+    → v.plain.patch < 2 ^ 53 → characters text ≤ max_length → SpellsNpm v text
 semver_is_npm v text w major minor patch short = (
   record {
     before = [];

@@ -9,6 +9,7 @@ is_safe n = nat_le n (2 ^ 53 - 1)
 abbrev pub max_length : ℕ
 max_length = 256
 
--- how many an identifier of a build has at most: `MAX_SAFE_BUILD_LENGTH`
+-- how many an identifier of a build has at most: `MAX_SAFE_BUILD_LENGTH`, what a version leaves to
+-- it after `0.0.0+`
 abbrev pub max_build_length : ℕ
-max_build_length = 250
+max_build_length = max_length - 6

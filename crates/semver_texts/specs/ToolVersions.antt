@@ -63,7 +63,7 @@ pub record SpellsNpmAtAnyLength (v : VersionValue) (text : Text) : Type 0 where
   pub patch : v.plain.patch < 2 ^ 53
   pub whole : text ≡ before ++ (sign ++ (core ++ after))
 
--- so, and the text has at most 256 characters
+-- so, and the text has at most as many characters as npm allows
 abbrev pub SpellsNpm : VersionValue → Text → Type 0
 SpellsNpm v text = SpellsNpmAtAnyLength v text × (characters text ≤ max_length)
 

@@ -4,6 +4,7 @@ ghost use Rattle.std.specs.Cmp.{IsTotalOrder};
 ghost use Rattle.std.specs.List.{list_all};
 ghost use Rattle.std.specs.declared.cmp.Ordering.TheVariants.{Equal};
 ghost use Rattle.semver_texts.specs.Digits.{version_by};
+ghost use Rattle.semver_texts.specs.NpmLimits.{max_length};
 ghost use Rattle.semver_texts.specs.Precedence.{precedence};
 ghost use Rattle.semver_texts.specs.PrintedText.{identifier_text, version_text};
 ghost use Rattle.semver_texts.specs.Texts.{Text, has_no_leading_zero};
@@ -18,11 +19,11 @@ pub fn precedence_is_total()
     ensures same { (v w : PlainVersion) → (precedence v w ≡ Equal) ↔ (v ≡ w) }
 {}
 
-/// A version of SemVer 2.0.0 is one of npm's if its numbers are below 2^53 and it has at most 256
-/// characters.
+/// A version of SemVer 2.0.0 is one of npm's if its numbers are below 2^53 and it has at most as
+/// many characters as npm allows.
 pub fn semver_texts_are_npms()
     ensures { (v : VersionValue) (text : Text) → SpellsSemver v text → v.plain.major < 2 ^ 53
-        → v.plain.minor < 2 ^ 53 → v.plain.patch < 2 ^ 53 → characters text ≤ 256
+        → v.plain.minor < 2 ^ 53 → v.plain.patch < 2 ^ 53 → characters text ≤ max_length
         → SpellsNpm v text }
 {}
 

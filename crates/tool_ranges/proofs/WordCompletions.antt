@@ -11,6 +11,7 @@ use Rattle.std.proofs.lemmas.Bool.{and_parts, and_from}
 use Rattle.std.proofs.lemmas.Bool.Decides.{nat_tests}
 use Rattle.std.proofs.lemmas.List.Folds.{prefix_len-append}
 use Rattle.std.proofs.lemmas.List.Sums.{prefix_len-le-length}
+use Rattle.semver_texts.specs.NpmLimits.{max_build_length, max_length}
 use Rattle.semver_texts.specs.Texts.{Text, has_no_leading_zero, is_empty, is_part, marked}
 use Rattle.semver_texts.specs.declared.grammar.Grammar.{Grammar}
 use Rattle.semver_texts.specs.declared.grammar.Grammar.TheVariants.{Crate, Npm}
@@ -113,7 +114,7 @@ no_digits (b ∷ x) = grind (arith, no_digits x)
 
 -- the test by numbers: the digits that it begins with, and the length
 abbrev short_pre : ℕ → ℕ → Bool
-short_pre d n = if d == n then nat_le n 257 else nat_le d 256 && nat_le n (d + 251)
+short_pre d n = if d == n then nat_le n (max_length + 1) else nat_le d max_length && nat_le n (d + (max_build_length + 1))
 
 -- a prefix of so many digits and so long, and what was after it
 letter_short : (d n d' n' : ℕ) → d ≤ n → d' ≤ n' → 1 ≤ n' → short_pre (cond (eqb d n) (n + d') d) (n + n') ≡ true
@@ -240,7 +241,7 @@ extra false q = 0
 
 -- the word of n bytes is short, whose numbers have so many bytes and whose pre-release has q
 abbrev IsShort : Role → Bool → ℕ → ℕ → Type 0
-IsShort role k n size = (is_whole role k ≡ true → n ≤ 256) × (is_whole role k ≡ false → size ≤ 256)
+IsShort role k n size = (is_whole role k ≡ true → n ≤ max_length) × (is_whole role k ≡ false → size ≤ max_length)
 
 -- so is one with shorter parts, if it has a pre-release or is without the first one's and build
 stays : (role : Role) (k k' : Bool) (n n' core core' q q' : ℕ) → n' ≤ n → core' ≤ core → q' ≤ extra k' q → 2 ≤ q → (k' ≡ true → k ≡ true)
@@ -317,11 +318,11 @@ none_wild true y z e = absurd (cc)
 no_wild : (x y z : Bool) → x ≡ false → y ≡ false → z ≡ false → not (x || (y || z)) ≡ true
 no_wild x y z a b c = rw (a, b, c) refl
 
-short_by : (w : Bool) (n k : ℕ) → (w ≡ true → n ≤ 256) × (w ≡ false → k ≤ 256) → is_short_version (if w then n else k) ≡ true
+short_by : (w : Bool) (n k : ℕ) → (w ≡ true → n ≤ max_length) × (w ≡ false → k ≤ max_length) → is_short_version (if w then n else k) ≡ true
 short_by true n k h = let less = h.0 refl in grind (arith, nat_tests)
 short_by false n k h = let less = h.1 refl in grind (arith, nat_tests)
 
-by_short : (w : Bool) (n k : ℕ) → is_short_version (if w then n else k) ≡ true → (w ≡ true → n ≤ 256) × (w ≡ false → k ≤ 256)
+by_short : (w : Bool) (n k : ℕ) → is_short_version (if w then n else k) ≡ true → (w ≡ true → n ≤ max_length) × (w ≡ false → k ≤ max_length)
 by_short true n k h = (λ y. grind (arith, nat_tests), λ y. absurd (cc))
 by_short false n k h = (λ y. absurd (cc), λ y. grind (arith, nat_tests))
 

@@ -6,6 +6,7 @@ use Rattle.std.specs.Prelude.{if◌then◌else◌, false, IsTrue, Option, Some, 
 use Rattle.std.specs.Char.{is_ascii_digit}
 use Rattle.std.specs.Int.{is_in_range}
 use Rattle.std.specs.List.{list_all}
+use Rattle.semver_texts.specs.NpmLimits.{max_build_length}
 use Rattle.semver_texts.specs.Texts.{Text, is_dotted_byte}
 use Rattle.invalid_strings.specs.Reasons.{ends_in_digit, ends_in_zero, from_end, has_no_digit}
 use Rattle.invalid_strings.specs.Reasons as version
@@ -44,13 +45,15 @@ ends_in_component prefix = ends_in_digit prefix || is_wildcard (from_end prefix 
 abbrev pub is_between : Text → Bool
 is_between prefix = is_separator (from_end prefix 0)
 
--- it ends in one word of 250 bytes and more: npm bounds versions and identifiers so long
+-- it ends in one word that is at least as long as the smallest limit of npm's: no shorter word is
+-- too long
 abbrev pub is_word : Text → Bool
 is_word t = list_all (λ b. not (is_separator b)) t
 
 abbrev pub is_long : Text → Bool
 is_long prefix =
-    if nat_lt (length prefix) 250 then false else is_word (drop (length prefix - 250) prefix)
+    if nat_lt (length prefix) max_build_length then false
+    else is_word (drop (length prefix - max_build_length) prefix)
 
 -- ---- the byte after it
 

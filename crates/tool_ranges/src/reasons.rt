@@ -20,10 +20,8 @@ use invalid_strings::buffers::join;
 use invalid_strings::prefix_bytes::{self, byte_at, ends_in_zero, from_end, has_no_digit};
 use invalid_strings::reasons::Reason;
 use semver_texts::bytes::is_part_byte;
+use semver_texts::npm_limits::MAX_SAFE_BUILD_LENGTH;
 use std::alloc::{AllocError, Global};
-
-/// What npm bounds is no shorter.
-const LONG: usize = 250;
 
 /// Why a text stops being a range at an offset.
 pub(crate) fn reason_at(
@@ -200,14 +198,14 @@ fn ends_in_component(prefix: &[u8]) -> bool
     last.is_ascii_digit() || is_wildcard(last)
 }
 
-/// Whether it ends in one word of 250 bytes and more.
+/// Whether it ends in one word that is at least as long as the smallest of npm's limits.
 fn is_long(prefix: &[u8]) -> bool
     ensures { result ≡ is_long prefix.now }
 {
-    if prefix.len() < LONG {
+    if prefix.len() < MAX_SAFE_BUILD_LENGTH {
         return false;
     }
-    is_word(&prefix[prefix.len() - LONG..])
+    is_word(&prefix[prefix.len() - MAX_SAFE_BUILD_LENGTH..])
 }
 
 /// Whether no byte of it separates words.

@@ -1,5 +1,6 @@
 // Made by tools/erase.py from crates/semver_ranges/src/npm_lengths.rt; not edited by hand.
-//! Which words are too long to npm. Up to 250 bytes none is, so little of this runs.
+//! Which words are too long to npm. None of up to `MAX_SAFE_BUILD_LENGTH` bytes is, so little of
+//! this runs.
 
 use crate::rattle_std::prelude::*;
 use crate::proved::semver_ranges::grammar::{Form, Role, after_v, read_components};

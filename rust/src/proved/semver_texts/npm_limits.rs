@@ -8,5 +8,6 @@ pub const MAX_SAFE_INTEGER: u64 = 9_007_199_254_740_991;
 /// How many characters a version has at most.
 pub const MAX_LENGTH: usize = 256;
 
-/// How many characters an identifier of build metadata has at most.
-pub const MAX_SAFE_BUILD_LENGTH: usize = 250;
+/// How many characters an identifier of build metadata has at most: what a version leaves to it
+/// after `0.0.0+`. No other limit of a length is smaller.
+pub const MAX_SAFE_BUILD_LENGTH: usize = MAX_LENGTH - 6;

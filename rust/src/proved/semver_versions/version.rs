@@ -113,9 +113,9 @@ pub fn outline_in(input: &[u8], grammar: Grammar) -> Option<Outline<'_>> {
     reader::outline(input, grammar)
 }
 
-/// Returns whether the bytes spell a version in a dialect, whatever their length: only npm has a
-/// limit, 256 characters. For `1.2.3` after 300 spaces this is true by npm's dialect, although
-/// [`outline_in`] returns `None`.
+/// Returns whether the bytes spell a version in a dialect, whatever their length: only npm limits
+/// it. For `1.2.3` after a thousand spaces this is true by npm's dialect, although [`outline_in`]
+/// returns `None`.
 ///
 /// The bytes need not be UTF-8, and it does not allocate.
 pub fn is_version_at_any_length(input: &[u8], grammar: Grammar) -> bool {
