@@ -8,7 +8,8 @@ use Rattle.version_sets.specs.declared.Comparison.{Comparison}
 
 -- two sets are equal where they read digits alike and have the same versions
 abbrev pub AreAlike : SetValue → SetValue → Type 0
-AreAlike a b = a.digits ≡ b.digits → ((v : PlainVersion) → Fits v → contains a v ≡ contains b v) → a ≡ b
+AreAlike a b = a.digits ≡ b.digits
+    → ((v : PlainVersion) → Fits v → contains a v ≡ contains b v) → a ≡ b
 
 -- two ranges are equal where they have the same meaning and the same versions
 abbrev pub AreAlikeRanges : RangeValue → RangeValue → Type 0

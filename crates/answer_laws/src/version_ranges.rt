@@ -82,8 +82,8 @@ pub fn one_lowest_of(range: &VersionRange, versions: &[&[u8]]) -> (Option<usize>
     (range.lowest_of(versions), range.lowest_of(versions))
 }
 
-/// `VersionRange::highest_among` has one answer, of two iterators that give the same strings, since each
-/// is taken.
+/// `VersionRange::highest_among` has one answer, of two iterators that give the same strings, since
+/// each is taken.
 pub fn one_highest_among<'v, I: Iterator<Item = &'v str> + Drop>(
     range: &VersionRange,
     versions: I,

@@ -10,8 +10,11 @@ abbrev pub row_of : Reason → ℤ × Text × Text
 row_of reason.Empty = (pos 1, codes "empty", codes "the string is empty")
 row_of reason.NotThreeNumbers =
     (pos 2, codes "not-three-numbers", codes "there are fewer than three numbers")
-row_of reason.LeadingZero =
-    (pos 3, codes "leading-zero", codes "numbers and identifiers of digits may not have a leading zero")
+row_of reason.LeadingZero = (
+  pos 3,
+  codes "leading-zero",
+  codes "numbers and identifiers of digits may not have a leading zero",
+)
 row_of reason.EmptyIdentifier = (pos 4, codes "empty-identifier", codes "an identifier is empty")
 row_of reason.UnexpectedCharacter =
     (pos 5, codes "unexpected-character", codes "unexpected character")

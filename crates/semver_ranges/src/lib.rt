@@ -2,8 +2,8 @@
 //!
 //! Hints for speed: what reads a byte of most texts, and the table, is `inline(always)`, one copy a
 //! loop, so that what is read goes through registers. Without the hints of one of `grammar`,
-//! `partial`, `desugaring` and `events` range sets took 13 to 27 % more instructions, and simples up
-//! to 20 %. `inline(never)` is what few texts need, and would make those copies larger: reading
+//! `partial`, `desugaring` and `events` range sets took 13 to 27 % more instructions, and simples
+//! up to 20 %. `inline(never)` is what few texts need, and would make those copies larger: reading
 //! pre-releases, 1 %. Other hints brought nothing, and there are none.
 #![tactic(auto)]
 

@@ -7,7 +7,8 @@ ghost use Rattle.std.specs.declared.cmp.Ordering.TheVariants.{Less};
 ghost use Rattle.semver_texts.specs.Texts.{Text};
 ghost use Rattle.semver_versions.specs.Outlines.{version_of};
 ghost use Rattle.semver_texts.specs.ToolVersions.{SpellsIn};
-ghost use Rattle.tool_ranges.specs.Highest.{FindsHighest, FindsHighestText, IsMemberText, order_for};
+ghost use Rattle.tool_ranges.specs.Highest.{FindsHighest, FindsHighestText, IsMemberText};
+ghost use Rattle.tool_ranges.specs.Highest.{order_for};
 ghost use Rattle.tool_ranges.specs.VersionRanges.{versions_grammar};
 ghost use Rattle.version_sets.specs.VersionSets.{contains};
 
@@ -72,8 +73,8 @@ impl VersionRange {
     }
 
     // Answer: law answer_laws::version_ranges::one_lowest_among.
-    /// Returns the lowest of the versions that the range contains, as [`VersionRange::highest_among`]
-    /// the highest.
+    /// Returns the lowest of the versions that the range contains, as
+    /// [`VersionRange::highest_among`] the highest.
     pub fn lowest_among<'v, I: Iterator<Item = &'v str> + Drop>(
         &self,
         versions: I,

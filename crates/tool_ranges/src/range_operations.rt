@@ -182,8 +182,8 @@ impl VersionRange {
     /// # Errors
     ///
     /// `DifferentDigits` if one range is in a dialect of the crate and the other in Cargo's or
-    /// npm's, and no other: a version with an identifier of digits alone from 2^64 on isn't the same
-    /// to both.
+    /// npm's, and no other: a version with an identifier of digits alone from 2^64 on isn't the
+    /// same to both.
     ///
     /// ```
     /// use semver_parser::{Dialect, OperationError, VersionRange};

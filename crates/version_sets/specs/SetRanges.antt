@@ -53,15 +53,15 @@ release_end from to = to
 abbrev pub lowest_pre_release : PlainVersion → PlainVersion
 lowest_pre_release v = record v { pre = numeric 0 ∷ [] }
 
--- the lowest pre-release of the numbers right above those of a version, if there are any: 1.2.4-0 of
--- 1.2.3-a
+-- the lowest pre-release of the numbers right above those of a version, if there are any: 1.2.4-0
+-- of 1.2.3-a
 abbrev pub pre_release_above : PlainVersion → Option PlainVersion
 pre_release_above v =
     option_map lowest_pre_release (next_release (record v { pre = [] }))
 
 -- an interval of pre-releases ends below its end; but if it has all the pre-releases of its numbers
--- that are left, and no other, it ends below their release, as a reader expects: `>=1.2.3-a <1.2.3`,
--- and not `<1.2.4-0`
+-- that are left, and no other, it ends below their release, as a reader expects:
+-- `>=1.2.3-a <1.2.3`, and not `<1.2.4-0`
 abbrev pub pre_release_end : PlainVersion → PlainVersion → PlainVersion
 pre_release_end from to =
     if is_same_end (Some to) (pre_release_above from) then record from { pre = [] } else to

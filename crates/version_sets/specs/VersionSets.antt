@@ -13,8 +13,8 @@ use Rattle.semver_texts.specs.declared.grammar.Digits.TheVariants.{Kept, AnySize
 use Rattle.semver_texts.specs.Precedence.{precedence}
 use Rattle.version_sets.specs.Boundaries.{is_inside, IsIncreasing}
 
--- the boundaries of the releases, and those of the pre-releases; and how identifiers of digits alone
--- are read in the versions that are looked up
+-- the boundaries of the releases, and those of the pre-releases; and how identifiers of digits
+-- alone are read in the versions that are looked up
 pub record SetValue : Type 0 where
   pub releases : List PlainVersion
   pub pre_releases : List PlainVersion

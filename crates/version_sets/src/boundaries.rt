@@ -63,8 +63,8 @@ pub(crate) fn contains_release(boundaries: &[Release], release: &Release) -> boo
 }
 
 /// Whether an odd number of the boundaries are at or below the version of an outline, whose
-/// identifiers of digits alone are read so. It takes time in the logarithm of their number, and does
-/// not allocate.
+/// identifiers of digits alone are read so. It takes time in the logarithm of their number, and
+/// does not allocate.
 #[inline(always)]
 pub(crate) fn contains_outline(
     boundaries: &[ReadVersion],

@@ -39,7 +39,8 @@ pub(crate) struct Shown<'a> {
 impl Shown<'_> {
     /// The comparator with identifiers of its own. `Err` is out of memory.
     fn comparator(self, alloc: Global) -> Result<Comparator, AllocError>
-        ensures { IfOk result (λ made. comparator_of made ≡ comparator_kept (shown_value self.entry)) }
+        ensures { IfOk result
+            (λ made. comparator_of made ≡ comparator_kept (shown_value self.entry)) }
     {
         Ok(Comparator {
             op: self.op,

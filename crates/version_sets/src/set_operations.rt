@@ -125,8 +125,8 @@ impl VersionSet {
     ///
     /// # Errors
     ///
-    /// `DifferentDigits` if the sets read identifiers of digits alone differently, and `OutOfMemory`
-    /// if an allocation failed.
+    /// `DifferentDigits` if the sets read identifiers of digits alone differently, and
+    /// `OutOfMemory` if an allocation failed.
     ///
     /// ```
     /// use semver_parser::{sets, Dialect};
@@ -159,8 +159,8 @@ impl VersionSet {
     ///
     /// # Errors
     ///
-    /// `DifferentDigits` if the sets read identifiers of digits alone differently, and `OutOfMemory`
-    /// if an allocation failed.
+    /// `DifferentDigits` if the sets read identifiers of digits alone differently, and
+    /// `OutOfMemory` if an allocation failed.
     ///
     /// ```
     /// use semver_parser::{sets, Dialect};
@@ -194,8 +194,8 @@ impl VersionSet {
     ///
     /// # Errors
     ///
-    /// `DifferentDigits` if the sets read identifiers of digits alone differently, and `OutOfMemory`
-    /// if an allocation failed.
+    /// `DifferentDigits` if the sets read identifiers of digits alone differently, and
+    /// `OutOfMemory` if an allocation failed.
     ///
     /// ```
     /// use semver_parser::{sets, Dialect};

@@ -27,8 +27,8 @@ use std::marker::Model;
 /// an odd number of its kind's boundaries are at or below it; its build doesn't count.
 ///
 /// A set also says what an identifier of digits alone is from 2^64 on: a number, as in the dialects
-/// of Cargo and npm, or a text, as in those of the crate. Sets that differ in this can't be combined
-/// or compared.
+/// of Cargo and npm, or a text, as in those of the crate. Sets that differ in this can't be
+/// combined or compared.
 ///
 /// The releases of `>=1.2.0 <2.0.0 || 3.1.4` have the boundaries 1.2.0, 2.0.0, 3.1.4 and 3.1.5.
 ///
@@ -157,8 +157,8 @@ impl VersionSet {
     /// Whether a version is in the set; its build doesn't count. It takes time in the logarithm of
     /// the number of boundaries, and does not allocate.
     ///
-    /// An identifier of digits alone from 2^64 on, which a `Version` keeps as a text, is read as the
-    /// set says.
+    /// An identifier of digits alone from 2^64 on, which a `Version` keeps as a text, is read as
+    /// the set says.
     ///
     /// ```
     /// use semver_parser::{sets, version, Dialect};

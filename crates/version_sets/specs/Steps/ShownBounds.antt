@@ -10,8 +10,9 @@ use Rattle.version_sets.specs.declared.intervals.Interval.{Interval}
 use Rattle.version_sets.specs.declared.intervals.Shown.{Shown}
 
 abbrev pub shown_value : Shown → PlainComparator
-shown_value s = comparator s.op
-    (record (release_value s.numbers) { pre = identifiers_by s.digits (map identifier_value s.pre.now) })
+shown_value s = comparator s.op (record (release_value s.numbers) {
+  pre = identifiers_by s.digits (map identifier_value s.pre.now);
+})
 
 abbrev pub others_value : Option Shown → List PlainComparator
 others_value None = []

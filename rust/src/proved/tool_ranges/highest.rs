@@ -47,8 +47,8 @@ impl VersionRange {
         best_string(self, versions, false)
     }
 
-    /// Returns the lowest of the versions that the range contains, as [`VersionRange::highest_among`]
-    /// the highest.
+    /// Returns the lowest of the versions that the range contains, as
+    /// [`VersionRange::highest_among`] the highest.
     pub(crate) fn lowest_among<'v, I: Iterator<Item = &'v str> >(
         &self,
         versions: I,

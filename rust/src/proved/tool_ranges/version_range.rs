@@ -132,8 +132,8 @@ impl VersionRange {
         }
     }
 
-    /// Returns whether the range contains the version of an outline. Its identifiers of digits alone
-    /// are read by the range's dialect. It does not allocate.
+    /// Returns whether the range contains the version of an outline. Its identifiers of digits
+    /// alone are read by the range's dialect. It does not allocate.
     ///
     /// ```
     /// use semver_parser::{version, Dialect, VersionRange};

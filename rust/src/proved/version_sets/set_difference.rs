@@ -44,8 +44,8 @@ impl VersionSet {
     ///
     /// # Errors
     ///
-    /// `DifferentDigits` if the sets read identifiers of digits alone differently, and `OutOfMemory`
-    /// if an allocation failed.
+    /// `DifferentDigits` if the sets read identifiers of digits alone differently, and
+    /// `OutOfMemory` if an allocation failed.
     ///
     /// ```
     /// use semver_parser::{sets, Dialect};
@@ -134,7 +134,8 @@ impl VersionSet {
     /// use semver_parser::{sets, Dialect};
     ///
     /// let set = sets::read("^1.2.0", Dialect::Npm)?;
-    /// let (below, to) = (sets::read("<1.2.0", Dialect::Npm)?, sets::read("<=1.2.0", Dialect::Npm)?);
+    /// let below = sets::read("<1.2.0", Dialect::Npm)?;
+    /// let to = sets::read("<=1.2.0", Dialect::Npm)?;
     /// assert_eq!(set.is_disjoint(&below), Ok(true));
     /// assert_eq!(set.is_disjoint(&to), Ok(false)); // 1.2.0 is in both
     /// # Ok::<(), semver_parser::RangeError>(())

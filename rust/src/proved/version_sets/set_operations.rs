@@ -108,8 +108,8 @@ impl VersionSet {
     ///
     /// # Errors
     ///
-    /// `DifferentDigits` if the sets read identifiers of digits alone differently, and `OutOfMemory`
-    /// if an allocation failed.
+    /// `DifferentDigits` if the sets read identifiers of digits alone differently, and
+    /// `OutOfMemory` if an allocation failed.
     ///
     /// ```
     /// use semver_parser::{sets, Dialect};
@@ -129,8 +129,8 @@ impl VersionSet {
     ///
     /// # Errors
     ///
-    /// `DifferentDigits` if the sets read identifiers of digits alone differently, and `OutOfMemory`
-    /// if an allocation failed.
+    /// `DifferentDigits` if the sets read identifiers of digits alone differently, and
+    /// `OutOfMemory` if an allocation failed.
     ///
     /// ```
     /// use semver_parser::{sets, Dialect};
@@ -151,8 +151,8 @@ impl VersionSet {
     ///
     /// # Errors
     ///
-    /// `DifferentDigits` if the sets read identifiers of digits alone differently, and `OutOfMemory`
-    /// if an allocation failed.
+    /// `DifferentDigits` if the sets read identifiers of digits alone differently, and
+    /// `OutOfMemory` if an allocation failed.
     ///
     /// ```
     /// use semver_parser::{sets, Dialect};
