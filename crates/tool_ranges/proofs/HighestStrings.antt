@@ -1,7 +1,7 @@
 -- serves: tool_ranges::highest::VersionRange::highest_among
 -- The highest of the members of a set among the strings that were taken so far.
 use Rattle.std.proofs.Common.{◌≡◌, ◌↔◌, ◌+◌, ◌<◌, ◌∙◌, ◌++◌, ℕ, Bool, true, false, List, [], ◌∷◌, length, Option, Some, None}
-use Rattle.std.proofs.Common.{zero, suc, MatchOption, Less, ap, arith, refl, subst, sym}
+use Rattle.std.proofs.Common.{zero, suc, MatchOption, Less, ap, arith, option_map, refl, subst, sym}
 use Rattle.std.proofs.lemmas.List.{length-append}
 use Rattle.std.specs.Borrow.{Bor}
 use Rattle.std.specs.Prelude.{slice_get}
@@ -9,9 +9,10 @@ use Rattle.semver_texts.specs.Texts.{Text}
 use Rattle.semver_texts.specs.ToolVersions.{SpellsIn}
 use Rattle.semver_texts.specs.Versions.{PlainVersion, VersionValue}
 use Rattle.semver_texts.specs.declared.grammar.Grammar.{Grammar}
+use Rattle.semver_versions.specs.Outlines.{OutlineValue, version_of}
 use Rattle.version_sets.specs.VersionSets.{SetValue, contains}
 use Rattle.tool_ranges.specs.Highest.{FindsHighestText, IsMember, IsMemberText, order_for}
-use Rattle.tool_ranges.proofs.HighestMembers.{IsBest, inside, skipped, stepped, whole}
+use Rattle.tool_ranges.proofs.HighestMembers.{IsBest, inside, mapped, skipped, stepped, whole}
 
 -- ---- one string more
 
@@ -103,7 +104,7 @@ module _ (lowest : Bool) (g : Grammar) (set : SetValue) where
   )
 
   -- or it is one, and is above the best or isn't
-  pub string_taken : ((h : Grammar) (u w : VersionValue) (t : Text) → SpellsIn h u t → SpellsIn h w t → u ≡ w)
+  string_taken : ((h : Grammar) (u w : VersionValue) (t : Text) → SpellsIn h u t → SpellsIn h w t → u ≡ w)
       → (texts : List (Bor Text)) (x : Bor Text) (found : Option (Bor Text)) (best : Option PlainVersion) (w : VersionValue) (r : Bool)
       → SpellsIn g w x.now → contains set w.plain ≡ true
       → MatchOption best (r ≡ true) (λ b. (r ≡ true) ↔ (order_for lowest b w.plain ≡ Less)) → IsBestString texts found best
@@ -131,6 +132,19 @@ module _ (lowest : Bool) (g : Grammar) (set : SetValue) where
           subst (λ k. IsBest lowest g set long k at best) (one_more texts x) (step.1 e),
         ),
       )
+
+  -- the same of the outlines of the best and of the string, whose bytes were read
+  pub outline_taken : ((h : Grammar) (u w : VersionValue) (t : Text) → SpellsIn h u t → SpellsIn h w t → u ≡ w)
+      → (texts : List (Bor Text)) (x : Bor Text) (found : Option (Bor Text)) (best : Option OutlineValue) (o : OutlineValue) (r : Bool)
+      → (bytes : Text) → bytes ≡ x.now → SpellsIn g (version_of o) bytes → contains set (version_of o).plain ≡ true
+      → MatchOption best (r ≡ true) (λ b. (r ≡ true) ↔ (order_for lowest (version_of b).plain (version_of o).plain ≡ Less))
+      → IsBestString texts found (option_map (λ (b : OutlineValue). (version_of b).plain) best)
+      → (r ≡ true → IsBestString (texts ++ x ∷ []) (Some x) (Some (version_of o).plain))
+      × (r ≡ false → IsBestString (texts ++ x ∷ []) found (option_map (λ (b : OutlineValue). (version_of b).plain) best))
+  outline_taken one texts x found best o r bytes are spells member said is =
+      string_taken one texts x found _ (version_of o) r (subst (SpellsIn g (version_of o)) are spells) member
+      (mapped (r ≡ true) (λ (b : PlainVersion). (r ≡ true) ↔ (order_for lowest b (version_of o).plain ≡ Less))
+      (λ (b : OutlineValue). (version_of b).plain) best said) is
 
   -- of all of them
   pub best_found : (texts : List (Bor Text)) (found : Option (Bor Text)) (best : Option PlainVersion) → IsBestString texts found best

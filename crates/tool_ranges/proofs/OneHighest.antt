@@ -1,6 +1,6 @@
 -- serves: answer_laws::version_ranges::one_highest_of
 -- The index of the highest is one.
-use Rattle.std.proofs.Common.{◌≡◌, ◌≢◌, ◌⊎◌, ◌<◌, ◌∙◌, ℕ, Bool, List, Option, Some, None, arith, refl, rules, ap, sym, Less, Greater, ⊎_elim}
+use Rattle.std.proofs.Common.{◌≡◌, ◌≢◌, ◌⊎◌, ◌<◌, ◌∙◌, ℕ, Bool, List, Option, Some, None, arith, refl, rules, ap, subst, sym, Less, Greater, ⊎_elim}
 use Rattle.std.specs.Borrow.{Bor}
 use Rattle.std.specs.Prelude.{slice_get}
 use Rattle.std.specs.Cmp.{IsTotalOrder}
@@ -35,10 +35,18 @@ one_found lowest g set texts (Some i) (Some j) p q =
     ap Some (one_highest (order_for lowest) (total_for lowest) (IsMember g set texts) i j p q)
 
 -- and so is its string
-pub one_text : (lowest : Bool) (g : Grammar) (set : SetValue) (texts : List (Bor Text)) (a b : Option (Bor Text))
+one_text : (lowest : Bool) (g : Grammar) (set : SetValue) (texts : List (Bor Text)) (a b : Option (Bor Text))
     → FindsHighestText lowest g set texts a → FindsHighestText lowest g set texts b → a ≡ b
 one_text lowest g set texts None None p q = refl
 one_text lowest g set texts None (Some t) p (j, at, q) = absurd (p j q.version q.is_one)
 one_text lowest g set texts (Some s) None (i, at, p) q = absurd (q i p.version p.is_one)
 one_text lowest g set texts (Some s) (Some t) (i, at_s, p) (j, at_t, q) =
     sym at_s ∙ ap (slice_get texts) (one_highest (order_for lowest) (total_for lowest) (IsMember g set texts) i j p q) ∙ at_t
+
+-- so it is of two iterators that give the same strings
+pub one_among : (lowest : Bool) (g : Grammar) (set : SetValue) (Gives AlsoGives : List (Bor Text) → Type 0)
+    → ((xs ys : List (Bor Text)) → Gives xs → AlsoGives ys → xs ≡ ys) → (a b : Option (Bor Text))
+    → (texts : List (Bor Text)) × Gives texts × FindsHighestText lowest g set texts a
+    → (texts : List (Bor Text)) × AlsoGives texts × FindsHighestText lowest g set texts b → a ≡ b
+one_among lowest g set Gives AlsoGives same a b (xs, given, first) (ys, also, second) =
+    one_text lowest g set ys a b (subst (λ texts. FindsHighestText lowest g set texts a) (same xs ys given also) first) second

@@ -1,17 +1,11 @@
-use Rattle.std.proofs.Common.{subst, false}
-use Rattle.tool_ranges.specs.Highest.{FindsHighestText}
+use Rattle.std.specs.Iterator.{Drains}
+use Rattle.std.specs.Prelude.{false}
 use Rattle.tool_ranges.specs.VersionRanges.{versions_grammar}
-use Rattle.tool_ranges.proofs.OneHighest.{one_text}
+use Rattle.tool_ranges.proofs.OneHighest.{one_among}
 use Rattle.answer_laws.proofs.version_ranges.one_highest_among.Goals as goal
 
 pub returns : goal.returns
-returns g c =
-    let (xs, drained, first) = c.highest_among.ensures in
-    let (ys, drained_too, second) = c.highest_among-2.ensures in
-    let range = c.args.range.now in
-    record {
-      one = one_text false (versions_grammar range) range.versions ys _ _
-          (subst (λ texts. FindsHighestText false (versions_grammar range) range.versions texts c.highest_among.result)
-          (c.requires.same xs ys drained drained_too) first)
-          second;
-    }
+returns g c = record {
+  one = one_among false (versions_grammar c.args.range.now) c.args.range.now.versions (Drains g.I.Iterator.next_gives c.args.versions)
+      (Drains g.I.Iterator.next_gives c.args.same_versions) c.requires.same _ _ c.highest_among.ensures c.highest_among-2.ensures;
+}

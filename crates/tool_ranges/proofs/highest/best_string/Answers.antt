@@ -1,11 +1,7 @@
-use Rattle.std.proofs.Common.{◌≡◌, ◌↔◌, true, Less, subst}
+use Rattle.std.proofs.Common.{subst}
 use Rattle.std.specs.Iterator.{Yields}
-use Rattle.semver_texts.specs.Versions.{PlainVersion}
-use Rattle.semver_versions.specs.Outlines.{OutlineValue, version_of}
-use Rattle.tool_ranges.specs.Highest.{order_for}
 use Rattle.tool_ranges.specs.VersionRanges.{versions_grammar}
-use Rattle.tool_ranges.proofs.HighestMembers.{mapped}
-use Rattle.tool_ranges.proofs.HighestStrings.{best_found, none_yet, string_skipped, string_taken}
+use Rattle.tool_ranges.proofs.HighestStrings.{best_found, none_yet, outline_taken, string_skipped}
 use Rattle.tool_ranges.proofs.highest.best_string.Goals as goal
 
 pub loop-version-init : goal.loop-version-init
@@ -19,26 +15,16 @@ loop-version-preserved-in_default g c =
 
 pub loop-version-preserved-then-is_above : goal.loop-version-preserved-then-is_above
 loop-version-preserved-then-is_above g c =
-    let range = c.args.range.now in
-    let w = version_of c.in-Some-member.outline in
-    let said = mapped (c.is_above.result ≡ true)
-    (λ (b : PlainVersion). (c.is_above.result ≡ true) ↔ (order_for c.args.lowest b w.plain ≡ Less))
-    (λ (o : OutlineValue). (version_of o).plain) c.loop-version.best c.is_above.ensures in
-    let spells = rw c.as_bytes.ensures.value at c.in-Some-member.ensures.0 in
-    (string_taken c.args.lowest (versions_grammar range) range.versions c.one_version_in.ensures.same_version c.loop-version.yielded
-    c.in-Some.version c.loop-version.found _ w c.is_above.result spells c.in-Some-member.ensures.1 said c.loop-version.invariant).0
+    (outline_taken c.args.lowest (versions_grammar c.args.range.now) c.args.range.now.versions c.one_version_in.ensures.same_version
+    c.loop-version.yielded c.in-Some.version c.loop-version.found c.loop-version.best c.in-Some-member.outline c.is_above.result _
+    c.as_bytes.ensures.value c.in-Some-member.ensures.0 c.in-Some-member.ensures.1 c.is_above.ensures c.loop-version.invariant).0
     c.if-is_above.true
 
 pub loop-version-preserved : goal.loop-version-preserved
 loop-version-preserved g c =
-    let range = c.args.range.now in
-    let w = version_of c.in-Some-member.outline in
-    let said = mapped (c.is_above.result ≡ true)
-    (λ (b : PlainVersion). (c.is_above.result ≡ true) ↔ (order_for c.args.lowest b w.plain ≡ Less))
-    (λ (o : OutlineValue). (version_of o).plain) c.loop-version.best c.is_above.ensures in
-    let spells = rw c.as_bytes.ensures.value at c.in-Some-member.ensures.0 in
-    (string_taken c.args.lowest (versions_grammar range) range.versions c.one_version_in.ensures.same_version c.loop-version.yielded
-    c.in-Some.version c.loop-version.found _ w c.is_above.result spells c.in-Some-member.ensures.1 said c.loop-version.invariant).1
+    (outline_taken c.args.lowest (versions_grammar c.args.range.now) c.args.range.now.versions c.one_version_in.ensures.same_version
+    c.loop-version.yielded c.in-Some.version c.loop-version.found c.loop-version.best c.in-Some-member.outline c.is_above.result _
+    c.as_bytes.ensures.value c.in-Some-member.ensures.0 c.in-Some-member.ensures.1 c.is_above.ensures c.loop-version.invariant).1
     c.if-is_above.false
 
 pub returns : goal.returns
