@@ -16,12 +16,7 @@ mod NpmSets
 mod NpmLaws
 mod PrintableSets
 mod AllMeanings
-mod MatchedTerms
-mod MatchedCrate
-mod MatchedEvents
 mod MatchedMeanings
-mod MatchedRanges
-mod MatchedRequirements
 pub mod ReadingLaws
 mod Places
 mod RangeErrors
@@ -38,3 +33,14 @@ mod HighestMembers
 mod HighestStrings
 pub mod OneHighest
 mod ContainedTexts
+mod TableLaws
+mod Cells
+mod NpmCells
+mod CargoCells
+mod Comparators
+mod ReadTrees
+mod FitCells
+mod MatchedTerms
+mod MatchedEvents
+mod MatchedRanges
+mod FormerMeanings

@@ -1,64 +1,108 @@
 -- serves: tool_ranges::meaning::satisfies
--- What is known of a text of ranges as its events come.
-use Rattle.std.proofs.Common.{◌≡◌, Bool, true, false, ◌&&◌, ◌||◌, if◌then◌else◌, List, [], ◌∷◌, Option, Some, None, refl, sym, ap, ◌∙◌}
+-- What is known of a range text as its events come.
+use Rattle.std.proofs.Common.{◌≡◌, Bool, true, false, ◌&&◌, ◌||◌, if◌then◌else◌, List, [], ◌∷◌, map, Option, Some, None, refl, sym, ap, ◌∙◌}
 use Rattle.std.proofs.Math.Bool.{and-true, and-false, or-false}
+use Rattle.std.proofs.lemmas.List.Folds.{list_all-map}
+use Rattle.std.specs.Prelude.{option_map}
 use Rattle.std.specs.List.{list_all, list_any}
 use Rattle.semver_texts.specs.Texts.{Text}
 use Rattle.semver_texts.specs.Versions.{PlainVersion}
 use Rattle.semver_texts.proofs.Lists.{by_test}
 use Rattle.semver_ranges.specs.declared.range.Compat.TheVariants as mode
+use Rattle.semver_ranges.specs.declared.partial.LowerBounds.{LowerBounds}
 use Rattle.semver_ranges.specs.declared.range_set.RangeError.TheVariants.{NumberTooLarge}
-use Rattle.semver_ranges.specs.RangeTree.{Simple, RangeTree, SetTree}
+use Rattle.semver_ranges.specs.RangeTree.{Simple}
 use Rattle.semver_ranges.specs.ExactBounds.{lowest_pre_release}
-use Rattle.semver_ranges.specs.RewritingTable.{PlainComparator, fits_by, written_simple}
 use Rattle.semver_ranges.specs.StatedPreReleases.{states_pre_release_at}
 use Rattle.semver_ranges.specs.Terms.{of_simple}
-use Rattle.semver_ranges.specs.Steps.Reading.{read}
-use Rattle.semver_ranges.specs.Steps.RangeEvents.{Event, one_simple, next_range, put, in_front, yielded, events_of, event_fits}
-use Rattle.semver_ranges.specs.Steps.RangeEvents.{set_events, events}
-use Rattle.semver_ranges.proofs.ReadingSound.{read_sound}
-use Rattle.semver_ranges.proofs.Tables.{IsTable, port_table}
+use Rattle.semver_ranges.specs.Steps.RangeEvents.{Event, one_simple, next_range, put, in_front, event_fits, yielded}
+use Rattle.semver_texts.specs.declared.grammar.Grammar.{Grammar}
+use Rattle.semver_ranges.specs.declared.events.Event.TheVariants as event
+use Rattle.semver_ranges.specs.declared.grammar.Simple as read
+use Rattle.semver_ranges.specs.Steps.CursorViews.{IsSimpleOf}
+use Rattle.tool_ranges.specs.declared.cursor.Cursor.{Cursor}
+use Rattle.semver_ranges.proofs.Tables.{port_table}
 use Rattle.semver_ranges.proofs.EventLists.{set_fits}
-use Rattle.tool_ranges.specs.NpmMeaning.{matches_everything}
-use Rattle.tool_ranges.specs.ToolTable.{written_in}
-use Rattle.tool_ranges.specs.declared.range_matching.Progress.{Progress}
-use Rattle.tool_ranges.specs.declared.range_matching.Terms.{Terms}
-use Rattle.tool_ranges.specs.declared.range_matching.Terms.TheVariants.{Npm, NpmAll, Crate}
-use Rattle.tool_ranges.specs.Steps.Matching.{Refuses, Says, after, begun, grammar_of, ended, lower_of, range_every, range_met, taken}
-use Rattle.tool_ranges.specs.Steps.Matching.{term_fits, term_met}
+use Rattle.tool_ranges.specs.declared.dialect.Dialect.{Dialect}
+use Rattle.tool_ranges.specs.declared.dialect.Dialect.TheVariants.{Cargo, Npm, CrateCargo, CrateNpm}
+use Rattle.tool_ranges.specs.declared.matching.Progress.{Progress}
+use Rattle.tool_ranges.specs.CargoMeaning.{as_read}
+use Rattle.tool_ranges.specs.Dialects.{SpellsAs, TreeOf, fits_as}
+use Rattle.tool_ranges.specs.NpmRules.{matches_everything}
+use Rattle.tool_ranges.specs.ToolTable.{fits_in}
+use Rattle.tool_ranges.specs.Steps.Cursors.{ComesFirst, HasLeftIn, events_in, ranges_of, read_as, text_events}
+use Rattle.tool_ranges.specs.Steps.Matching.{Says, after, begun, counts, ended, lower_of, range_every, range_met, taken, term_fits, term_met}
+use Rattle.tool_ranges.specs.Steps.Reading.{IsRead, IsRefusedAs}
+use Rattle.tool_ranges.proofs.Comparators.{same_ranges}
+use Rattle.tool_ranges.proofs.ReadTrees.{sound_as}
 use Rattle.tool_ranges.proofs.ToolRows.{npm_table}
 
--- the table by which the terms fit
-pub table_of : (terms : Terms) → (written : Simple → List PlainComparator) × IsTable (term_fits terms) written
-table_of Npm = (written_in mode.Npm, npm_table)
-table_of NpmAll = (written_in mode.Npm, npm_table)
-table_of (Crate compat) = (written_simple lowest_pre_release compat, port_table lowest_pre_release compat)
+-- ---- what comes first
+pub record FirstTerm (g : Grammar) (o : Option (List Event)) (simple : read.Simple) (cursor : Cursor) : Type 0 where
+  pub s : Simple
+  pub left : Option (List Event)
+  pub is : IsSimpleOf s simple
+  pub has : HasLeftIn g cursor left
+  pub whole : o ≡ put (one_simple s) left
 
-module _ (terms : Terms) (v : PlainVersion) (counts : Bool) where
+pub first_term : (g : Grammar) (o : Option (List Event)) (simple : read.Simple) (cursor : Cursor) → ComesFirst g o (event.Simple simple) cursor
+    → FirstTerm g o simple cursor
+first_term g o simple cursor (one_simple s, left, is, has, e) = record { s = s; left = left; is = is; has = has; whole = e }
+first_term g o simple cursor (next_range, left, is, has, e) = absurd is
+
+-- ---- whether the events fit
+
+front_fits : (fit : Simple → Bool) (ss : List Simple) → list_all (event_fits fit) (in_front ss []) ≡ list_all fit ss
+front_fits fit [] = refl
+front_fits fit (s ∷ ss) = ap (λ b. fit s && b) (front_fits fit ss)
+
+pub ranges_fit : (lower : LowerBounds) (d : Dialect) (tree : TreeOf d)
+    → list_all (event_fits (term_fits d)) (events_in (ranges_of lower d tree)) ≡ fits_as d tree
+ranges_fit lower Cargo tree = front_fits (fits_in mode.Cargo) (map as_read tree) ∙ list_all-map (fits_in mode.Cargo) as_read tree
+ranges_fit lower Npm tree = ap (list_all (event_fits (term_fits Npm))) (sym (same_ranges lower tree)) ∙ set_fits npm_table lower tree
+ranges_fit lower CrateCargo tree = ap (list_all (event_fits (term_fits CrateCargo))) (sym (same_ranges lower tree))
+    ∙ set_fits (port_table lowest_pre_release mode.Cargo) lower tree
+ranges_fit lower CrateNpm tree = ap (list_all (event_fits (term_fits CrateNpm))) (sym (same_ranges lower tree))
+    ∙ set_fits (port_table lowest_pre_release mode.Npm) lower tree
+
+-- a text has some range
+abbrev pub HasSome : List (List Simple) → Type 0
+HasSome ranges = (first : List Simple) × (others : List (List Simple)) × (ranges ≡ first ∷ others)
+
+pub some_ranges : (lower : LowerBounds) (d : Dialect) (t : Text) (tree : TreeOf d) → SpellsAs d tree t → HasSome (ranges_of lower d tree)
+some_ranges lower Cargo t tree h = (map as_read tree, [], refl)
+some_ranges lower Npm t [] h = absurd h.spelled
+some_ranges lower Npm t (r ∷ others) h = (yielded lower r, map (yielded lower) others, refl)
+some_ranges lower CrateCargo t [] h = absurd h
+some_ranges lower CrateCargo t (r ∷ others) h = (yielded lower r, map (yielded lower) others, refl)
+some_ranges lower CrateNpm t [] h = absurd h
+some_ranges lower CrateNpm t (r ∷ others) h = (yielded lower r, map (yielded lower) others, refl)
+
+module _ (d : Dialect) (all : Bool) (v : PlainVersion) where
   -- what is known at the end, with what was known before the events; nothing where a number doesn't fit
   abbrev pub told : Bool → Progress → Option (List Event) → Option (Option Progress)
   told fit t None = None
   told fit t (Some es) =
-      Some (if fit && list_all (event_fits (term_fits terms)) es then Some (ended counts (after terms v counts t es)) else None)
+      Some (if fit && list_all (event_fits (term_fits d)) es then Some (ended (counts all v) (after d all v t es)) else None)
 
-  one_more : (fit f : Bool) (t t' : Progress) (s : Simple) (left : Option (List Event)) → f ≡ term_fits terms s
-      → (term_fits terms s ≡ true → t' ≡ taken terms v s t) → told fit t (put (one_simple s) left) ≡ told (fit && f) t' left
+  one_more : (fit f : Bool) (t t' : Progress) (s : Simple) (left : Option (List Event)) → f ≡ term_fits d s
+      → (term_fits d s ≡ true → t' ≡ taken d all v s t) → told fit t (put (one_simple s) left) ≡ told (fit && f) t' left
   one_more fit f t t' s None is same = refl
-  one_more fit f t t' s (Some es) is same = by_test (term_fits terms s)
+  one_more fit f t t' s (Some es) is same = by_test (term_fits d s)
       (λ y. rw (is, y, and-true fit, same y) refl)
       (λ n. rw (is, n, and-false fit) refl)
 
   pub term_more : (whole : Option (Option Progress)) (fit f : Bool) (t t' : Progress) (s : Simple) (o left : Option (List Event))
-      → whole ≡ told fit t o → o ≡ put (one_simple s) left → f ≡ term_fits terms s
-      → (term_fits terms s ≡ true → t' ≡ taken terms v s t) → whole ≡ told (fit && f) t' left
+      → whole ≡ told fit t o → o ≡ put (one_simple s) left → f ≡ term_fits d s
+      → (term_fits d s ≡ true → t' ≡ taken d all v s t) → whole ≡ told (fit && f) t' left
   term_more whole fit f t t' s o left so_far first is same = so_far ∙ ap (told fit t) first ∙ one_more fit f t t' s left is same
 
-  -- ---- the events of a set
+  -- ---- the events of ranges
 
   -- simples of one range
   abbrev folded : Progress → List Simple → Progress
   folded t ss = record t {
-    here = t.here && list_all (term_met terms v) ss;
+    here = t.here && list_all (term_met d all v) ss;
     counts = t.counts || list_any (λ s. states_pre_release_at (of_simple s) v) ss;
     nothing = t.nothing && list_all (λ s. matches_everything (of_simple s)) ss;
   }
@@ -72,16 +116,16 @@ module _ (terms : Terms) (v : PlainVersion) (counts : Bool) where
   or_assoc false b c = refl
 
   front_after : (t : Progress) (ss : List Simple) (es : List Event)
-      → after terms v counts t (in_front ss es) ≡ after terms v counts (folded t ss) es
-  front_after t [] es = λ i. after terms v counts (record {
+      → after d all v t (in_front ss es) ≡ after d all v (folded t ss) es
+  front_after t [] es = λ i. after d all v (record {
     here = sym (and-true t.here) i;
     counts = sym (or-false t.counts) i;
     nothing = sym (and-true t.nothing) i;
     met = t.met;
     every = t.every;
   }) es
-  front_after t (s ∷ ss) es = front_after (taken terms v s t) ss es ∙ (λ i. after terms v counts (record {
-    here = and_assoc t.here (term_met terms v s) (list_all (term_met terms v) ss) i;
+  front_after t (s ∷ ss) es = front_after (taken d all v s t) ss es ∙ (λ i. after d all v (record {
+    here = and_assoc t.here (term_met d all v s) (list_all (term_met d all v) ss) i;
     counts = or_assoc t.counts (states_pre_release_at (of_simple s) v)
         (list_any (λ (x : Simple). states_pre_release_at (of_simple x) v) ss) i;
     nothing = and_assoc t.nothing (matches_everything (of_simple s)) (list_all (λ (x : Simple). matches_everything (of_simple x)) ss) i;
@@ -91,52 +135,57 @@ module _ (terms : Terms) (v : PlainVersion) (counts : Bool) where
 
   -- at the begin of a range
   abbrev fresh : Bool → Bool → Progress
-  fresh met every = record { here = true; counts = counts; nothing = true; met = met; every = every }
+  fresh met every = record { here = true; counts = counts all v; nothing = true; met = met; every = every }
 
-  set_after : (r : RangeTree) (others : SetTree) (met every : Bool)
-      → ended counts (after terms v counts (fresh met every) (events_of (lower_of terms) (r ∷ others)))
-      ≡ fresh (met || list_any (range_met terms v counts) (r ∷ others)) (every || list_any (range_every terms) (r ∷ others))
-  set_after r [] met every =
-      ap (ended counts) (front_after (fresh met every) (yielded (lower_of terms) r) [])
-      ∙ (λ i. fresh (met || sym (or-false (range_met terms v counts r)) i) (every || sym (or-false (range_every terms r)) i))
-  set_after r (next ∷ others) met every =
-      ap (ended counts) (front_after (fresh met every) (yielded (lower_of terms) r)
-      (next_range ∷ events_of (lower_of terms) (next ∷ others)))
-      ∙ set_after next others (met || range_met terms v counts r) (every || range_every terms r)
-      ∙ (λ i. fresh (or_assoc met (range_met terms v counts r) (list_any (range_met terms v counts) (next ∷ others)) i)
-      (or_assoc every (range_every terms r) (list_any (range_every terms) (next ∷ others)) i))
+  ranges_after : (ss : List Simple) (others : List (List Simple)) (met every : Bool)
+      → ended (counts all v) (after d all v (fresh met every) (events_in (ss ∷ others)))
+      ≡ fresh (met || list_any (range_met d all v) (ss ∷ others)) (every || list_any range_every (ss ∷ others))
+  ranges_after ss [] met every =
+      ap (ended (counts all v)) (front_after (fresh met every) ss [])
+      ∙ (λ i. fresh (met || sym (or-false (range_met d all v ss)) i) (every || sym (or-false (range_every ss)) i))
+  ranges_after ss (next ∷ others) met every =
+      ap (ended (counts all v)) (front_after (fresh met every) ss (next_range ∷ events_in (next ∷ others)))
+      ∙ ranges_after next others (met || range_met d all v ss) (every || range_every ss)
+      ∙ (λ i. fresh (or_assoc met (range_met d all v ss) (list_any (range_met d all v) (next ∷ others)) i)
+      (or_assoc every (range_every ss) (list_any range_every (next ∷ others)) i))
 
   -- ---- a whole text
   module _ (t : Text) where
     abbrev Told : Option (Option Progress) → Type 0
-    Told o = told true (begun counts) (events (grammar_of terms) (lower_of terms) t) ≡ o
+    Told o = told true (begun (counts all v)) (text_events (lower_of d all) d t) ≡ o
 
-    whole : (tree : SetTree) → list_all (event_fits (term_fits terms)) (events_of (lower_of terms) tree) ≡ fits_by (term_fits terms) tree
-    whole tree = set_fits (table_of terms).1 (lower_of terms) tree
-
-    pub large : Told (Some None) → Refuses terms t NumberTooLarge
-    large e = at (read (grammar_of terms) t) refl e where
-      at : (o : Option SetTree) → read (grammar_of terms) t ≡ o
-          → told true (begun counts) (set_events (lower_of terms) o) ≡ Some None → Refuses terms t NumberTooLarge
+    pub large : Told (Some None) → IsRefusedAs d t NumberTooLarge
+    large e = at (read_as d t) refl e where
+      at : (o : Option (TreeOf d)) → read_as d t ≡ o
+          → told true (begun (counts all v)) (option_map (λ tree. events_in (ranges_of (lower_of d all) d tree)) o) ≡ Some None
+          → IsRefusedAs d t NumberTooLarge
       at None is e = cc
-      at (Some tree) is e = by_test _
-          (λ y. let fit = whole tree ∙ y in
-          cc)
+      at (Some tree) is e = by_test (fits_as d tree)
+          (λ y. let fit = ranges_fit (lower_of d all) d tree ∙ y in
+          let no : Some (Some _) ≡ Some None = rw fit at e in cc)
           (λ n. (tree, is, n))
 
-    pub says : (progress : Progress) → Told (Some (Some progress)) → Says terms v counts t progress
-    says progress e = at (read (grammar_of terms) t) refl e where
-      at : (o : Option SetTree) → read (grammar_of terms) t ≡ o
-          → told true (begun counts) (set_events (lower_of terms) o) ≡ Some (Some progress) → Says terms v counts t progress
+    pub says : (progress : Progress) → Told (Some (Some progress)) → IsRead d t (Says d all v progress)
+    says progress e = at (read_as d t) refl e where
+      at : (o : Option (TreeOf d)) → read_as d t ≡ o
+          → told true (begun (counts all v)) (option_map (λ tree. events_in (ranges_of (lower_of d all) d tree)) o) ≡ Some (Some progress)
+          → IsRead d t (Says d all v progress)
       at None is e = cc
-      at (Some []) is e = absurd (read_sound (grammar_of terms) t [] is)
-      at (Some (r ∷ others)) is e = by_test (fits_by (term_fits terms) (r ∷ others))
-          (λ y. let fit = whole (r ∷ others)
-          ∙ y in
-          let same : progress ≡ ended counts (after terms v counts (begun counts) (events_of (lower_of terms) (r ∷ others))) =
-          (cc) in
-          let end = same ∙ set_after r others false false in
-          (r ∷ others, is, y, ap (λ (x : Progress). x.met) end, ap (λ (x : Progress). x.every) end))
-          (λ n. let fit = whole (r ∷ others)
-          ∙ n in
-          cc)
+      at (Some tree) is e = by_test (fits_as d tree)
+          (λ y. let fit = ranges_fit (lower_of d all) d tree ∙ y in
+          let known : Some (Some (ended (counts all v) (after d all v (begun (counts all v)) (events_in (ranges_of (lower_of d all) d tree)))))
+          ≡ Some (Some progress) = rw fit at e in
+          let same : ended (counts all v) (after d all v (begun (counts all v)) (events_in (ranges_of (lower_of d all) d tree))) ≡ progress = cc in
+          let some = some_ranges (lower_of d all) d t tree (sound_as d t tree is) in
+          let end = sym same ∙ ap (λ rs. ended (counts all v) (after d all v (begun (counts all v)) (events_in rs))) some.2
+          ∙ ranges_after some.0 some.1 false false in (
+            tree,
+            is,
+            y,
+            (
+              ap (λ (x : Progress). x.met) end ∙ ap (list_any (range_met d all v)) (sym some.2),
+              ap (λ (x : Progress). x.every) end ∙ ap (list_any range_every) (sym some.2),
+            ),
+          ))
+          (λ n. let fit = ranges_fit (lower_of d all) d tree ∙ n in
+          let no : Some None ≡ Some (Some progress) = rw fit at e in cc)

@@ -1,36 +1,43 @@
--- serves: tool_ranges::meaning::satisfies
--- What the simples that a range is yielded as say of a version is what its terms say.
-use Rattle.std.proofs.Common.{◌≡◌, Bool, true, false, ◌&&◌, ◌||◌, if◌then◌else◌, [], ◌∷◌, refl, sym, ap, ◌∙◌, rules}
-use Rattle.std.proofs.Math.Bool.{and-true}
+-- serves: tool_ranges::laws::meanings_agree
+-- What the ranges of a tree say of a version is what the tree means.
+use Rattle.std.proofs.Common.{◌≡◌, ℕ, Bool, true, false, ◌&&◌, ◌||◌, ◌==◌, if◌then◌else◌, List, [], ◌∷◌, length, map, refl, sym, ap, ◌∙◌}
+use Rattle.std.proofs.Math.Bool.{and-true, or-false}
 use Rattle.std.specs.List.{list_all, list_any}
+use Rattle.std.specs.Ordering.{is_ge}
 use Rattle.std.proofs.lemmas.List.Folds.{list_all-map}
-use Rattle.semver_texts.specs.declared.grammar.Grammar.TheVariants as grammar
-use Rattle.semver_texts.specs.Texts.{Text, is_empty}
-use Rattle.semver_texts.specs.Versions.{PlainVersion}
+use Rattle.semver_texts.specs.Precedence.{precedence}
+use Rattle.semver_texts.specs.Texts.{is_empty}
+use Rattle.semver_texts.specs.Versions.{IdentifierValue, PlainVersion, without_build}
 use Rattle.semver_texts.proofs.Lists.{by_test}
-use Rattle.semver_ranges.specs.declared.partial.LowerBounds.TheVariants.{Stated}
+use Rattle.semver_ranges.specs.declared.partial.LowerBounds.TheVariants.{Lowest, Stated}
 use Rattle.semver_ranges.specs.declared.range.Compat.{Compat}
 use Rattle.semver_ranges.specs.declared.range.Compat.TheVariants as mode
-use Rattle.semver_ranges.specs.RangeTree.{PartialTree, RangeTree, SetTree, empty, hyphen, simples}
-use Rattle.semver_ranges.specs.Partials.{stated, states_nothing}
+use Rattle.semver_ranges.specs.RangeTree.{PartialTree, RangeTree, Simple, SetTree, empty, hyphen, simples, one, two, three}
+use Rattle.semver_ranges.specs.RangeTree.{at_least, is_wildcard}
+use Rattle.semver_ranges.specs.ExactBounds.{lowest_pre_release}
+use Rattle.semver_ranges.specs.Partials.{filled, stated, states_nothing}
 use Rattle.semver_ranges.specs.OwnMeaning.{meets_term}
 use Rattle.semver_ranges.specs.StatedPreReleases.{counts_in, states_pre_release_at}
+use Rattle.semver_ranges.specs.Steps.PartialViews.{begun_as}
 use Rattle.semver_ranges.specs.Terms.{Term, of_nothing, of_simple, left_side, right_side, terms}
 use Rattle.semver_ranges.specs.Steps.RangeEvents.{wildcard, yielded}
-use Rattle.semver_ranges.proofs.Tables.{nothing_is}
+use Rattle.semver_ranges.proofs.Rows.{Shape}
+use Rattle.semver_ranges.proofs.SetMeanings.{stated_shape}
+use Rattle.semver_ranges.proofs.Tables.{begun_stated, nothing_is}
 use Rattle.semver_ranges.proofs.Tests.{list_any-mapped}
-use Rattle.tool_ranges.specs.AllPreReleases.{meets_npm_with_all, meets_range_with_all}
-use Rattle.tool_ranges.specs.AllPreReleases as all
-use Rattle.tool_ranges.specs.NpmMeaning.{matches_everything, is_every_release, meets_npm}
-use Rattle.tool_ranges.specs.NpmMeaning as npm
-use Rattle.tool_ranges.specs.declared.range_matching.Terms.TheVariants.{Npm, NpmAll, Crate}
-use Rattle.semver_ranges.specs.declared.range_set.RangeError.{RangeError}
-use Rattle.semver_ranges.specs.declared.range_set.RangeError.TheVariants.{NotARange, NumberTooLarge, OutOfMemory}
-use Rattle.tool_ranges.specs.NpmTable.{is_safe_simple}
-use Rattle.semver_ranges.specs.Steps.Answers.{IsRefusalOf}
-use Rattle.semver_ranges.specs.Steps.Reading.{read}
-use Rattle.tool_ranges.specs.Steps.Matching.{Refuses, range_every, range_met, term_met}
-use Rattle.tool_ranges.proofs.AllMeanings.{left_meets, none_met}
+use Rattle.version_sets.specs.PreReleaseRules.{numbers_fit}
+use Rattle.version_sets.specs.declared.rules.PreReleases.{PreReleases}
+use Rattle.version_sets.specs.declared.rules.PreReleases.TheVariants.{Default, Included, Excluded}
+use Rattle.tool_ranges.specs.declared.dialect.Dialect.{Dialect}
+use Rattle.tool_ranges.specs.declared.dialect.Dialect.TheVariants.{Cargo, Npm, CrateCargo, CrateNpm}
+use Rattle.tool_ranges.specs.declared.matching.Progress.{Progress}
+use Rattle.tool_ranges.specs.CargoMeaning.{against, as_read}
+use Rattle.tool_ranges.specs.CargoRules as cargo
+use Rattle.tool_ranges.specs.Dialects.{TreeOf}
+use Rattle.tool_ranges.specs.Meanings.{meant_by}
+use Rattle.tool_ranges.specs.NpmRules as npm
+use Rattle.tool_ranges.specs.Steps.Matching.{Says, range_every, range_met, rule_of, said, takes_all, term_met}
+use Rattle.tool_ranges.proofs.Cells.{numbers_ge}
 
 and_twice : (b : Bool) → b ≡ (b && (b && true))
 and_twice true = refl
@@ -54,7 +61,7 @@ module _ (f : Term → Bool) (nothing : f of_nothing ≡ f (of_simple wildcard))
       (λ n. rw (y, n) refl))
       (λ n. by_test (states_nothing l) (λ z. rw (n, z) refl) (λ m. rw (n, m) refl))
 
-  pub any_terms : (x : RangeTree) → list_any (λ s. f (of_simple s)) (yielded Stated x) ≡ list_any f (terms x)
+  any_terms : (x : RangeTree) → list_any (λ s. f (of_simple s)) (yielded Stated x) ≡ list_any f (terms x)
   any_terms empty = rw nothing refl
   any_terms (simples first others) = sym (list_any-mapped f (λ s. f (of_simple s)) of_simple (λ s. refl) (first ∷ others))
   any_terms (hyphen l r) = by_test (states_nothing r)
@@ -64,60 +71,154 @@ module _ (f : Term → Bool) (nothing : f of_nothing ≡ f (of_simple wildcard))
       (λ n. rw (y, n) refl))
       (λ n. by_test (states_nothing l) (λ z. rw (n, z) refl) (λ m. rw (n, m) refl))
 
-any_same : (f g : RangeTree → Bool) → ((r : RangeTree) → f r ≡ g r) → (tree : SetTree) → list_any f tree ≡ list_any g tree
-any_same f g same [] = refl
-any_same f g same (r ∷ tree) = search rules
-
 module _ (v : PlainVersion) where
   -- where a version counts as it is stated
   counts_so : (r : RangeTree)
       → (is_empty v.pre || list_any (λ s. states_pre_release_at (of_simple s) v) (yielded Stated r)) ≡ counts_in r v
   counts_so r = ap (λ b. is_empty v.pre || b) (any_terms (λ t. states_pre_release_at t v) refl (λ l r a b. rw (a, b) refl) r)
 
-  -- ---- npm
-  npm_range : (r : RangeTree)
-      → range_met Npm v (is_empty v.pre) r ≡ (list_all (λ t. npm.meets_one t v) (terms r) && counts_in r v)
-  npm_range r = λ i. all_terms (λ t. npm.meets_one t v) refl (λ l r' a b. rw (a, b) refl) r i && counts_so r i
+  -- ---- npm, by default
+  none_met : (p : PartialTree) → states_nothing p ≡ true
+      → (npm.meets_one Default (left_side p) v ≡ true) × (npm.meets_one Default (right_side p) v ≡ true)
+      × (npm.meets_left Included p v ≡ true) × (npm.meets_one Included (right_side p) v ≡ true)
+  none_met p y = let e = nothing_is (stated p) y in rw e (refl, refl, refl, refl)
 
-  every_range : (r : RangeTree) → range_every Npm r ≡ is_every_release r
-  every_range r = all_terms matches_everything refl (λ l r' a b. rw (a, b) refl) r
+  pub default_simples : (r : RangeTree) → list_all (λ s. npm.meets_one Default s v) (yielded Stated r) ≡ npm.meets_range Default r v
+  default_simples empty = refl
+  default_simples (simples first others) = refl
+  default_simples (hyphen l r) = by_test (states_nothing r)
+      (λ y. rw (y, (none_met r y).1) refl)
+      (λ n. by_test (states_nothing l)
+      (λ y. rw (n, y, (none_met l y).0) (and-true _))
+      (λ m. rw (n, m) (ap (λ b. npm.meets_one Default (left_side l) v && b) (and-true _))))
 
-  pub npm_said : (tree : SetTree)
-      → (if list_any (range_every Npm) tree then is_empty v.pre else list_any (range_met Npm v (is_empty v.pre)) tree) ≡ meets_npm tree v
-  npm_said tree = λ i. if any_same (range_every Npm) is_every_release every_range tree i then is_empty v.pre
-      else any_same (range_met Npm v (is_empty v.pre)) (λ r. list_all (λ t. npm.meets_one t v) (terms r) && counts_in r v) npm_range tree i
+  default_range : (r : RangeTree) → range_met Npm false v (yielded Stated r) ≡ (npm.meets_range Default r v && counts_in r v)
+  default_range r = λ i. default_simples r i && counts_so r i
 
-  -- where each pre-release counts
-  all_range : (r : RangeTree) → range_met NpmAll v true r ≡ meets_range_with_all r v
-  all_range empty = refl
-  all_range (simples first others) = and-true _
-  all_range (hyphen left right) = by_test (states_nothing right)
-      (λ y. rw y (and-true _ ∙ (λ i. left_meets v left i && sym (none_met v right y).1 i)))
+  every_range : (r : RangeTree) → range_every (yielded Stated r) ≡ npm.is_every_release r
+  every_range r = all_terms npm.matches_everything refl (λ l r' a b. rw (a, b) refl) r
+
+  npm_default : (tree : SetTree)
+      → (if list_any range_every (map (yielded Stated) tree) then is_empty v.pre
+      else list_any (range_met Npm false v) (map (yielded Stated) tree)) ≡ npm.meets_by_default tree v
+  npm_default tree = λ i. if list_any-mapped range_every npm.is_every_release (yielded Stated) every_range tree i then is_empty v.pre
+      else list_any-mapped (range_met Npm false v) (λ r. npm.meets_range Default r v && counts_in r v) (yielded Stated) default_range tree i
+
+  -- ---- npm, where each pre-release within the bounds counts
+  from_lowest : {s : List ℕ} → Shape s → (length s == 3) ≡ true
+      → is_ge (precedence v (filled s lowest_pre_release)) ≡ is_ge (against s v)
+  from_lowest Shape.none e = cc
+  from_lowest (Shape.one x) e = cc
+  from_lowest (Shape.two x y) e = cc
+  from_lowest (Shape.three x y w) e = numbers_ge v x y w
+
+  left_included : (p : PartialTree) → npm.meets_one Included (left_side (begun_as Lowest p)) v ≡ npm.meets_left Included p v
+  left_included p = by_test (length (stated p) == 3) (λ y. whole p y) (λ n. rw (begun_stated Lowest p, n) (few (stated_shape p) n)) where
+    few : {s : List ℕ} → Shape s → (length s == 3) ≡ false
+        → npm.meets_by_count Included at_least s (filled s []) v ≡ npm.is_from_numbers s (filled s []) v
+    few Shape.none n = refl
+    few (Shape.one x) n = refl
+    few (Shape.two x y) n = refl
+    few (Shape.three x y w) n = cc
+
+    three_from : {s : List ℕ} → Shape s → (length s == 3) ≡ true → (p : List IdentifierValue)
+        → npm.meets_by_count Included at_least s (filled s p) v ≡ is_ge (precedence v (filled s p))
+    three_from Shape.none e p = cc
+    three_from (Shape.one x) e p = cc
+    three_from (Shape.two x y) e p = cc
+    three_from (Shape.three x y w) e p = refl
+
+    whole : (p : PartialTree) → (length (stated p) == 3) ≡ true
+        → npm.meets_one Included (left_side (begun_as Lowest p)) v ≡ npm.meets_left Included p v
+    whole (one a) y = by_test (is_wildcard a)
+        (λ w. let short : false ≡ true = rw w at y in cc)
+        (λ n. let short : false ≡ true = rw n at y in cc)
+    whole (two a b) y = by_test (is_wildcard a)
+        (λ w. let short : false ≡ true = rw w at y in cc)
+        (λ n. by_test (is_wildcard b)
+        (λ w. let short : false ≡ true = rw (n, w) at y in cc)
+        (λ m. let short : false ≡ true = rw (n, m) at y in cc))
+    whole (three a b c [] build) y =
+        let from = from_lowest (stated_shape (three a b c [] build)) y in
+        let meets = three_from (stated_shape (three a b c [] build)) y lowest_pre_release in
+        rw y (meets ∙ from)
+    whole (three a b c (part ∷ parts) build) y =
+        let meets = three_from (stated_shape (three a b c (part ∷ parts) build)) y in rw y (meets _)
+
+  included_range : (r : RangeTree) → range_met Npm true v (yielded Lowest r) ≡ npm.meets_range Included r v
+  included_range empty = refl
+  included_range (simples first others) = and-true _
+  included_range (hyphen left right) = by_test (states_nothing right)
+      (λ y. rw y (and-true _ ∙ (λ i. left_included left i && sym (none_met right y).3 i)))
       (λ n. by_test (states_nothing left)
-      (λ y. rw (n, y) (and-true _ ∙ and-true _ ∙ (λ i. sym (none_met v left y).0 i && all.meets_one mode.Npm (right_side right) v)))
-      (λ m. rw (n, m) (and-true _ ∙ (λ i. left_meets v left i && and-true (all.meets_one mode.Npm (right_side right) v) i))))
+      (λ y. rw (n, y) (and-true _ ∙ and-true _ ∙ (λ i. sym (none_met left y).2 i && npm.meets_one Included (right_side right) v)))
+      (λ m. rw (n, m) (and-true _ ∙ (λ i. left_included left i && and-true (npm.meets_one Included (right_side right) v) i))))
 
-  pub all_said : (tree : SetTree) → list_any (range_met NpmAll v true) tree ≡ meets_npm_with_all tree v
-  all_said tree = any_same (range_met NpmAll v true) (λ r. meets_range_with_all r v) all_range tree
+  npm_included : (tree : SetTree)
+      → list_any (range_met Npm true v) (map (yielded Lowest) tree) ≡ list_any (λ r. npm.meets_range Included r v) tree
+  npm_included tree = list_any-mapped (range_met Npm true v) (λ r. npm.meets_range Included r v) (yielded Lowest) included_range tree
+
+  -- ---- Cargo
+  module _ (all : Bool) where
+    each_met : (tree : List Simple) → list_all (term_met Cargo all v) (map as_read tree) ≡ list_all (λ s. cargo.meets_one (rule_of all) s v) tree
+    each_met tree = list_all-map (term_met Cargo all v) as_read tree
+
+    some_stated : (tree : List Simple) → list_any (λ s. states_pre_release_at (of_simple s) v) (map as_read tree)
+        ≡ list_any (λ s. states_pre_release_at (of_simple s) v) tree
+    some_stated tree = list_any-mapped (λ s. states_pre_release_at (of_simple s) v) (λ s. states_pre_release_at (of_simple s) v) as_read
+        (λ s. refl) tree
+
+  cargo_default : (tree : List Simple) → list_any (range_met Cargo false v) (map as_read tree ∷ []) ≡ cargo.meets_by_default tree v
+  cargo_default tree = or-false _ ∙ (λ i. each_met false tree i && (is_empty v.pre || some_stated false tree i))
+
+  cargo_included : (tree : List Simple)
+      → list_any (range_met Cargo true v) (map as_read tree ∷ []) ≡ list_all (λ s. cargo.meets_one Included s v) tree
+  cargo_included tree = or-false _ ∙ and-true _ ∙ each_met true tree
 
   -- ---- the crate
-  module _ (compat : Compat) where
-    crate_terms : (r : RangeTree) → list_all (term_met (Crate compat) v) (yielded Stated r) ≡ list_all (λ t. meets_term compat t v)
-        (terms r)
-    crate_terms r = all_terms _ refl (λ l r' a b. rw (a, b) refl) r
+  module _ (d : Dialect) (compat : Compat)
+      (of : (all : Bool) (s : Simple) → term_met d all v s ≡ meets_term compat (of_simple s) v) where
+    own_terms : (all : Bool) (r : RangeTree) → list_all (term_met d all v) (yielded Stated r) ≡ list_all (λ t. meets_term compat t v) (terms r)
+    own_terms all r = each (yielded Stated r) ∙ all_terms (λ t. meets_term compat t v) refl (λ l r' a b. rw (a, b) refl) r where
+      each : (ss : List Simple) → list_all (term_met d all v) ss ≡ list_all (λ s. meets_term compat (of_simple s) v) ss
+      each [] = refl
+      each (s ∷ ss) = λ i. of all s i && each ss i
 
-    pub stated_said : (tree : SetTree) → list_any (range_met (Crate compat) v (is_empty v.pre)) tree
+    own_default : (tree : SetTree) → list_any (range_met d false v) (map (yielded Stated) tree)
         ≡ list_any (λ r. list_all (λ t. meets_term compat t v) (terms r) && counts_in r v) tree
-    stated_said tree = any_same _
-        _ (λ r i. crate_terms r i && counts_so r i) tree
+    own_default tree = list_any-mapped (range_met d false v) (λ r. list_all (λ t. meets_term compat t v) (terms r) && counts_in r v)
+        (yielded Stated) (λ r i. own_terms false r i && counts_so r i) tree
 
-    pub own_said : (tree : SetTree) → list_any (range_met (Crate compat) v true) tree
+    own_included : (tree : SetTree) → list_any (range_met d true v) (map (yielded Stated) tree)
         ≡ list_any (λ r. list_all (λ t. meets_term compat t v) (terms r)) tree
-    own_said tree = any_same _ _
-        (λ r. and-true _ ∙ crate_terms r) tree
+    own_included tree = list_any-mapped (range_met d true v) (λ r. list_all (λ t. meets_term compat t v) (terms r))
+        (yielded Stated) (λ r. and-true _ ∙ own_terms true r) tree
 
--- ---- what is refused of a text of npm
-pub npm_refusal : (t : Text) (e : RangeError) → Refuses Npm t e → IsRefusalOf (read grammar.Npm t) is_safe_simple e
-npm_refusal t NotARange h = h
-npm_refusal t NumberTooLarge h = h
-npm_refusal t OutOfMemory h = absurd h
+    own_release : (tree : SetTree) → (is_empty v.pre && list_any (range_met d false v) (map (yielded Stated) tree))
+        ≡ (is_empty v.pre && list_any (λ r. list_all (λ t. meets_term compat t v) (terms r)) tree)
+    own_release tree = by_test (is_empty v.pre)
+        (λ y. ap (λ b. is_empty v.pre && b) (list_any-mapped (range_met d false v) (λ r. list_all (λ t. meets_term compat t v) (terms r))
+        (yielded Stated) (λ r. ap (λ b. list_all (term_met d false v) (yielded Stated r)
+        && (b || list_any (λ s. states_pre_release_at (of_simple s) v) (yielded Stated r))) y ∙ and-true _ ∙ own_terms false r) tree))
+        (λ n. rw n refl)
+
+-- ---- whatever the dialect is
+
+module _ (v : PlainVersion) (fit : numbers_fit v ≡ true) where
+  pub means : (d : Dialect) (rule : PreReleases) (tree : TreeOf d) (progress : Progress) → Says d (takes_all rule) v progress tree
+      → said d rule v progress ≡ meant_by d rule tree (without_build v)
+  means Cargo Default tree progress says = says.0 ∙ cargo_default v tree
+  means Cargo Included tree progress says = says.0 ∙ cargo_included v tree
+  means Cargo Excluded tree progress says = ap (λ b. is_empty v.pre && b) (says.0 ∙ cargo_default v tree)
+  means Npm Default tree progress says = (λ i. if says.1 i then is_empty v.pre else says.0 i) ∙ npm_default v tree
+  means Npm Included tree progress says = says.0 ∙ npm_included v tree
+  means Npm Excluded tree progress says =
+      ap (λ b. is_empty v.pre && b) ((λ i. if says.1 i then is_empty v.pre else says.0 i) ∙ npm_default v tree)
+  means CrateCargo Default tree progress says = says.0 ∙ own_default v CrateCargo mode.Cargo (λ all s. refl) tree ∙ rw fit refl
+  means CrateCargo Included tree progress says = says.0 ∙ own_included v CrateCargo mode.Cargo (λ all s. refl) tree ∙ rw fit refl
+  means CrateCargo Excluded tree progress says =
+      ap (λ b. is_empty v.pre && b) says.0 ∙ own_release v CrateCargo mode.Cargo (λ all s. refl) tree ∙ rw fit refl
+  means CrateNpm Default tree progress says = says.0 ∙ own_default v CrateNpm mode.Npm (λ all s. refl) tree ∙ rw fit refl
+  means CrateNpm Included tree progress says = says.0 ∙ own_included v CrateNpm mode.Npm (λ all s. refl) tree ∙ rw fit refl
+  means CrateNpm Excluded tree progress says =
+      ap (λ b. is_empty v.pre && b) says.0 ∙ own_release v CrateNpm mode.Npm (λ all s. refl) tree ∙ rw fit refl

@@ -1,53 +1,87 @@
 -- serves: tool_ranges::meaning::satisfies
 -- What a term that was read says of a version is what the term of the tree says.
-use Rattle.std.proofs.Common.{◌≡◌, ℕ, Bool, true, ◌&&◌, List, [], sym, ◌∙◌, rules}
-use Rattle.std.specs.List.{list_all}
-use Rattle.std.specs.Prelude.{nat_eq, not}
+use Rattle.std.proofs.Common.{◌≡◌, ℕ, Bool, true, false, not, ◌&&◌, ◌==◌, if◌then◌else◌, nat_eq, List, [], ◌∷◌, length, refl, sym, ap, ◌∙◌}
 use Rattle.std.specs.Cmp.Lexicographic.{pointwise}
+use Rattle.semver_texts.specs.Digits.{digits_in, identifiers_by, plain_by}
 use Rattle.semver_texts.specs.Texts.{is_empty}
-use Rattle.semver_texts.specs.Versions.{PlainVersion, numbers}
+use Rattle.semver_texts.specs.Versions.{IdentifierValue, PlainVersion, numbers}
+use Rattle.semver_texts.specs.declared.grammar.Digits.TheVariants.{AnySize}
+use Rattle.semver_texts.proofs.Lists.{by_test}
 use Rattle.semver_ranges.specs.declared.grammar.Simple as read
-use Rattle.semver_ranges.specs.declared.range.Compat.{Compat}
-use Rattle.semver_ranges.specs.declared.range.Compat.TheVariants as mode
 use Rattle.semver_ranges.specs.RangeTree.{Form, Simple}
-use Rattle.semver_ranges.specs.Partials.{fits_u64, stated, zero_filled, zero_version}
-use Rattle.semver_ranges.specs.RewritingTable.{simple_fits}
+use Rattle.semver_ranges.specs.Partials.{pre_release, stated, zero_filled}
 use Rattle.semver_ranges.specs.StatedPreReleases.{states_pre_release_at}
 use Rattle.semver_ranges.specs.Terms.{of_simple}
 use Rattle.semver_ranges.specs.Steps.CursorViews.{form_of, IsSimpleOf}
 use Rattle.semver_ranges.specs.Steps.PartialViews.{stated_of, version_of}
-use Rattle.tool_ranges.specs.declared.range_matching.Terms.{Terms}
-use Rattle.tool_ranges.specs.declared.range_matching.Terms.TheVariants.{Npm, NpmAll, Crate}
-use Rattle.tool_ranges.specs.Steps.Matching.{states_at, term_fits}
-use Rattle.tool_ranges.proofs.SafeNumbers.{safe_fits}
-use Rattle.tool_ranges.proofs.ToolRows.{numbers_fit}
+use Rattle.semver_ranges.proofs.SetMeanings.{stated_shape}
+use Rattle.tool_ranges.specs.declared.dialect.Dialect.{Dialect}
+use Rattle.tool_ranges.specs.declared.dialect.Dialect.TheVariants.{Cargo, Npm, CrateCargo, CrateNpm}
+use Rattle.tool_ranges.specs.Dialects.{grammar_of}
+use Rattle.tool_ranges.specs.NpmRules.{asks_nothing_by, is_zero, matches_everything}
+use Rattle.tool_ranges.specs.Steps.Matching.{states_at, term_fits, term_met}
+use Rattle.tool_ranges.specs.Steps.Table.{is_counted_within, is_within}
+use Rattle.tool_ranges.proofs.CargoCells.{cargo_all, cargo_counted, cargo_release, own_within}
+use Rattle.tool_ranges.proofs.FitCells.{term_stated}
+use Rattle.tool_ranges.proofs.NpmCells.{npm_all, npm_counted, npm_release}
 
--- a simple whose numbers fit states what its tree states
-port_stated : (compat : Compat) (s : Simple) → simple_fits compat s ≡ true → list_all fits_u64 (stated s.partial) ≡ true
-port_stated compat s fit = search rules
+none_is : (is : List IdentifierValue) → is_empty is ≡ true → is ≡ []
+none_is [] e = refl
+none_is (i ∷ is) e = cc
 
-pub term_stated : (terms : Terms) (s : Simple) → term_fits terms s ≡ true → list_all fits_u64 (stated s.partial) ≡ true
-term_stated Npm s fit = numbers_fit mode.Npm s (safe_fits s fit)
-term_stated NpmAll s fit = numbers_fit mode.Npm s (safe_fits s fit)
-term_stated (Crate compat) s fit = port_stated compat s fit
+none_any : (s : Simple) → (length (stated s.partial) == 3) ≡ false → identifiers_by AnySize (pre_release s.partial) ≡ []
+none_any s n = rw n refl
 
--- what is said by a form, stated numbers and a zero-filled version
-module _ (s : Simple) (simple : read.Simple) (is : IsSimpleOf s simple) (fit : list_all fits_u64 (stated s.partial) ≡ true) where
-  pub same_numbers : stated_of simple.partial ≡ stated s.partial
-  same_numbers = (is.1.1 (sym is.1.0 ∙ fit)).0
+none_kept : (s : Simple) → (length (stated s.partial) == 3) ≡ false → pre_release s.partial ≡ []
+none_kept s n = rw n refl
 
-  pub same_version : version_of simple.partial ≡ zero_filled s.partial
-  same_version = (is.1.1 (sym is.1.0 ∙ fit)).1
+-- within the bounds that are looked at by the form, the numbers and the zero-filled version
+abbrev pub looked_within : Dialect → Bool → Form → List ℕ → PlainVersion → PlainVersion → Bool
+looked_within d by_default form s z v = if by_default then is_counted_within d form s (plain_by (digits_in (grammar_of d)) z) v
+    else is_within d form s (plain_by (digits_in (grammar_of d)) z) v
 
-  pub said : (meets : Form → List ℕ → PlainVersion → Bool) (r : Bool)
-      → r ≡ meets (form_of simple.form) (stated_of simple.partial) (version_of simple.partial)
-      → r ≡ meets s.form (stated s.partial) (zero_filled s.partial)
-  said meets r e = e ∙ (λ i. meets (is.0 i) (same_numbers i) (same_version i))
+module _ (s : Simple) (v : PlainVersion) where
+  abbrev Means : Dialect → Bool → Bool → Type 0
+  Means d all by_default = looked_within d by_default s.form (stated s.partial) (zero_filled s.partial) v ≡ term_met d all v s
+
+  all_means : (d : Dialect) → Means d true false
+  all_means Cargo = sym (cargo_all v s.form (stated_shape s.partial) _ (none_any s))
+  all_means Npm = sym (npm_all v s.form (stated_shape s.partial) _ (none_any s))
+  all_means CrateCargo = sym (own_within v s.form (stated_shape s.partial) _ (none_kept s)).0
+  all_means CrateNpm = sym (own_within v s.form (stated_shape s.partial) _ (none_kept s)).1
+
+  release_means : (d : Dialect) → v.pre ≡ [] → Means d false false
+  release_means Cargo release = sym (cargo_release v release s.form (stated_shape s.partial) _ (none_any s))
+  release_means Npm release = sym (npm_release v release s.form (stated_shape s.partial) _ (none_any s))
+  release_means CrateCargo release = sym (own_within v s.form (stated_shape s.partial) _ (none_kept s)).0
+  release_means CrateNpm release = sym (own_within v s.form (stated_shape s.partial) _ (none_kept s)).1
+
+  counted_means : (d : Dialect) → is_empty v.pre ≡ false → Means d false true
+  counted_means Cargo pre = sym (cargo_counted v pre s.form (stated_shape s.partial) _ (none_any s))
+  counted_means Npm pre = sym (npm_counted v s.form (stated_shape s.partial) _ (none_any s))
+  counted_means CrateCargo pre = sym (own_within v s.form (stated_shape s.partial) _ (none_kept s)).0
+  counted_means CrateNpm pre = sym (own_within v s.form (stated_shape s.partial) _ (none_kept s)).1
+
+  pub term_means : (d : Dialect) (all by_default : Bool) → by_default ≡ (not all && not (is_empty v.pre)) → Means d all by_default
+  term_means d true by_default e = rw e (all_means d)
+  term_means d false by_default e = by_test (is_empty v.pre)
+      (λ y. rw (e ∙ ap not y) (release_means d (none_is v.pre y)))
+      (λ n. rw (e ∙ ap not n) (counted_means d n))
+
+-- ---- of a term that was read
+module _ (d : Dialect) (s : Simple) (simple : read.Simple) (is : IsSimpleOf s simple) (fit : term_fits d s ≡ true) where
+  same_read : (stated_of simple.partial ≡ stated s.partial) × (version_of simple.partial ≡ zero_filled s.partial)
+  same_read = is.1.1 (sym is.1.0 ∙ term_stated d s fit)
+
+  pub said : (says : Form → List ℕ → PlainVersion → Bool)
+      → says (form_of simple.form) (stated_of simple.partial) (version_of simple.partial) ≡ says s.form (stated s.partial) (zero_filled s.partial)
+  said says i = says (is.0 i) (same_read.0 i) (same_read.1 i)
 
   -- whether it states the numbers of a version, and a pre-release
-  pub stated_at : (v : PlainVersion) (r : Bool) → r ≡ states_at simple.partial v → r ≡ states_pre_release_at (of_simple s) v
-  stated_at v r e = said (λ f n z. not (is_empty z.pre) && pointwise nat_eq (numbers v) n) r e
+  pub stated_at : (v : PlainVersion) → states_at simple.partial v ≡ states_pre_release_at (of_simple s) v
+  stated_at v = said (λ f n z. not (is_empty z.pre) && pointwise nat_eq (numbers v) n)
 
-pub nothing_read : (s : Simple) (simple : read.Simple) → IsSimpleOf s simple → stated_of simple.partial ≡ []
-    → version_of simple.partial ≡ zero_version
-nothing_read s simple is none = search rules
+  -- whether it matches everything
+  pub everything : asks_nothing_by (form_of simple.form) (is_empty (stated_of simple.partial)) (is_zero (version_of simple.partial))
+      ≡ matches_everything (of_simple s)
+  everything = said (λ f n z. asks_nothing_by f (is_empty n) (is_zero z))

@@ -1,4 +1,4 @@
--- serves: tool_ranges::meaning::satisfies, meaning
+-- serves: tool_ranges::meaning::satisfies
 -- The cell of a simple that was read: where it is `>` of one or two numbers, below every pre-release, and else.
 use Rattle.std.proofs.Common.{◌≡◌, Bool, true, false, ◌&&◌, length, refl, sym, ap, ◌∙◌, arith, rules}
 use Rattle.std.specs.Prelude.{Result, Ok, Err, IfOk}

@@ -1,4 +1,4 @@
--- serves: tool_ranges::dialect::rewrite
+-- serves: tool_ranges::cargo::rewrite, reads_back
 -- Numbers that are at most 2^53 - 1: they fit 64 bits, and the cell of a simple says whether its numbers are.
 use Rattle.std.proofs.Common.{◌≡◌, ℕ, true, ◌&&◌, List, refl, ap, ◌∙◌, arith}
 use Rattle.std.proofs.Common.{Option, Some, None}

@@ -1,29 +1,34 @@
 -- serves: tool_ranges::refusals::refused
 -- Which terms of a range text fit, from the left, as the loops over its events and comparators count them; and where a word ends.
 use Rattle.std.proofs.Common.{◌≡◌, ℕ, zero, suc, ◌+◌, ◌≤◌, Bool, true, false, List, [], ◌∷◌, ◌++◌, Option, Some, None, length, refl, sym}
-use Rattle.std.proofs.Common.{ap, ◌∙◌, arith}
+use Rattle.std.proofs.Common.{ap, append-nil, ◌∙◌, arith, map}
+use Rattle.std.specs.Prelude.{option_map}
 use Rattle.std.specs.List.{flat_map, prefix_len}
 use Rattle.std.proofs.lemmas.List.Splits.{length-slice_split}
 use Rattle.semver_texts.specs.Texts.{Text}
 use Rattle.semver_texts.proofs.Lists.{by_test}
 use Rattle.semver_ranges.specs.declared.partial.LowerBounds.{LowerBounds}
-use Rattle.semver_texts.specs.declared.grammar.Grammar.{Grammar}
-use Rattle.semver_ranges.specs.declared.events.Event.TheVariants as event
-use Rattle.semver_ranges.specs.declared.events.Events.{Events}
-use Rattle.semver_ranges.specs.Steps.CursorViews.{HasLeft, IsFirst}
+use Rattle.tool_ranges.specs.Steps.Cursors.{events_in, ranges_of, text_events}
 use Rattle.semver_ranges.specs.Partials.{states_nothing}
-use Rattle.semver_ranges.specs.RangeTree.{PartialTree, RangeTree, Simple, SetTree, SpellsRangeIn, empty, hyphen, simples}
+use Rattle.semver_ranges.specs.RangeTree.{PartialTree, RangeTree, Simple, SetTree, empty, hyphen, simples}
 use Rattle.semver_ranges.specs.RewritingTable.{PlainComparator}
 use Rattle.semver_ranges.specs.Terms.{left_side, right_side}
 use Rattle.semver_ranges.specs.Steps.PartialViews.{begun_as}
-use Rattle.semver_ranges.specs.Steps.RangeEvents.{Event, one_simple, next_range, put, in_front, yielded, events, events_of, set_events}
+use Rattle.semver_ranges.specs.Steps.RangeEvents.{Event, one_simple, next_range, put, in_front, yielded, events_of}
 use Rattle.semver_ranges.specs.Steps.RangeEvents.{wildcard}
-use Rattle.semver_ranges.proofs.ReadingComplete.{tree_read}
-use Rattle.semver_ranges.proofs.Tables.{IsTable, begun_stated}
-use Rattle.tool_ranges.specs.Steps.Matching.{grammar_of, lower_of, term_fits}
-use Rattle.tool_ranges.specs.declared.range_matching.Terms.{Terms}
-use Rattle.tool_ranges.specs.TooLarge.{end_of_word, is_separator, states_number, stating, terms_of, words}
-use Rattle.tool_ranges.proofs.MatchedEvents.{table_of}
+use Rattle.semver_ranges.proofs.Tables.{IsTable, begun_stated, port_table}
+use Rattle.semver_ranges.specs.declared.partial.LowerBounds.TheVariants.{Stated}
+use Rattle.semver_ranges.specs.declared.range.Compat.TheVariants as mode
+use Rattle.semver_ranges.specs.ExactBounds.{lowest_pre_release}
+use Rattle.tool_ranges.specs.declared.dialect.Dialect.{Dialect}
+use Rattle.tool_ranges.specs.declared.dialect.Dialect.TheVariants.{Cargo, Npm, CrateCargo, CrateNpm}
+use Rattle.tool_ranges.specs.CargoMeaning.{as_read}
+use Rattle.tool_ranges.specs.Dialects.{SpellsAs, TreeOf}
+use Rattle.tool_ranges.specs.Steps.Matching.{term_fits}
+use Rattle.tool_ranges.specs.TooLarge.{end_of_word, is_separator, states_number, stating, term_fits_as, terms_as, terms_of, words}
+use Rattle.tool_ranges.proofs.Comparators.{same_ranges}
+use Rattle.tool_ranges.proofs.ReadTrees.{complete_as}
+use Rattle.tool_ranges.proofs.ToolRows.{npm_table}
 
 -- ---- how many of some terms fit, of those that state a number
 
@@ -52,27 +57,8 @@ counted p k None = None
 counted p k (Some es) = Some (k + fitting p (in_events es))
 
 -- two bars that come first
-pub bars_first : (d : Grammar) (o : Option (List Event)) (cursor : Events) → IsFirst d o event.NextRange cursor
-    → (left : Option (List Event)) × HasLeft d cursor left × (o ≡ put next_range left)
-bars_first d o cursor (one_simple s, left, is, contains, e) = absurd is
-bars_first d o cursor (next_range, left, is, contains, e) = (left, contains, e)
-
 module _ (p : Simple → Bool) (whole : Option ℕ) (k : ℕ) (o left : Option (List Event)) (so_far : whole ≡ counted p k o) where
-  pub count_bars : o ≡ put next_range left → whole ≡ counted p k left
-  count_bars e = so_far ∙ ap (counted p k) e ∙ bars left
-    where
-      bars : (left : Option (List Event)) → counted p k (put next_range left) ≡ counted p k left
-      bars None = refl
-      bars (Some es) = refl
-
   module _ (s : Simple) (first : o ≡ put (one_simple s) left) where
-    pub count_nothing : states_nothing s.partial ≡ true → whole ≡ counted p k left
-    count_nothing y = so_far ∙ ap (counted p k) first ∙ same left
-      where
-        same : (left : Option (List Event)) → counted p k (put (one_simple s) left) ≡ counted p k left
-        same None = refl
-        same (Some es) = ap (λ n. Some (k + n)) (fitting_nothing p s (in_events es) y)
-
     pub count_more : states_nothing s.partial ≡ false → p s ≡ true → whole ≡ counted p (k + 1) left
     count_more n y = so_far ∙ ap (counted p k) first ∙ more left
       where
@@ -150,13 +136,36 @@ module _ (p : Simple → Bool) where
     tree_terms (r ∷ next ∷ others) = ap (fitting p) (in_front_of (yielded lower r) (next_range ∷ events_of lower (next ∷ others)))
         ∙ range_terms r (in_events (events_of lower (next ∷ others))) (flat_map terms_of (next ∷ others)) (tree_terms (next ∷ others))
 
-pub text_terms : (terms : Terms) (tree : SetTree) (t : Text) → SpellsRangeIn (grammar_of terms) tree t
-    → counted (term_fits terms) 0 (events (grammar_of terms) (lower_of terms) t) ≡ Some (fitting (term_fits terms) (flat_map terms_of tree))
-text_terms terms tree t spelled =
-    let table = table_of terms in
-    let is = tree_read (grammar_of terms) tree t spelled in
-    let same = tree_terms (term_fits terms) table.1 (lower_of terms) tree in
-    ap (λ o. counted (term_fits terms) 0 (set_events (lower_of terms) o)) is ∙ ap Some (omega (arith, same))
+-- those of Cargo, as they are read
+read_terms : (tree : List Simple) → fitting (term_fits Cargo) (map as_read tree) ≡ fitting (term_fits_as Cargo) tree
+read_terms [] = refl
+read_terms (s ∷ tree) = by_test (states_nothing s.partial)
+    (λ y. fitting_nothing (term_fits Cargo) (as_read s) (map as_read tree) y ∙ read_terms tree
+    ∙ sym (fitting_nothing (term_fits_as Cargo) s tree y))
+    (λ n. by_test (term_fits_as Cargo s)
+    (λ y. fitting_more (term_fits Cargo) (as_read s) (map as_read tree) n y ∙ ap (λ k. 1 + k) (read_terms tree)
+    ∙ sym (fitting_more (term_fits_as Cargo) s tree n y))
+    (λ m. fitting_end (term_fits Cargo) (as_read s) (map as_read tree) n m ∙ sym (fitting_end (term_fits_as Cargo) s tree n m)))
+
+in_one : (ss : List Simple) → in_events (in_front ss []) ≡ ss
+in_one ss = in_front_of (λ s. true) ss [] ∙ append-nil ss
+
+ranges_terms : (d : Dialect) (tree : TreeOf d)
+    → fitting (term_fits d) (in_events (events_in (ranges_of Stated d tree))) ≡ fitting (term_fits_as d) (terms_as d tree)
+ranges_terms Cargo tree = ap (fitting (term_fits Cargo)) (in_one (map as_read tree)) ∙ read_terms tree
+ranges_terms Npm tree = ap (λ es. fitting (term_fits Npm) (in_events es)) (sym (same_ranges Stated tree))
+    ∙ tree_terms (term_fits Npm) npm_table Stated tree
+ranges_terms CrateCargo tree = ap (λ es. fitting (term_fits CrateCargo) (in_events es)) (sym (same_ranges Stated tree))
+    ∙ tree_terms (term_fits CrateCargo) (port_table lowest_pre_release mode.Cargo) Stated tree
+ranges_terms CrateNpm tree = ap (λ es. fitting (term_fits CrateNpm) (in_events es)) (sym (same_ranges Stated tree))
+    ∙ tree_terms (term_fits CrateNpm) (port_table lowest_pre_release mode.Npm) Stated tree
+
+pub text_terms : (d : Dialect) (tree : TreeOf d) (t : Text) → SpellsAs d tree t
+    → counted (term_fits d) 0 (text_events Stated d t) ≡ Some (fitting (term_fits_as d) (terms_as d tree))
+text_terms d tree t spelled =
+    let same = ranges_terms d tree in
+    ap (λ o. counted (term_fits d) 0 (option_map (λ tree. events_in (ranges_of Stated d tree)) o)) (complete_as d t tree spelled)
+    ∙ ap Some (omega (arith, same))
 
 -- ---- words
 

@@ -1,5 +1,7 @@
 pub mod CargoGrammar
 pub mod CargoMeaning
+pub mod CargoRules
+pub mod NpmRules
 pub mod AnySize
 pub mod CargoTable
 pub mod ToolTable

@@ -1,29 +1,23 @@
 -- What a range text means: in which dialect, and with which pre-releases.
-use Rattle.std.specs.Prelude.{◌≡◌, Bool, ◌&&◌}
-use Rattle.semver_texts.specs.Texts.{Text, is_empty}
+use Rattle.std.specs.Prelude.{◌≡◌, Bool}
+use Rattle.semver_texts.specs.Texts.{Text}
 use Rattle.semver_texts.specs.Versions.{PlainVersion, VersionValue}
 use Rattle.semver_ranges.specs.declared.range.Compat.TheVariants as compat
 use Rattle.version_sets.specs.PreReleaseRules.{meant_with}
 use Rattle.version_sets.specs.VersionSets.{SetValue, contains, Fits}
 use Rattle.version_sets.specs.declared.rules.PreReleases.{PreReleases}
-use Rattle.version_sets.specs.declared.rules.PreReleases.TheVariants.{Default, Included, Excluded}
 use Rattle.tool_ranges.specs.declared.dialect.Dialect.{Dialect}
 use Rattle.tool_ranges.specs.declared.dialect.Dialect.TheVariants.{Cargo, Npm, CrateCargo}
 use Rattle.tool_ranges.specs.declared.dialect.Dialect.TheVariants.{CrateNpm}
 use Rattle.tool_ranges.specs.declared.meaning.Meaning.{Meaning}
-use Rattle.tool_ranges.specs.AllPreReleases.{meets_npm_with_all, meets_requirement_with_all}
-use Rattle.tool_ranges.specs.CargoMeaning.{meets_requirement}
-use Rattle.tool_ranges.specs.NpmMeaning.{meets_npm}
+use Rattle.tool_ranges.specs.CargoRules.{meets_requirement}
+use Rattle.tool_ranges.specs.NpmRules.{meets_npm}
 use Rattle.tool_ranges.specs.Dialects.{TreeOf, SpellsAs}
 
 -- whether a tree of a dialect means a version by a rule for pre-releases
 abbrev pub meant_by : (dialect : Dialect) → PreReleases → TreeOf dialect → VersionValue → Bool
-meant_by Cargo Default tree v = meets_requirement tree v.plain
-meant_by Cargo Included tree v = meets_requirement_with_all tree v.plain
-meant_by Cargo Excluded tree v = is_empty v.plain.pre && meets_requirement tree v.plain
-meant_by Npm Default tree v = meets_npm tree v.plain
-meant_by Npm Included tree v = meets_npm_with_all tree v.plain
-meant_by Npm Excluded tree v = is_empty v.plain.pre && meets_npm tree v.plain
+meant_by Cargo rule tree v = meets_requirement rule tree v.plain
+meant_by Npm rule tree v = meets_npm rule tree v.plain
 meant_by CrateCargo rule tree v = meant_with rule compat.Cargo tree v
 meant_by CrateNpm rule tree v = meant_with rule compat.Npm tree v
 

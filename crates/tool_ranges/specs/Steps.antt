@@ -1,3 +1,6 @@
+pub mod Cursors
+pub mod Reading
+pub mod Table
 pub mod Matching
 pub mod CargoReading
 pub mod CargoPreReleases

@@ -25,17 +25,13 @@ ghost use Rattle.semver_ranges.specs.Steps.CursorViews.{IsSimpleOf};
 ghost use Rattle.tool_ranges.specs.Steps.CargoPreReleases.{counting_one, checks, checks_one};
 
 mod checking;
-mod fitting;
 mod grammar;
-mod matching;
 mod pre_releases;
 mod requirement_sets;
 
 use crate::desugaring::{self, ToolDesugared};
 use checking::{VersionKind, push_checks};
-pub(crate) use fitting::fitting;
-use grammar::read_comparator;
-pub(crate) use matching::{matches, matches_with_all};
+pub(crate) use grammar::read_comparator;
 pub use requirement_sets::read;
 pub(crate) use requirement_sets::read_with_all;
 use semver_ranges::grammar::Simple;

@@ -3,19 +3,19 @@
 
 mod any_size;
 pub mod cargo;
+mod cursor;
 mod desugaring;
 pub mod dialect;
 mod highest;
 pub mod laws;
+mod matching;
 pub mod meaning;
 pub mod npm;
 pub mod offset;
 mod overflow_offset;
-mod range_matching;
 pub mod range_operations;
 mod reasons;
 pub mod refusals;
 pub mod satisfying;
-mod stated_numbers;
-mod term_matching;
+mod table;
 pub mod version_range;

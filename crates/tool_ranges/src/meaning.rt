@@ -15,11 +15,10 @@ ghost use Rattle.version_sets.specs.Printable.{IsPrintable};
 ghost use Rattle.version_sets.specs.PreReleaseRules.{meant_with, numbers_fit};
 ghost use Rattle.tool_ranges.specs.Dialects.{RefusesAs, SpellsAs, TreeOf, grammar_of};
 ghost use Rattle.tool_ranges.specs.Meanings.{IsSetBy, MeansAs, MeansBy, meant_as, meant_by};
-ghost use Rattle.tool_ranges.specs.Steps.Matching.{plain_of, of_releases};
 
 use crate::dialect::Dialect;
-use crate::stated_numbers::is_release;
-use crate::{cargo, npm, range_matching};
+use crate::matching::answer;
+use crate::{cargo, npm};
 use semver_ranges::{Compat, RangeError};
 use semver_versions::laws;
 use semver_versions::version::Outline;
@@ -150,7 +149,13 @@ pub fn satisfies(version: &Outline<'_>, range: &str, meaning: Meaning) -> Result
         → met ≡ meant_as meaning tree (version_of version.now)) }
 {
     laws::numbers_of_outlines_fit(version);
-    matches(meaning, range, version)
+    let rule = meaning.pre_releases;
+    match meaning.dialect {
+        Dialect::Cargo => answer(version, range, Dialect::Cargo, rule),
+        Dialect::Npm => answer(version, range, Dialect::Npm, rule),
+        Dialect::CrateCargo => answer(version, range, Dialect::CrateCargo, rule),
+        Dialect::CrateNpm => answer(version, range, Dialect::CrateNpm, rule),
+    }
 }
 
 // Answer: equation.
@@ -164,99 +169,6 @@ pub fn check(meaning: Meaning, range: &str) -> Result<(), RangeError>
 {
     match satisfies(&Outline::zero(), range, meaning) {
         Ok(_) => Ok(()),
-        Err(refusal) => Err(refusal),
-    }
-}
-
-/// What a range text says of a version.
-#[inline(always)]
-fn matches(meaning: Meaning, range: &str, version: &Outline<'_>) -> Result<bool, RangeError>
-    requires { numbers_fit (plain_of version.now) ≡ true }
-    ensures refusals { RefusesAs meaning.dialect range.now result }
-    ensures no_memory { result ≢ Err RangeError.OutOfMemory }
-    ensures meaning { IfOk result (λ met. (tree : TreeOf meaning.dialect)
-        → SpellsAs meaning.dialect tree range.now
-        → met ≡ meant_as meaning tree (without_build (plain_of version.now))) }
-{
-    let rule = meaning.pre_releases;
-    match meaning.dialect {
-        Dialect::Cargo => matches_cargo(range, rule, version),
-        Dialect::Npm => matches_npm(range, rule, version),
-        Dialect::CrateCargo => matches_crate(range, Compat::Cargo, rule, version),
-        Dialect::CrateNpm => matches_crate(range, Compat::Npm, rule, version),
-    }
-}
-
-/// What a requirement of Cargo says of a version by a rule for pre-releases.
-#[inline(always)]
-fn matches_cargo(range: &str, rule: PreReleases, version: &Outline<'_>) -> Result<bool, RangeError>
-    ensures refusals { RefusesAs dialect.Cargo range.now result }
-    ensures no_memory { result ≢ Err RangeError.OutOfMemory }
-    ensures meaning { IfOk result (λ met. (tree : TreeOf dialect.Cargo)
-        → SpellsAs dialect.Cargo tree range.now
-        → met ≡ meant_by dialect.Cargo rule tree (without_build (plain_of version.now))) }
-{
-    match rule {
-        PreReleases::Default => cargo::matches(range, version),
-        PreReleases::Included => cargo::matches_with_all(range, version),
-        PreReleases::Excluded => of_releases(version, cargo::matches(range, version)),
-    }
-}
-
-/// What a range text of npm says of a version by a rule for pre-releases.
-#[inline(always)]
-fn matches_npm(range: &str, rule: PreReleases, version: &Outline<'_>) -> Result<bool, RangeError>
-    ensures refusals { RefusesAs dialect.Npm range.now result }
-    ensures no_memory { result ≢ Err RangeError.OutOfMemory }
-    ensures meaning { IfOk result (λ met. (tree : TreeOf dialect.Npm)
-        → SpellsAs dialect.Npm tree range.now
-        → met ≡ meant_by dialect.Npm rule tree (without_build (plain_of version.now))) }
-{
-    match rule {
-        PreReleases::Default => npm::matches(range, version),
-        PreReleases::Included => npm::matches_with_all(range, version),
-        PreReleases::Excluded => of_releases(version, npm::matches(range, version)),
-    }
-}
-
-/// What a range text of the crate in one of its modes says of a version by a rule for pre-releases.
-#[inline(always)]
-fn matches_crate(
-    range: &str,
-    compat: Compat,
-    rule: PreReleases,
-    version: &Outline<'_>,
-) -> Result<bool, RangeError>
-    requires { numbers_fit (plain_of version.now) ≡ true }
-    ensures refusals { RefusesExactly compat range.now result }
-    ensures no_memory { result ≢ Err RangeError.OutOfMemory }
-    ensures meaning { IfOk result (λ met. (tree : SetTree) → Spells tree range.now
-        → met ≡ meant_with rule compat tree (without_build (plain_of version.now))) }
-{
-    match rule {
-        PreReleases::Excluded => {
-            of_releases(
-                version,
-                range_matching::matches_crate(range, compat, version, true),
-            )
-        }
-        PreReleases::Default => range_matching::matches_crate(
-            range,
-            compat,
-            version,
-            is_release(version),
-        ),
-        PreReleases::Included => range_matching::matches_crate(range, compat, version, true),
-    }
-}
-
-/// What was answered, of a release.
-#[inline(always)]
-fn of_releases(version: &Outline<'_>, answer: Result<bool, RangeError>) -> Result<bool, RangeError>
-    ensures { result ≡ of_releases (plain_of version.now) answer }
-{
-    match answer {
-        Ok(met) => Ok(is_release(version) && met),
         Err(refusal) => Err(refusal),
     }
 }

@@ -19,11 +19,9 @@ ghost use Rattle.tool_ranges.specs.NpmTable.{is_safe_simple, rewritten_npm};
 ghost use Rattle.tool_ranges.specs.Dialects.{RefusesAs};
 ghost use Rattle.tool_ranges.specs.declared.dialect.Dialect.TheVariants as dialect;
 
-mod matching;
 mod range_sets;
 
 use crate::desugaring;
-pub(crate) use matching::{matches, matches_with_all};
 pub use range_sets::read;
 pub(crate) use range_sets::read_with_all;
 use semver_ranges::desugared_texts::{Desugaring, read_by};
@@ -96,7 +94,7 @@ fn rewritten(alloc: Global, range: &str, lower: LowerBounds) -> Result<RangeSet,
 
 /// Whether each character beyond ASCII is white space to JavaScript. For speed it is asked first
 /// whether there is one.
-fn may_stand(range: &str) -> bool
+pub(crate) fn may_stand(range: &str) -> bool
     ensures { result ≡ list_all may_stand (chars range.now) }
 {
     range.is_ascii()

@@ -6,10 +6,8 @@ ghost use Rattle.tool_ranges.specs.Dialects.{SpellsAs, TreeOf};
 ghost use Rattle.tool_ranges.specs.TooLarge.{end_of_word, is_separator, limit_offset};
 ghost use Rattle.tool_ranges.specs.TooLarge.{states_number, stating, term_fits_as, terms_as, words};
 
-use crate::cargo;
 use crate::dialect::Dialect;
-use crate::range_matching::{self, Terms};
-use semver_ranges::Compat;
+use crate::matching::fitting;
 
 /// The end of the first term of a range text that states a number, or has a raised bound, above the
 /// limit of the dialect: 21 in `=18446744073709551616 || 1`. It does not allocate.
@@ -17,20 +15,7 @@ pub(crate) fn limit_offset(dialect: Dialect, text: &str) -> usize
     ensures { (tree : TreeOf dialect) → SpellsAs dialect tree text.now
         → result ≡ limit_offset dialect tree text.now }
 {
-    end_of_word(text.as_bytes(), fitting(dialect, text.as_bytes()))
-}
-
-/// How many terms of a range text that state a number, from the left, fit.
-fn fitting(dialect: Dialect, text: &[u8]) -> u128
-    ensures { (tree : TreeOf dialect) → SpellsAs dialect tree text.now
-        → result ≡ prefix_len (term_fits_as dialect) (stating (terms_as dialect tree)) }
-{
-    match dialect {
-        Dialect::Cargo => cargo::fitting(text),
-        Dialect::Npm => range_matching::fitting(text, Terms::Npm),
-        Dialect::CrateCargo => range_matching::fitting(text, Terms::Crate(Compat::Cargo)),
-        Dialect::CrateNpm => range_matching::fitting(text, Terms::Crate(Compat::Npm)),
-    }
+    end_of_word(text.as_bytes(), fitting(text, dialect))
 }
 
 /// The end of the word that states a number after so many others, or of the last word.

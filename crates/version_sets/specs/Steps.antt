@@ -10,3 +10,4 @@ pub mod SweepViews
 pub mod Combined
 pub mod SameSets
 pub mod ShownBounds
+pub mod Cuts

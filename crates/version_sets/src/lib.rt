@@ -5,6 +5,7 @@
 mod batch;
 mod boundaries;
 mod boundary;
+mod cut;
 mod endpoint;
 mod intervals;
 pub mod laws;
@@ -24,6 +25,7 @@ mod successor;
 mod sweep;
 mod version_set;
 
+pub use cut::{Cut, Interval, Side};
 pub use release::Release;
 pub use rules::PreReleases;
 pub use set_difference::Comparison;

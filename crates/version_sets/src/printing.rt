@@ -5,7 +5,7 @@ ghost use Rattle.std.specs.Fmt.{WritesOnOk};
 ghost use Rattle.version_sets.specs.SetRanges.{intervals, is_whole, npm_set, ranges_text};
 ghost use Rattle.version_sets.specs.Steps.ShownBounds.{others_text};
 
-use crate::intervals::{Bound, Interval, Shown, first_interval};
+use crate::intervals::{Bound, Shown, ShownInterval, first_interval};
 use crate::version_set::VersionSet;
 use semver_texts::printing::write_part;
 use std::fmt;
@@ -26,7 +26,7 @@ impl fmt::Display for Shown<'_> {
     }
 }
 
-impl fmt::Display for Interval<'_> {
+impl fmt::Display for ShownInterval<'_> {
     ghost use Rattle.std.specs.Prelude.{Some};
     ghost use Rattle.semver_ranges.specs.PrintedRanges.{range_text};
     ghost use Rattle.version_sets.specs.SetRanges.{npm_range};

@@ -1,83 +1,83 @@
 -- A means of proof, which no public clause cites: the version of which a range is asked, and what
 -- each term of the range says of it, from the left to the right.
 use Rattle.std.specs.Prelude.{◌≡◌, Bool, true, false, ◌&&◌, ◌||◌, not, if◌then◌else◌, nat_eq}
-use Rattle.std.specs.Prelude.{List, [], ◌∷◌, IsTrue, Result, Ok, Err, Some, None}
+use Rattle.std.specs.Prelude.{List, [], ◌∷◌}
 use Rattle.std.specs.Cmp.Lexicographic.{pointwise}
 use Rattle.std.specs.List.{list_all, list_any}
-use Rattle.semver_texts.specs.Texts.{Text, is_empty}
+use Rattle.semver_texts.specs.Texts.{is_empty}
 use Rattle.semver_texts.specs.Versions.{PlainVersion, numbers}
-use Rattle.semver_texts.specs.declared.grammar.Grammar.{Grammar}
-use Rattle.semver_texts.specs.declared.grammar.Grammar.TheVariants as grammar
 use Rattle.semver_ranges.specs.declared.partial.LowerBounds.{LowerBounds}
-use Rattle.semver_ranges.specs.declared.partial.LowerBounds.TheVariants as lower
+use Rattle.semver_ranges.specs.declared.partial.LowerBounds.TheVariants.{Lowest, Stated}
 use Rattle.semver_ranges.specs.declared.partial.Partial.{Partial}
 use Rattle.semver_ranges.specs.declared.range.Compat.TheVariants as mode
-use Rattle.semver_ranges.specs.declared.range_set.RangeError.{RangeError}
-use Rattle.semver_ranges.specs.declared.range_set.RangeError.TheVariants.{NotARange, NumberTooLarge}
-use Rattle.semver_ranges.specs.declared.range_set.RangeError.TheVariants.{OutOfMemory}
-use Rattle.semver_ranges.specs.RangeTree.{Simple, SetTree, RangeTree}
-use Rattle.semver_ranges.specs.RewritingTable.{fits_by, simple_fits}
+use Rattle.semver_ranges.specs.RangeTree.{Simple}
+use Rattle.semver_ranges.specs.RewritingTable.{simple_fits}
 use Rattle.semver_ranges.specs.OwnMeaning.{meets_stated}
 use Rattle.semver_ranges.specs.Partials.{stated, zero_filled}
 use Rattle.semver_ranges.specs.StatedPreReleases.{states_pre_release_at}
 use Rattle.semver_ranges.specs.Terms.{of_simple}
 use Rattle.semver_ranges.specs.Steps.PartialViews.{stated_of, version_of}
-use Rattle.semver_ranges.specs.Steps.RangeEvents.{Event, one_simple, next_range, yielded}
-use Rattle.semver_ranges.specs.Steps.Reading.{read}
+use Rattle.semver_ranges.specs.Steps.RangeEvents.{Event, one_simple, next_range}
 use Rattle.semver_versions.specs.Outlines.{OutlineValue}
 use Rattle.semver_versions.specs.Outlines as outlines
-use Rattle.semver_texts.specs.Digits.{plain_by}
-use Rattle.semver_texts.specs.declared.grammar.Digits.TheVariants.{AnySize}
-use Rattle.tool_ranges.specs.AllPreReleases as all
+use Rattle.version_sets.specs.declared.rules.PreReleases.{PreReleases}
+use Rattle.version_sets.specs.declared.rules.PreReleases.TheVariants.{Default, Included, Excluded}
 use Rattle.tool_ranges.specs.AnySize.{zero_filled_any}
-use Rattle.tool_ranges.specs.CargoGrammar.{SpellsRequirement}
-use Rattle.tool_ranges.specs.CargoMeaning as cargo
-use Rattle.tool_ranges.specs.CargoMeaning.{as_read}
-use Rattle.tool_ranges.specs.CargoTable.{requirement_fits}
-use Rattle.tool_ranges.specs.NpmMeaning as npm
+use Rattle.tool_ranges.specs.CargoRules as cargo
+use Rattle.tool_ranges.specs.NpmRules as npm
 use Rattle.tool_ranges.specs.NpmTable.{is_safe_simple}
-use Rattle.tool_ranges.specs.declared.range_matching.Progress.{Progress}
-use Rattle.tool_ranges.specs.declared.range_matching.Terms.{Terms}
-use Rattle.tool_ranges.specs.declared.range_matching.Terms.TheVariants.{Npm, NpmAll, Crate}
+use Rattle.tool_ranges.specs.ToolTable.{fits_in}
+use Rattle.tool_ranges.specs.declared.dialect.Dialect.{Dialect}
+use Rattle.tool_ranges.specs.declared.dialect.Dialect.TheVariants.{Cargo, Npm, CrateCargo}
+use Rattle.tool_ranges.specs.declared.dialect.Dialect.TheVariants.{CrateNpm}
+use Rattle.tool_ranges.specs.declared.matching.Progress.{Progress}
+use Rattle.tool_ranges.specs.Dialects.{TreeOf}
+use Rattle.tool_ranges.specs.Steps.Cursors.{ranges_of}
 
 -- the version of an outline, without its build
 abbrev pub plain_of : OutlineValue → PlainVersion
 plain_of outline = (outlines.version_of outline).plain
 
--- the zero-filled version of a partial, whose digits are numbers of any size
-abbrev pub read_any : Partial → PlainVersion
-read_any p = plain_by AnySize (version_of p)
-
 -- whether a partial states the three numbers of a version, and a pre-release
 abbrev pub states_at : Partial → PlainVersion → Bool
 states_at p v = not (is_empty (version_of p).pre) && pointwise nat_eq (numbers v) (stated_of p)
 
+-- ---- the rules for pre-releases: whether each within the bounds counts, and else by default
+
+abbrev pub rule_of : Bool → PreReleases
+rule_of true = Included
+rule_of false = Default
+
+abbrev pub takes_all : PreReleases → Bool
+takes_all Included = true
+takes_all rule = false
+
+-- how the left side of a hyphen range is written
+abbrev pub lower_of : Dialect → Bool → LowerBounds
+lower_of Npm true = Lowest
+lower_of dialect all = Stated
+
+-- ---- a term: whether a version meets it, and whether its numbers fit
+abbrev pub term_met : Dialect → Bool → PlainVersion → Simple → Bool
+term_met Cargo all v s =
+    cargo.meets_by_count (rule_of all) s.form (stated s.partial) (zero_filled_any s.partial) v
+term_met Npm all v s = npm.meets_one (rule_of all) s v
+term_met CrateCargo all v s =
+    meets_stated mode.Cargo s.form (stated s.partial) (zero_filled s.partial) v
+term_met CrateNpm all v s =
+    meets_stated mode.Npm s.form (stated s.partial) (zero_filled s.partial) v
+
+abbrev pub term_fits : Dialect → Simple → Bool
+term_fits Cargo s = fits_in mode.Cargo s
+term_fits Npm s = is_safe_simple s
+term_fits CrateCargo s = simple_fits mode.Cargo s
+term_fits CrateNpm s = simple_fits mode.Npm s
+
 -- ---- ranges
 
--- the dialect of a text, and how the left side of a hyphen range begins
-abbrev pub grammar_of : Terms → Grammar
-grammar_of Npm = grammar.Npm
-grammar_of NpmAll = grammar.Npm
-grammar_of (Crate mode) = grammar.Crate
-
-abbrev pub lower_of : Terms → LowerBounds
-lower_of Npm = lower.Stated
-lower_of NpmAll = lower.Lowest
-lower_of (Crate mode) = lower.Stated
-
--- whether a version meets a term
-abbrev pub term_met : Terms → PlainVersion → Simple → Bool
-term_met Npm v s =
-    npm.meets_by_count s.form (stated s.partial) (zero_filled_any s.partial) v
-term_met NpmAll v s = all.meets_one mode.Npm s v
-term_met (Crate compat) v s =
-    meets_stated compat s.form (stated s.partial) (zero_filled s.partial) v
-
--- whether its numbers fit, and those of its raised bound
-abbrev pub term_fits : Terms → Simple → Bool
-term_fits Npm s = is_safe_simple s
-term_fits NpmAll s = is_safe_simple s
-term_fits (Crate compat) s = simple_fits compat s
+-- whether a version counts in each range
+abbrev pub counts : Bool → PlainVersion → Bool
+counts all v = all || is_empty v.pre
 
 -- what is known before the first term
 abbrev pub begun : Bool → Progress
@@ -85,9 +85,9 @@ begun counts =
     record { here = true; counts = counts; nothing = true; met = false; every = false }
 
 -- with a term
-abbrev pub taken : Terms → PlainVersion → Simple → Progress → Progress
-taken terms v s t = record t {
-  here = t.here && term_met terms v s;
+abbrev pub taken : Dialect → Bool → PlainVersion → Simple → Progress → Progress
+taken dialect all v s t = record t {
+  here = t.here && term_met dialect all v s;
   counts = t.counts || states_pre_release_at (of_simple s) v;
   nothing = t.nothing && npm.matches_everything (of_simple s);
 }
@@ -103,60 +103,31 @@ ended counts t = record {
 }
 
 -- with events
-abbrev pub after : Terms → PlainVersion → Bool → Progress → List Event → Progress
-after terms v counts t [] = t
-after terms v counts t (one_simple s ∷ es) = after terms v counts (taken terms v s t) es
-after terms v counts t (next_range ∷ es) = after terms v counts (ended counts t) es
+abbrev pub after : Dialect → Bool → PlainVersion → Progress → List Event → Progress
+after dialect all v t [] = t
+after dialect all v t (one_simple s ∷ es) = after dialect all v (taken dialect all v s t) es
+after dialect all v t (next_range ∷ es) = after dialect all v (ended (counts all v) t) es
 
--- whether a range is met by each of the simples that it is yielded as, and the version counts in it
-abbrev pub range_met : Terms → PlainVersion → Bool → RangeTree → Bool
-range_met terms v counts r = list_all (term_met terms v) (yielded (lower_of terms) r)
-    && (counts
-    || list_any (λ s. states_pre_release_at (of_simple s) v) (yielded (lower_of terms) r))
+-- whether each simple of a range is met, and the version counts in it; and whether it matches
+-- everything
+abbrev pub range_met : Dialect → Bool → PlainVersion → List Simple → Bool
+range_met dialect all v ss = list_all (term_met dialect all v) ss
+    && (counts all v || list_any (λ s. states_pre_release_at (of_simple s) v) ss)
 
--- whether a range matches everything
-abbrev pub range_every : Terms → RangeTree → Bool
-range_every terms r = list_all (λ s. npm.matches_everything (of_simple s)) (yielded (lower_of
-    terms) r)
+abbrev pub range_every : List Simple → Bool
+range_every ss = list_all (λ s. npm.matches_everything (of_simple s)) ss
 
--- what the text says: a range of it is met, and some range matches everything
-abbrev pub Says : Terms → PlainVersion → Bool → Text → Progress → Type 0
-Says terms v counts t progress = (tree : SetTree) × (read (grammar_of terms) t ≡ Some tree)
-    × IsTrue (fits_by (term_fits terms) tree)
-    × (progress.met ≡ list_any (range_met terms v counts) tree)
-    × (progress.every ≡ list_any (range_every terms) tree)
+-- what a tree says of a version
+abbrev pub Says : (dialect : Dialect) → Bool → PlainVersion → Progress → TreeOf dialect → Type 0
+Says dialect all v progress tree =
+    (progress.met ≡ list_any (range_met dialect all v) (ranges_of (lower_of dialect all) dialect tree))
+    × (progress.every ≡ list_any range_every (ranges_of (lower_of dialect all) dialect tree))
 
--- why it says nothing
-abbrev pub Refuses : Terms → Text → RangeError → Type 0
-Refuses terms t NotARange = read (grammar_of terms) t ≡ None
-Refuses terms t NumberTooLarge = (tree : SetTree) × (read (grammar_of terms) t ≡ Some tree)
-    × (fits_by (term_fits terms) tree ≡ false)
-Refuses terms t OutOfMemory = ⊥
+-- the answer: where some range of npm matches everything, by default each release and no pre-release
+abbrev pub met_by : Dialect → Bool → PlainVersion → Progress → Bool
+met_by Npm false v progress = if progress.every then is_empty v.pre else progress.met
+met_by dialect all v progress = progress.met
 
--- ---- requirements
-
--- whether a version meets a comparator as it is read
-abbrev pub comparator_met : Bool → PlainVersion → Simple → Bool
-comparator_met takes_all v s = if takes_all then all.meets_one mode.Cargo s v
-    else cargo.meets_by_count s.form (stated s.partial) (zero_filled_any s.partial) v
-
--- each comparator, and it counts
-abbrev pub requirement_met : Bool → PlainVersion → Bool → List Simple → Bool
-requirement_met takes_all v counts tree =
-    list_all (λ s. comparator_met takes_all v (as_read s)) tree
-    && (counts || list_any (λ s. states_pre_release_at (of_simple s) v) tree)
-
-abbrev pub SaysRequired : Bool → PlainVersion → Bool → Text → Bool → Type 0
-SaysRequired takes_all v counts t met = (tree : List Simple) × SpellsRequirement tree t
-    × IsTrue (requirement_fits tree) × (met ≡ requirement_met takes_all v counts tree)
-
-abbrev pub RefusesRequired : Text → RangeError → Type 0
-RefusesRequired t NotARange = (tree : List Simple) → ¬ (SpellsRequirement tree t)
-RefusesRequired t NumberTooLarge =
-    (tree : List Simple) × SpellsRequirement tree t × (requirement_fits tree ≡ false)
-RefusesRequired t OutOfMemory = ⊥
-
--- what was answered, of a release
-abbrev pub of_releases : PlainVersion → Result Bool RangeError → Result Bool RangeError
-of_releases v (Ok met) = Ok (is_empty v.pre && met)
-of_releases v (Err e) = Err e
+abbrev pub said : Dialect → PreReleases → PlainVersion → Progress → Bool
+said dialect Excluded v progress = is_empty v.pre && met_by dialect false v progress
+said dialect rule v progress = met_by dialect (takes_all rule) v progress

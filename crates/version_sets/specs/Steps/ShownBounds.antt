@@ -6,7 +6,7 @@ use Rattle.semver_texts.specs.Texts.{Text}
 use Rattle.semver_texts.specs.Digits.{identifiers_by}
 use Rattle.semver_texts.specs.VersionViews.{identifier_value}
 use Rattle.version_sets.specs.Releases.{release_value}
-use Rattle.version_sets.specs.declared.intervals.Interval.{Interval}
+use Rattle.version_sets.specs.declared.intervals.ShownInterval.{ShownInterval}
 use Rattle.version_sets.specs.declared.intervals.Shown.{Shown}
 
 abbrev pub shown_value : Shown → PlainComparator
@@ -18,7 +18,7 @@ abbrev pub others_value : Option Shown → List PlainComparator
 others_value None = []
 others_value (Some s) = shown_value s ∷ []
 
-abbrev pub interval_value : Interval → List PlainComparator
+abbrev pub interval_value : ShownInterval → List PlainComparator
 interval_value i = shown_value i.first ∷ others_value i.second
 
 -- the text of ranges that follow others

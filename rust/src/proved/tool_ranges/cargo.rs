@@ -3,17 +3,13 @@
 
 use crate::rattle_std::prelude::*;
 mod checking;
-mod fitting;
 mod grammar;
-mod matching;
 mod pre_releases;
 mod requirement_sets;
 
 use crate::proved::tool_ranges::desugaring::{self, ToolDesugared};
 use checking::{VersionKind, push_checks};
-pub(crate) use fitting::fitting;
-use grammar::read_comparator;
-pub(crate) use matching::{matches, matches_with_all};
+pub(crate) use grammar::read_comparator;
 pub use requirement_sets::read;
 pub(crate) use requirement_sets::read_with_all;
 use crate::proved::semver_ranges::grammar::Simple;

@@ -3,8 +3,8 @@
 
 use crate::rattle_std::prelude::*;
 use crate::proved::tool_ranges::dialect::Dialect;
-use crate::proved::tool_ranges::stated_numbers::is_release;
-use crate::proved::tool_ranges::{cargo, npm, range_matching};
+use crate::proved::tool_ranges::matching::answer;
+use crate::proved::tool_ranges::{cargo, npm};
 use crate::proved::semver_ranges::{Compat, RangeError};
 use crate::proved::semver_versions::version::Outline;
 use crate::proved::version_sets::{PreReleases, VersionSet};
@@ -93,7 +93,13 @@ fn releases_of(
 /// is raised by one is above the dialect's limit.
 #[inline(always)]
 pub fn satisfies(version: &Outline<'_>, range: &str, meaning: Meaning) -> Result<bool, RangeError> {
-    matches(meaning, range, version)
+    let rule = meaning.pre_releases;
+    match meaning.dialect {
+        Dialect::Cargo => answer(version, range, Dialect::Cargo, rule),
+        Dialect::Npm => answer(version, range, Dialect::Npm, rule),
+        Dialect::CrateCargo => answer(version, range, Dialect::CrateCargo, rule),
+        Dialect::CrateNpm => answer(version, range, Dialect::CrateNpm, rule),
+    }
 }
 
 /// Returns whether a range text is read at all, with the errors of [`satisfies`]: `^1.2` is, and `1
@@ -102,72 +108,6 @@ pub fn satisfies(version: &Outline<'_>, range: &str, meaning: Meaning) -> Result
 pub fn check(meaning: Meaning, range: &str) -> Result<(), RangeError> {
     match satisfies(&Outline::zero(), range, meaning) {
         Ok(_) => Ok(()),
-        Err(refusal) => Err(refusal),
-    }
-}
-
-/// What a range text says of a version.
-#[inline(always)]
-fn matches(meaning: Meaning, range: &str, version: &Outline<'_>) -> Result<bool, RangeError> {
-    let rule = meaning.pre_releases;
-    match meaning.dialect {
-        Dialect::Cargo => matches_cargo(range, rule, version),
-        Dialect::Npm => matches_npm(range, rule, version),
-        Dialect::CrateCargo => matches_crate(range, Compat::Cargo, rule, version),
-        Dialect::CrateNpm => matches_crate(range, Compat::Npm, rule, version),
-    }
-}
-
-/// What a requirement of Cargo says of a version by a rule for pre-releases.
-#[inline(always)]
-fn matches_cargo(range: &str, rule: PreReleases, version: &Outline<'_>) -> Result<bool, RangeError> {
-    match rule {
-        PreReleases::Default => cargo::matches(range, version),
-        PreReleases::Included => cargo::matches_with_all(range, version),
-        PreReleases::Excluded => of_releases(version, cargo::matches(range, version)),
-    }
-}
-
-/// What a range text of npm says of a version by a rule for pre-releases.
-#[inline(always)]
-fn matches_npm(range: &str, rule: PreReleases, version: &Outline<'_>) -> Result<bool, RangeError> {
-    match rule {
-        PreReleases::Default => npm::matches(range, version),
-        PreReleases::Included => npm::matches_with_all(range, version),
-        PreReleases::Excluded => of_releases(version, npm::matches(range, version)),
-    }
-}
-
-/// What a range text of the crate in one of its modes says of a version by a rule for pre-releases.
-#[inline(always)]
-fn matches_crate(
-    range: &str,
-    compat: Compat,
-    rule: PreReleases,
-    version: &Outline<'_>,
-) -> Result<bool, RangeError> {
-    match rule {
-        PreReleases::Excluded => {
-            of_releases(
-                version,
-                range_matching::matches_crate(range, compat, version, true),
-            )
-        }
-        PreReleases::Default => range_matching::matches_crate(
-            range,
-            compat,
-            version,
-            is_release(version),
-        ),
-        PreReleases::Included => range_matching::matches_crate(range, compat, version, true),
-    }
-}
-
-/// What was answered, of a release.
-#[inline(always)]
-fn of_releases(version: &Outline<'_>, answer: Result<bool, RangeError>) -> Result<bool, RangeError> {
-    match answer {
-        Ok(met) => Ok(is_release(version) && met),
         Err(refusal) => Err(refusal),
     }
 }

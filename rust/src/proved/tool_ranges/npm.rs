@@ -2,11 +2,9 @@
 //! Range texts as npm reads them: `>1.2` is `>=1.3.0`, and `v1` is a range.
 
 use crate::rattle_std::prelude::*;
-mod matching;
 mod range_sets;
 
 use crate::proved::tool_ranges::desugaring;
-pub(crate) use matching::{matches, matches_with_all};
 pub use range_sets::read;
 pub(crate) use range_sets::read_with_all;
 use crate::proved::semver_ranges::desugared_texts::{Desugaring, read_by};
@@ -56,7 +54,7 @@ fn rewritten(range: &str, lower: LowerBounds) -> Result<RangeSet, RangeError> {
 
 /// Whether each character beyond ASCII is white space to JavaScript. For speed it is asked first
 /// whether there is one.
-fn may_stand(range: &str) -> bool {
+pub(crate) fn may_stand(range: &str) -> bool {
     range.is_ascii()
         || range.chars().all(|character| character.is_ascii()
             || is_white_space_beyond_ascii(character))

@@ -2,25 +2,13 @@
 //! Where a number of a range text is too large: the end of the first term that does not fit.
 
 use crate::rattle_std::prelude::*;
-use crate::proved::tool_ranges::cargo;
 use crate::proved::tool_ranges::dialect::Dialect;
-use crate::proved::tool_ranges::range_matching::{self, Terms};
-use crate::proved::semver_ranges::Compat;
+use crate::proved::tool_ranges::matching::fitting;
 
 /// The end of the first term of a range text that states a number, or has a raised bound, above the
 /// limit of the dialect: 21 in `=18446744073709551616 || 1`. It does not allocate.
 pub(crate) fn limit_offset(dialect: Dialect, text: &str) -> usize {
-    end_of_word(text.as_bytes(), fitting(dialect, text.as_bytes()))
-}
-
-/// How many terms of a range text that state a number, from the left, fit.
-fn fitting(dialect: Dialect, text: &[u8]) -> u128 {
-    match dialect {
-        Dialect::Cargo => cargo::fitting(text),
-        Dialect::Npm => range_matching::fitting(text, Terms::Npm),
-        Dialect::CrateCargo => range_matching::fitting(text, Terms::Crate(Compat::Cargo)),
-        Dialect::CrateNpm => range_matching::fitting(text, Terms::Crate(Compat::Npm)),
-    }
+    end_of_word(text.as_bytes(), fitting(text, dialect))
 }
 
 /// The end of the word that states a number after so many others, or of the last word.

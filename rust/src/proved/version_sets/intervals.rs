@@ -169,30 +169,30 @@ fn copy_of(identifier: &version::Identifier, digits: Digits) -> Result<Identifie
 }
 
 /// The comparators of an interval: one, or two.
-pub(crate) struct Interval<'a> {
+pub(crate) struct ShownInterval<'a> {
     pub(crate) first: Shown<'a>,
     pub(crate) second: Option<Shown<'a>>,
 }
 
 /// The comparators of the versions from one on and below another, if there is one. None is below
 /// the lowest.
-fn interval_of<'a, T: Bound>(from: &'a T, to: Option<&'a T>) -> Interval<'a> {
+fn interval_of<'a, T: Bound>(from: &'a T, to: Option<&'a T>) -> ShownInterval<'a> {
     if from.is_alone(to) {
-        return Interval {
+        return ShownInterval {
             first: from.shown(Op::Eq),
             second: None,
         };
     }
     match to {
-        None => Interval {
+        None => ShownInterval {
             first: from.shown(Op::Gte),
             second: None,
         },
-        Some(to) if from.is_lowest() => Interval {
+        Some(to) if from.is_lowest() => ShownInterval {
             first: from.shown_end(to),
             second: None,
         },
-        Some(to) => Interval {
+        Some(to) => ShownInterval {
             first: from.shown(Op::Gte),
             second: Some(from.shown_end(to)),
         },
@@ -200,7 +200,9 @@ fn interval_of<'a, T: Bound>(from: &'a T, to: Option<&'a T>) -> Interval<'a> {
 }
 
 /// The first interval of boundaries, and the boundaries that are left; `None` if there is none.
-pub(crate) fn first_interval<'a, T: Bound>(boundaries: &'a [T]) -> Option<(Interval<'a>, &'a [T])> {
+pub(crate) fn first_interval<'a, T: Bound>(
+    boundaries: &'a [T],
+) -> Option<(ShownInterval<'a>, &'a [T])> {
     match boundaries {
         [] => None,
         [from] => Some((interval_of(from, None), &[])),
@@ -208,7 +210,7 @@ pub(crate) fn first_interval<'a, T: Bound>(boundaries: &'a [T]) -> Option<(Inter
     }
 }
 
-impl Interval<'_> {
+impl ShownInterval<'_> {
     /// The interval as a range of comparators. `Err` is out of memory.
     fn range(self) -> Result<Range, AllocError> {
         let first = self.first.comparator()?;

@@ -6,6 +6,7 @@ use crate::rattle_std::prelude::*;
 mod batch;
 mod boundaries;
 mod boundary;
+mod cut;
 mod endpoint;
 mod intervals;
 mod lowest;
@@ -24,6 +25,7 @@ mod successor;
 mod sweep;
 mod version_set;
 
+pub use cut::{Cut, Interval, Side};
 pub use release::Release;
 pub use rules::PreReleases;
 pub use set_difference::Comparison;

@@ -2,7 +2,7 @@
 //! The text of a set, written from its boundaries.
 
 use crate::rattle_std::prelude::*;
-use crate::proved::version_sets::intervals::{Bound, Interval, Shown, first_interval};
+use crate::proved::version_sets::intervals::{Bound, Shown, ShownInterval, first_interval};
 use crate::proved::version_sets::version_set::VersionSet;
 use crate::proved::semver_texts::printing::write_part;
 use crate::rattle_std::fmt;
@@ -17,7 +17,7 @@ impl fmt::Display for Shown<'_> {
     }
 }
 
-impl fmt::Display for Interval<'_> {
+impl fmt::Display for ShownInterval<'_> {
     /// Writes the comparators with a space between them.
     fn fmt(&self, f: &mut fmt::Formatter<'_>) -> fmt::Result {
         let first = &self.first;

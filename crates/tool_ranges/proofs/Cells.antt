@@ -1,0 +1,183 @@
+-- serves: tool_ranges::laws::meanings_agree
+-- How sides of the zero-filled version of stated numbers go with agreement and comparison.
+use Rattle.std.proofs.Common.{◌≡◌, ℕ, Bool, true, false, not, ◌&&◌, ◌||◌, ◌==◌, nat_eq, List, [], ◌∷◌}
+use Rattle.std.proofs.Common.{refl, ap, ◌∙◌}
+use Rattle.std.specs.Ordering.{nat_cmp, ordering_then, is_eq, is_lt, is_le, is_gt, is_ge}
+use Rattle.std.specs.declared.cmp.Ordering.{Ordering}
+use Rattle.std.specs.declared.cmp.Ordering.TheVariants.{Less, Equal, Greater}
+use Rattle.semver_texts.specs.Precedence.{precedence, pre_cmp}
+use Rattle.semver_texts.specs.Versions.{numbers, IdentifierValue, PlainVersion}
+use Rattle.semver_texts.proofs.Lists.{by_test}
+use Rattle.semver_ranges.specs.OwnMeaning.{agrees, agrees_past_zeros}
+use Rattle.semver_ranges.specs.Partials.{filled, leading_place}
+use Rattle.semver_ranges.proofs.CaretPlaces.{same_agreement}
+use Rattle.semver_ranges.specs.ExactBounds.{lowest_pre_release}
+use Rattle.semver_ranges.proofs.Rows.{Step, Tail, same, past, floor}
+use Rattle.version_sets.specs.Steps.Cuts.{first_numbers}
+use Rattle.tool_ranges.specs.CargoMeaning.{against}
+use Rattle.tool_ranges.proofs.ReadMeanings.{step, after, not_less, is_less}
+
+-- ---- any orders
+pub not_ge : (o : Ordering) → not (is_ge o) ≡ is_lt o
+not_ge Less = refl
+not_ge Equal = refl
+not_ge Greater = refl
+
+pub not_gt : (o : Ordering) → not (is_gt o) ≡ is_le o
+not_gt Less = refl
+not_gt Equal = refl
+not_gt Greater = refl
+
+pub both_eq : (o : Ordering) → (is_ge o && not (is_gt o)) ≡ is_eq o
+both_eq Less = refl
+both_eq Equal = refl
+both_eq Greater = refl
+
+pub le_parts : (o : Ordering) → is_le o ≡ (is_lt o || is_eq o)
+le_parts Less = refl
+le_parts Equal = refl
+le_parts Greater = refl
+
+pub ge_parts : (o : Ordering) → is_ge o ≡ (is_gt o || is_eq o)
+ge_parts Less = refl
+ge_parts Equal = refl
+ge_parts Greater = refl
+
+-- ---- the first numbers against stated ones, and what follows them
+within : {g : Ordering → Ordering} {e m : Bool} → Step g e m → (f : Bool) → (f ≡ true → is_ge (g Equal) ≡ true)
+    → (f && e) ≡ (f && not (is_gt (g Equal)))
+within Step.lower f h = by_test f (λ y. absurd (no_less (h y))) (λ n. rw n refl) where
+  no_less : is_ge Less ≡ true → ⊥
+  no_less e = cc
+within Step.level f h = refl
+within Step.higher f h = refl
+
+ge_of : {g : Ordering → Ordering} {e m : Bool} → Step g e m → (o : Ordering) → is_ge (g o) ≡ true → is_ge (g Equal) ≡ true
+ge_of Step.lower o h = h
+ge_of Step.level o h = refl
+ge_of Step.higher o h = refl
+
+same_ge : {g : Ordering → Ordering} {e m : Bool} → Step g e m → (o : Ordering) → is_ge o ≡ true → is_ge (g o) ≡ is_ge (g Equal)
+same_ge Step.lower o h = refl
+same_ge Step.level o h = h
+same_ge Step.higher o h = refl
+
+eq_agrees : {g : Ordering → Ordering} {e m : Bool} → Step g e m → is_eq (g Equal) ≡ e
+eq_agrees Step.lower = refl
+eq_agrees Step.level = refl
+eq_agrees Step.higher = refl
+
+agree_ge : {g : Ordering → Ordering} {e m : Bool} → Step g e m → (is_ge (g Equal) && e) ≡ e
+agree_ge Step.lower = refl
+agree_ge Step.level = refl
+agree_ge Step.higher = refl
+
+-- a place among stated numbers
+pub data Spot : List ℕ → ℕ → Type 0 where
+  first_of_one : (x : ℕ) → Spot (x ∷ []) 1
+  first_of_two : (x y : ℕ) → Spot (x ∷ y ∷ []) 1
+  second_of_two : (x y : ℕ) → Spot (x ∷ y ∷ []) 2
+  first_of_three : (x y w : ℕ) → Spot (x ∷ y ∷ w ∷ []) 1
+  second_of_three : (x y w : ℕ) → Spot (x ∷ y ∷ w ∷ []) 2
+  third_of_three : (x y w : ℕ) → Spot (x ∷ y ∷ w ∷ []) 3
+
+pub leading_of_two : (x y : ℕ) → Spot (x ∷ y ∷ []) (leading_place (x ∷ y ∷ []))
+leading_of_two x y = by_test (x == 0) (λ z. rw z (Spot.second_of_two x y)) (λ n. rw n (Spot.first_of_two x y))
+
+pub leading_of_three : (x y w : ℕ) → Spot (x ∷ y ∷ w ∷ []) (leading_place (x ∷ y ∷ w ∷ []))
+leading_of_three x y w = by_test (x == 0)
+    (λ z. by_test (y == 0) (λ q. rw (z, q) (Spot.third_of_three x y w)) (λ n. rw (z, n) (Spot.second_of_three x y w)))
+    (λ n. rw n (Spot.first_of_three x y w))
+
+module _ (v : PlainVersion) where
+  one_step : (x : ℕ) → Step (λ o. ordering_then (nat_cmp v.major x) o) (agrees 1 (x ∷ []) v) (nat_eq v.major x && true)
+  one_step x = after (step v.major x) Step.level
+
+  two_steps : (x y : ℕ) → Step (λ o. ordering_then (nat_cmp v.major x) (ordering_then (nat_cmp v.minor y) o)) (agrees 2 (x ∷ y ∷ []) v)
+      (nat_eq v.major x && (nat_eq v.minor y && true))
+  two_steps x y = after (step v.major x) (after (step v.minor y) Step.level)
+
+  three_steps : (x y w : ℕ)
+      → Step (λ o. ordering_then (nat_cmp v.major x) (ordering_then (nat_cmp v.minor y) (ordering_then (nat_cmp v.patch w) o)))
+      (agrees 3 (x ∷ y ∷ w ∷ []) v) (nat_eq v.major x && (nat_eq v.minor y && (nat_eq v.patch w && true)))
+  three_steps x y w = after (step v.major x) (after (step v.minor y) (after (step v.patch w) Step.level))
+
+  -- what isn't below the first numbers agrees with them, exactly if it isn't above all with them
+  pub agrees_within : {s : List ℕ} {k : ℕ} → Spot s k → (p : List IdentifierValue) → (f : Bool)
+      → (f ≡ true → is_ge (first_numbers k v (filled s p)) ≡ true)
+      → (f && agrees k s v) ≡ (f && not (is_gt (first_numbers k v (filled s p))))
+  agrees_within (Spot.first_of_one x) p f h = within (one_step x) f h
+  agrees_within (Spot.first_of_two x y) p f h = within (one_step x) f h
+  agrees_within (Spot.second_of_two x y) p f h = within (two_steps x y) f h
+  agrees_within (Spot.first_of_three x y w) p f h = within (one_step x) f h
+  agrees_within (Spot.second_of_three x y w) p f h = within (two_steps x y) f h
+  agrees_within (Spot.third_of_three x y w) p f h = within (three_steps x y w) f h
+
+  pub past_zeros_within : {s : List ℕ} → Spot s (leading_place s) → (p : List IdentifierValue) → (f : Bool)
+      → (f ≡ true → is_ge (first_numbers (leading_place s) v (filled s p)) ≡ true)
+      → (f && agrees_past_zeros s (numbers v)) ≡ (f && not (is_gt (first_numbers (leading_place s) v (filled s p))))
+  past_zeros_within spot p f h = ap (λ b. f && b) (same_agreement _ (numbers v)) ∙ agrees_within spot p f h
+
+  -- what isn't below a version isn't below its first numbers
+  pub from_first : {s : List ℕ} {k : ℕ} → Spot s k → (p : List IdentifierValue) → is_ge (precedence v (filled s p)) ≡ true
+      → is_ge (first_numbers k v (filled s p)) ≡ true
+  from_first (Spot.first_of_one x) p h = ge_of (one_step x) _ h
+  from_first (Spot.first_of_two x y) p h = ge_of (one_step x) _ h
+  from_first (Spot.second_of_two x y) p h = ge_of (two_steps x y) _ h
+  from_first (Spot.first_of_three x y w) p h = ge_of (one_step x) _ h
+  from_first (Spot.second_of_three x y w) p h = ge_of (two_steps x y) _ h
+  from_first (Spot.third_of_three x y w) p h = ge_of (three_steps x y w) _ h
+
+  pub numbers_first : {s : List ℕ} {k : ℕ} → Spot s k → (p : List IdentifierValue) → is_ge (first_numbers 3 v (filled s p)) ≡ true
+      → is_ge (first_numbers k v (filled s p)) ≡ true
+  numbers_first (Spot.first_of_one x) p h = ge_of (one_step x) _ h
+  numbers_first (Spot.first_of_two x y) p h = ge_of (one_step x) _ h
+  numbers_first (Spot.second_of_two x y) p h = ge_of (two_steps x y) _ h
+  numbers_first (Spot.first_of_three x y w) p h = ge_of (one_step x) _ h
+  numbers_first (Spot.second_of_three x y w) p h = ge_of (two_steps x y) _ h
+  numbers_first (Spot.third_of_three x y w) p h = h
+
+  -- the numbers that aren't stated are zeros
+  patch_ge : is_ge (ordering_then (nat_cmp v.patch 0) Equal) ≡ true
+  patch_ge = not_less v.patch Equal refl
+
+  minor_ge : is_ge (ordering_then (nat_cmp v.minor 0) (ordering_then (nat_cmp v.patch 0) Equal)) ≡ true
+  minor_ge = not_less v.minor _ patch_ge
+
+  pub one_from : (x : ℕ) → is_ge (first_numbers 3 v (filled (x ∷ []) [])) ≡ is_ge (against (x ∷ []) v)
+  one_from x = same_ge (step v.major x) _ minor_ge
+
+  pub two_from : (x y : ℕ) → is_ge (first_numbers 3 v (filled (x ∷ y ∷ []) [])) ≡ is_ge (against (x ∷ y ∷ []) v)
+  two_from x y = same_ge (after (step v.major x) (step v.minor y)) _ patch_ge
+
+  pub one_below : (x : ℕ) → is_lt (first_numbers 3 v (filled (x ∷ []) [])) ≡ is_lt (against (x ∷ []) v)
+  one_below x = is_less (step v.major x) _ minor_ge
+
+  pub two_below : (x y : ℕ) → is_lt (first_numbers 3 v (filled (x ∷ y ∷ []) [])) ≡ is_lt (against (x ∷ y ∷ []) v)
+  two_below x y = is_less (after (step v.major x) (step v.minor y)) _ patch_ge
+
+  pub none_from : is_ge (first_numbers 3 v (filled [] [])) ≡ true
+  none_from = not_less v.major _ minor_ge
+
+  -- from the lowest pre-release of some numbers on is what isn't below them
+  lowest_ge : is_ge (pre_cmp v.pre lowest_pre_release) ≡ true
+  lowest_ge = above_floor (floor v.pre) where
+    above_floor : {o : Ordering} → Tail o false → is_ge o ≡ true
+    above_floor same = refl
+    above_floor past = refl
+
+  pub numbers_ge : (x y w : ℕ) → is_ge (precedence v (filled (x ∷ y ∷ w ∷ []) lowest_pre_release)) ≡ is_ge (against (x ∷ y ∷ w ∷ []) v)
+  numbers_ge x y w = same_ge (after (step v.major x) (after (step v.minor y) (step v.patch w))) _ lowest_ge
+
+  -- what agrees with stated numbers isn't below them, and has the same
+  pub agrees_one : (x : ℕ) → (is_ge (against (x ∷ []) v) && agrees 1 (x ∷ []) v) ≡ agrees 1 (x ∷ []) v
+  agrees_one x = agree_ge (one_step x)
+
+  pub agrees_two : (x y : ℕ) → (is_ge (against (x ∷ y ∷ []) v) && agrees 2 (x ∷ y ∷ []) v) ≡ agrees 2 (x ∷ y ∷ []) v
+  agrees_two x y = agree_ge (two_steps x y)
+
+  pub equals_one : (x : ℕ) → is_eq (against (x ∷ []) v) ≡ agrees 1 (x ∷ []) v
+  equals_one x = eq_agrees (one_step x)
+
+  pub equals_two : (x y : ℕ) → is_eq (against (x ∷ y ∷ []) v) ≡ agrees 2 (x ∷ y ∷ []) v
+  equals_two x y = eq_agrees (two_steps x y)

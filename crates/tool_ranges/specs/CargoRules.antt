@@ -1,0 +1,72 @@
+-- What a requirement means to Cargo for a version, by a rule for pre-releases: by agreement on
+-- stated numbers and by precedence against the zero-filled version. By default a pre-release counts
+-- only beside a comparator that states its numbers and a pre-release. Cargo has no rule by which
+-- each within the bounds counts: it is precedence against the comparators of `cargo::rewrite`, where
+-- a lower bound of fewer than three numbers begins with the lowest pre-release, as `>=1.2.0-0`.
+use Rattle.std.specs.Prelude.{ℕ, Bool, true, ◌&&◌, ◌||◌, List, [], ◌∷◌}
+use Rattle.std.specs.List.{list_all, list_any}
+use Rattle.std.specs.Ordering.{is_eq, is_lt, is_gt, is_ge}
+use Rattle.semver_ranges.specs.declared.range.Compat.TheVariants.{Cargo}
+use Rattle.semver_texts.specs.Precedence.{precedence}
+use Rattle.semver_texts.specs.Texts.{is_empty}
+use Rattle.semver_texts.specs.Versions.{numbers, PlainVersion}
+use Rattle.semver_ranges.specs.RangeTree.{Form, less, at_most, greater, at_least}
+use Rattle.semver_ranges.specs.RangeTree.{caret, Simple}
+use Rattle.semver_ranges.specs.Partials.{stated}
+use Rattle.semver_ranges.specs.Terms.{of_simple}
+use Rattle.semver_ranges.specs.OwnMeaning.{agrees_past_zeros, meets_form}
+use Rattle.semver_ranges.specs.StatedPreReleases.{states_pre_release_at}
+use Rattle.version_sets.specs.declared.rules.PreReleases.{PreReleases}
+use Rattle.version_sets.specs.declared.rules.PreReleases.TheVariants.{Default, Included, Excluded}
+use Rattle.tool_ranges.specs.AnySize.{zero_filled_any}
+use Rattle.tool_ranges.specs.CargoMeaning.{against, as_read}
+
+-- whether a version may be one of those with the same numbers: by default a release
+abbrev pub is_one : PreReleases → PlainVersion → Bool
+is_one Included v = true
+is_one _ v = is_empty v.pre
+
+-- one with the stated numbers
+abbrev pub is_one_of : PreReleases → List ℕ → PlainVersion → Bool
+is_one_of rule s v = is_eq (against s v) && is_one rule v
+
+-- below one or two stated numbers: by default by only these
+abbrev pub is_below_some : PreReleases → List ℕ → PlainVersion → PlainVersion → Bool
+is_below_some Included s z v = is_lt (precedence v z)
+is_below_some _ s z v = is_lt (against s v)
+
+-- one or two numbers stated
+abbrev pub meets_some_stated : PreReleases → Form → List ℕ → PlainVersion → PlainVersion → Bool
+meets_some_stated rule less s z v = is_below_some rule s z v
+meets_some_stated rule greater s z v = is_gt (against s v)
+meets_some_stated rule at_most s z v = is_lt (against s v) || is_one_of rule s v
+meets_some_stated rule at_least s z v = is_gt (against s v) || is_one_of rule s v
+meets_some_stated rule caret s z v = is_ge (against s v) && agrees_past_zeros s (numbers v)
+meets_some_stated rule _ s z v = is_one_of rule s v
+
+-- nothing stated: by default a release. Three stated: as the port in Cargo mode
+abbrev pub meets_by_count : PreReleases → Form → List ℕ → PlainVersion → PlainVersion → Bool
+meets_by_count rule form [] z v = is_one rule v
+meets_by_count rule form (a ∷ []) z v = meets_some_stated rule form (a ∷ []) z v
+meets_by_count rule form (a ∷ b ∷ []) z v = meets_some_stated rule form (a ∷ b ∷ []) z v
+meets_by_count rule form (a ∷ b ∷ c ∷ rest) z v = meets_form Cargo form (a ∷ b ∷ c ∷ rest) z v
+
+-- whether a version meets a comparator
+abbrev pub meets_one : PreReleases → Simple → PlainVersion → Bool
+meets_one rule s v =
+    meets_by_count rule (as_read s).form (stated s.partial) (zero_filled_any s.partial) v
+
+-- whether a version counts by default: a release does, and a pre-release where some comparator
+-- states its three numbers and a pre-release
+abbrev pub counts : List Simple → PlainVersion → Bool
+counts tree v = is_empty v.pre || list_any (λ s. states_pre_release_at (of_simple s) v) tree
+
+-- whether a version meets a requirement by default: each comparator, and it counts
+abbrev pub meets_by_default : List Simple → PlainVersion → Bool
+meets_by_default tree v = list_all (λ s. meets_one Default s v) tree && counts tree v
+
+-- by each rule; without pre-releases a release that meets it by default
+abbrev pub meets_requirement : PreReleases → List Simple → PlainVersion → Bool
+meets_requirement Default tree v = meets_by_default tree v
+meets_requirement Included tree v = list_all (λ s. meets_one Included s v) tree
+meets_requirement Excluded tree v = is_empty v.pre && meets_by_default tree v

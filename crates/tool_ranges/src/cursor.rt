@@ -1,0 +1,138 @@
+//! The terms of a range text, one after the other, in each dialect. Nothing here allocates.
+
+ghost use Rattle.std.specs.Prelude.{◌≡◌, ◌<◌, ◌≤◌, ◌+◌, ◌*◌, length, List, Option, None};
+ghost use Rattle.std.specs.Prelude.{IfSome, MatchResult, ◌&&◌, not, is_some};
+ghost use Rattle.semver_ranges.specs.Steps.PartialViews.{states_none};
+ghost use Rattle.semver_texts.specs.declared.grammar.Grammar.{Grammar as SomeGrammar};
+ghost use Rattle.semver_ranges.specs.Steps.RangeEvents.{Event as SomeEvent};
+ghost use Rattle.tool_ranges.specs.Dialects.{grammar_of};
+ghost use Rattle.tool_ranges.specs.Steps.Cursors.{GivesNext, HasLeftIn, size_of, text_events};
+ghost use Rattle.tool_ranges.specs.Steps.Cursors.{FindsNext, read_as};
+
+use crate::cargo::read_comparator;
+use crate::dialect::Dialect;
+use crate::npm::may_stand;
+use semver_ranges::RangeError;
+use semver_ranges::events::{Event, Events};
+use semver_ranges::grammar::Simple;
+use semver_ranges::partial::LowerBounds;
+use semver_texts::grammar::Grammar;
+
+/// Cargo reads at most so many comparators.
+const MOST_COMPARATORS: usize = 32;
+
+/// What is left of the comparators of a requirement.
+#[derive(Clone, Copy)]
+pub(crate) struct Comparators<'text> {
+    /// What follows the last comma, or the whole text. None at the end.
+    rest: Option<&'text [u8]>,
+    /// How many may come.
+    more: usize,
+    /// Whether none came.
+    is_first: bool,
+}
+
+/// What is left of a range text.
+#[derive(Clone, Copy)]
+pub(crate) enum Cursor<'text> {
+    /// The comparators of a requirement of Cargo.
+    Requirement(Comparators<'text>),
+    /// The ranges of the other dialects.
+    Ranges(Events<'text>),
+}
+
+impl<'text> Cursor<'text> {
+    /// At the beginning of a text, if each of its characters may be in a range.
+    #[inline(always)]
+    pub(crate) fn new(
+        text: &'text str,
+        dialect: Dialect,
+        lower: LowerBounds,
+    ) -> Result<Cursor<'text>, RangeError>
+        ensures { MatchResult result (λ cursor. HasLeftIn (grammar_of dialect) cursor
+            (text_events lower dialect text.now) × (size_of cursor ≤ 2 * length text.now + 34))
+            (λ e. (e ≡ RangeError.NotARange) × (read_as dialect text.now ≡ None)) }
+    {
+        let bytes = text.as_bytes();
+        match dialect {
+            Dialect::Cargo => Ok(Cursor::Requirement(Comparators {
+                rest: Some(bytes),
+                more: MOST_COMPARATORS,
+                is_first: true,
+            })),
+            Dialect::Npm => {
+                if !may_stand(text) {
+                    return Err(RangeError::NotARange);
+                }
+                Ok(Cursor::Ranges(Events::new(bytes, Grammar::Npm, lower)))
+            }
+            Dialect::CrateCargo | Dialect::CrateNpm => {
+                Ok(Cursor::Ranges(Events::new(bytes, Grammar::Crate, lower)))
+            }
+        }
+    }
+
+    /// The next term, or that the next range begins; or that the text isn't in the grammar from
+    /// there on. None at the end.
+    #[inline(always)]
+    pub(crate) fn next(&mut self, grammar: Grammar) -> Option<Result<Event<'text>, RangeError>>
+        ensures gives { (o : Option (List SomeEvent)) → HasLeftIn grammar self.old o
+            → GivesNext grammar o result self.new }
+        ensures fewer { IfSome result (λ _. size_of self.new < size_of self.old) }
+    {
+        match self {
+            Cursor::Requirement(comparators) => comparators.next(),
+            Cursor::Ranges(events) => events.next_in(grammar),
+        }
+    }
+}
+
+impl<'text> Comparators<'text> {
+    /// The next comparator.
+    #[inline(always)]
+    fn next(&mut self) -> Option<Result<Event<'text>, RangeError>>
+        ensures gives { (d : SomeGrammar) (o : Option (List SomeEvent))
+            → HasLeftIn d (Cursor.Requirement self.old) o
+            → GivesNext d o result (Cursor.Requirement self.new) }
+        ensures fewer { IfSome result
+            (λ _. size_of (Cursor.Requirement self.new) < size_of (Cursor.Requirement self.old)) }
+    {
+        let rest = self.rest?;
+        match self.read(rest) {
+            Some((simple, after)) => {
+                self.rest = after;
+                self.more -= 1;
+                self.is_first = false;
+                Some(Ok(Event::Simple(simple)))
+            }
+            None => {
+                self.rest = None;
+                Some(Err(RangeError::NotARange))
+            }
+        }
+    }
+
+    /// The comparator at the front of a text, where one may come, and what follows its comma.
+    #[inline(always)]
+    fn read(&self, rest: &'text [u8]) -> Option<(Simple<'text>, Option<&'text [u8]>)>
+        ensures { FindsNext self.now.more self.now.is_first rest.now result }
+    {
+        if self.more == 0 {
+            return None;
+        }
+        let (simple, after) = read_comparator(rest)?;
+        if !self.may_come(&simple, after) {
+            return None;
+        }
+        Some((simple, after))
+    }
+
+    /// Whether a comparator may come: one that states no number has to be alone.
+    #[inline(always)]
+    fn may_come(&self, simple: &Simple<'_>, after: Option<&[u8]>) -> bool
+        ensures { result ≡ not (states_none simple.now.partial.kind
+            && not (self.now.is_first && not (is_some after.entry))) }
+    {
+        !simple.partial.states_nothing() || (self.is_first && after.is_none())
+    }
+}

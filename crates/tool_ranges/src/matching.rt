@@ -1,0 +1,288 @@
+//! Whether a text is a range, and whether a version satisfies it. Nothing here allocates.
+
+ghost use Rattle.std.specs.Prelude.{◌≡◌, ◌≢◌, ◌&&◌, ◌||◌, not, true, if◌then◌else◌, Err, IfOk};
+ghost use Rattle.std.specs.Prelude.{Bool, MatchResult};
+ghost use Rattle.std.specs.List.{prefix_len};
+ghost use Rattle.semver_texts.specs.Digits.{digits_in, plain_by};
+ghost use Rattle.semver_texts.specs.Texts.{is_empty};
+ghost use Rattle.semver_texts.specs.Versions.{PlainVersion, without_build};
+ghost use Rattle.semver_ranges.specs.RangeTree.{Simple as SimpleTree};
+ghost use Rattle.semver_ranges.specs.Steps.CursorViews.{IsSimpleOf, form_of};
+ghost use Rattle.semver_ranges.specs.Steps.PartialViews.{stated_of, version_of};
+ghost use Rattle.version_sets.specs.PreReleaseRules.{numbers_fit};
+ghost use Rattle.version_sets.specs.Steps.Cuts.{is_in_interval};
+ghost use Rattle.tool_ranges.specs.Dialects.{RefusesAs, SpellsAs, TreeOf, grammar_of};
+ghost use Rattle.tool_ranges.specs.Meanings.{meant_by};
+ghost use Rattle.tool_ranges.specs.TooLarge.{stating, term_fits_as, terms_as};
+ghost use Rattle.tool_ranges.specs.Steps.Matching.{Says, begun, counts, ended, lower_of, plain_of};
+ghost use Rattle.tool_ranges.specs.Steps.Matching.{said, states_at, taken, takes_all, term_fits};
+ghost use Rattle.tool_ranges.specs.Steps.Matching.{term_met};
+ghost use Rattle.tool_ranges.specs.Steps.Reading.{IsRead, IsRefusedAs};
+ghost use Rattle.tool_ranges.specs.Steps.Table.{is_counted_within, is_within, sides_fit};
+ghost use Rattle.tool_ranges.specs.NpmRules.{asks_nothing_by, is_zero};
+
+use crate::cursor::Cursor;
+use crate::dialect::Dialect;
+use crate::table::{bounds, counted, fits, is_zero};
+use semver_ranges::RangeError;
+use semver_ranges::events::Event;
+use semver_ranges::grammar::{Form, Simple};
+use semver_ranges::partial::{LowerBounds, Partial};
+use semver_versions::version::Outline;
+use version_sets::{Interval, PreReleases};
+
+/// What a range text says of a version.
+#[inline(always)]
+pub(crate) fn answer(
+    version: &Outline<'_>,
+    range: &str,
+    dialect: Dialect,
+    rule: PreReleases,
+) -> Result<bool, RangeError>
+    requires { numbers_fit (plain_of version.now) ≡ true }
+    ensures refusals { RefusesAs dialect range.now result }
+    ensures no_memory { result ≢ Err RangeError.OutOfMemory }
+    ensures meaning { IfOk result (λ met. (tree : TreeOf dialect) → SpellsAs dialect tree range.now
+        → met ≡ meant_by dialect rule tree (without_build (plain_of version.now))) }
+{
+    match matches(version, range, dialect, takes_all(rule)) {
+        Ok(progress) => Ok(said(&progress, is_release(version), dialect, rule)),
+        Err(refusal) => Err(refusal),
+    }
+}
+
+/// Whether each pre-release within the bounds counts.
+#[inline(always)]
+fn takes_all(rule: PreReleases) -> bool
+    ensures { result ≡ takes_all rule }
+{
+    matches!(rule, PreReleases::Included)
+}
+
+/// The answer of what is known at the end. Where some range matches everything, npm takes by default
+/// each release and no pre-release.
+#[inline(always)]
+fn said(progress: &Progress, is_release: bool, dialect: Dialect, rule: PreReleases) -> bool
+    ensures { (v : PlainVersion) → is_release ≡ is_empty v.pre
+        → result ≡ said dialect rule v progress.now }
+{
+    let met = match (dialect, rule) {
+        (Dialect::Npm, PreReleases::Default | PreReleases::Excluded) if progress.every =>
+            is_release,
+        _ => progress.met,
+    };
+    match rule {
+        PreReleases::Excluded => is_release && met,
+        PreReleases::Default | PreReleases::Included => met,
+    }
+}
+
+/// What is known of a version at some place of a range text.
+#[derive(Clone, Copy)]
+pub(crate) struct Progress {
+    /// Whether it satisfies the terms of this range.
+    here: bool,
+    /// Whether it counts in this range.
+    counts: bool,
+    /// Whether this range matches everything.
+    nothing: bool,
+    /// Whether it satisfies a range before, and counts there.
+    met: bool,
+    /// Whether a range before matches everything.
+    every: bool,
+}
+
+impl Progress {
+    /// Before the first term. A version counts from the beginning, or where a term states it.
+    #[inline(always)]
+    fn new(counts: bool) -> Progress
+        ensures { result ≡ begun counts }
+    {
+        Progress {
+            here: true,
+            counts,
+            nothing: true,
+            met: false,
+            every: false,
+        }
+    }
+
+    /// With a term, of which by default only what counts is looked at.
+    #[inline(always)]
+    fn with_term(
+        self,
+        simple: &Simple<'_>,
+        version: &Outline<'_>,
+        dialect: Dialect,
+        by_default: bool,
+    ) -> Progress
+        requires { (s : SimpleTree) × IsSimpleOf s simple.now }
+        ensures { (s : SimpleTree) (all : Bool) → IsSimpleOf s simple.now → term_fits dialect s ≡ true
+            → by_default ≡ (not all && not (is_empty (plain_of version.now).pre))
+            → result ≡ taken dialect all (plain_of version.now) s self }
+    {
+        Progress {
+            here: self.here & meets(simple, version, dialect, by_default),
+            counts: self.counts | is_stated_by(version, &simple.partial),
+            nothing: self.nothing & matches_everything(simple),
+            ..self
+        }
+    }
+
+    /// At the end of a range.
+    #[inline(always)]
+    fn ended(self, counts: bool) -> Progress
+        ensures { result ≡ ended counts self }
+    {
+        Progress {
+            here: true,
+            counts,
+            nothing: true,
+            met: self.met | (self.here & self.counts),
+            every: self.every | self.nothing,
+        }
+    }
+}
+
+/// What the ranges of a text say of a version, where each pre-release counts or by default.
+#[inline(always)]
+fn matches(
+    version: &Outline<'_>,
+    range: &str,
+    dialect: Dialect,
+    takes_all: bool,
+) -> Result<Progress, RangeError>
+    ensures { MatchResult result
+        (λ progress. IsRead dialect range.now (Says dialect takes_all (plain_of version.now) progress))
+        (λ e. IsRefusedAs dialect range.now e) }
+{
+    let grammar = dialect.grammar();
+    let counts = counts(version, takes_all);
+    let mut cursor = Cursor::new(range, dialect, lower(dialect, takes_all))?;
+    let mut fit = true;
+    let mut progress = Progress::new(counts);
+    while let Some(event) = cursor.next(grammar) {
+        match event? {
+            Event::Simple(simple) => {
+                fit &= fits(&simple, dialect);
+                progress = progress.with_term(&simple, version, dialect, !counts);
+            }
+            Event::NextRange => progress = progress.ended(counts),
+        }
+    }
+    if !fit {
+        return Err(RangeError::NumberTooLarge);
+    }
+    Ok(progress.ended(counts))
+}
+
+/// Whether a version counts in each range.
+#[inline(always)]
+fn counts(version: &Outline<'_>, takes_all: bool) -> bool
+    ensures { result ≡ counts takes_all (plain_of version.now) }
+{
+    takes_all || is_release(version)
+}
+
+/// How the left side of a hyphen range is written.
+#[inline(always)]
+pub(crate) fn lower(dialect: Dialect, takes_all: bool) -> LowerBounds
+    ensures { result ≡ lower_of dialect takes_all }
+{
+    match dialect {
+        Dialect::Npm if takes_all => LowerBounds::Lowest,
+        _ => LowerBounds::Stated,
+    }
+}
+
+/// Whether a version satisfies a term.
+#[inline(always)]
+fn meets(simple: &Simple<'_>, version: &Outline<'_>, dialect: Dialect, by_default: bool) -> bool
+    requires { (s : SimpleTree) × IsSimpleOf s simple.now }
+    ensures { (s : SimpleTree) (all : Bool) → IsSimpleOf s simple.now → term_fits dialect s ≡ true
+        → by_default ≡ (not all && not (is_empty (plain_of version.now).pre))
+        → result ≡ term_met dialect all (plain_of version.now) s }
+{
+    looked_at(simple, dialect, by_default).contains(version, dialect.grammar().digits())
+}
+
+/// The versions that satisfy a term, of all or of those that count by default.
+#[inline(always)]
+fn looked_at<'t>(simple: &Simple<'t>, dialect: Dialect, by_default: bool) -> Interval<'t>
+    ensures { sides_fit dialect (form_of simple.now.form) (stated_of simple.now.partial)
+        (version_of simple.now.partial) ≡ true → (v : PlainVersion)
+        → is_in_interval (digits_in (grammar_of dialect)) result v
+        ≡ (if by_default then is_counted_within dialect (form_of simple.now.form)
+        (stated_of simple.now.partial)
+        (plain_by (digits_in (grammar_of dialect)) (version_of simple.now.partial)) v
+        else is_within dialect (form_of simple.now.form) (stated_of simple.now.partial)
+        (plain_by (digits_in (grammar_of dialect)) (version_of simple.now.partial)) v) }
+{
+    if by_default {
+        counted(simple, dialect)
+    } else {
+        bounds(simple, dialect)
+    }
+}
+
+/// Whether it has no pre-release.
+#[inline(always)]
+fn is_release(version: &Outline<'_>) -> bool
+    ensures { result ≡ is_empty (plain_of version.now).pre }
+{
+    !version.is_pre_release()
+}
+
+/// Whether a partial states its three numbers, and a pre-release.
+#[inline(always)]
+fn is_stated_by(version: &Outline<'_>, partial: &Partial<'_>) -> bool
+    ensures { result ≡ states_at partial.now (plain_of version.now) }
+{
+    partial.has_pre_release()
+        && partial.states_three()
+        && version.major() == partial.major()
+        && version.minor() == partial.minor()
+        && version.patch() == partial.patch()
+}
+
+/// Whether npm matches everything of a version by a term.
+#[inline(always)]
+pub(crate) fn matches_everything(simple: &Simple<'_>) -> bool
+    ensures { result ≡ asks_nothing_by (form_of simple.now.form)
+        (is_empty (stated_of simple.now.partial)) (is_zero (version_of simple.now.partial)) }
+{
+    match simple.form {
+        Form::Less | Form::Greater => false,
+        Form::AtLeast => is_zero(&simple.partial),
+        _ => simple.partial.states_nothing(),
+    }
+}
+
+/// How many terms of a range text that state a number, from the left, fit.
+pub(crate) fn fitting(range: &str, dialect: Dialect) -> u128
+    ensures { (tree : TreeOf dialect) → SpellsAs dialect tree range.now
+        → result ≡ prefix_len (term_fits_as dialect) (stating (terms_as dialect tree)) }
+{
+    let grammar = dialect.grammar();
+    let Ok(mut cursor) = Cursor::new(range, dialect, LowerBounds::Stated) else {
+        return 0;
+    };
+    let mut fitting = 0;
+    while let Some(event) = cursor.next(grammar) {
+        let Ok(event) = event else {
+            return fitting;
+        };
+        match event {
+            Event::Simple(simple) => {
+                if !simple.partial.states_nothing() {
+                    if !fits(&simple, dialect) {
+                        return fitting;
+                    }
+                    fitting += 1;
+                }
+            }
+            Event::NextRange => {}
+        }
+    }
+    fitting
+}

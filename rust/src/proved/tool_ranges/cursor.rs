@@ -1,0 +1,112 @@
+// Made by tools/erase.py from crates/tool_ranges/src/cursor.rt; not edited by hand.
+//! The terms of a range text, one after the other, in each dialect. Nothing here allocates.
+
+use crate::rattle_std::prelude::*;
+use crate::proved::tool_ranges::cargo::read_comparator;
+use crate::proved::tool_ranges::dialect::Dialect;
+use crate::proved::tool_ranges::npm::may_stand;
+use crate::proved::semver_ranges::RangeError;
+use crate::proved::semver_ranges::events::{Event, Events};
+use crate::proved::semver_ranges::grammar::Simple;
+use crate::proved::semver_ranges::partial::LowerBounds;
+use crate::proved::semver_texts::grammar::Grammar;
+
+/// Cargo reads at most so many comparators.
+const MOST_COMPARATORS: usize = 32;
+
+/// What is left of the comparators of a requirement.
+#[derive(Clone, Copy)]
+pub(crate) struct Comparators<'text> {
+    /// What follows the last comma, or the whole text. None at the end.
+    rest: Option<&'text [u8]>,
+    /// How many may come.
+    more: usize,
+    /// Whether none came.
+    is_first: bool,
+}
+
+/// What is left of a range text.
+#[derive(Clone, Copy)]
+pub(crate) enum Cursor<'text> {
+    /// The comparators of a requirement of Cargo.
+    Requirement(Comparators<'text>),
+    /// The ranges of the other dialects.
+    Ranges(Events<'text>),
+}
+
+impl<'text> Cursor<'text> {
+    /// At the beginning of a text, if each of its characters may be in a range.
+    #[inline(always)]
+    pub(crate) fn new(
+        text: &'text str,
+        dialect: Dialect,
+        lower: LowerBounds,
+    ) -> Result<Cursor<'text>, RangeError> {
+        let bytes = text.as_bytes();
+        match dialect {
+            Dialect::Cargo => Ok(Cursor::Requirement(Comparators {
+                rest: Some(bytes),
+                more: MOST_COMPARATORS,
+                is_first: true,
+            })),
+            Dialect::Npm => {
+                if !may_stand(text) {
+                    return Err(RangeError::NotARange);
+                }
+                Ok(Cursor::Ranges(Events::new(bytes, Grammar::Npm, lower)))
+            }
+            Dialect::CrateCargo | Dialect::CrateNpm => {
+                Ok(Cursor::Ranges(Events::new(bytes, Grammar::Crate, lower)))
+            }
+        }
+    }
+
+    /// The next term, or that the next range begins; or that the text isn't in the grammar from
+    /// there on. None at the end.
+    #[inline(always)]
+    pub(crate) fn next(&mut self, grammar: Grammar) -> Option<Result<Event<'text>, RangeError>> {
+        match self {
+            Cursor::Requirement(comparators) => comparators.next(),
+            Cursor::Ranges(events) => events.next_in(grammar),
+        }
+    }
+}
+
+impl<'text> Comparators<'text> {
+    /// The next comparator.
+    #[inline(always)]
+    fn next(&mut self) -> Option<Result<Event<'text>, RangeError>> {
+        let rest = self.rest?;
+        match self.read(rest) {
+            Some((simple, after)) => {
+                self.rest = after;
+                self.more -= 1;
+                self.is_first = false;
+                Some(Ok(Event::Simple(simple)))
+            }
+            None => {
+                self.rest = None;
+                Some(Err(RangeError::NotARange))
+            }
+        }
+    }
+
+    /// The comparator at the front of a text, where one may come, and what follows its comma.
+    #[inline(always)]
+    fn read(&self, rest: &'text [u8]) -> Option<(Simple<'text>, Option<&'text [u8]>)> {
+        if self.more == 0 {
+            return None;
+        }
+        let (simple, after) = read_comparator(rest)?;
+        if !self.may_come(&simple, after) {
+            return None;
+        }
+        Some((simple, after))
+    }
+
+    /// Whether a comparator may come: one that states no number has to be alone.
+    #[inline(always)]
+    fn may_come(&self, simple: &Simple<'_>, after: Option<&[u8]>) -> bool {
+        !simple.partial.states_nothing() || (self.is_first && after.is_none())
+    }
+}

@@ -1,0 +1,249 @@
+// Made by tools/erase.py from crates/tool_ranges/src/table.rt; not edited by hand.
+//! The table: between which cuts the versions of a term are, in each dialect.
+//!
+//! The numbers that a term states make a block of versions, those that have these numbers. `<` takes
+//! what is below the block, `<=` what isn't above it, `>=` what isn't below it, and `>` what is
+//! above it. `=` takes the block, and `~` and `^` go from its beginning to the end of a block of
+//! fewer numbers.
+
+use crate::rattle_std::prelude::*;
+use crate::proved::tool_ranges::dialect::Dialect;
+use crate::proved::semver_ranges::grammar::{Form, Simple};
+use crate::proved::semver_ranges::partial::{Partial, PartialKind, Place};
+use crate::proved::semver_texts::npm_limits::MAX_SAFE_INTEGER;
+use crate::proved::version_sets::{Cut, Interval, Release, Side};
+
+/// The versions within the bounds of a term, pre-releases too.
+#[inline(always)]
+pub(crate) fn bounds<'t>(simple: &Simple<'t>, dialect: Dialect) -> Interval<'t> {
+    between(&simple.partial, sides(simple, dialect))
+}
+
+/// The versions between two sides of the zero-filled version of a partial.
+#[inline(always)]
+fn between<'t>(partial: &Partial<'t>, sides: (Option<Side>, Option<Side>)) -> Interval<'t> {
+    Interval {
+        lower: beside(partial, sides.0),
+        upper: beside(partial, sides.1),
+    }
+}
+
+/// The cut at a side of the zero-filled version of a partial.
+#[inline(always)]
+fn beside<'t>(partial: &Partial<'t>, side: Option<Side>) -> Option<Cut<'t>> {
+    match side {
+        Some(side) => Some(cut(partial, side)),
+        None => None,
+    }
+}
+
+/// The cut at a side of the zero-filled version of a partial.
+#[inline(always)]
+fn cut<'t>(partial: &Partial<'t>, side: Side) -> Cut<'t> {
+    Cut {
+        numbers: numbers(partial),
+        pre: partial.pre(),
+        side,
+    }
+}
+
+/// Of the pre-releases that count by default, those that satisfy a term.
+#[inline(always)]
+pub(crate) fn counted<'t>(simple: &Simple<'t>, dialect: Dialect) -> Interval<'t> {
+    match dialect {
+        Dialect::CrateCargo | Dialect::CrateNpm => bounds(simple, dialect),
+        Dialect::Cargo => besides_block(simple),
+        Dialect::Npm => from_release(simple),
+    }
+}
+
+/// Those of Cargo: none is in the block of fewer than three numbers, but for `^`.
+#[inline(always)]
+fn besides_block<'t>(simple: &Simple<'t>) -> Interval<'t> {
+    between(&simple.partial, cargo_sides(simple))
+}
+
+/// The sides between which they are.
+#[inline(always)]
+fn cargo_sides(simple: &Simple<'_>) -> (Option<Side>, Option<Side>) {
+    match simple.partial.kind() {
+        PartialKind::XRangeOnly => (Some(Side::Below), Some(Side::Below)),
+        PartialKind::MajorOnly | PartialKind::MajorMinor => sides_beside(simple),
+        PartialKind::MajorMinorPatch => sides(simple, Dialect::Cargo),
+    }
+}
+
+/// Those of one or two numbers.
+#[inline(always)]
+fn sides_beside(simple: &Simple<'_>) -> (Option<Side>, Option<Side>) {
+    match simple.form {
+        Form::Caret | Form::Greater => sides(simple, Dialect::Cargo),
+        Form::AtLeast => {
+            let greater = Simple {
+                form: Form::Greater,
+                partial: simple.partial,
+            };
+            sides(&greater, Dialect::Cargo)
+        }
+        Form::Less | Form::AtMost => (None, Some(Side::Below)),
+        Form::Bare | Form::Equal | Form::Tilde => (Some(Side::Below), Some(Side::Below)),
+    }
+}
+
+/// Those of npm: they begin at the release beside which the lower cut is, and anywhere where that is
+/// 0.0.0, but for `=0.0.0`.
+#[inline(always)]
+fn from_release<'t>(simple: &Simple<'t>) -> Interval<'t> {
+    let (lower, upper) = sides(simple, Dialect::Npm);
+    Interval {
+        lower: release_of(&simple.partial, lower, is_past(upper)),
+        upper: beside(&simple.partial, upper),
+    }
+}
+
+/// Whether an upper side is right above its version.
+#[inline(always)]
+fn is_past(upper: Option<Side>) -> bool {
+    matches!(upper, Some(Side::Past))
+}
+
+/// The cut at the release beside which a lower side is, if there is any version below.
+#[inline(always)]
+fn release_of<'t>(partial: &Partial<'t>, lower: Option<Side>, is_one: bool) -> Option<Cut<'t>> {
+    match lower {
+        None => None,
+        Some(Side::Past) => Some(cut(partial, Side::Past)),
+        Some(Side::Above(place)) => Some(Cut {
+            numbers: raised(partial, place),
+            pre: &[],
+            side: Side::At,
+        }),
+        Some(Side::Below | Side::At) if is_zero(partial) && !is_one => None,
+        Some(Side::Below | Side::At) => Some(cut(partial, Side::At)),
+    }
+}
+
+/// Whether the zero-filled version is 0.0.0.
+#[inline(always)]
+pub(crate) fn is_zero(partial: &Partial<'_>) -> bool {
+    partial.major() == 0
+        && partial.minor() == 0
+        && partial.patch() == 0
+        && !partial.has_pre_release()
+}
+
+/// The lowest numbers above those up to a place.
+#[inline(always)]
+fn raised(partial: &Partial<'_>, place: Place) -> Release {
+    let (major, minor, patch) = (partial.major(), partial.minor(), partial.patch());
+    let (major, minor, patch) = match place {
+        Place::Major => (major.saturating_add(1), 0, 0),
+        Place::Minor => (major, minor.saturating_add(1), 0),
+        Place::Patch => (major, minor, patch.saturating_add(1)),
+    };
+    Release {
+        major,
+        minor,
+        patch,
+    }
+}
+
+/// Whether the numbers of a term, and those that are raised, are within the limits of a dialect.
+#[inline(always)]
+pub(crate) fn fits(simple: &Simple<'_>, dialect: Dialect) -> bool {
+    let most = limit(dialect);
+    let partial = &simple.partial;
+    let (lower, upper) = sides(simple, dialect);
+    partial.states_at_most(most) & may_rise(partial, lower, most) & may_rise(partial, upper, most)
+}
+
+/// What the numbers of a dialect are at most.
+#[inline(always)]
+fn limit(dialect: Dialect) -> u64 {
+    match dialect {
+        Dialect::Npm => MAX_SAFE_INTEGER,
+        Dialect::Cargo | Dialect::CrateCargo | Dialect::CrateNpm => u64::MAX,
+    }
+}
+
+/// Whether the number that is raised above a side is below a limit.
+#[inline(always)]
+fn may_rise(partial: &Partial<'_>, side: Option<Side>, most: u64) -> bool {
+    match side {
+        Some(Side::Above(place)) => partial.number(place) < most,
+        _ => true,
+    }
+}
+
+/// The three numbers of the zero-filled version of a partial.
+#[inline(always)]
+pub(crate) fn numbers(partial: &Partial<'_>) -> Release {
+    Release {
+        major: partial.major(),
+        minor: partial.minor(),
+        patch: partial.patch(),
+    }
+}
+
+/// The sides of the zero-filled version at which the versions of a term begin and end.
+#[inline(always)]
+fn sides(simple: &Simple<'_>, dialect: Dialect) -> (Option<Side>, Option<Side>) {
+    let first = beginning(simple, dialect);
+    let partial = &simple.partial;
+    let last = match partial.kind() {
+        PartialKind::XRangeOnly => return sides_of_nothing(simple.form, dialect, first),
+        PartialKind::MajorOnly => Side::Above(Place::Major),
+        PartialKind::MajorMinor => Side::Above(Place::Minor),
+        PartialKind::MajorMinorPatch => Side::Past,
+    };
+    match (simple.form, dialect) {
+        (Form::Less, _) => (None, Some(first)),
+        (Form::AtMost, _) => (None, Some(last)),
+        (Form::AtLeast, _) => (Some(first), None),
+        (Form::Greater, Dialect::Cargo | Dialect::Npm) => (Some(last), None),
+        (Form::Greater, Dialect::CrateCargo | Dialect::CrateNpm) => (Some(Side::Past), None),
+        (Form::Tilde, _) if partial.states_three() => {
+            (Some(first), Some(Side::Above(Place::Minor)))
+        }
+        (Form::Bare, Dialect::Cargo | Dialect::CrateCargo) if partial.states_three() => {
+            (Some(first), Some(Side::Above(partial.leading_place())))
+        }
+        (Form::Caret, _) => (Some(first), Some(Side::Above(partial.leading_place()))),
+        (Form::Bare | Form::Equal | Form::Tilde, _) => (Some(first), Some(last)),
+    }
+}
+
+/// Those of a term that states no number. To Cargo it is one without operator.
+#[inline(always)]
+fn sides_of_nothing(form: Form, dialect: Dialect, first: Side) -> (Option<Side>, Option<Side>) {
+    match (dialect, form) {
+        (Dialect::Cargo, _) => (Some(first), None),
+        (_, Form::Less | Form::Greater) => (None, Some(first)),
+        _ => (Some(first), None),
+    }
+}
+
+/// Where the block of a term begins: of the crate at the zero-filled version; of the tools below all
+/// of fewer than three numbers, but for Cargo's `<` and npm's `~`; and of npm below all of `^0.2.3`,
+/// too.
+#[inline(always)]
+fn beginning(simple: &Simple<'_>, dialect: Dialect) -> Side {
+    let partial = &simple.partial;
+    let is_below = match (dialect, partial.kind()) {
+        (Dialect::CrateCargo | Dialect::CrateNpm, _) => false,
+        (Dialect::Cargo, PartialKind::XRangeOnly) => true,
+        (Dialect::Cargo, PartialKind::MajorMinorPatch) => false,
+        (Dialect::Cargo, PartialKind::MajorOnly | PartialKind::MajorMinor) => !matches!(
+            simple.form,
+            Form::Less
+        ),
+        (Dialect::Npm, PartialKind::XRangeOnly) => true,
+        (Dialect::Npm, PartialKind::MajorOnly | PartialKind::MajorMinor) => {
+            !matches!(simple.form, Form::Tilde)
+        }
+        (Dialect::Npm, PartialKind::MajorMinorPatch) => {
+            matches!(simple.form, Form::Caret) && !partial.has_pre_release() && partial.major() == 0
+        }
+    };
+    if is_below { Side::Below } else { Side::At }
+}
