@@ -44,3 +44,4 @@ mod MatchedTerms
 mod MatchedEvents
 mod MatchedRanges
 mod FormerMeanings
+mod BuiltSets

@@ -149,6 +149,18 @@ module _ (d : Dialect) (all : Bool) (v : PlainVersion) where
       ∙ (λ i. fresh (or_assoc met (range_met d all v ss) (list_any (range_met d all v) (next ∷ others)) i)
       (or_assoc every (range_every ss) (list_any range_every (next ∷ others)) i))
 
+  -- what the events of a tree tell
+  pub says_so : (t : Text) (tree : TreeOf d) → SpellsAs d tree t → (progress : Progress)
+      → ended (counts all v) (after d all v (begun (counts all v)) (events_in (ranges_of (lower_of d all) d tree))) ≡ progress
+      → Says d all v progress tree
+  says_so t tree spelled progress same =
+      let some = some_ranges (lower_of d all) d t tree spelled in
+      let end = sym same ∙ ap (λ rs. ended (counts all v) (after d all v (begun (counts all v)) (events_in rs))) some.2
+      ∙ ranges_after some.0 some.1 false false in (
+        ap (λ (x : Progress). x.met) end ∙ ap (list_any (range_met d all v)) (sym some.2),
+        ap (λ (x : Progress). x.every) end ∙ ap (list_any range_every) (sym some.2),
+      )
+
   -- ---- a whole text
   module _ (t : Text) where
     abbrev Told : Option (Option Progress) → Type 0
@@ -176,16 +188,6 @@ module _ (d : Dialect) (all : Bool) (v : PlainVersion) where
           let known : Some (Some (ended (counts all v) (after d all v (begun (counts all v)) (events_in (ranges_of (lower_of d all) d tree)))))
           ≡ Some (Some progress) = rw fit at e in
           let same : ended (counts all v) (after d all v (begun (counts all v)) (events_in (ranges_of (lower_of d all) d tree))) ≡ progress = cc in
-          let some = some_ranges (lower_of d all) d t tree (sound_as d t tree is) in
-          let end = sym same ∙ ap (λ rs. ended (counts all v) (after d all v (begun (counts all v)) (events_in rs))) some.2
-          ∙ ranges_after some.0 some.1 false false in (
-            tree,
-            is,
-            y,
-            (
-              ap (λ (x : Progress). x.met) end ∙ ap (list_any (range_met d all v)) (sym some.2),
-              ap (λ (x : Progress). x.every) end ∙ ap (list_any range_every) (sym some.2),
-            ),
-          ))
+          (tree, is, y, says_so t tree (sound_as d t tree is) progress same))
           (λ n. let fit = ranges_fit (lower_of d all) d tree ∙ n in
           let no : Some None ≡ Some (Some progress) = rw fit at e in cc)

@@ -1,6 +1,7 @@
 -- serves: tool_ranges::meaning::satisfies
 -- What a term that was read says of a version is what the term of the tree says.
 use Rattle.std.proofs.Common.{◌≡◌, ℕ, Bool, true, false, not, ◌&&◌, ◌==◌, if◌then◌else◌, nat_eq, List, [], ◌∷◌, length, refl, sym, ap, ◌∙◌}
+use Rattle.std.proofs.Math.Bool.{and-false, and-true}
 use Rattle.std.specs.Cmp.Lexicographic.{pointwise}
 use Rattle.semver_texts.specs.Digits.{digits_in, identifiers_by, plain_by}
 use Rattle.semver_texts.specs.Texts.{is_empty}
@@ -85,3 +86,14 @@ module _ (d : Dialect) (s : Simple) (simple : read.Simple) (is : IsSimpleOf s si
   pub everything : asks_nothing_by (form_of simple.form) (is_empty (stated_of simple.partial)) (is_zero (version_of simple.partial))
       ≡ matches_everything (of_simple s)
   everything = said (λ f n z. asks_nothing_by f (is_empty n) (is_zero z))
+
+  -- of both kinds: releases within the bounds, and pre-releases of those that are looked at
+  pub each_kind : (v : PlainVersion) (all a b : Bool)
+      → a ≡ looked_within d false (form_of simple.form) (stated_of simple.partial) (version_of simple.partial) v
+      → b ≡ looked_within d (not all) (form_of simple.form) (stated_of simple.partial) (version_of simple.partial) v
+      → (if is_empty v.pre then a else b) ≡ term_met d all v s
+  each_kind v all a b e f = by_test (is_empty v.pre)
+      (λ y. rw y (e ∙ said (λ f n z. looked_within d false f n z v)
+      ∙ term_means s v d all false (sym (ap (λ b. not all && not b) y ∙ and-false (not all)))))
+      (λ n. rw n (f ∙ said (λ f n z. looked_within d (not all) f n z v)
+      ∙ term_means s v d all (not all) (sym (ap (λ b. not all && not b) n ∙ and-true (not all)))))

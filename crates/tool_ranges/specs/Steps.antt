@@ -2,6 +2,7 @@ pub mod Cursors
 pub mod Reading
 pub mod Table
 pub mod Matching
+pub mod Building
 pub mod CargoReading
 pub mod CargoPreReleases
 pub mod NpmReading

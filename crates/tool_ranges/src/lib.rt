@@ -17,5 +17,6 @@ pub mod range_operations;
 mod reasons;
 pub mod refusals;
 pub mod satisfying;
+mod sets;
 mod table;
 pub mod version_range;

@@ -8,7 +8,7 @@ ghost use Rattle.semver_texts.specs.Texts.{is_empty};
 ghost use Rattle.semver_texts.specs.Versions.{PlainVersion, without_build};
 ghost use Rattle.semver_ranges.specs.RangeTree.{Simple as SimpleTree};
 ghost use Rattle.semver_ranges.specs.Steps.CursorViews.{IsSimpleOf, form_of};
-ghost use Rattle.semver_ranges.specs.Steps.PartialViews.{stated_of, version_of};
+ghost use Rattle.semver_ranges.specs.Steps.PartialViews.{PartsPass, stated_of, version_of};
 ghost use Rattle.version_sets.specs.PreReleaseRules.{numbers_fit};
 ghost use Rattle.version_sets.specs.Steps.Cuts.{is_in_interval};
 ghost use Rattle.tool_ranges.specs.Dialects.{RefusesAs, SpellsAs, TreeOf, grammar_of};
@@ -53,7 +53,7 @@ pub(crate) fn answer(
 
 /// Whether each pre-release within the bounds counts.
 #[inline(always)]
-fn takes_all(rule: PreReleases) -> bool
+pub(crate) fn takes_all(rule: PreReleases) -> bool
     ensures { result ≡ takes_all rule }
 {
     matches!(rule, PreReleases::Included)
@@ -208,7 +208,8 @@ fn meets(simple: &Simple<'_>, version: &Outline<'_>, dialect: Dialect, by_defaul
 
 /// The versions that satisfy a term, of all or of those that count by default.
 #[inline(always)]
-fn looked_at<'t>(simple: &Simple<'t>, dialect: Dialect, by_default: bool) -> Interval<'t>
+pub(crate) fn looked_at<'t>(simple: &Simple<'t>, dialect: Dialect, by_default: bool) -> Interval<'t>
+    requires { PartsPass simple.now.partial }
     ensures { sides_fit dialect (form_of simple.now.form) (stated_of simple.now.partial)
         (version_of simple.now.partial) ≡ true → (v : PlainVersion)
         → is_in_interval (digits_in (grammar_of dialect)) result v

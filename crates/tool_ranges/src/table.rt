@@ -12,7 +12,8 @@ ghost use Rattle.semver_texts.specs.Versions.{numbers, PlainVersion};
 ghost use Rattle.semver_texts.specs.declared.grammar.Digits.{Digits as SomeDigits};
 ghost use Rattle.semver_ranges.specs.RewritingTable.{up};
 ghost use Rattle.semver_ranges.specs.Steps.CursorViews.{form_of};
-ghost use Rattle.semver_ranges.specs.Steps.PartialViews.{place_number, stated_of, version_of};
+ghost use Rattle.semver_ranges.specs.Steps.PartialViews.{PartsPass, place_number, stated_of};
+ghost use Rattle.semver_ranges.specs.Steps.PartialViews.{version_of};
 ghost use Rattle.version_sets.specs.Steps.Cuts.{beside_kept, is_in_interval, side_value};
 ghost use Rattle.version_sets.specs.Steps.Cuts.{is_above_lower, is_above_upper, is_past_lower};
 ghost use Rattle.version_sets.specs.Steps.Cuts.{is_past_upper, is_between};
@@ -34,6 +35,7 @@ use version_sets::{Cut, Interval, Release, Side};
 /// The versions within the bounds of a term, pre-releases too.
 #[inline(always)]
 pub(crate) fn bounds<'t>(simple: &Simple<'t>, dialect: Dialect) -> Interval<'t>
+    requires { PartsPass simple.now.partial }
     ensures { (digits : SomeDigits) (v : PlainVersion) → is_in_interval digits result v
         ≡ is_within dialect (form_of simple.now.form) (stated_of simple.now.partial)
         (plain_by digits (version_of simple.now.partial)) v }
@@ -44,6 +46,7 @@ pub(crate) fn bounds<'t>(simple: &Simple<'t>, dialect: Dialect) -> Interval<'t>
 /// The versions between two sides of the zero-filled version of a partial.
 #[inline(always)]
 fn between<'t>(partial: &Partial<'t>, sides: (Option<Side>, Option<Side>)) -> Interval<'t>
+    requires { PartsPass partial.now }
     ensures { (digits : SomeDigits) (v : PlainVersion) → is_in_interval digits result v
         ≡ is_between (option_map side_value sides.0, option_map side_value sides.1)
         (plain_by digits (version_of partial.now)) v }
@@ -57,6 +60,7 @@ fn between<'t>(partial: &Partial<'t>, sides: (Option<Side>, Option<Side>)) -> In
 /// The cut at a side of the zero-filled version of a partial.
 #[inline(always)]
 fn beside<'t>(partial: &Partial<'t>, side: Option<Side>) -> Option<Cut<'t>>
+    requires { PartsPass partial.now }
     ensures lower { (digits : SomeDigits) (v : PlainVersion) → is_past_lower digits result v
         ≡ is_above_lower (option_map side_value side)
         (plain_by digits (version_of partial.now)) v }
@@ -73,6 +77,7 @@ fn beside<'t>(partial: &Partial<'t>, side: Option<Side>) -> Option<Cut<'t>>
 /// The cut at a side of the zero-filled version of a partial.
 #[inline(always)]
 fn cut<'t>(partial: &Partial<'t>, side: Side) -> Cut<'t>
+    requires { PartsPass partial.now }
     ensures version { beside_kept result ≡ version_of partial.now }
     ensures side { result.side ≡ side }
 {
@@ -86,6 +91,7 @@ fn cut<'t>(partial: &Partial<'t>, side: Side) -> Cut<'t>
 /// Of the pre-releases that count by default, those that satisfy a term.
 #[inline(always)]
 pub(crate) fn counted<'t>(simple: &Simple<'t>, dialect: Dialect) -> Interval<'t>
+    requires { PartsPass simple.now.partial }
     ensures { sides_fit dialect (form_of simple.now.form) (stated_of simple.now.partial)
         (version_of simple.now.partial) ≡ true → (digits : SomeDigits) (v : PlainVersion)
         → is_in_interval digits result v
@@ -102,6 +108,7 @@ pub(crate) fn counted<'t>(simple: &Simple<'t>, dialect: Dialect) -> Interval<'t>
 /// Those of Cargo: none is in the block of fewer than three numbers, but for `^`.
 #[inline(always)]
 fn besides_block<'t>(simple: &Simple<'t>) -> Interval<'t>
+    requires { PartsPass simple.now.partial }
     ensures { (digits : SomeDigits) (v : PlainVersion) → is_in_interval digits result v
         ≡ is_counted_within Cargo (form_of simple.now.form) (stated_of simple.now.partial)
         (plain_by digits (version_of simple.now.partial)) v }
@@ -150,6 +157,7 @@ fn sides_beside(simple: &Simple<'_>) -> (Option<Side>, Option<Side>)
 /// 0.0.0, but for `=0.0.0`.
 #[inline(always)]
 fn from_release<'t>(simple: &Simple<'t>) -> Interval<'t>
+    requires { PartsPass simple.now.partial }
     ensures { sides_fit Npm (form_of simple.now.form) (stated_of simple.now.partial)
         (version_of simple.now.partial) ≡ true → (digits : SomeDigits) (v : PlainVersion)
         → is_in_interval digits result v
@@ -174,6 +182,7 @@ fn is_past(upper: Option<Side>) -> bool
 /// The cut at the release beside which a lower side is, if there is any version below.
 #[inline(always)]
 fn release_of<'t>(partial: &Partial<'t>, lower: Option<Side>, is_one: bool) -> Option<Cut<'t>>
+    requires { PartsPass partial.now }
     ensures { may_rise (2 ^ 53 - 1) (option_map side_value lower)
         (numbers (version_of partial.now)) ≡ true → (digits : SomeDigits) (v : PlainVersion)
         → is_past_lower digits result v ≡ is_past_release (option_map side_value lower) is_one

@@ -10,6 +10,7 @@ mod HeldEndpoints
 mod PrintedEndpoints
 pub mod PrintableRanges
 mod BoundLaws
+mod EndLaws
 mod OutlinedPlaces
 mod SameSets
 mod FirstBoundaries

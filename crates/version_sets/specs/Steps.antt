@@ -11,3 +11,5 @@ pub mod Combined
 pub mod SameSets
 pub mod ShownBounds
 pub mod Cuts
+pub mod EndPlaces
+pub mod Ends

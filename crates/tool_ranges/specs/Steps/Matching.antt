@@ -131,3 +131,8 @@ met_by dialect all v progress = progress.met
 abbrev pub said : Dialect → PreReleases → PlainVersion → Progress → Bool
 said dialect Excluded v progress = is_empty v.pre && met_by dialect false v progress
 said dialect rule v progress = met_by dialect (takes_all rule) v progress
+
+-- whether npm takes each release and no pre-release where some range matches everything
+abbrev pub takes_releases : Dialect → PreReleases → Bool
+takes_releases Npm rule = not (takes_all rule)
+takes_releases dialect rule = false

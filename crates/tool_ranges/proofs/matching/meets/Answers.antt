@@ -17,3 +17,6 @@ returns c = λ s all is fit e.
     ∙ c.looked_at.ensures (and_parts simple.partial.fits _ (read_fits s simple is d ∙ fit)).1 v
     ∙ said d s simple is fit (λ f n z. looked_within d c.args.by_default f n z v)
     ∙ term_means s v d all c.args.by_default e
+
+pub looked_at-requires : goal.looked_at-requires
+looked_at-requires c = c.requires.1.1.3

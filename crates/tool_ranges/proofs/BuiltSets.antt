@@ -1,0 +1,98 @@
+-- serves: tool_ranges::meaning::read, meaning
+-- What a set that is being built has at the end of a range and of a text.
+use Rattle.std.proofs.Common.{◌≡◌, Bool, true, false, not, ◌&&◌, ◌||◌, if◌then◌else◌, refl, sym, ap, ◌∙◌}
+use Rattle.semver_texts.specs.Texts.{is_empty}
+use Rattle.semver_texts.specs.Versions.{PlainVersion}
+use Rattle.version_sets.specs.declared.rules.PreReleases.{PreReleases}
+use Rattle.version_sets.specs.declared.rules.PreReleases.TheVariants.{Default, Included, Excluded}
+use Rattle.tool_ranges.specs.declared.dialect.Dialect.{Dialect}
+use Rattle.tool_ranges.specs.declared.dialect.Dialect.TheVariants.{Cargo, Npm, CrateCargo, CrateNpm}
+use Rattle.tool_ranges.specs.declared.matching.Progress.{Progress}
+use Rattle.tool_ranges.specs.Steps.Matching.{counts, said, takes_releases}
+
+-- releases of a range, and the pre-releases of it that count
+kinds : (e o h c : Bool) → (e ≡ true → c ≡ true) → ((o || (e && h)) || (not e && (h && c))) ≡ (o || (h && c))
+kinds e true h c counted = refl
+kinds true false true c counted = sym (counted refl)
+kinds true false false c counted = refl
+kinds false false h c counted = refl
+
+kinds_last : (e o h c : Bool) → (e ≡ true → c ≡ true) → ((o || (not e && (h && c))) || (e && h)) ≡ (o || (h && c))
+kinds_last e true h c counted = refl
+kinds_last true false true c counted = sym (counted refl)
+kinds_last true false false c counted = refl
+kinds_last false false true c counted = or_false c where
+  or_false : (b : Bool) → (b || false) ≡ b
+  or_false true = refl
+  or_false false = refl
+kinds_last false false false c counted = refl
+
+release_counts : (all : Bool) (v : PlainVersion) (s : Bool) → is_empty v.pre ≡ true → (counts all v || s) ≡ true
+release_counts true v s e = refl
+release_counts false v s e = rw e refl
+
+pub both_kinds : (all : Bool) (v : PlainVersion) (o h s : Bool)
+    → ((o || (is_empty v.pre && h)) || (not (is_empty v.pre) && (h && (counts all v || s)))) ≡ (o || (h && (counts all v || s)))
+both_kinds all v o h s = kinds (is_empty v.pre) o h (counts all v || s) (release_counts all v s)
+
+pub last_kinds : (all : Bool) (v : PlainVersion) (o h s : Bool)
+    → ((o || (not (is_empty v.pre) && (h && (counts all v || s)))) || (is_empty v.pre && h)) ≡ (o || (h && (counts all v || s)))
+last_kinds all v o h s = kinds_last (is_empty v.pre) o h (counts all v || s) (release_counts all v s)
+
+-- where some range of npm matches everything
+and_itself : (b : Bool) → (b && b) ≡ b
+and_itself true = refl
+and_itself false = refl
+
+pub every_said : (d : Dialect) (rule : PreReleases) (v : PlainVersion) (p : Progress) → (p.every && takes_releases d rule) ≡ true
+    → said d rule v p ≡ is_empty v.pre
+every_said Npm Default v p e = by p.every e where
+  by : (b : Bool) → (b && true) ≡ true → (if b then is_empty v.pre else p.met) ≡ is_empty v.pre
+  by true e = refl
+  by false e = cc
+every_said Npm Excluded v p e = by p.every e where
+  by : (b : Bool) → (b && true) ≡ true → (is_empty v.pre && (if b then is_empty v.pre else p.met)) ≡ is_empty v.pre
+  by true e = and_itself (is_empty v.pre)
+  by false e = cc
+every_said Npm Included v p e = absurd (no p.every e) where
+  no : (b : Bool) → (b && false) ≡ true → ⊥
+  no true e = cc
+  no false e = cc
+every_said Cargo rule v p e = absurd (no p.every e) where
+  no : (b : Bool) → (b && false) ≡ true → ⊥
+  no true e = cc
+  no false e = cc
+every_said CrateCargo rule v p e = absurd (no p.every e) where
+  no : (b : Bool) → (b && false) ≡ true → ⊥
+  no true e = cc
+  no false e = cc
+every_said CrateNpm rule v p e = absurd (no p.every e) where
+  no : (b : Bool) → (b && false) ≡ true → ⊥
+  no true e = cc
+  no false e = cc
+
+-- and where none does: what is met, and of that the releases alone
+abbrev pub met_of : PreReleases → PlainVersion → Progress → Bool
+met_of Excluded v p = is_empty v.pre && p.met
+met_of rule v p = p.met
+
+pub met_said : (d : Dialect) (rule : PreReleases) (v : PlainVersion) (p : Progress) → (p.every && takes_releases d rule) ≡ false
+    → said d rule v p ≡ met_of rule v p
+met_said Npm Default v p e = by p.every e where
+  by : (b : Bool) → (b && true) ≡ false → (if b then is_empty v.pre else p.met) ≡ p.met
+  by true e = cc
+  by false e = refl
+met_said Npm Excluded v p e = by p.every e where
+  by : (b : Bool) → (b && true) ≡ false → (is_empty v.pre && (if b then is_empty v.pre else p.met)) ≡ (is_empty v.pre && p.met)
+  by true e = cc
+  by false e = refl
+met_said Npm Included v p e = refl
+met_said Cargo Default v p e = refl
+met_said Cargo Included v p e = refl
+met_said Cargo Excluded v p e = refl
+met_said CrateCargo Default v p e = refl
+met_said CrateCargo Included v p e = refl
+met_said CrateCargo Excluded v p e = refl
+met_said CrateNpm Default v p e = refl
+met_said CrateNpm Included v p e = refl
+met_said CrateNpm Excluded v p e = refl

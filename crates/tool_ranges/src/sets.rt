@@ -1,0 +1,228 @@
+//! A range text as the set of the versions that it means.
+
+ghost use Rattle.std.specs.Prelude.{◌≡◌, ◌≢◌, true, Err, IfOk, Bool, if◌then◌else◌, not};
+ghost use Rattle.semver_texts.specs.Digits.{digits_in};
+ghost use Rattle.semver_texts.specs.Texts.{is_empty};
+ghost use Rattle.semver_texts.specs.Versions.{PlainVersion, VersionValue, without_build};
+ghost use Rattle.semver_texts.specs.declared.grammar.Digits.{Digits as SomeDigits};
+ghost use Rattle.semver_ranges.specs.RangeTree.{Simple as SimpleTree};
+ghost use Rattle.semver_ranges.specs.Steps.CursorViews.{IsSimpleOf};
+ghost use Rattle.version_sets.specs.Printable.{IsPrintable};
+ghost use Rattle.version_sets.specs.VersionSets.{contains, Fits};
+ghost use Rattle.tool_ranges.specs.Dialects.{HasSetAs, RefusesAs, SpellsAs, TreeOf, grammar_of};
+ghost use Rattle.tool_ranges.specs.Meanings.{MeansBy, meant_by};
+ghost use Rattle.tool_ranges.specs.Steps.Building.{is_one_of, known, Prints};
+ghost use Rattle.tool_ranges.specs.Steps.Matching.{begun, counts, ended, said, taken, takes_all};
+ghost use Rattle.tool_ranges.specs.Steps.Matching.{states_at, takes_releases, term_fits};
+ghost use Rattle.std.specs.List.{list_any};
+ghost use Rattle.std.specs.Prelude.{◌&&◌, ◌||◌};
+ghost use Rattle.version_sets.specs.Steps.Ends.{each_prints, has_numbers, in_each, in_ranges};
+ghost use Rattle.version_sets.specs.Steps.Ends.{ranges_print};
+
+use crate::cursor::Cursor;
+use crate::dialect::Dialect;
+use crate::matching::{looked_at, lower, matches_everything, takes_all};
+use crate::meaning::{Meaning, check};
+use crate::table::{bounds, numbers};
+use semver_ranges::RangeError;
+use semver_ranges::events::Event;
+use semver_ranges::grammar::Simple;
+use semver_ranges::partial::Partial;
+use std::alloc::{AllocError, Global};
+use version_sets::{Conjunction, PreReleases, Ranges, Release, VersionSet};
+
+/// Reads a range into the set of the versions that it means. What is refused doesn't allocate, so
+/// the text is checked first.
+pub(crate) fn read(
+    alloc: Global,
+    range: &str,
+    dialect: Dialect,
+    rule: PreReleases,
+) -> Result<VersionSet, RangeError>
+    ensures refusals { RefusesAs dialect range.now result }
+    ensures meaning { IfOk result (λ set. MeansBy dialect rule range.now set) }
+    ensures printable { IfOk result IsPrintable }
+    ensures digits { IfOk result (λ set. set.digits ≡ digits_in (grammar_of dialect)) }
+{
+    let meaning = Meaning {
+        dialect,
+        pre_releases: rule,
+    };
+    if let Err(refusal) = check(meaning, range) {
+        return Err(refusal);
+    }
+    match set_of(alloc, range, dialect, rule) {
+        Ok(set) => Ok(set),
+        Err(_) => Err(RangeError::OutOfMemory),
+    }
+}
+
+/// The set of a text that has one. `Err` is out of memory.
+fn set_of(
+    alloc: Global,
+    range: &str,
+    dialect: Dialect,
+    rule: PreReleases,
+) -> Result<VersionSet, AllocError>
+    requires { HasSetAs dialect range.now }
+    ensures meaning { IfOk result (λ set. MeansBy dialect rule range.now set) }
+    ensures printable { IfOk result IsPrintable }
+    ensures digits { IfOk result (λ set. set.digits ≡ digits_in (grammar_of dialect)) }
+{
+    let all = takes_all(rule);
+    let grammar = dialect.grammar();
+    let mut building = Building::new(alloc);
+    let Ok(mut cursor) = Cursor::new(range, dialect, lower(dialect, all)) else {
+        return Ok(VersionSet::empty(alloc, grammar.digits()));
+    };
+    while let Some(Ok(event)) = cursor.next(grammar) {
+        match event {
+            Event::Simple(simple) => building.push_term(&simple, dialect, all)?,
+            Event::NextRange => building.end_range(all)?,
+        }
+    }
+    building.into_set(alloc, dialect, rule)
+}
+
+/// What is known of a range text up to a place.
+#[derive(Drop)]
+pub(crate) struct Building<'text> {
+    /// The versions of the ranges before.
+    ranges: Ranges<'text>,
+    /// Those that satisfy the terms of this range.
+    here: Conjunction<'text>,
+    /// The numbers that its terms state with a pre-release.
+    stated: Vec<Release>,
+    /// Whether it matches everything.
+    nothing: bool,
+    /// Whether a range before does.
+    every: bool,
+}
+
+impl<'text> Building<'text> {
+    /// Before the first term. It does not allocate.
+    fn new(alloc: Global) -> Building<'text>
+        ensures known { (all : Bool) (v : PlainVersion) → Fits v
+            → known all v result ≡ begun (counts all v) }
+        ensures prints { (digits : SomeDigits) → Prints digits result }
+    {
+        Building {
+            ranges: Ranges::new(alloc),
+            here: Conjunction::new(),
+            stated: Vec::new(alloc),
+            nothing: true,
+            every: false,
+        }
+    }
+
+    /// With a term. `Err` is out of memory.
+    fn push_term(
+        &mut self,
+        simple: &Simple<'text>,
+        dialect: Dialect,
+        all: bool,
+    ) -> Result<(), AllocError>
+        requires { (s : SimpleTree) × IsSimpleOf s simple.now }
+        ensures known { IfOk result (λ _. (s : SimpleTree) (v : PlainVersion)
+            → IsSimpleOf s simple.now → term_fits dialect s ≡ true → Fits v
+            → known all v self.new ≡ taken dialect all v s (known all v self.old)) }
+        ensures prints { IfOk result (λ _. Prints (digits_in (grammar_of dialect)) self.old
+            → Prints (digits_in (grammar_of dialect)) self.new) }
+    {
+        let pre_releases = looked_at(simple, dialect, !all);
+        let digits = dialect.grammar().digits();
+        self.here = self
+            .here
+            .and(&bounds(simple, dialect), &pre_releases, digits);
+        self.nothing &= matches_everything(simple);
+        if let Some(numbers) = stated_numbers(&simple.partial) {
+            self.stated.push(numbers)?;
+        }
+        Ok(())
+    }
+
+    /// At the end of a range. `Err` is out of memory.
+    fn end_range(&mut self, all: bool) -> Result<(), AllocError>
+        ensures known { IfOk result (λ _. (v : PlainVersion) → Fits v
+            → known all v self.new ≡ ended (counts all v) (known all v self.old)) }
+        ensures prints { IfOk result (λ _. (digits : SomeDigits)
+            → Prints digits self.old → Prints digits self.new) }
+    {
+        self.ranges.push_releases(&self.here)?;
+        push_pre_releases(&mut self.ranges, &self.here, &self.stated, all)?;
+        self.every |= self.nothing;
+        self.nothing = true;
+        self.here = Conjunction::new();
+        self.stated.clear();
+        Ok(())
+    }
+}
+
+impl Building<'_> {
+    /// The set, at the end of the text. `Err` is out of memory.
+    fn into_set(
+        self,
+        alloc: Global,
+        dialect: Dialect,
+        rule: PreReleases,
+    ) -> Result<VersionSet, AllocError>
+        ensures meaning { IfOk result (λ set. (v : PlainVersion) → Fits v
+            → contains set v ≡ said dialect rule v
+            (ended (counts (takes_all rule) v) (known (takes_all rule) v self.entry))) }
+        ensures printable { Prints (digits_in (grammar_of dialect)) self.entry
+            → IfOk result IsPrintable }
+        ensures digits { IfOk result (λ set. set.digits ≡ digits_in (grammar_of dialect)) }
+    {
+        let digits = dialect.grammar().digits();
+        if (self.every | self.nothing) & is_by_default_of_npm(dialect, rule) {
+            return Ranges::new(alloc).into_set(alloc, &Conjunction::new(), digits);
+        }
+        let mut ranges = self.ranges;
+        push_pre_releases(&mut ranges, &self.here, &self.stated, takes_all(rule))?;
+        let set = ranges.into_set(alloc, &self.here, digits)?;
+        match rule {
+            PreReleases::Excluded => Ok(set.only_releases(alloc)),
+            PreReleases::Default | PreReleases::Included => Ok(set),
+        }
+    }
+}
+
+/// Adds the pre-releases of a range that count. `Err` is out of memory.
+fn push_pre_releases<'text>(
+    ranges: &mut Ranges<'text>,
+    here: &Conjunction<'text>,
+    stated: &[Release],
+    all: bool,
+) -> Result<(), AllocError>
+    ensures known { IfOk result (λ _. (v : PlainVersion) → Fits v
+        → in_ranges ranges.new v ≡ (in_ranges ranges.old v || (not (is_empty v.pre)
+        && (in_each here.now v && (counts all v || list_any (has_numbers v) stated.now))))) }
+    ensures prints { IfOk result (λ _. (digits : SomeDigits) → each_prints digits here.now ≡ true
+        → ranges_print digits ranges.old ≡ true → ranges_print digits ranges.new ≡ true) }
+{
+    if all {
+        return ranges.push_pre_releases(here);
+    }
+    for numbers in stated {
+        ranges.push_stated(here, numbers)?;
+    }
+    Ok(())
+}
+
+/// The numbers that a partial states with a pre-release, if it does.
+fn stated_numbers(partial: &Partial<'_>) -> Option<Release>
+    ensures { (v : PlainVersion) → states_at partial.now v ≡ is_one_of result v }
+{
+    if partial.has_pre_release() && partial.states_three() {
+        Some(numbers(partial))
+    } else {
+        None
+    }
+}
+
+/// Whether npm takes each release and no pre-release where some range matches everything.
+fn is_by_default_of_npm(dialect: Dialect, rule: PreReleases) -> bool
+    ensures { result ≡ takes_releases dialect rule }
+{
+    matches!(dialect, Dialect::Npm) && !takes_all(rule)
+}

@@ -1,0 +1,22 @@
+-- Where pre-releases begin and end beside cuts: a means of proof.
+use Rattle.std.specs.Prelude.{◌||◌, map}
+use Rattle.semver_texts.specs.Digits.{plain_by}
+use Rattle.semver_texts.specs.Texts.{cut_at_dots, is_empty}
+use Rattle.semver_texts.specs.Versions.{PlainVersion}
+use Rattle.semver_ranges.specs.Partials.{kept}
+use Rattle.version_sets.specs.Steps.SpanViews.{successor}
+use Rattle.version_sets.specs.declared.pre_release_place.PreReleaseEnd.{PreReleaseEnd}
+
+-- where an end of pre-releases is, as its identifiers are kept and as they are read: none has no
+-- identifiers
+abbrev pub kept_end : PreReleaseEnd → PlainVersion
+kept_end l = record {
+  major = l.numbers.major;
+  minor = l.numbers.minor;
+  patch = l.numbers.patch;
+  pre = successor (map kept (cut_at_dots l.pre.now))
+      (l.successor || is_empty (map kept (cut_at_dots l.pre.now)));
+}
+
+abbrev pub end_place : PreReleaseEnd → PlainVersion
+end_place l = plain_by l.digits (kept_end l)

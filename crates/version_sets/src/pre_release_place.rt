@@ -1,0 +1,19 @@
+//! Where spans of pre-releases begin and end.
+
+ghost use Rattle.std.specs.Prelude.{◌≡◌, true};
+ghost use Rattle.std.specs.List.{list_all};
+ghost use Rattle.semver_texts.specs.Texts.{cut_at_dots, is_part};
+
+use crate::release::Release;
+use semver_texts::grammar::Digits;
+
+/// Where pre-releases begin or end: at some numbers with these identifiers, and, if `successor`,
+/// with the number 0 after them. No identifiers are the lowest, the number 0 alone.
+#[derive(Clone, Copy)]
+pub(crate) struct PreReleaseEnd<'text> {
+    pub(crate) numbers: Release,
+    pub(crate) pre: &'text [u8],
+    pub(crate) successor: bool,
+    pub(crate) digits: Digits,
+    ghost parts: { list_all is_part (cut_at_dots pre.now) ≡ true },
+}
