@@ -16,8 +16,8 @@ TOP = pathlib.Path(__file__).resolve().parent.parent
 
 # These modules are hidden, and these methods are for other crates of the repository.
 HIDDEN = {'proved', 'rattle_std'}
-INTERNAL = {'sets::VersionSet::to_flat', 'sets::VersionSet::of_set_by',
-            'version::Outline::compared_pre', 'version::Outline::pre_bytes'}
+INTERNAL = {'sets::VersionSet::to_flat', 'version::Outline::compared_pre',
+            'version::Outline::pre_bytes'}
 
 METHOD = re.compile(r'<section id="method\.(\w+)[-\d]*" class="method">')
 EXAMPLE = '<div class="example-wrap"><pre class="rust rust-example-rendered">'

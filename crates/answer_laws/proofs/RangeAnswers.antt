@@ -5,7 +5,7 @@ use Rattle.semver_texts.specs.Texts.{Text}
 use Rattle.semver_texts.specs.ToolVersions.{SpellsIn}
 use Rattle.semver_texts.specs.Versions.{PlainVersion, VersionValue}
 use Rattle.semver_texts.specs.declared.grammar.Grammar.{Grammar}
-use Rattle.version_sets.specs.VersionSets.{contains, Fits}
+use Rattle.version_sets.specs.VersionSets.{contains}
 use Rattle.tool_ranges.specs.VersionRanges.{ContainsText, RangeValue}
 use Rattle.tool_ranges.specs.declared.meaning.Meaning.{Meaning}
 use Rattle.tool_ranges.specs.declared.range_operations.OperationError.{OperationError}
@@ -13,7 +13,7 @@ use Rattle.tool_ranges.specs.declared.range_operations.OperationError.TheVariant
 use Rattle.tool_ranges.specs.declared.satisfying.SatisfiesError.{SatisfiesError}
 use Rattle.tool_ranges.specs.declared.satisfying.SatisfiesError.TheVariants.{InvalidRange, InvalidVersion}
 use Rattle.answer_laws.specs.OneAnswer.{AreOne, itself, seen}
-use Rattle.answer_laws.specs.SameSets.{AreAlike, AreAlikeRanges}
+use Rattle.answer_laws.specs.SameSets.{AreAlikeRanges}
 
 -- two answers whose ranges are alike
 abbrev pub Alike : {E : Type 0} → Result RangeValue E → Result RangeValue E → Type 0

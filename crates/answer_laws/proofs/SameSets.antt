@@ -1,7 +1,6 @@
--- serves: answer_laws::sets::one_of_text
+-- serves: answer_laws::sets::one_read
 -- Two answers that are sets with the same versions are one.
-use Rattle.std.proofs.Common.{IfOk, ◌≡◌, ◌↔◌, [], refl, sym, ap, ◌∙◌, inl, inr, Bool, Result, Ok, Err, alloc_error}
-use Rattle.std.specs.declared.alloc.AllocError.{AllocError}
+use Rattle.std.proofs.Common.{IfOk, ◌≡◌, ◌↔◌, [], refl, sym, ap, ◌∙◌, inl, inr, Bool, Result, Ok, Err}
 use Rattle.semver_parser.specs.declared.RangeError.{RangeError}
 use Rattle.semver_parser.specs.declared.RangeError.TheVariants.{OutOfMemory}
 use Rattle.semver_parser.specs.RangeTexts.{Refuses}
@@ -12,7 +11,7 @@ use Rattle.version_sets.specs.declared.SetError.{SetError}
 use Rattle.version_sets.specs.declared.SetError.TheVariants.{DifferentDigits, OutOfMemory as NoMemory}
 use Rattle.answer_laws.specs.OneAnswer.{AreOne, itself, seen}
 use Rattle.answer_laws.specs.SameSets.{AreAlike}
-use Rattle.answer_laws.proofs.OneAnswer.{one, one_made, said}
+use Rattle.answer_laws.proofs.OneAnswer.{one, said}
 
 -- two answers whose sets are alike
 abbrev pub Alike : {E : Type 0} → Result SetValue E → Result SetValue E → Type 0
@@ -32,13 +31,6 @@ pub one_read : {T L F : Type 0} {P : SetValue → Type 0} (d : Digits) (r s : Re
 one_read d r s p q alike dr ds h k agree =
     one itself r s p q (λ a b is is' text.
     said _ is' (said _ is alike) (said _ is dr ∙ sym (said _ is' ds)) (agree text a b (said _ is h) (said _ is' k)))
-
--- what is made of comparators
-pub one_set_made : {P : SetValue → Type 0} (d : Digits) (r s : Result SetValue AllocError) → Alike r s → ReadsAs d r → ReadsAs d s
-    → IfOk r P → IfOk s P → Agree P → AreOne alloc_error itself r s
-one_set_made d r s alike dr ds h k agree =
-    one_made itself r s
-    (λ a b is is'. said _ is' (said _ is alike) (said _ is dr ∙ sym (said _ is' ds)) (agree a b (said _ is h) (said _ is' k)))
 
 -- what is made of two sets, if these read digits alike
 pub one_combined_answer : {A V : Type 0} (view : A → V) (D : Type 0) (r s : Result A SetError)

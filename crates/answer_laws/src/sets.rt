@@ -10,24 +10,17 @@ ghost use Rattle.answer_laws.specs.OneAnswer.{AreOne, itself};
 ghost use Rattle.answer_laws.specs.SameSets.{AreAlike, comparison_value};
 
 use semver_parser::version::{Outline, Version};
-use semver_parser::{Compat, RangeError, RangeSet, laws};
+use semver_parser::{RangeError, laws};
 use semver_texts::grammar::Digits;
 use std::alloc::{AllocError, Global};
 use tool_ranges::meaning::{self, Meaning};
-use tool_ranges::{cargo, npm};
 use version_sets::laws::{one_set, sets_are_normal};
-use version_sets::{Comparison, PreReleases, Release, SetError, VersionSet};
+use version_sets::{Comparison, Release, SetError, VersionSet};
 
 /// Two answers of a call that reads a text, on the same inputs.
 type Read = (
     Result<VersionSet, RangeError>,
     Result<VersionSet, RangeError>,
-);
-
-/// Two answers of a call that makes a set of comparators, on the same inputs.
-type Made = (
-    Result<VersionSet, AllocError>,
-    Result<VersionSet, AllocError>,
 );
 
 /// Two answers of a call that combines two sets, on the same inputs.
@@ -53,36 +46,6 @@ fn answers_are_alike<E>(first: &Result<VersionSet, E>, second: &Result<VersionSe
         return;
     };
     are_alike(first, second);
-}
-
-/// `VersionSet::of_text` has one answer.
-pub fn one_of_text(alloc: Global, range: &str, compat: Compat, pre_releases: PreReleases) -> Read
-    ensures one { AreOne RangeError.OutOfMemory itself result.0 result.1 }
-{
-    let first = VersionSet::of_text(alloc, range, compat, pre_releases);
-    let second = VersionSet::of_text(alloc, range, compat, pre_releases);
-    answers_are_alike(&first, &second);
-    (first, second)
-}
-
-/// `cargo::read` has one answer.
-pub fn one_cargo_read(alloc: Global, requirement: &str) -> Read
-    ensures one { AreOne RangeError.OutOfMemory itself result.0 result.1 }
-{
-    let first = cargo::read(alloc, requirement);
-    let second = cargo::read(alloc, requirement);
-    answers_are_alike(&first, &second);
-    (first, second)
-}
-
-/// `npm::read` has one answer.
-pub fn one_npm_read(alloc: Global, range: &str) -> Read
-    ensures one { AreOne RangeError.OutOfMemory itself result.0 result.1 }
-{
-    let first = npm::read(alloc, range);
-    let second = npm::read(alloc, range);
-    answers_are_alike(&first, &second);
-    (first, second)
 }
 
 /// `meaning::read` has one answer.
@@ -126,31 +89,6 @@ pub fn satisfies_as_the_set(
         Err(error) => Err(error),
     };
     (contains, meaning::satisfies(version, range, meaning))
-}
-
-/// `VersionSet::of_set` has one answer.
-pub fn one_of_set(alloc: Global, set: &RangeSet, pre_releases: PreReleases) -> Made
-    ensures one { AreOne alloc_error itself result.0 result.1 }
-{
-    let first = VersionSet::of_set(alloc, set, pre_releases);
-    let second = VersionSet::of_set(alloc, set, pre_releases);
-    answers_are_alike(&first, &second);
-    (first, second)
-}
-
-/// `VersionSet::of_set_by` has one answer.
-pub fn one_of_set_by(
-    alloc: Global,
-    set: &RangeSet,
-    pre_releases: PreReleases,
-    digits: Digits,
-) -> Made
-    ensures one { AreOne alloc_error itself result.0 result.1 }
-{
-    let first = VersionSet::of_set_by(alloc, set, pre_releases, digits);
-    let second = VersionSet::of_set_by(alloc, set, pre_releases, digits);
-    answers_are_alike(&first, &second);
-    (first, second)
 }
 
 /// `VersionSet::union` has one answer.

@@ -223,10 +223,9 @@ fn of_lines(alloc: Global) -> [(&'static str, Ending); 8] {
 }
 
 /// How each call on sets of versions ends, beside the texts of these two.
-fn of_sets(alloc: Global, first: &VersionSet, second: &VersionSet) -> [(&'static str, Ending); 10] {
+fn of_sets(alloc: Global, first: &VersionSet, second: &VersionSet) -> [(&'static str, Ending); 9] {
     [
         ("refused_set_texts", sets::of_refused_texts(alloc)),
-        ("set_of_comparators", sets::of_set(alloc)),
         ("union", sets::union(alloc, first, second)),
         ("intersection", sets::intersection(alloc, first, second)),
         ("difference", sets::difference(alloc, first, second)),

@@ -1,8 +1,9 @@
 //! Sets of the versions that a range text means.
-use semver_parser::version::Version;
-use semver_parser::{Compat, version};
+use semver_parser::version::{self, Version};
 use std::alloc::Global;
 use std::io::{self, ErrorKind};
+use tool_ranges::dialect::Dialect;
+use tool_ranges::meaning::{self, Meaning};
 use version_sets::{PreReleases, VersionSet};
 
 /// The last numbers, as a text.
@@ -195,7 +196,11 @@ fn is_in(alloc: Global, range: &str, rule: PreReleases, text: &str) -> io::Resul
 
 /// The set of a range.
 fn set_of(alloc: Global, range: &str, rule: PreReleases) -> io::Result<VersionSet> {
-    match VersionSet::of_text(alloc, range, Compat::Cargo, rule) {
+    let meaning = Meaning {
+        dialect: Dialect::CrateCargo,
+        pre_releases: rule,
+    };
+    match meaning::read(alloc, meaning, range) {
         Ok(set) => Ok(set),
         Err(_) => Err(io::Error::from(ErrorKind::InvalidInput)),
     }

@@ -3,13 +3,32 @@
 ghost use Rattle.std.specs.Prelude.{◌≡◌, IfOk, map};
 ghost use Rattle.semver_ranges.specs.RangeTexts.{RefusesExactly};
 ghost use Rattle.semver_ranges.specs.RangeTree.{SetTree, Spells};
+ghost use Rattle.semver_texts.specs.Versions.{VersionValue};
+ghost use Rattle.semver_texts.specs.declared.grammar.Digits.TheVariants.{Kept};
+ghost use Rattle.version_sets.specs.PreReleaseRules.{meant_with};
+ghost use Rattle.version_sets.specs.VersionSets.{contains, Fits};
+ghost use Rattle.version_sets.specs.declared.rules.PreReleases.TheVariants.{Excluded};
 ghost use Rattle.release_filter.specs.KeptReleases.{kept_releases};
 
 use crate::kept::kept;
 use semver_ranges::{Compat, RangeError};
 use semver_versions::version::Version;
 use std::alloc::Global;
+use tool_ranges::dialect::Dialect;
+use tool_ranges::meaning::{self, Meaning};
 use version_sets::{PreReleases, VersionSet};
+
+/// The releases of a text in Cargo mode.
+const CARGO: Meaning = Meaning {
+    dialect: Dialect::CrateCargo,
+    pre_releases: PreReleases::Excluded,
+};
+
+/// Those in npm mode.
+const NPM: Meaning = Meaning {
+    dialect: Dialect::CrateNpm,
+    pre_releases: PreReleases::Excluded,
+};
 
 // Answer: law answer_laws::filters::one_filter_text.
 /// The releases among the versions that a range text means, in the given order and with repeats
@@ -44,9 +63,23 @@ pub fn filter_text<'v>(
     ensures kept { IfOk result (λ kept. (tree : SetTree) → Spells tree text.now
         → map (λ v. v.now) kept.items ≡ kept_releases compat tree versions.now) }
 {
-    let set = VersionSet::of_text(alloc, text, compat, PreReleases::Excluded)?;
+    let set = read_releases(alloc, text, compat)?;
     match kept(alloc, &set, versions) {
         Ok(kept) => Ok(kept),
         Err(_) => Err(RangeError::OutOfMemory),
+    }
+}
+
+/// The releases that a range text means in a mode.
+fn read_releases(alloc: Global, text: &str, compat: Compat) -> Result<VersionSet, RangeError>
+    ensures refusals { RefusesExactly compat text.now result }
+    ensures meaning { IfOk result (λ set. (tree : SetTree) (v : VersionValue)
+        → Spells tree text.now → Fits v.plain
+        → contains set v.plain ≡ meant_with Excluded compat tree v) }
+    ensures digits { IfOk result (λ set. set.digits ≡ Kept) }
+{
+    match compat {
+        Compat::Cargo => meaning::read(alloc, CARGO, text),
+        Compat::Npm => meaning::read(alloc, NPM, text),
     }
 }

@@ -5,16 +5,18 @@ use semver_parser::version::{self, Version};
 use semver_parser::{Compat, RangeError};
 use std::alloc::Global;
 use std::io::{self, ErrorKind, Write};
+use tool_ranges::dialect::Dialect;
+use tool_ranges::meaning::{self, Meaning};
 use version_sets::{PreReleases, SetError, VersionSet};
 
 /// A rule for pre-releases, and a mode.
-pub type Dialect = (PreReleases, Compat);
+pub type Rule = (PreReleases, Compat);
 
 /// Writes the versions of a list, separated by blanks, that are in the set of a text, then its
 /// lowest version and its lowest release, or the error of the text.
 pub fn write_set<W: Write>(
     alloc: Global,
-    dialect: Dialect,
+    rule: Rule,
     text: &str,
     list: &str,
     out: &mut W,
@@ -22,7 +24,7 @@ pub fn write_set<W: Write>(
     let Some(versions) = versions_of(alloc, list)? else {
         return write!(out, "not all are versions");
     };
-    let set = match set_of(alloc, dialect, text) {
+    let set = match set_of(alloc, rule, text) {
         Ok(set) => set,
         Err(error) => return write!(out, "{error}"),
     };
@@ -46,17 +48,17 @@ pub fn write_set<W: Write>(
 /// it is in.
 pub fn write_pair<W: Write>(
     alloc: Global,
-    dialect: Dialect,
+    rule: Rule,
     text: &str,
     steps: &str,
     out: &mut W,
 ) -> io::Result<()> {
     let (other, list) = steps.split_once(';').unwrap_or((steps, ""));
-    let first = match set_of(alloc, dialect, text) {
+    let first = match set_of(alloc, rule, text) {
         Ok(set) => set,
         Err(error) => return write!(out, "{error}"),
     };
-    let second = match set_of(alloc, dialect, other) {
+    let second = match set_of(alloc, rule, other) {
         Ok(set) => set,
         Err(error) => return write!(out, "{error}"),
     };
@@ -75,13 +77,8 @@ pub fn write_pair<W: Write>(
 }
 
 /// Writes the releases and the pre-releases that a text means as ranges, or the error of the text.
-pub fn write_whole<W: Write>(
-    alloc: Global,
-    dialect: Dialect,
-    text: &str,
-    out: &mut W,
-) -> io::Result<()> {
-    match set_of(alloc, dialect, text) {
+pub fn write_whole<W: Write>(alloc: Global, rule: Rule, text: &str, out: &mut W) -> io::Result<()> {
+    match set_of(alloc, rule, text) {
         Ok(set) => write_ranges(alloc, &set, out),
         Err(error) => write!(out, "{error}"),
     }
@@ -91,16 +88,16 @@ pub fn write_whole<W: Write>(
 /// of a text.
 pub fn write_whole_pair<W: Write>(
     alloc: Global,
-    dialect: Dialect,
+    rule: Rule,
     text: &str,
     other: &str,
     out: &mut W,
 ) -> io::Result<()> {
-    let first = match set_of(alloc, dialect, text) {
+    let first = match set_of(alloc, rule, text) {
         Ok(set) => set,
         Err(error) => return write!(out, "{error}"),
     };
-    let second = match set_of(alloc, dialect, other) {
+    let second = match set_of(alloc, rule, other) {
         Ok(set) => set,
         Err(error) => return write!(out, "{error}"),
     };
@@ -196,7 +193,15 @@ fn write_lowest<W: Write>(alloc: Global, set: &VersionSet, out: &mut W) -> io::R
 }
 
 /// The set of a text.
-fn set_of(alloc: Global, dialect: Dialect, text: &str) -> Result<VersionSet, RangeError> {
-    let (pre_releases, compat) = dialect;
-    VersionSet::of_text(alloc, text, compat, pre_releases)
+fn set_of(alloc: Global, rule: Rule, text: &str) -> Result<VersionSet, RangeError> {
+    let (pre_releases, compat) = rule;
+    let dialect = match compat {
+        Compat::Cargo => Dialect::CrateCargo,
+        Compat::Npm => Dialect::CrateNpm,
+    };
+    let meaning = Meaning {
+        dialect,
+        pre_releases,
+    };
+    meaning::read(alloc, meaning, text)
 }

@@ -1,25 +1,18 @@
 -- serves: tool_ranges::cargo::rewrite
 -- The comparators of the tools' tables, with identifiers of digits as numbers of any size.
-use Rattle.std.proofs.Common.{◌≡◌, ℕ, Bool, true, not, ◌&&◌, ◌||◌, ◌==◌, List, [], ◌∷◌, ◌++◌, map, length, refl, sym, ap, ◌∙◌}
+use Rattle.std.proofs.Common.{◌≡◌, ℕ, Bool, true, ◌&&◌, ◌||◌, ◌==◌, List, [], ◌∷◌, ◌++◌, map, length, refl, ap, ◌∙◌}
 use Rattle.std.proofs.Common.{if◌then◌else◌}
 use Rattle.std.proofs.lemmas.List.{map-append}
-use Rattle.std.specs.List.{filter, flat_map, list_all, list_any}
+use Rattle.std.specs.List.{flat_map, list_all, list_any}
 use Rattle.semver_texts.specs.Digits.{any_size, plain_by}
 use Rattle.semver_texts.specs.Texts.{is_empty}
 use Rattle.semver_texts.specs.Versions.{IdentifierValue, PlainVersion, numbers}
 use Rattle.semver_texts.specs.declared.grammar.Digits.TheVariants.{AnySize}
 use Rattle.semver_texts.proofs.Lists.{by_test}
-use Rattle.semver_ranges.specs.declared.partial.LowerBounds.{LowerBounds}
-use Rattle.semver_ranges.specs.declared.partial.LowerBounds.TheVariants.{Stated, Lowest}
 use Rattle.semver_ranges.specs.declared.range.Compat.{Compat}
-use Rattle.semver_ranges.specs.declared.range.Compat.TheVariants.{Cargo, Npm}
 use Rattle.semver_ranges.specs.declared.range.Op.TheVariants.{Lt, Gte}
-use Rattle.semver_ranges.specs.declared.range.Comparator.{Comparator}
-use Rattle.semver_ranges.specs.declared.range.Range.{Range}
-use Rattle.semver_ranges.specs.declared.range_set.RangeSet.{RangeSet}
-use Rattle.semver_ranges.specs.RangeTree.{Form, bare, equal, less, at_most, greater, at_least, tilde, caret, PartialTree, Simple}
+use Rattle.semver_ranges.specs.RangeTree.{Form, PartialTree, Simple}
 use Rattle.semver_ranges.specs.RangeTree.{RangeTree, empty, hyphen, simples, SetTree}
-use Rattle.semver_ranges.specs.RangeViews.{comparator_of, range_of, set_of}
 use Rattle.semver_ranges.specs.Partials.{pre_release, stated, states_nothing, zero_filled}
 use Rattle.semver_ranges.specs.ExactBounds.{exact_bound, lowest_pre_release}
 use Rattle.semver_ranges.specs.Meeting.{meets_comparator, meets_range, meets_set, op_holds}
@@ -28,29 +21,12 @@ use Rattle.semver_ranges.specs.RewritingTable.{PlainSet, comparator, range_by, u
 use Rattle.semver_ranges.specs.Terms.{sides}
 use Rattle.semver_ranges.specs.RewritingTable.{set_by as set_of_table}
 use Rattle.semver_ranges.proofs.Tables.{IsTable}
-use Rattle.version_sets.specs.DigitViews.{comparator_by, set_by}
-use Rattle.version_sets.specs.DigitViews.{range_by as range_seen}
-use Rattle.version_sets.specs.SetRanges.{is_at_least}
 use Rattle.version_sets.proofs.DigitLaws.{by_empty, released}
 use Rattle.tool_ranges.specs.AnySize.{comparator_any, range_any, set_any}
 use Rattle.tool_ranges.specs.NpmMeaning.{asks_nothing_by, is_zero}
 use Rattle.tool_ranges.specs.ToolTable.{begins_above, ends_below, written_in}
-use Rattle.tool_ranges.specs.Steps.CargoPreReleases.{counting, counting_beside, counting_one, checked_by_count, some_checked}
-use Rattle.tool_ranges.specs.Steps.LowerBounds.{begins_lowest, begun, lower_of, lower_where, lowered, written_for}
-use Rattle.tool_ranges.specs.Steps.NpmReading.{has_no_other, is_from_zero, others_in, others_of}
 
 -- ---- comparators as they are in memory
-
-seen_comparators : (cs : List Comparator) → map (comparator_by AnySize) cs ≡ map comparator_any (map comparator_of cs)
-seen_comparators [] = refl
-seen_comparators (c ∷ cs) = ap (λ more. comparator_by AnySize c ∷ more) (seen_comparators cs)
-
-seen_ranges : (rs : List Range) → map (range_seen AnySize) rs ≡ map range_any (map range_of rs)
-seen_ranges [] = refl
-seen_ranges (r ∷ rs) = λ i. record { comparators = seen_comparators r.comparator_set.items i; compat = r.compat } ∷ seen_ranges rs i
-
-pub seen_set : (s : RangeSet) → set_by AnySize s ≡ set_any (set_of s)
-seen_set s = λ i. record { ranges = seen_ranges s.ranges.items i; compat = s.compat }
 
 -- ---- tables
 
@@ -148,101 +124,9 @@ pub asks_any : (form : Form) (s : List ℕ) (z : PlainVersion)
     → asks_nothing_by form (is_empty s) (is_zero (plain_by AnySize z)) ≡ asks_nothing_by form (is_empty s) (is_zero z)
 asks_any form s z = ap (asks_nothing_by form (is_empty s)) (zero_any z)
 
-from_zero_any : (c : PlainComparator) → is_from_zero (comparator_any c) ≡ is_from_zero c
-from_zero_any c = ap (λ b. is_at_least c.op && b) (zero_any c.version)
-
-filter_any : (cs : List PlainComparator) → filter (λ c. not (is_from_zero c)) (map comparator_any cs)
-    ≡ map comparator_any (filter (λ c. not (is_from_zero c)) cs)
-filter_any [] = refl
-filter_any (c ∷ cs) =
-    by_test (is_from_zero c)
-    (λ y. rw (y, from_zero_any c ∙ y) (filter_any cs))
-    (λ n. rw (n, from_zero_any c ∙ n) (ap (λ more. comparator_any c ∷ more) (filter_any cs)))
-
-others_ranges : (rs : List PlainRange) → map others_of (map range_any rs) ≡ map range_any (map others_of rs)
-others_ranges [] = refl
-others_ranges (r ∷ rs) = λ i. record { comparators = filter_any r.comparators i; compat = r.compat } ∷ others_ranges rs i
-
-pub others_any : (s : PlainSet) → others_in (set_any s) ≡ set_any (others_in s)
-others_any s = λ i. record { ranges = others_ranges s.ranges i; compat = s.compat }
-
-no_other_any : (cs : List PlainComparator) → list_all is_from_zero (map comparator_any cs) ≡ list_all is_from_zero cs
-no_other_any [] = refl
-no_other_any (c ∷ cs) = λ i. from_zero_any c i && no_other_any cs i
-
-pub no_others_any : (rs : List PlainRange) → list_any has_no_other (map range_any rs) ≡ list_any has_no_other rs
-no_others_any [] = refl
-no_others_any (r ∷ rs) = λ i. no_other_any r.comparators i || no_others_any rs i
-
 -- ---- where each pre-release counts
 
-lowered_any : (c : PlainComparator) → lowered (comparator_any c) ≡ comparator_any (lowered c)
-lowered_any c = by_test (is_at_least c.op) (λ y. rw y refl) (λ n. rw n refl)
-
-all_lowered : (cs : List PlainComparator) → map lowered (map comparator_any cs) ≡ map comparator_any (map lowered cs)
-all_lowered [] = refl
-all_lowered (c ∷ cs) = λ i. lowered_any c i ∷ all_lowered cs i
-
-begun_any : (lower : LowerBounds) (cs : List PlainComparator) → map comparator_any (begun lower cs) ≡ begun lower (map comparator_any cs)
-begun_any Stated cs = refl
-begun_any Lowest cs = sym (all_lowered cs)
-
-begins_any : (mode : Compat) (form : Form) (s : List ℕ) (z : PlainVersion)
-    → begins_lowest mode form s (plain_by AnySize z) ≡ begins_lowest mode form s z
-begins_any Npm caret s z = ap (λ b. not (length s == 3) || ((z.major == 0) && b)) (by_empty AnySize z.pre)
-begins_any Npm tilde s z = refl
-begins_any Npm bare s z = refl
-begins_any Npm equal s z = refl
-begins_any Npm less s z = refl
-begins_any Npm at_most s z = refl
-begins_any Npm greater s z = refl
-begins_any Npm at_least s z = refl
-begins_any Cargo form s z = refl
-
-pub written_for_any : (mode : Compat) (s : Simple) → let z = plain_by AnySize (zero_filled s.partial) in
-    map comparator_any (written_for Lowest mode s)
-    ≡ begun (lower_where Lowest (begins_lowest mode s.form (stated s.partial) z)) (written_at mode s z)
-written_for_any mode s =
-    let z = zero_filled s.partial in
-    let begins = sym (begins_any mode s.form (stated s.partial) z) in
-    begun_any (lower_of Lowest mode s) (written_in mode s)
-    ∙ (λ i. begun (lower_where Lowest (begins i)) (written_any_is mode s i))
-
 -- ---- Cargo's pre-releases
-
-some_checked_any : (form : Form) (s : List ℕ) (z : PlainVersion)
-    → map comparator_any (some_checked form s z) ≡ some_checked form s (plain_by AnySize z)
-some_checked_any less s z = refl
-some_checked_any at_most s z = refl
-some_checked_any greater [] z = refl
-some_checked_any greater (a ∷ []) z = refl
-some_checked_any greater (a ∷ b ∷ s) z = refl
-some_checked_any at_least [] z = refl
-some_checked_any at_least (a ∷ []) z = refl
-some_checked_any at_least (a ∷ b ∷ s) z = refl
-some_checked_any caret s z = refl
-some_checked_any bare s z = refl
-some_checked_any equal s z = refl
-some_checked_any tilde s z = refl
-
-pub checked_any : (form : Form) (s : List ℕ) (z : PlainVersion)
-    → map comparator_any (checked_by_count form s z) ≡ checked_by_count form s (plain_by AnySize z)
-checked_any form [] z = refl
-checked_any form (a ∷ []) z = some_checked_any form (a ∷ []) z
-checked_any form (a ∷ b ∷ []) z = some_checked_any form (a ∷ b ∷ []) z
-checked_any form (a ∷ b ∷ c ∷ s) z = cell_any (cell Cargo form (a ∷ b ∷ c ∷ s)) (a ∷ b ∷ c ∷ s) z
-
-counting_ranges : (tree : List Simple) → map range_any (flat_map counting_one tree) ≡ flat_map counting_one tree
-counting_ranges [] = refl
-counting_ranges (s ∷ tree) =
-    map-append range_any (counting_one s) (flat_map counting_one tree) ∙ (λ i. one s.partial i ++ counting_ranges tree i)
-  where
-    one : (p : PartialTree) → map range_any (counting_beside p) ≡ counting_beside p
-    one p = by_test (is_empty (pre_release p)) (λ y. rw y refl) (λ n. rw n refl)
-
--- the pre-releases of some numbers
-pub counting_any : (tree : List Simple) → set_any (counting tree) ≡ counting tree
-counting_any tree = λ i. record { ranges = counting_ranges tree i; compat = Cargo }
 
 -- one range of what is made of each simple
 pub one_range_any : (made : Simple → List PlainComparator) (tree : List Simple)

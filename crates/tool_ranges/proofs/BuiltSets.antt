@@ -1,6 +1,6 @@
--- serves: tool_ranges::meaning::read, meaning
+-- serves: tool_ranges::version_range::VersionRange::parse
 -- What a set that is being built has at the end of a range and of a text.
-use Rattle.std.proofs.Common.{◌≡◌, Bool, true, false, not, ◌&&◌, ◌||◌, if◌then◌else◌, refl, sym, ap, ◌∙◌}
+use Rattle.std.proofs.Common.{◌≡◌, Bool, true, false, not, ◌&&◌, ◌||◌, if◌then◌else◌, refl, sym}
 use Rattle.semver_texts.specs.Texts.{is_empty}
 use Rattle.semver_texts.specs.Versions.{PlainVersion}
 use Rattle.version_sets.specs.declared.rules.PreReleases.{PreReleases}

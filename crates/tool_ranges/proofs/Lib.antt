@@ -6,16 +6,12 @@ mod RequirementPrinted
 mod AnySizes
 mod ReadMeanings
 mod ReadRows
-mod PreReleaseMeanings
-mod PreReleaseRows
 pub mod ReadSets
 mod SafeNumbers
 mod ToolRows
 mod NpmMeanings
-mod NpmSets
 mod NpmLaws
 mod PrintableSets
-mod AllMeanings
 mod MatchedMeanings
 pub mod ReadingLaws
 mod Places

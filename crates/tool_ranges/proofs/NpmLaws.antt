@@ -22,7 +22,7 @@ use Rattle.semver_ranges.proofs.ReadingComplete.{tree_read}
 use Rattle.semver_ranges.proofs.AnsweredLaws.{set_printable}
 use Rattle.tool_ranges.specs.NpmGrammar.{may_stand, SpellsNpmRange}
 use Rattle.tool_ranges.specs.NpmTable.{is_safe_simple, npm_fits, rewritten_npm}
-use Rattle.tool_ranges.specs.Dialects.{HasSetAs, IsTooLargeAs, RefusesAs}
+use Rattle.tool_ranges.specs.Dialects.{IsTooLargeAs, RefusesAs}
 use Rattle.tool_ranges.specs.declared.dialect.Dialect.TheVariants as dialect
 use Rattle.tool_ranges.specs.Steps.LowerBounds.{set_begun}
 use Rattle.tool_ranges.proofs.ToolRows.{npm_prints}
@@ -86,10 +86,6 @@ pub begun : (lower : LowerBounds) (t : Text) (r : Result RangeSet RangeError) �
     → IfOk r (λ set. (tree : SetTree) → SpellsNpmRange tree t → set_of set ≡ set_begun lower tree)
 begun lower t (Ok set) (tree, e, fit, same) = λ tree' h. same ∙ ap (set_begun lower) (read_one t tree tree' e h)
 begun lower t (Err e) is = tt
-
--- a text of which there is a set
-pub set_of_text : {A : Type 0} (t : Text) (x : A) → HasSetAs dialect.Npm t → RefusesAs dialect.Npm t (Ok x)
-set_of_text t x (tree, h, fit) = grind (arith, common_steps, npm_read)
 
 -- what it is rewritten to is printable
 pub npm_printable : (t : Text) (tree : SetTree) → read Npm t ≡ Some tree → npm_fits tree ≡ true → IsPrintableSet (rewritten_npm tree)

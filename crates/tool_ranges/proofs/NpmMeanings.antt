@@ -42,10 +42,6 @@ written_by form s p =
     else (if ends_at Npm form s then comparator Lt (exact_bound (filled s p)) ∷ []
     else written_cell lowest_pre_release (cell Npm form s) s (filled s p))
 
-pub none_is : (is : List IdentifierValue) → is_empty is ≡ true → is ≡ []
-none_is [] e = refl
-none_is (i ∷ is) e = cc
-
 at_least_is : (op : Op) → is_at_least op ≡ true → op ≡ Gte
 at_least_is Gte e = refl
 at_least_is _ e = cc

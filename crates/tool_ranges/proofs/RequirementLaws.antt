@@ -8,7 +8,6 @@ use Rattle.semver_ranges.specs.declared.range_set.RangeSet.{RangeSet}
 use Rattle.tool_ranges.specs.CargoMeaning.{as_read}
 use Rattle.std.proofs.lemmas.Bool.{both_ways}
 use Rattle.semver_texts.specs.Texts.{Text}
-use Rattle.tool_ranges.specs.declared.cargo.Surveyed.{Surveyed}
 use Rattle.semver_ranges.specs.declared.range_set.RangeError.{RangeError}
 use Rattle.semver_ranges.specs.declared.range_set.RangeError.TheVariants.{NotARange, NumberTooLarge, OutOfMemory}
 use Rattle.semver_ranges.specs.RangeTree.{Simple}
@@ -16,7 +15,7 @@ use Rattle.tool_ranges.specs.CargoGrammar.{SpellsComparators, SpellsRequirement}
 use Rattle.tool_ranges.specs.CargoTable.{requirement_fits, written_one}
 use Rattle.tool_ranges.specs.Dialects.{RefusesAs}
 use Rattle.tool_ranges.specs.declared.dialect.Dialect.TheVariants as dialect
-use Rattle.tool_ranges.specs.Steps.CargoReading.{comparator_at, in_one_range, IsRefusal, IsRewritten, IsRewrittenOne, IsSurveyedAs}
+use Rattle.tool_ranges.specs.Steps.CargoReading.{comparator_at, in_one_range, IsRefusal, IsRewritten, IsRewrittenOne}
 use Rattle.tool_ranges.proofs.ComparatorReading.{ended_read, parted_read}
 use Rattle.tool_ranges.proofs.RequirementSteps.{at_last, at_start, first_left}
 use Rattle.std.proofs.lemmas.Grind.{common_steps}
@@ -34,11 +33,6 @@ same_comparators (s ∷ next ∷ others) tree' t (front, back, h, more, text) h'
 same_fit : (tree tree' : List Simple) (t : Text) → SpellsRequirement tree t → SpellsRequirement tree' t → requirement_fits tree ≡ true
     → requirement_fits tree' ≡ false → ⊥
 same_fit tree tree' t h h' fit large = grind (arith, common_steps, both_ways, requirement_fits, same_comparators)
-
--- so a requirement was surveyed as each tree of its text
-pub surveyed_same : (t : Text) (tree tree' : List Simple) (surveyed : Surveyed) → IsSurveyedAs t tree surveyed → SpellsRequirement tree' t
-    → IsSurveyedAs t tree' surveyed
-surveyed_same t tree tree' surveyed is h = grind (arith, common_steps, same_comparators)
 
 -- ---- refusals
 

@@ -1,7 +1,7 @@
 -- What a range text means: in which dialect, and with which pre-releases.
 use Rattle.std.specs.Prelude.{◌≡◌, Bool}
 use Rattle.semver_texts.specs.Texts.{Text}
-use Rattle.semver_texts.specs.Versions.{PlainVersion, VersionValue}
+use Rattle.semver_texts.specs.Versions.{VersionValue}
 use Rattle.semver_ranges.specs.declared.range.Compat.TheVariants as compat
 use Rattle.version_sets.specs.PreReleaseRules.{meant_with}
 use Rattle.version_sets.specs.VersionSets.{SetValue, contains, Fits}
@@ -32,9 +32,3 @@ MeansBy dialect rule t set = (tree : TreeOf dialect) (v : VersionValue)
 
 abbrev pub MeansAs : Meaning → Text → SetValue → Type 0
 MeansAs meaning t set = MeansBy meaning.dialect meaning.pre_releases t set
-
--- so of a test by trees
-abbrev pub IsSetBy : (dialect : Dialect) → Text → (TreeOf dialect → PlainVersion → Bool) → SetValue
-    → Type 0
-IsSetBy dialect t meets set = (tree : TreeOf dialect) (v : PlainVersion)
-    → SpellsAs dialect tree t → Fits v → contains set v ≡ meets tree v

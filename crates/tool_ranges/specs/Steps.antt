@@ -4,7 +4,6 @@ pub mod Table
 pub mod Matching
 pub mod Building
 pub mod CargoReading
-pub mod CargoPreReleases
 pub mod NpmReading
 pub mod ToolDesugared
 pub mod Places

@@ -13,7 +13,7 @@ ghost use Rattle.semver_ranges.specs.PrintedRanges.{IsPrintableSet, set_text};
 ghost use Rattle.semver_ranges.specs.RewritingTable.{fits, rewritten};
 ghost use Rattle.tool_ranges.specs.CargoGrammar.{SpellsRequirement};
 ghost use Rattle.tool_ranges.specs.CargoMeaning.{meets_requirement};
-ghost use Rattle.tool_ranges.specs.CargoTable.{rewritten_requirement};
+ghost use Rattle.tool_ranges.specs.CargoTable.{rewritten_requirement, written_one};
 ghost use Rattle.tool_ranges.specs.Dialects.{RefusesAs};
 ghost use Rattle.tool_ranges.specs.declared.dialect.Dialect.TheVariants as dialect;
 ghost use Rattle.tool_ranges.specs.Steps.CargoReading.{EndsAs, IsRefusal, IsRewritten};
@@ -22,18 +22,11 @@ ghost use Rattle.tool_ranges.specs.Steps.CargoReading.{IsSetOf, IsSurveyedAs};
 ghost use Rattle.tool_ranges.specs.Steps.ToolDesugared.{desugared_fits, desugared_written};
 ghost use Rattle.tool_ranges.specs.Steps.ToolDesugared.{IsBuildableAt};
 ghost use Rattle.semver_ranges.specs.Steps.CursorViews.{IsSimpleOf};
-ghost use Rattle.tool_ranges.specs.Steps.CargoPreReleases.{counting_one, checks, checks_one};
 
-mod checking;
 mod grammar;
-mod pre_releases;
-mod requirement_sets;
 
 use crate::desugaring::{self, ToolDesugared};
-use checking::{VersionKind, push_checks};
 pub(crate) use grammar::read_comparator;
-pub use requirement_sets::read;
-pub(crate) use requirement_sets::read_with_all;
 use semver_ranges::grammar::Simple;
 use semver_ranges::partial::{LowerBounds, Partial, RaisedBounds};
 use semver_ranges::{Comparator, Compat, Range, RangeError, RangeSet};
@@ -106,8 +99,8 @@ fn rewritten_all(alloc: Global, requirement: &str) -> Result<Vec<Range>, RangeEr
         (λ e. IsRefusal requirement.now e) }
 {
     let surveyed = survey(requirement)?;
-    match build(alloc, &surveyed, VersionKind::Releases, false) {
-        Ok((ranges, _)) => Ok(ranges),
+    match build(alloc, &surveyed) {
+        Ok(ranges) => Ok(ranges),
         Err(_) => Err(RangeError::OutOfMemory),
     }
 }
@@ -222,51 +215,41 @@ fn ended<T: Copy>(stands_alone: bool, fit: bool, answer: T) -> Result<T, RangeEr
     Ok(answer)
 }
 
-/// The range of a requirement, by which some versions are checked, and the ranges of the
-/// pre-releases that count, if these are wanted.
-fn build(
-    alloc: Global,
-    surveyed: &Surveyed<'_>,
-    checked: VersionKind,
-    counts: bool,
-) -> Result<(Vec<Range>, Vec<Range>), AllocError>
+/// The range of a requirement.
+fn build(alloc: Global, surveyed: &Surveyed<'_>) -> Result<Vec<Range>, AllocError>
     requires { (t : Text) × (tree : List SimpleTree) × IsSurveyedAs t tree surveyed.now }
-    ensures { IfOk result (λ built. (t : Text) (tree : List SimpleTree)
-        → IsSurveyedAs t tree surveyed.now → (set_with built.0.items ≡ checks checked tree)
-        × (counts ≡ true → map range_of built.1.items ≡ flat_map counting_one tree)) }
+    ensures { IfOk result (λ ranges. (t : Text) (tree : List SimpleTree)
+        → IsSurveyedAs t tree surveyed.now → set_with ranges.items ≡ rewritten_requirement tree) }
 {
-    let (comparator_set, counting) = build_comparators(alloc, surveyed, checked, counts)?;
-    Ok((in_one_range(alloc, comparator_set)?, counting))
+    in_one_range(alloc, build_comparators(alloc, surveyed)?)
 }
 
-/// The comparators of that set, and those ranges.
-fn build_comparators(
-    alloc: Global,
-    surveyed: &Surveyed<'_>,
-    checked: VersionKind,
-    counts: bool,
-) -> Result<(Vec<Comparator>, Vec<Range>), AllocError>
+/// The comparators of that range.
+fn build_comparators(alloc: Global, surveyed: &Surveyed<'_>) -> Result<Vec<Comparator>, AllocError>
     requires { (t : Text) × (tree : List SimpleTree) × IsSurveyedAs t tree surveyed.now }
-    ensures { IfOk result (λ built. (t : Text) (tree : List SimpleTree)
+    ensures { IfOk result (λ comparators. (t : Text) (tree : List SimpleTree)
         → IsSurveyedAs t tree surveyed.now
-        → (map comparator_of built.0.items ≡ flat_map (checks_one checked) tree)
-        × (counts ≡ true → map range_of built.1.items ≡ flat_map counting_one tree)) }
+        → map comparator_of comparators.items ≡ flat_map written_one tree) }
 {
     let mut comparators = Vec::with_capacity(alloc, surveyed.count)?;
-    let mut counting = Vec::new(alloc);
     let mut simple = surveyed.first;
     let mut after = surveyed.after;
     for _ in 0..MOST_COMPARATORS {
-        push_checks(alloc, checked, &simple, &mut comparators)?;
-        pre_releases::push_counting(alloc, counts, &simple.partial, &mut counting)?;
+        desugaring::push(
+            alloc,
+            &simple,
+            Compat::Cargo,
+            LowerBounds::Stated,
+            &mut comparators,
+        )?;
         let Some(rest) = after else {
-            return Ok((comparators, counting));
+            return Ok(comparators);
         };
         let Some(next) = read_comparator(rest) else {
-            return Ok((comparators, counting));
+            return Ok(comparators);
         };
         simple = next.0;
         after = next.1;
     }
-    Ok((comparators, counting))
+    Ok(comparators)
 }

@@ -1,7 +1,6 @@
 //! Range texts as Cargo and npm themselves read them, which differs from the port's two modes.
 #![tactic(auto)]
 
-mod any_size;
 pub mod cargo;
 mod cursor;
 mod desugaring;

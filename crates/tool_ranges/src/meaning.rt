@@ -14,12 +14,12 @@ ghost use Rattle.semver_ranges.specs.RangeTree.{SetTree, Spells};
 ghost use Rattle.version_sets.specs.Printable.{IsPrintable};
 ghost use Rattle.version_sets.specs.PreReleaseRules.{meant_with, numbers_fit};
 ghost use Rattle.tool_ranges.specs.Dialects.{RefusesAs, SpellsAs, TreeOf, grammar_of};
-ghost use Rattle.tool_ranges.specs.Meanings.{IsSetBy, MeansAs, MeansBy, meant_as, meant_by};
+ghost use Rattle.tool_ranges.specs.Meanings.{MeansAs, meant_as};
 
 use crate::dialect::Dialect;
 use crate::matching::answer;
-use crate::{cargo, npm};
-use semver_ranges::{Compat, RangeError};
+use crate::sets;
+use semver_ranges::RangeError;
 use semver_versions::laws;
 use semver_versions::version::Outline;
 use std::alloc::Global;
@@ -48,10 +48,8 @@ pub struct Meaning {
 // Answer: law answer_laws::sets::one_read.
 /// Reads a range text into the set of the versions that it means.
 ///
-/// It is [`cargo::read`](crate::cargo::read), [`npm::read`](crate::npm::read) or
-/// `VersionSet::of_text`: `^1.2.0, <1.5` has 1.4.0 in Cargo's dialect, and is refused in the
-/// others. With `PreReleases::Included` the set of `^1.2` begins with 1.2.0-0, and `*` is every
-/// version.
+/// `^1.2.0, <1.5` has 1.4.0 in Cargo's dialect, and is refused in the others. With
+/// `PreReleases::Included` the set of `^1.2` begins with 1.2.0-0, and `*` is every version.
 ///
 /// # Errors
 ///
@@ -68,61 +66,7 @@ pub fn read(alloc: Global, meaning: Meaning, range: &str) -> Result<VersionSet, 
     // It reads identifiers of digits alone as the dialect does.
     ensures digits { IfOk result (λ set. set.digits ≡ digits_in (grammar_of meaning.dialect)) }
 {
-    let rule = meaning.pre_releases;
-    match meaning.dialect {
-        Dialect::Cargo => read_cargo(alloc, range, rule),
-        Dialect::Npm => read_npm(alloc, range, rule),
-        Dialect::CrateCargo => VersionSet::of_text(alloc, range, Compat::Cargo, rule),
-        Dialect::CrateNpm => VersionSet::of_text(alloc, range, Compat::Npm, rule),
-    }
-}
-
-/// Reads a requirement of Cargo by a rule for pre-releases.
-fn read_cargo(alloc: Global, range: &str, rule: PreReleases) -> Result<VersionSet, RangeError>
-    ensures refusals { RefusesAs dialect.Cargo range.now result }
-    ensures meaning { IfOk result (λ set. MeansBy dialect.Cargo rule range.now set) }
-    ensures printable { IfOk result IsPrintable }
-    ensures digits { IfOk result (λ set. set.digits ≡ AnySize) }
-{
-    match rule {
-        PreReleases::Default => cargo::read(alloc, range),
-        PreReleases::Included => cargo::read_with_all(alloc, range),
-        PreReleases::Excluded => releases_of(alloc, cargo::read(alloc, range)),
-    }
-}
-
-/// Reads a range text of npm by a rule for pre-releases.
-fn read_npm(alloc: Global, range: &str, rule: PreReleases) -> Result<VersionSet, RangeError>
-    ensures refusals { RefusesAs dialect.Npm range.now result }
-    ensures meaning { IfOk result (λ set. MeansBy dialect.Npm rule range.now set) }
-    ensures printable { IfOk result IsPrintable }
-    ensures digits { IfOk result (λ set. set.digits ≡ AnySize) }
-{
-    match rule {
-        PreReleases::Default => npm::read(alloc, range),
-        PreReleases::Included => npm::read_with_all(alloc, range),
-        PreReleases::Excluded => releases_of(alloc, npm::read(alloc, range)),
-    }
-}
-
-/// The releases of what was read.
-fn releases_of(
-    alloc: Global,
-    read: Result<VersionSet, RangeError>,
-) -> Result<VersionSet, RangeError>
-    ensures refusals { (d : SomeDialect) (t : Text) → RefusesAs d t read
-        → RefusesAs d t result }
-    ensures releases { (d : SomeDialect) (t : Text) (meets : TreeOf d → PlainVersion → Bool)
-        → IfOk read (λ set. IsSetBy d t meets set)
-        → IfOk result (λ set. IsSetBy d t (λ tree v. is_empty v.pre && meets tree v) set) }
-    ensures printable { IfOk result IsPrintable }
-    ensures digits { (d : Digits) → IfOk read (λ set. set.digits ≡ d)
-        → IfOk result (λ set. set.digits ≡ d) }
-{
-    match read {
-        Ok(set) => Ok(set.only_releases(alloc)),
-        Err(refusal) => Err(refusal),
-    }
+    sets::read(alloc, range, meaning.dialect, meaning.pre_releases)
 }
 
 // Answer: law answer_laws::sets::one_satisfies.

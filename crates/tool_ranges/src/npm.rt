@@ -19,11 +19,7 @@ ghost use Rattle.tool_ranges.specs.NpmTable.{is_safe_simple, rewritten_npm};
 ghost use Rattle.tool_ranges.specs.Dialects.{RefusesAs};
 ghost use Rattle.tool_ranges.specs.declared.dialect.Dialect.TheVariants as dialect;
 
-mod range_sets;
-
 use crate::desugaring;
-pub use range_sets::read;
-pub(crate) use range_sets::read_with_all;
 use semver_ranges::desugared_texts::{Desugaring, read_by};
 use semver_ranges::grammar::Simple;
 use semver_ranges::partial::LowerBounds;
@@ -43,7 +39,7 @@ use std::alloc::{AllocError, Global};
 /// `>=1.2.0 <2.0.0-0 || >=3.0.0 <4.0.0-0`.
 ///
 /// A release satisfies the answer exactly if the text means it. Which pre-releases npm takes
-/// comparators can't say: [`read`] answers them as a set.
+/// comparators can't say: [`meaning::read`](crate::meaning::read) answers them as a set.
 ///
 /// # Errors
 ///

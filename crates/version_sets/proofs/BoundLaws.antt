@@ -1,4 +1,4 @@
--- serves: version_sets::of_comparators::VersionSet::of_set_by
+-- serves: version_sets::ranges::Conjunction::new, all
 -- What is at or above a version, what is above it, and what has its numbers.
 use Rattle.std.proofs.Common.{rules, arith, ◌≡◌, zero, suc, Bool, true, false, ◌&&◌, ◌||◌, not, List, [], ◌∷◌, ◌++◌, refl, sym}
 use Rattle.std.proofs.Common.{ap, ap₂, ◌∙◌}
@@ -93,12 +93,6 @@ pub before_release : (xs ws : List IdentifierValue) → is_empty xs ≡ false �
 before_release [] ws e f = absurd (search rules)
 before_release (x ∷ xs) [] e f = refl
 before_release (x ∷ xs) (w ∷ ws) e f = absurd (search rules)
-
--- and no pre-release of its numbers is above a release
-pub none_past : (above : Bool) (w v : PlainVersion) → is_empty w.pre ≡ true → is_empty v.pre ≡ false
-    → is_gt (numbers_cmp v w) ≡ is_past above (precedence v w)
-none_past true w v f e = against is_gt is_gt v w refl refl (none_above v.pre w.pre f)
-none_past false w v f e = against is_gt is_ge v w refl refl (before_release v.pre w.pre e f)
 
 -- ---- what is from a place on
 

@@ -1,4 +1,4 @@
--- serves: version_sets::of_comparators::VersionSet::of_set_by
+-- serves: version_sets::ranges::Ranges::push_stated
 -- What holds of where spans begin and end holds of their boundaries.
 use Rattle.std.proofs.Common.{arith, ◌≡◌, Bool, true, false, not, ◌&&◌, cond, List, [], ◌∷◌, ◌++◌, map, refl, sym, ap, ◌∙◌, is_ge, is_lt}
 use Rattle.std.proofs.lemmas.Bool.{and_parts}
@@ -7,12 +7,9 @@ use Rattle.std.proofs.lemmas.List.Sorted.{list_any-IsPermutation}
 use Rattle.std.specs.List.{list_all, list_any}
 use Rattle.std.specs.List.Sorted.{IsPermutation}
 use Rattle.std.specs.Prelude.{Option, Some, None, option_map, option_to_list}
-use Rattle.semver_ranges.specs.declared.range.Op.{Op}
-use Rattle.semver_ranges.specs.declared.range.Op.TheVariants.{Lt, Lte, Gt, Gte, Eq}
 use Rattle.semver_texts.specs.Precedence.{precedence}
 use Rattle.semver_texts.specs.Versions.{PlainVersion}
 use Rattle.version_sets.specs.Steps.Spans.{SpanValue, later, earlier, is_below, span_boundaries, met, joined, all_joined}
-use Rattle.version_sets.specs.Steps.Spans.{narrowed_from, narrowed_to}
 use Rattle.version_sets.specs.Steps.SpanViews.{holds_at, span_value, spans_hold}
 use Rattle.version_sets.specs.declared.spans.Span.{Span}
 
@@ -42,17 +39,6 @@ module _ (p : PlainVersion → Bool) where
       let second = and_parts (holds_at p a) (holds_at p b) g in
       both_hold x y (ap (holds_at p) later_is ∙ later_holds f a first.0 second.0)
       (ap (holds_at p) earlier_is ∙ earlier_holds t b first.1 second.1)
-
-  module _ (from to at above : Option PlainVersion) (f : holds_at p from ≡ true) (t : holds_at p to ≡ true) (a : holds_at p at ≡ true)
-      (b : holds_at p above ≡ true) where
-    pub narrowed_holds : (op : Op)
-        → (holds_at p (narrowed_from precedence op from at above) && holds_at p (narrowed_to precedence op to at above)) ≡ true
-    narrowed_holds Lt = both_hold _ (earlier precedence to at) f (earlier_holds to at t a)
-    narrowed_holds Lte = both_hold _ (earlier precedence to above) f (earlier_holds to above t b)
-    narrowed_holds Gt = both_hold (later precedence from above) _ (later_holds from above f b) t
-    narrowed_holds Gte = both_hold (later precedence from at) _ (later_holds from at f a) t
-    narrowed_holds Eq =
-        both_hold (later precedence from at) (earlier precedence to above) (later_holds from at f a) (earlier_holds to above t b)
 
   -- the boundaries of spans
   abbrev holds_in : SpanValue PlainVersion → Bool

@@ -1,4 +1,4 @@
--- serves: version_sets::set_ranges::VersionSet::release_ranges
+-- serves: version_sets::ranges::Conjunction::new, all
 -- The ranges of intervals are met by the versions that the boundaries turn on, of a kind with a next version right above each.
 use Rattle.std.proofs.Common.{arith, ◌≡◌, Bool, true, false, not, ◌&&◌, ◌||◌, cond, List, [], ◌∷◌, refl, sym, ap, ap₂, ◌∙◌}
 use Rattle.std.proofs.Common.{Ordering, Less, is_eq, is_ge, is_gt, is_lt}

@@ -1,4 +1,4 @@
--- serves: version_sets::set_ranges::VersionSet::release_ranges
+-- serves: version_sets::ranges::Conjunction::new, all
 -- What is right above a release and above a pre-release, and that none of a kind is below its lowest.
 use Rattle.std.proofs.Common.{arith, ◌≡◌, Bool, true, false, cond, not, List, [], ◌∷◌, refl, sym, ap, ◌∙◌}
 use Rattle.std.proofs.Common.{Equal, is_ge, is_gt, is_lt}

@@ -8,7 +8,6 @@ mod SetLaws
 mod SpanLaws
 mod HeldEndpoints
 mod PrintedEndpoints
-pub mod PrintableRanges
 mod BoundLaws
 mod EndLaws
 mod OutlinedPlaces
@@ -18,5 +17,4 @@ mod IntervalLaws
 mod KindLaws
 mod ReadBack
 mod SetRangeLaws
-mod MetLaws
 mod WrittenSets

@@ -1,9 +1,8 @@
 -- serves: version_sets::lowest::VersionSet::lowest, lowest
 -- Lists by their length and by their halves, and the result of one.
-use Rattle.std.proofs.Common.{◌≡◌, ◌==◌, ◌||◌, ◌&&◌, ◌<◌, ℕ, Bool, true, false, get_or, List, [], ◌∷◌, map, length, refl}
-use Rattle.std.proofs.Common.{ap, arith, IfOk, IfErr, Result, Ok, Err}
+use Rattle.std.proofs.Common.{◌≡◌, ◌==◌, ℕ, Bool, List, [], ◌∷◌, map, length}
+use Rattle.std.proofs.Common.{arith, IfOk, IfErr, Result, Ok, Err}
 use Rattle.std.proofs.lemmas.Bool.Decides.{nat_tests}
-use Rattle.std.specs.List.{list_all, list_any}
 use Rattle.semver_texts.specs.Texts.{is_empty}
 
 pub none_left : {X Y : Type 0} (f : X → Y) (xs : List X) (n : ℕ) (r : Bool) → r ≡ (n == 0) → n ≡ length xs → r ≡ is_empty (map f xs)
@@ -22,21 +21,3 @@ failed_so Q (Err e) p f = f e p
 pub on_err : {X E : Type 0} {P : Type 0} (r : Result X E) → P → IfErr r (λ _. P)
 on_err (Ok x) p = tt
 on_err (Err e) p = p
-
-pub list_any-map : {X Y : Type 0} (p : Y → Bool) (f : X → Y) (xs : List X) → list_any p (map f xs) ≡ list_any (λ x. p (f x)) xs
-list_any-map p f [] = refl
-list_any-map p f (x ∷ xs) = ap (λ b. p (f x) || b) (list_any-map p f xs)
-
-pub list_all-map : {X Y : Type 0} (p : Y → Bool) (f : X → Y) (xs : List X) → list_all p (map f xs) ≡ list_all (λ x. p (f x)) xs
-list_all-map p f [] = refl
-list_all-map p f (x ∷ xs) = ap (λ b. p (f x) && b) (list_all-map p f xs)
-
--- a list of one
-pub any_of_one : {X : Type 0} (p : X → Bool) (xs : List X) (d : X) → 0 < length xs → length xs < 2 → p (get_or xs 0 d) ≡ list_any p xs
-any_of_one p [] d some one = absurd (omega arith)
-any_of_one p (x ∷ []) d some one = by (p x)
-  where
-    by : (b : Bool) → b ≡ (b || false)
-    by true = refl
-    by false = refl
-any_of_one p (x ∷ y ∷ xs) d some one = absurd (omega arith)

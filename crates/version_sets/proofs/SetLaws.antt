@@ -1,4 +1,4 @@
--- serves: version_sets::of_comparators::VersionSet::of_set_by, meaning
+-- serves: version_sets::laws::one_set
 -- Sets of versions by the laws of their boundaries: what is in a combination, and that one set has one normal form.
 use Rattle.std.proofs.Common.{arith, ◌≡◌, ◌↔◌, Bool, true, false, ◌||◌, cond, List, [], ◌∷◌, refl, sym, ap, ap₂, ◌∙◌}
 use Rattle.std.proofs.lemmas.Bool.{and_parts}

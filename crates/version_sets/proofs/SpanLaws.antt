@@ -1,4 +1,4 @@
--- serves: version_sets::of_comparators::VersionSet::of_set_by
+-- serves: version_sets::ranges::Ranges::push_stated
 -- The boundaries of ascending spans increase, and boundary what is in some span.
 use Rattle.std.proofs.Common.{arith, ◌≡◌, Bool, true, false, ◌&&◌, ◌||◌, cond, List, [], ◌∷◌, ◌++◌, refl, sym, ap, ◌∙◌, subst}
 use Rattle.std.proofs.Common.{map, add-one, get_or, suc, Bor}
@@ -8,19 +8,15 @@ use Rattle.std.specs.Cmp.{IsTotalOrder}
 use Rattle.std.specs.Fn.{Called, ComparesAs}
 use Rattle.std.specs.List.{AllByRecursion}
 use Rattle.std.specs.List.Sorted.{IsPermutation, IsSortedBy}
-use Rattle.std.specs.Ordering.{is_ge, is_gt, is_lt}
+use Rattle.std.specs.Ordering.{is_ge, is_lt}
 use Rattle.std.specs.Prelude.{Option, Some, None, option_to_list}
 use Rattle.std.specs.declared.cmp.Ordering.{Ordering}
 use Rattle.std.specs.declared.cmp.Ordering.TheVariants.{Less}
-use Rattle.semver_ranges.specs.declared.range.Op.{Op}
-use Rattle.semver_ranges.specs.declared.range.Op.TheVariants.{Lt, Lte, Gt, Gte, Eq}
-use Rattle.semver_ranges.specs.Meeting.{op_holds}
 use Rattle.semver_texts.specs.Precedence.{precedence}
 use Rattle.semver_texts.specs.Steps.PrecedenceLaws.{precedence_total}
 use Rattle.semver_texts.specs.Versions.{PlainVersion}
 use Rattle.version_sets.specs.VersionSets.{AreBoundaries}
 use Rattle.version_sets.specs.Steps.Spans.{SpanValue, reached, is_between, is_in, IsSpan, later, earlier, is_below, span_boundaries}
-use Rattle.version_sets.specs.Steps.Spans.{narrowed_from, narrowed_to}
 use Rattle.version_sets.specs.Steps.Spans.{met, joined, all_joined, all_ascend, some_empty, in_some, IsAscending}
 use Rattle.version_sets.specs.Steps.SpanViews.{span_value}
 use Rattle.version_sets.specs.Boundaries.{is_inside, IsBelowFirst, IsIncreasing}
@@ -47,16 +43,6 @@ module _ {T : Type 0} (cmp : T → T → Ordering) (o : IsTotalOrder cmp) where
   pub between-both : (f t a b : Option T) (v : T)
       → is_between cmp (later cmp f a) (earlier cmp t b) v ≡ (is_between cmp f t v && is_between cmp a b v)
   between-both f t a b v = grind (arith, reached-later, reached-earlier)
-
-  -- a comparator narrows them by how v compares with its version
-  pub narrowed_met : (op : Op) (from to at above : Option T) (v : T) (r : Ordering)
-      → reached cmp at v ≡ is_ge r → reached cmp above v ≡ is_gt r
-      → is_between cmp (narrowed_from cmp op from at above) (narrowed_to cmp op to at above) v ≡ (is_between cmp from to v && op_holds op r)
-  narrowed_met Lt from to at above v r ge gt = grind (arith, ge, reached-earlier to at v)
-  narrowed_met Lte from to at above v r ge gt = grind (arith, gt, reached-earlier to above v)
-  narrowed_met Gt from to at above v r ge gt = grind (arith, gt, reached-later from above v)
-  narrowed_met Gte from to at above v r ge gt = grind (arith, ge, reached-later from at v)
-  narrowed_met Eq from to at above v r ge gt = grind (arith, ge, gt, reached-later from at v, reached-earlier to above v)
 
   -- nothing is between, where the end isn't above the begin
   pub between-none : (a b v : T) → is_ge (cmp a b) ≡ true → is_between cmp (Some a) (Some b) v ≡ false

@@ -1,4 +1,4 @@
--- serves: version_sets::of_comparators::VersionSet::of_set_by, meaning
+-- serves: version_sets::laws::one_set
 -- What the sweep over two lists of boundaries shows of them.
 use Rattle.std.proofs.Common.{arith, ◌≡◌, Bool, true, false, not, cond, List, [], ◌∷◌, map}
 use Rattle.std.proofs.Common.{refl, sym, ap, ap₂, ◌∙◌, true≢false, Ordering, Less, Equal, Greater, is_ge}

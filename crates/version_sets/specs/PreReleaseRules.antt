@@ -7,10 +7,8 @@ use Rattle.semver_texts.specs.Versions.{PlainVersion, VersionValue, numbers}
 use Rattle.semver_ranges.specs.Partials.{fits_u64}
 use Rattle.semver_ranges.specs.declared.range.Compat.{Compat}
 use Rattle.semver_ranges.specs.RangeTree.{SetTree}
-use Rattle.semver_ranges.specs.RewritingTable.{PlainSet}
 use Rattle.semver_ranges.specs.OwnMeaning.{meets_tree}
-use Rattle.semver_ranges.specs.Meeting.{meets_set}
-use Rattle.semver_ranges.specs.StatedPreReleases.{meets_set_as_stated, meets_tree_as_stated}
+use Rattle.semver_ranges.specs.StatedPreReleases.{meets_tree_as_stated}
 use Rattle.version_sets.specs.declared.rules.PreReleases.{PreReleases}
 use Rattle.version_sets.specs.declared.rules.PreReleases.TheVariants.{Excluded, Default, Included}
 
@@ -38,9 +36,3 @@ meant_with rule mode tree v = numbers_fit v.plain && meets_text_with rule mode t
 -- whether a text means a version by the first rule: a release that meets the text's own meaning
 abbrev pub is_kept : Compat → SetTree → VersionValue → Bool
 is_kept = meant_with Excluded
-
--- whether a version meets comparators by a rule for pre-releases
-abbrev pub meets_with : PreReleases → PlainSet → VersionValue → Bool
-meets_with Excluded set v = is_release v && meets_set v.plain set
-meets_with Default set v = meets_set_as_stated v.plain set
-meets_with Included set v = meets_set v.plain set

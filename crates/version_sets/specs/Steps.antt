@@ -3,7 +3,6 @@ pub mod Lower
 pub mod Bounds
 pub mod Spans
 pub mod SpanViews
-pub mod RangeRules
 pub mod Sweeps
 pub mod Between
 pub mod SweepViews

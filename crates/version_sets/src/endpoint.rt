@@ -1,19 +1,13 @@
 //! Where spans of versions begin and end, and those of releases.
 
-ghost use Rattle.std.specs.Prelude.{◌≡◌, [], option_map, IfOk};
-ghost use Rattle.std.specs.Ordering.{is_gt};
+ghost use Rattle.std.specs.Prelude.{◌≡◌, IfOk};
 ghost use Rattle.semver_texts.specs.Precedence.{precedence};
-ghost use Rattle.semver_ranges.specs.RangeViews.{comparator_of};
 ghost use Rattle.semver_texts.specs.Versions.{PlainVersion};
-ghost use Rattle.semver_texts.specs.declared.grammar.Digits.{Digits};
-ghost use Rattle.version_sets.specs.DigitViews.{comparator_by};
 ghost use Rattle.version_sets.specs.VersionSets.{IsRelease};
 ghost use Rattle.version_sets.specs.Releases.{release_value};
-ghost use Rattle.version_sets.specs.Steps.Spans.{reached};
 
 use crate::boundary::Boundary;
-use crate::release::{Release, next_numbers};
-use semver_ranges::Comparator;
+use crate::release::Release;
 use std::alloc::{AllocError, Global};
 use std::cmp::Ordering;
 
@@ -55,32 +49,5 @@ impl Endpoint for Release {
             minor,
             patch,
         })
-    }
-}
-
-/// Where the releases above a comparator's version begin. That of a pre-release's numbers is above
-/// it.
-pub(crate) fn release_above(comparator: &Comparator) -> Option<Release>
-    ensures { (digits : Digits) (v : PlainVersion) → IsRelease v
-        → reached precedence (option_map release_value result) v
-        ≡ is_gt (precedence v (comparator_by digits comparator.now).version) }
-{
-    let numbers = numbers_of(comparator);
-    if comparator.pre.is_empty() {
-        next_numbers(numbers)
-    } else {
-        Some(numbers)
-    }
-}
-
-/// The numbers of a comparator. What is at or above them is at or above it, of the releases.
-pub(crate) fn numbers_of(comparator: &Comparator) -> Release
-    ensures { release_value result
-        ≡ record (comparator_of comparator.now).version { pre = [] } }
-{
-    Release {
-        major: comparator.major,
-        minor: comparator.minor,
-        patch: comparator.patch,
     }
 }

@@ -28,6 +28,7 @@ use semver_texts::grammar::Digits;
 use std::alloc::{AllocError, Global};
 
 impl<'text> Conjunction<'text> {
+    // Answer: equation.
     /// Those of no interval: all versions.
     pub fn new() -> Conjunction<'text>
         ensures all { (v : PlainVersion) → Fits v → in_each result v ≡ true }
@@ -45,6 +46,7 @@ impl<'text> Conjunction<'text> {
         }
     }
 
+    // Answer: equation.
     /// Those that are in one more interval: of the releases in one, and of the pre-releases in
     /// another, if identifiers of digits alone are read so.
     pub fn and(
@@ -99,6 +101,7 @@ fn pre_released<'text>(interval: &Interval<'text>, digits: Digits) -> Bounds<Pre
 }
 
 impl<'text> Ranges<'text> {
+    // Answer: equation.
     /// No range. It does not allocate.
     pub fn new(alloc: Global) -> Ranges<'text>
         ensures none { (v : PlainVersion) → in_ranges result v ≡ false }
@@ -110,6 +113,7 @@ impl<'text> Ranges<'text> {
         }
     }
 
+    // Answer: equation.
     /// Adds the releases of a range. `Err` is out of memory.
     pub fn push_releases(&mut self, range: &Conjunction<'text>) -> Result<(), AllocError>
         ensures meaning { IfOk result (λ _. (v : PlainVersion) → in_ranges self.new v
@@ -120,6 +124,7 @@ impl<'text> Ranges<'text> {
         range.releases.push_to(&mut self.releases)
     }
 
+    // Answer: equation.
     /// Adds its pre-releases. `Err` is out of memory.
     pub fn push_pre_releases(&mut self, range: &Conjunction<'text>) -> Result<(), AllocError>
         ensures meaning { IfOk result (λ _. (v : PlainVersion) → in_ranges self.new v
@@ -130,6 +135,7 @@ impl<'text> Ranges<'text> {
         range.pre_releases.push_to(&mut self.pre_releases)
     }
 
+    // Answer: equation.
     /// Adds those of its pre-releases that have some numbers. `Err` is out of memory.
     pub fn push_stated(
         &mut self,
@@ -152,6 +158,7 @@ impl<'text> Ranges<'text> {
             .push_to(&mut self.pre_releases)
     }
 
+    // Answer: equation.
     /// The set of the versions in some range, or among the releases of a last one. `Err` is out of
     /// memory.
     pub fn into_set(

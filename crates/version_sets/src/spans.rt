@@ -12,12 +12,10 @@ ghost use Rattle.version_sets.specs.VersionSets.{AreBoundaries};
 ghost use Rattle.version_sets.specs.Steps.Spans.{is_in, IsSpan, later, earlier};
 ghost use Rattle.version_sets.specs.Steps.Spans.{is_below, span_boundaries, all_joined, some_empty};
 ghost use Rattle.version_sets.specs.Steps.Spans.{in_some};
-ghost use Rattle.version_sets.specs.Steps.Spans.{narrowed_from, narrowed_to};
 ghost use Rattle.version_sets.specs.Steps.SpanViews.{span_value, is_within};
 ghost use Rattle.version_sets.specs.Steps.SpanViews.{bounds_hold, spans_hold};
 
 use crate::endpoint::Endpoint;
-use semver_ranges::Op;
 use std::alloc::{AllocError, Global};
 
 /// The versions at or above one endpoint and below another. `None` is above all versions.
@@ -70,39 +68,6 @@ fn earlier<L: Endpoint>(first: Option<L>, second: Option<L>) -> Option<L>
 }
 
 impl<L: Endpoint> Bounds<L> {
-    /// Those of the versions that satisfy a comparator: `at` is where what is at or above its
-    /// version begins, and `above` where what is above it does.
-    pub(crate) fn narrowed(self, op: &Op, at: Option<L>, above: Option<L>) -> Bounds<L>
-        ensures from { option_map L.place result.from ≡ narrowed_from precedence op.now
-            (option_map L.place self.from) (option_map L.place at) (option_map L.place above) }
-        ensures to { option_map L.place result.to ≡ narrowed_to precedence op.now
-            (option_map L.place self.to) (option_map L.place at) (option_map L.place above) }
-    {
-        let (from, to) = (self.from, self.to);
-        match op {
-            Op::Gte => Bounds {
-                from: later(from, at),
-                to,
-            },
-            Op::Gt => Bounds {
-                from: later(from, above),
-                to,
-            },
-            Op::Lt => Bounds {
-                from,
-                to: earlier(to, at),
-            },
-            Op::Lte => Bounds {
-                from,
-                to: earlier(to, above),
-            },
-            Op::Eq => Bounds {
-                from: later(from, at),
-                to: earlier(to, above),
-            },
-        }
-    }
-
     /// The versions that are within other bounds, too.
     pub(crate) fn and(self, other: Bounds<L>) -> Bounds<L>
         ensures meaning { (v : PlainVersion) → is_within L.place result v

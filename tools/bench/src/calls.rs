@@ -3,7 +3,7 @@
 
 use here::filters::filter_text;
 use here::proved::tool_ranges::cargo;
-use here::sets::VersionSet;
+use here::sets::{self, VersionSet};
 use here::{satisfies, Compat, Dialect, Meaning, PreReleases, VersionRange};
 use semver::{Version, VersionReq};
 use semver_parser::{version, RangeSet};
@@ -114,7 +114,8 @@ pub fn here_set(text: &str) -> u64 {
 }
 
 fn set_of(text: &str) -> Option<VersionSet> {
-    VersionSet::of_text(text, Compat::Cargo, PreReleases::Default).ok()
+    let meaning = Meaning { dialect: Dialect::CrateCargo, pre_releases: PreReleases::Default };
+    sets::read(text, meaning).ok()
 }
 
 /// 1 where a text is a range set to the crate `semver-parser`, in Cargo mode.

@@ -1,37 +1,40 @@
 //! Sets of versions.
 
 use super::Ending;
-use semver_parser::{Compat, RangeError, RangeSet, version};
+use semver_parser::{RangeError, version};
 use semver_texts::grammar::Digits;
 use std::alloc::{AllocError, Global};
 use tool_ranges::dialect::Dialect;
 use tool_ranges::meaning::{self, Meaning};
-use tool_ranges::{cargo, npm};
 use version_sets::{PreReleases, SetRanges, VersionSet};
 
-/// Cargo's dialect, with each pre-release within the bounds.
-const CARGO: Meaning = Meaning {
-    dialect: Dialect::Cargo,
-    pre_releases: PreReleases::Included,
-};
+/// What a range means in a dialect, with the pre-releases that count by default.
+fn by_default(dialect: Dialect) -> Meaning {
+    Meaning {
+        dialect,
+        pre_releases: PreReleases::Default,
+    }
+}
 
-/// So npm's.
-const NPM: Meaning = Meaning {
-    dialect: Dialect::Npm,
-    pre_releases: PreReleases::Included,
-};
+/// What it means with each pre-release within its bounds.
+fn within(dialect: Dialect) -> Meaning {
+    Meaning {
+        dialect,
+        pre_releases: PreReleases::Included,
+    }
+}
 
 /// The sets of `>=1.2.0-b.c` as stated and of `<2.0.0` with all pre-releases, which the calls below
 /// are given.
 pub fn of_texts(alloc: Global) -> Result<(VersionSet, VersionSet), Ending> {
-    let first = set_of(alloc, ">=1.2.0-b.c", PreReleases::Default)?;
-    let second = set_of(alloc, "<2.0.0", PreReleases::Included)?;
+    let first = set_of(alloc, ">=1.2.0-b.c", by_default(Dialect::CrateNpm))?;
+    let second = set_of(alloc, "<2.0.0", within(Dialect::CrateNpm))?;
     Ok((first, second))
 }
 
-/// The set of a text in npm mode.
-fn set_of(alloc: Global, text: &str, pre_releases: PreReleases) -> Result<VersionSet, Ending> {
-    match VersionSet::of_text(alloc, text, Compat::Npm, pre_releases) {
+/// The set of a text.
+fn set_of(alloc: Global, text: &str, meaning: Meaning) -> Result<VersionSet, Ending> {
+    match meaning::read(alloc, meaning, text) {
         Ok(set) => Ok(set),
         Err(RangeError::OutOfMemory) => Err(Ending::Refused),
         Err(_) => Err(Ending::Wrong),
@@ -40,37 +43,17 @@ fn set_of(alloc: Global, text: &str, pre_releases: PreReleases) -> Result<Versio
 
 /// Texts that are refused are refused without a request.
 pub fn of_refused_texts(alloc: Global) -> Ending {
-    let pre_releases = PreReleases::Included;
-    let not_a_range = VersionSet::of_text(alloc, "|", Compat::Npm, pre_releases);
-    let too_large = VersionSet::of_text(
-        alloc,
-        "<=18446744073709551615",
-        Compat::Cargo,
-        pre_releases,
-    );
+    let not_a_range = meaning::read(alloc, within(Dialect::CrateNpm), "|");
+    let too_large = meaning::read(alloc, within(Dialect::CrateCargo), "<=18446744073709551615");
     Ending::full_if(
         matches!(not_a_range, Err(RangeError::NotARange))
             && matches!(too_large, Err(RangeError::NumberTooLarge)),
     )
 }
 
-/// The releases that the comparator `>=2.0.0` contains. Reading it is part of the call. The lowest
-/// of them is found without a request.
-pub fn of_set(alloc: Global) -> Ending {
-    let set = match RangeSet::parse(alloc, ">=2.0.0", Compat::Npm) {
-        Ok(set) => set,
-        Err(RangeError::OutOfMemory) => return Ending::Refused,
-        Err(_) => return Ending::Wrong,
-    };
-    match VersionSet::of_set(alloc, &set, PreReleases::Excluded) {
-        Ok(set) => Ending::full_if(begins_at(&set, 2) && matches!(set.lowest(alloc), Ok(Some(_)))),
-        Err(_) => Ending::Refused,
-    }
-}
-
 /// The versions that a requirement means to Cargo: 1.2.0-c is stated, and 1.3.0-c isn't.
 pub fn of_requirement(alloc: Global) -> Ending {
-    match cargo::read(alloc, "^1.2, >=1.2.0-b") {
+    match meaning::read(alloc, by_default(Dialect::Cargo), "^1.2, >=1.2.0-b") {
         Ok(set) => Ending::full_if(
             begins_at(&set, 1) && has_stated(&set, "1.2.0-c") && !has_stated(&set, "1.3.0-c"),
         ),
@@ -81,8 +64,12 @@ pub fn of_requirement(alloc: Global) -> Ending {
 
 /// Requirements that are refused are refused without a request.
 pub fn of_refused_requirements(alloc: Global) -> Ending {
-    let not_a_range = cargo::read(alloc, "1.2.3-a, >=1 <2");
-    let too_large = cargo::read(alloc, "1.2.3-a, >1.18446744073709551615");
+    let not_a_range = meaning::read(alloc, by_default(Dialect::Cargo), "1.2.3-a, >=1 <2");
+    let too_large = meaning::read(
+        alloc,
+        by_default(Dialect::Cargo),
+        "1.2.3-a, >1.18446744073709551615",
+    );
     Ending::full_if(
         matches!(not_a_range, Err(RangeError::NotARange))
             && matches!(too_large, Err(RangeError::NumberTooLarge)),
@@ -92,13 +79,13 @@ pub fn of_refused_requirements(alloc: Global) -> Ending {
 /// The versions that two range texts mean to npm. The first contains 1.2.0-c, and not 1.3.0-c. The
 /// second contains every release.
 pub fn of_npm_ranges(alloc: Global) -> Ending {
-    let asked = match npm::read(alloc, ">=0 >=1.2.0-b <1.5 || 3.x") {
+    let asked = match meaning::read(alloc, by_default(Dialect::Npm), ">=0 >=1.2.0-b <1.5 || 3.x") {
         Ok(set) => set,
         Err(RangeError::OutOfMemory) => return Ending::Refused,
         Err(_) => return Ending::Wrong,
     };
     let is_stated = has_stated(&asked, "1.2.0-c") && !has_stated(&asked, "1.3.0-c");
-    match npm::read(alloc, "1.2.0-b || *") {
+    match meaning::read(alloc, by_default(Dialect::Npm), "1.2.0-b || *") {
         Ok(set) => Ending::full_if(
             is_stated && begins_at(&asked, 1) && begins_at(&set, 0) && !has_stated(&set, "1.2.0-b"),
         ),
@@ -109,8 +96,12 @@ pub fn of_npm_ranges(alloc: Global) -> Ending {
 
 /// Range texts of npm that are refused are refused without a request.
 pub fn of_refused_npm_ranges(alloc: Global) -> Ending {
-    let not_a_range = npm::read(alloc, "1.2.3-a || >=1, <2");
-    let too_large = npm::read(alloc, "1.2.3-a || >1.18446744073709551615");
+    let not_a_range = meaning::read(alloc, by_default(Dialect::Npm), "1.2.3-a || >=1, <2");
+    let too_large = meaning::read(
+        alloc,
+        by_default(Dialect::Npm),
+        "1.2.3-a || >1.18446744073709551615",
+    );
     Ending::full_if(
         matches!(not_a_range, Err(RangeError::NotARange))
             && matches!(too_large, Err(RangeError::NumberTooLarge)),
@@ -120,13 +111,13 @@ pub fn of_refused_npm_ranges(alloc: Global) -> Ending {
 /// The versions within the bounds of a requirement and of a range text of npm: both begin with a
 /// pre-release.
 pub fn within_bounds(alloc: Global) -> Ending {
-    let requirement = match meaning::read(alloc, CARGO, "^1.2, <1.5.0-b") {
+    let requirement = match meaning::read(alloc, within(Dialect::Cargo), "^1.2, <1.5.0-b") {
         Ok(set) => set,
         Err(RangeError::OutOfMemory) => return Ending::Refused,
         Err(_) => return Ending::Wrong,
     };
     let is_begun = has_stated(&requirement, "1.2.0-a") && !has_stated(&requirement, "1.5.0-c");
-    match meaning::read(alloc, NPM, "1.2.3 - 2 || ~3.1") {
+    match meaning::read(alloc, within(Dialect::Npm), "1.2.3 - 2 || ~3.1") {
         Ok(set) => Ending::full_if(
             is_begun && has_stated(&set, "1.2.3-a") && !has_stated(&set, "3.1.0-a"),
         ),
@@ -137,10 +128,14 @@ pub fn within_bounds(alloc: Global) -> Ending {
 
 /// Those that are refused are refused without a request.
 pub fn of_refused_bounds(alloc: Global) -> Ending {
-    let not_a_range = meaning::read(alloc, CARGO, "1.2.3-a, >=1 <2");
-    let no_npm_range = meaning::read(alloc, NPM, "1.2 || >=1, <2");
-    let bound = meaning::read(alloc, CARGO, "1.2, >1.18446744073709551615");
-    let too_large = meaning::read(alloc, NPM, "1 - 1.18446744073709551615");
+    let not_a_range = meaning::read(alloc, within(Dialect::Cargo), "1.2.3-a, >=1 <2");
+    let no_npm_range = meaning::read(alloc, within(Dialect::Npm), "1.2 || >=1, <2");
+    let bound = meaning::read(
+        alloc,
+        within(Dialect::Cargo),
+        "1.2, >1.18446744073709551615",
+    );
+    let too_large = meaning::read(alloc, within(Dialect::Npm), "1 - 1.18446744073709551615");
     Ending::full_if(
         matches!(not_a_range, Err(RangeError::NotARange))
             && matches!(no_npm_range, Err(RangeError::NotARange))

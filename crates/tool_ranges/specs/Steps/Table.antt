@@ -5,20 +5,18 @@ use Rattle.std.specs.Prelude.{◌-◌, ◌^◌, nat_le, nat_lt, suc, slice_index
 use Rattle.std.specs.List.{list_all}
 use Rattle.std.specs.Prelude.{List, [], ◌∷◌, Option, Some, None}
 use Rattle.std.specs.Ordering.{is_ge}
-use Rattle.semver_texts.specs.Digits.{digits_in, plain_by}
 use Rattle.semver_texts.specs.Precedence.{precedence}
 use Rattle.semver_texts.specs.Texts.{is_empty}
 use Rattle.semver_texts.specs.Versions.{numbers, PlainVersion}
-use Rattle.semver_ranges.specs.RangeTree.{Form, Simple, bare, equal, less, at_most, greater}
+use Rattle.semver_ranges.specs.RangeTree.{Form, bare, equal, less, at_most, greater}
 use Rattle.semver_ranges.specs.RangeTree.{at_least, tilde, caret}
-use Rattle.semver_ranges.specs.Partials.{leading_place, zero_filled}
+use Rattle.semver_ranges.specs.Partials.{leading_place}
 use Rattle.semver_ranges.specs.RewritingTable.{up}
 use Rattle.version_sets.specs.Steps.Cuts.{SideValue, below, at, past, above, is_above}
 use Rattle.version_sets.specs.Steps.Cuts.{is_above_upper, is_between}
 use Rattle.tool_ranges.specs.declared.dialect.Dialect.{Dialect}
 use Rattle.tool_ranges.specs.declared.dialect.Dialect.TheVariants.{Cargo, Npm, CrateCargo}
 use Rattle.tool_ranges.specs.declared.dialect.Dialect.TheVariants.{CrateNpm}
-use Rattle.tool_ranges.specs.Dialects.{grammar_of}
 use Rattle.tool_ranges.specs.NpmRules.{is_zero}
 
 -- the stated numbers make a block of versions: those that have them. Where it begins: of the crate
@@ -122,10 +120,6 @@ abbrev pub is_counted_within : Dialect → Form → List ℕ → PlainVersion �
 is_counted_within Cargo form s z v = is_between (cargo_sides form s (not (is_empty z.pre))) z v
 is_counted_within Npm form s z v = is_between_releases (sides Npm form s (not (is_empty z.pre))) z v
 is_counted_within dialect form s z v = is_within dialect form s z v
-
--- the zero-filled version of a partial, as a dialect reads its identifiers
-abbrev pub zero_filled_as : Dialect → Simple → PlainVersion
-zero_filled_as dialect s = plain_by (digits_in (grammar_of dialect)) (zero_filled s.partial)
 
 -- ---- what fits
 

@@ -5,8 +5,6 @@ use Rattle.std.specs.Prelude.{Option, Some, None, option_to_list, List, [], ◌�
 use Rattle.std.specs.List.{list_any}
 use Rattle.std.specs.Ordering.{is_ge, is_lt}
 use Rattle.std.specs.declared.cmp.Ordering.{Ordering}
-use Rattle.semver_ranges.specs.declared.range.Op.{Op}
-use Rattle.semver_ranges.specs.declared.range.Op.TheVariants.{Lt, Lte, Gt, Gte, Eq}
 
 pub record SpanValue (T : Type 0) : Type 0 where
   pub from : T
@@ -39,22 +37,6 @@ module _ {T : Type 0} (cmp : T → T → Ordering) where
   earlier None b = b
   earlier (Some a) None = Some a
   earlier (Some a) (Some b) = if is_lt (cmp b a) then Some b else Some a
-
-  -- where bounds begin and end once a comparator narrows them: `at` is where what is at or above
-  -- its version begins, and `above` where what is above it does
-  abbrev pub narrowed_from : Op → Option T → Option T → Option T → Option T
-  narrowed_from Lt from at above = from
-  narrowed_from Lte from at above = from
-  narrowed_from Gt from at above = later from above
-  narrowed_from Gte from at above = later from at
-  narrowed_from Eq from at above = later from at
-
-  abbrev pub narrowed_to : Op → Option T → Option T → Option T → Option T
-  narrowed_to Lt to at above = earlier to at
-  narrowed_to Lte to at above = earlier to above
-  narrowed_to Gt to at above = to
-  narrowed_to Gte to at above = to
-  narrowed_to Eq to at above = earlier to above
 
   -- whether a bound is below v
   abbrev pub is_below : Option T → T → Bool

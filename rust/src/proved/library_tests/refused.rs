@@ -220,10 +220,9 @@ fn of_lines() -> [(&'static str, Ending); 8] {
 }
 
 /// How each call on sets of versions ends, beside the texts of these two.
-fn of_sets(first: &VersionSet, second: &VersionSet) -> [(&'static str, Ending); 10] {
+fn of_sets(first: &VersionSet, second: &VersionSet) -> [(&'static str, Ending); 9] {
     [
         ("refused_set_texts", sets::of_refused_texts()),
-        ("set_of_comparators", sets::of_set()),
         ("union", sets::union(first, second)),
         ("intersection", sets::intersection(first, second)),
         ("difference", sets::difference(first, second)),

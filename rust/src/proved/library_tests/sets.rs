@@ -3,9 +3,10 @@
 #![cfg(feature = "std")]
 
 use crate::rattle_std::prelude::*;
-use crate::proved::semver_parser::version::Version;
-use crate::proved::semver_parser::{Compat, version};
+use crate::proved::semver_parser::version::{self, Version};
 use crate::rattle_std::io::{self, ErrorKind};
+use crate::proved::tool_ranges::dialect::Dialect;
+use crate::proved::tool_ranges::meaning::{self, Meaning};
 use crate::proved::version_sets::{PreReleases, VersionSet};
 
 /// The last numbers, as a text.
@@ -196,7 +197,11 @@ fn is_in(range: &str, rule: PreReleases, text: &str) -> io::Result<bool> {
 
 /// The set of a range.
 fn set_of(range: &str, rule: PreReleases) -> io::Result<VersionSet> {
-    match VersionSet::of_text(range, Compat::Cargo, rule) {
+    let meaning = Meaning {
+        dialect: Dialect::CrateCargo,
+        pre_releases: rule,
+    };
+    match meaning::read(meaning, range) {
         Ok(set) => Ok(set),
         Err(_) => Err(io::Error::from(ErrorKind::InvalidInput)),
     }

@@ -7,15 +7,17 @@ use crate::proved::replayed_cases::filtering::versions_of;
 use crate::proved::semver_parser::version::{self, Version};
 use crate::proved::semver_parser::{Compat, RangeError};
 use crate::rattle_std::io::{self, ErrorKind, Write};
+use crate::proved::tool_ranges::dialect::Dialect;
+use crate::proved::tool_ranges::meaning::{self, Meaning};
 use crate::proved::version_sets::{PreReleases, SetError, VersionSet};
 
 /// A rule for pre-releases, and a mode.
-pub type Dialect = (PreReleases, Compat);
+pub type Rule = (PreReleases, Compat);
 
 /// Writes the versions of a list, separated by blanks, that are in the set of a text, then its
 /// lowest version and its lowest release, or the error of the text.
 pub fn write_set<W: Write>(
-    dialect: Dialect,
+    rule: Rule,
     text: &str,
     list: &str,
     out: &mut W,
@@ -23,7 +25,7 @@ pub fn write_set<W: Write>(
     let Some(versions) = versions_of(list)? else {
         return write!(out, "not all are versions");
     };
-    let set = match set_of(dialect, text) {
+    let set = match set_of(rule, text) {
         Ok(set) => set,
         Err(error) => return write!(out, "{error}"),
     };
@@ -46,17 +48,17 @@ pub fn write_set<W: Write>(
 /// may have a semicolon after it and then versions, separated by blanks: of each is written what
 /// it is in.
 pub fn write_pair<W: Write>(
-    dialect: Dialect,
+    rule: Rule,
     text: &str,
     steps: &str,
     out: &mut W,
 ) -> io::Result<()> {
     let (other, list) = steps.split_once(';').unwrap_or((steps, ""));
-    let first = match set_of(dialect, text) {
+    let first = match set_of(rule, text) {
         Ok(set) => set,
         Err(error) => return write!(out, "{error}"),
     };
-    let second = match set_of(dialect, other) {
+    let second = match set_of(rule, other) {
         Ok(set) => set,
         Err(error) => return write!(out, "{error}"),
     };
@@ -75,12 +77,8 @@ pub fn write_pair<W: Write>(
 }
 
 /// Writes the releases and the pre-releases that a text means as ranges, or the error of the text.
-pub fn write_whole<W: Write>(
-    dialect: Dialect,
-    text: &str,
-    out: &mut W,
-) -> io::Result<()> {
-    match set_of(dialect, text) {
+pub fn write_whole<W: Write>(rule: Rule, text: &str, out: &mut W) -> io::Result<()> {
+    match set_of(rule, text) {
         Ok(set) => write_ranges(&set, out),
         Err(error) => write!(out, "{error}"),
     }
@@ -89,16 +87,16 @@ pub fn write_whole<W: Write>(
 /// Writes what the second of two texts loses, gains and keeps of the first as ranges, or the error
 /// of a text.
 pub fn write_whole_pair<W: Write>(
-    dialect: Dialect,
+    rule: Rule,
     text: &str,
     other: &str,
     out: &mut W,
 ) -> io::Result<()> {
-    let first = match set_of(dialect, text) {
+    let first = match set_of(rule, text) {
         Ok(set) => set,
         Err(error) => return write!(out, "{error}"),
     };
-    let second = match set_of(dialect, other) {
+    let second = match set_of(rule, other) {
         Ok(set) => set,
         Err(error) => return write!(out, "{error}"),
     };
@@ -192,7 +190,15 @@ fn write_lowest<W: Write>(set: &VersionSet, out: &mut W) -> io::Result<()> {
 }
 
 /// The set of a text.
-fn set_of(dialect: Dialect, text: &str) -> Result<VersionSet, RangeError> {
-    let (pre_releases, compat) = dialect;
-    VersionSet::of_text(text, compat, pre_releases)
+fn set_of(rule: Rule, text: &str) -> Result<VersionSet, RangeError> {
+    let (pre_releases, compat) = rule;
+    let dialect = match compat {
+        Compat::Cargo => Dialect::CrateCargo,
+        Compat::Npm => Dialect::CrateNpm,
+    };
+    let meaning = Meaning {
+        dialect,
+        pre_releases,
+    };
+    meaning::read(meaning, text)
 }

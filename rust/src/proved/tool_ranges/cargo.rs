@@ -2,16 +2,10 @@
 //! Requirements as Cargo reads them: `1.2` is `>=1.2.0 <2.0.0`, and commas separate comparators.
 
 use crate::rattle_std::prelude::*;
-mod checking;
 mod grammar;
-mod pre_releases;
-mod requirement_sets;
 
 use crate::proved::tool_ranges::desugaring::{self, ToolDesugared};
-use checking::{VersionKind, push_checks};
 pub(crate) use grammar::read_comparator;
-pub use requirement_sets::read;
-pub(crate) use requirement_sets::read_with_all;
 use crate::proved::semver_ranges::grammar::Simple;
 use crate::proved::semver_ranges::partial::{LowerBounds, Partial, RaisedBounds};
 use crate::proved::semver_ranges::{Comparator, Compat, Range, RangeError, RangeSet};
@@ -62,8 +56,8 @@ fn rewritten(requirement: &str) -> Result<RangeSet, RangeError> {
 #[inline(never)]
 fn rewritten_all(requirement: &str) -> Result<Vec<Range>, RangeError> {
     let surveyed = survey(requirement)?;
-    match build(&surveyed, VersionKind::Releases, false) {
-        Ok((ranges, _)) => Ok(ranges),
+    match build(&surveyed) {
+        Ok(ranges) => Ok(ranges),
         Err(_) => Err(RangeError::OutOfMemory),
     }
 }
@@ -160,38 +154,31 @@ fn ended<T: Copy>(stands_alone: bool, fit: bool, answer: T) -> Result<T, RangeEr
     Ok(answer)
 }
 
-/// The range of a requirement, by which some versions are checked, and the ranges of the
-/// pre-releases that count, if these are wanted.
-fn build(
-    surveyed: &Surveyed<'_>,
-    checked: VersionKind,
-    counts: bool,
-) -> Result<(Vec<Range>, Vec<Range>), AllocError> {
-    let (comparator_set, counting) = build_comparators(surveyed, checked, counts)?;
-    Ok((in_one_range(comparator_set)?, counting))
+/// The range of a requirement.
+fn build(surveyed: &Surveyed<'_>) -> Result<Vec<Range>, AllocError> {
+    in_one_range(build_comparators(surveyed)?)
 }
 
-/// The comparators of that set, and those ranges.
-fn build_comparators(
-    surveyed: &Surveyed<'_>,
-    checked: VersionKind,
-    counts: bool,
-) -> Result<(Vec<Comparator>, Vec<Range>), AllocError> {
+/// The comparators of that range.
+fn build_comparators(surveyed: &Surveyed<'_>) -> Result<Vec<Comparator>, AllocError> {
     let mut comparators = Vec::fallible_with_capacity(surveyed.count)?;
-    let mut counting = Vec::new();
     let mut simple = surveyed.first;
     let mut after = surveyed.after;
     for _ in 0..MOST_COMPARATORS {
-        push_checks(checked, &simple, &mut comparators)?;
-        pre_releases::push_counting(counts, &simple.partial, &mut counting)?;
+        desugaring::push(
+            &simple,
+            Compat::Cargo,
+            LowerBounds::Stated,
+            &mut comparators,
+        )?;
         let Some(rest) = after else {
-            return Ok((comparators, counting));
+            return Ok(comparators);
         };
         let Some(next) = read_comparator(rest) else {
-            return Ok((comparators, counting));
+            return Ok(comparators);
         };
         simple = next.0;
         after = next.1;
     }
-    Ok((comparators, counting))
+    Ok(comparators)
 }

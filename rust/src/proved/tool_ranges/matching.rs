@@ -28,7 +28,7 @@ pub(crate) fn answer(
 
 /// Whether each pre-release within the bounds counts.
 #[inline(always)]
-fn takes_all(rule: PreReleases) -> bool {
+pub(crate) fn takes_all(rule: PreReleases) -> bool {
     matches!(rule, PreReleases::Included)
 }
 
@@ -156,7 +156,7 @@ fn meets(simple: &Simple<'_>, version: &Outline<'_>, dialect: Dialect, by_defaul
 
 /// The versions that satisfy a term, of all or of those that count by default.
 #[inline(always)]
-fn looked_at<'t>(simple: &Simple<'t>, dialect: Dialect, by_default: bool) -> Interval<'t> {
+pub(crate) fn looked_at<'t>(simple: &Simple<'t>, dialect: Dialect, by_default: bool) -> Interval<'t> {
     if by_default {
         counted(simple, dialect)
     } else {

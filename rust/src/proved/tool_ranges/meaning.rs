@@ -4,8 +4,8 @@
 use crate::rattle_std::prelude::*;
 use crate::proved::tool_ranges::dialect::Dialect;
 use crate::proved::tool_ranges::matching::answer;
-use crate::proved::tool_ranges::{cargo, npm};
-use crate::proved::semver_ranges::{Compat, RangeError};
+use crate::proved::tool_ranges::sets;
+use crate::proved::semver_ranges::RangeError;
 use crate::proved::semver_versions::version::Outline;
 use crate::proved::version_sets::{PreReleases, VersionSet};
 
@@ -31,10 +31,8 @@ pub struct Meaning {
 
 /// Reads a range text into the set of the versions that it means.
 ///
-/// It is [`cargo::read`](crate::proved::tool_ranges::cargo::read), [`npm::read`](crate::proved::tool_ranges::npm::read) or
-/// `VersionSet::of_text`: `^1.2.0, <1.5` has 1.4.0 in Cargo's dialect, and is refused in the
-/// others. With `PreReleases::Included` the set of `^1.2` begins with 1.2.0-0, and `*` is every
-/// version.
+/// `^1.2.0, <1.5` has 1.4.0 in Cargo's dialect, and is refused in the others. With
+/// `PreReleases::Included` the set of `^1.2` begins with 1.2.0-0, and `*` is every version.
 ///
 /// # Errors
 ///
@@ -42,41 +40,7 @@ pub struct Meaning {
 /// has, and a number that it states or a bound that is raised by one is above 2^64 - 1, or in npm's
 /// dialect above 2^53 - 1. These two do not allocate; `OutOfMemory` comes only in place of a set.
 pub fn read(meaning: Meaning, range: &str) -> Result<VersionSet, RangeError> {
-    let rule = meaning.pre_releases;
-    match meaning.dialect {
-        Dialect::Cargo => read_cargo(range, rule),
-        Dialect::Npm => read_npm(range, rule),
-        Dialect::CrateCargo => VersionSet::of_text(range, Compat::Cargo, rule),
-        Dialect::CrateNpm => VersionSet::of_text(range, Compat::Npm, rule),
-    }
-}
-
-/// Reads a requirement of Cargo by a rule for pre-releases.
-fn read_cargo(range: &str, rule: PreReleases) -> Result<VersionSet, RangeError> {
-    match rule {
-        PreReleases::Default => cargo::read(range),
-        PreReleases::Included => cargo::read_with_all(range),
-        PreReleases::Excluded => releases_of(cargo::read(range)),
-    }
-}
-
-/// Reads a range text of npm by a rule for pre-releases.
-fn read_npm(range: &str, rule: PreReleases) -> Result<VersionSet, RangeError> {
-    match rule {
-        PreReleases::Default => npm::read(range),
-        PreReleases::Included => npm::read_with_all(range),
-        PreReleases::Excluded => releases_of(npm::read(range)),
-    }
-}
-
-/// The releases of what was read.
-fn releases_of(
-    read: Result<VersionSet, RangeError>,
-) -> Result<VersionSet, RangeError> {
-    match read {
-        Ok(set) => Ok(set.only_releases()),
-        Err(refusal) => Err(refusal),
-    }
+    sets::read(range, meaning.dialect, meaning.pre_releases)
 }
 
 /// Returns whether a version satisfies a range: 1.9.0 satisfies `^1.2` in each dialect, 2.0.0 in

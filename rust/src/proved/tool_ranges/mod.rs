@@ -2,7 +2,6 @@
 //! Range texts as Cargo and npm themselves read them, which differs from the port's two modes.
 
 use crate::rattle_std::prelude::*;
-mod any_size;
 pub mod cargo;
 mod cursor;
 mod desugaring;
@@ -17,5 +16,6 @@ pub mod range_operations;
 mod reasons;
 pub mod refusals;
 pub mod satisfying;
+mod sets;
 mod table;
 pub mod version_range;

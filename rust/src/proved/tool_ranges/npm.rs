@@ -2,11 +2,7 @@
 //! Range texts as npm reads them: `>1.2` is `>=1.3.0`, and `v1` is a range.
 
 use crate::rattle_std::prelude::*;
-mod range_sets;
-
 use crate::proved::tool_ranges::desugaring;
-pub use range_sets::read;
-pub(crate) use range_sets::read_with_all;
 use crate::proved::semver_ranges::desugared_texts::{Desugaring, read_by};
 use crate::proved::semver_ranges::grammar::Simple;
 use crate::proved::semver_ranges::partial::LowerBounds;
@@ -25,7 +21,7 @@ use crate::rattle_std::AllocError;
 /// `>=1.2.0 <2.0.0-0 || >=3.0.0 <4.0.0-0`.
 ///
 /// A release satisfies the answer exactly if the text means it. Which pre-releases npm takes
-/// comparators can't say: [`read`] answers them as a set.
+/// comparators can't say: [`meaning::read`](crate::proved::tool_ranges::meaning::read) answers them as a set.
 ///
 /// # Errors
 ///

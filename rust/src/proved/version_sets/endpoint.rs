@@ -3,8 +3,7 @@
 
 use crate::rattle_std::prelude::*;
 use crate::proved::version_sets::boundary::Boundary;
-use crate::proved::version_sets::release::{Release, next_numbers};
-use crate::proved::semver_ranges::Comparator;
+use crate::proved::version_sets::release::Release;
 use crate::rattle_std::AllocError;
 use crate::rattle_std::cmp::Ordering;
 
@@ -35,25 +34,5 @@ impl Endpoint for Release {
             minor,
             patch,
         })
-    }
-}
-
-/// Where the releases above a comparator's version begin. That of a pre-release's numbers is above
-/// it.
-pub(crate) fn release_above(comparator: &Comparator) -> Option<Release> {
-    let numbers = numbers_of(comparator);
-    if comparator.pre.is_empty() {
-        next_numbers(numbers)
-    } else {
-        Some(numbers)
-    }
-}
-
-/// The numbers of a comparator. What is at or above them is at or above it, of the releases.
-pub(crate) fn numbers_of(comparator: &Comparator) -> Release {
-    Release {
-        major: comparator.major,
-        minor: comparator.minor,
-        patch: comparator.patch,
     }
 }

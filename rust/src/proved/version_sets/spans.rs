@@ -3,7 +3,6 @@
 
 use crate::rattle_std::prelude::*;
 use crate::proved::version_sets::endpoint::Endpoint;
-use crate::proved::semver_ranges::Op;
 use crate::rattle_std::AllocError;
 
 /// The versions at or above one endpoint and below another. `None` is above all versions.
@@ -50,34 +49,6 @@ fn earlier<L: Endpoint>(first: Option<L>, second: Option<L>) -> Option<L> {
 }
 
 impl<L: Endpoint> Bounds<L> {
-    /// Those of the versions that satisfy a comparator: `at` is where what is at or above its
-    /// version begins, and `above` where what is above it does.
-    pub(crate) fn narrowed(self, op: &Op, at: Option<L>, above: Option<L>) -> Bounds<L> {
-        let (from, to) = (self.from, self.to);
-        match op {
-            Op::Gte => Bounds {
-                from: later(from, at),
-                to,
-            },
-            Op::Gt => Bounds {
-                from: later(from, above),
-                to,
-            },
-            Op::Lt => Bounds {
-                from,
-                to: earlier(to, at),
-            },
-            Op::Lte => Bounds {
-                from,
-                to: earlier(to, above),
-            },
-            Op::Eq => Bounds {
-                from: later(from, at),
-                to: earlier(to, above),
-            },
-        }
-    }
-
     /// The versions that are within other bounds, too.
     pub(crate) fn and(self, other: Bounds<L>) -> Bounds<L> {
         Bounds {

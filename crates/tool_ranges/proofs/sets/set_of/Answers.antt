@@ -1,8 +1,8 @@
-use Rattle.std.proofs.Common.{◌≡◌, Some, None, Option, List, [], ◌∷◌, Bool, true, false, ◌&&◌, refl, sym, ap, ◌∙◌, subst, rules}
+use Rattle.std.proofs.Common.{◌≡◌, Some, None, Option, List, [], ◌∷◌, true, refl, sym, ap, ◌∙◌, subst, rules}
 use Rattle.std.specs.List.{list_all}
 use Rattle.semver_texts.specs.Versions.{PlainVersion, without_build}
-use Rattle.semver_ranges.specs.Steps.RangeEvents.{Event, one_simple, next_range, event_fits, put}
-use Rattle.tool_ranges.specs.Dialects.{SpellsAs, TreeOf, grammar_of}
+use Rattle.semver_ranges.specs.Steps.RangeEvents.{Event, one_simple, next_range, event_fits}
+use Rattle.tool_ranges.specs.Dialects.{grammar_of}
 use Rattle.tool_ranges.specs.Steps.Matching as matching
 use Rattle.tool_ranges.specs.Steps.Cursors.{ComesFirst, GivesNext, HasLeftIn, events_in, ranges_of, text_events}
 use Rattle.tool_ranges.specs.Steps.Matching.{after, begun, counts, lower_of, takes_all, term_fits}

@@ -6,7 +6,7 @@ use Rattle.version_sets.specs.VersionSets.{Fits, contains}
 use Rattle.version_sets.specs.Steps.Ends.{has_numbers, in_each, in_ranges}
 use Rattle.tool_ranges.proofs.ReadRows.{if_ok}
 use Rattle.tool_ranges.specs.Steps.Building.{known}
-use Rattle.tool_ranges.specs.Steps.Matching.{counts, ended, said, takes_all, takes_releases}
+use Rattle.tool_ranges.specs.Steps.Matching.{counts, ended, takes_all, takes_releases}
 use Rattle.tool_ranges.proofs.BuiltSets.{every_said, last_kinds, met_of, met_said}
 use Rattle.tool_ranges.proofs.sets.Building.into_set.Goals as goal
 use Rattle.tool_ranges.proofs.sets.Building.into_set.Goals.{In_ok-set}

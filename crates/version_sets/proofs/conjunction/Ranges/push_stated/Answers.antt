@@ -1,8 +1,7 @@
-use Rattle.std.proofs.Common.{◌≡◌, ◌&&◌, ◌||◌, ◌∙◌, Bool, true, false, refl, sym, ap, map, rules}
+use Rattle.std.proofs.Common.{◌≡◌, ◌&&◌, ◌||◌, ◌∙◌, Bool, true, false, refl, ap, map}
 use Rattle.semver_texts.specs.Precedence.{precedence}
 use Rattle.semver_texts.specs.Texts.{is_empty}
 use Rattle.semver_texts.proofs.Lists.{by_test}
-use Rattle.version_sets.specs.Releases.{release_value}
 use Rattle.version_sets.specs.Steps.EndPlaces.{end_place}
 use Rattle.version_sets.specs.Steps.Spans.{in_some}
 use Rattle.version_sets.specs.Steps.SpanViews.{is_within, span_value}

@@ -1,11 +1,10 @@
-use Rattle.std.proofs.Common.{◌≡◌, false, ap, is_ge, is_gt, map, sym, ◌∙◌, rules}
+use Rattle.std.proofs.Common.{◌≡◌, false, ap, is_ge, is_gt, map, ◌∙◌, rules}
 use Rattle.std.specs.Prelude.{Some}
 use Rattle.semver_texts.specs.Digits.{plain_by}
 use Rattle.semver_texts.specs.Precedence.{precedence}
 use Rattle.semver_texts.specs.Texts.{cut_at_dots, is_empty}
 use Rattle.semver_ranges.specs.Partials.{kept}
 use Rattle.version_sets.specs.Releases.{release_value}
-use Rattle.version_sets.specs.Steps.EndPlaces.{end_place}
 use Rattle.version_sets.proofs.BoundLaws.{from-lowest}
 use Rattle.version_sets.proofs.EndLaws.{by_first, end_prints, past_end}
 use Rattle.version_sets.proofs.pre_release_place.PreReleaseEnd.first.Goals as goal

@@ -1,0 +1,164 @@
+// Made by tools/erase.py from crates/tool_ranges/src/sets.rt; not edited by hand.
+//! A range text as the set of the versions that it means.
+
+use crate::rattle_std::prelude::*;
+use crate::proved::tool_ranges::cursor::Cursor;
+use crate::proved::tool_ranges::dialect::Dialect;
+use crate::proved::tool_ranges::matching::{looked_at, lower, matches_everything, takes_all};
+use crate::proved::tool_ranges::meaning::{Meaning, check};
+use crate::proved::tool_ranges::table::{bounds, numbers};
+use crate::proved::semver_ranges::RangeError;
+use crate::proved::semver_ranges::events::Event;
+use crate::proved::semver_ranges::grammar::Simple;
+use crate::proved::semver_ranges::partial::Partial;
+use crate::rattle_std::AllocError;
+use crate::proved::version_sets::{Conjunction, PreReleases, Ranges, Release, VersionSet};
+
+/// Reads a range into the set of the versions that it means. What is refused doesn't allocate, so
+/// the text is checked first.
+pub(crate) fn read(
+    range: &str,
+    dialect: Dialect,
+    rule: PreReleases,
+) -> Result<VersionSet, RangeError> {
+    let meaning = Meaning {
+        dialect,
+        pre_releases: rule,
+    };
+    if let Err(refusal) = check(meaning, range) {
+        return Err(refusal);
+    }
+    match set_of(range, dialect, rule) {
+        Ok(set) => Ok(set),
+        Err(_) => Err(RangeError::OutOfMemory),
+    }
+}
+
+/// The set of a text that has one. `Err` is out of memory.
+fn set_of(
+    range: &str,
+    dialect: Dialect,
+    rule: PreReleases,
+) -> Result<VersionSet, AllocError> {
+    let all = takes_all(rule);
+    let grammar = dialect.grammar();
+    let mut building = Building::new();
+    let Ok(mut cursor) = Cursor::new(range, dialect, lower(dialect, all)) else {
+        return Ok(VersionSet::empty(grammar.digits()));
+    };
+    while let Some(Ok(event)) = cursor.next(grammar) {
+        match event {
+            Event::Simple(simple) => building.push_term(&simple, dialect, all)?,
+            Event::NextRange => building.end_range(all)?,
+        }
+    }
+    building.into_set(dialect, rule)
+}
+
+/// What is known of a range text up to a place.
+pub(crate) struct Building<'text> {
+    /// The versions of the ranges before.
+    ranges: Ranges<'text>,
+    /// Those that satisfy the terms of this range.
+    here: Conjunction<'text>,
+    /// The numbers that its terms state with a pre-release.
+    stated: Vec<Release>,
+    /// Whether it matches everything.
+    nothing: bool,
+    /// Whether a range before does.
+    every: bool,
+}
+
+impl<'text> Building<'text> {
+    /// Before the first term. It does not allocate.
+    fn new() -> Building<'text> {
+        Building {
+            ranges: Ranges::new(),
+            here: Conjunction::new(),
+            stated: Vec::new(),
+            nothing: true,
+            every: false,
+        }
+    }
+
+    /// With a term. `Err` is out of memory.
+    fn push_term(
+        &mut self,
+        simple: &Simple<'text>,
+        dialect: Dialect,
+        all: bool,
+    ) -> Result<(), AllocError> {
+        let pre_releases = looked_at(simple, dialect, !all);
+        let digits = dialect.grammar().digits();
+        self.here = self
+            .here
+            .and(&bounds(simple, dialect), &pre_releases, digits);
+        self.nothing &= matches_everything(simple);
+        if let Some(numbers) = stated_numbers(&simple.partial) {
+            self.stated.fallible_push(numbers)?;
+        }
+        Ok(())
+    }
+
+    /// At the end of a range. `Err` is out of memory.
+    fn end_range(&mut self, all: bool) -> Result<(), AllocError> {
+        self.ranges.push_releases(&self.here)?;
+        push_pre_releases(&mut self.ranges, &self.here, &self.stated, all)?;
+        self.every |= self.nothing;
+        self.nothing = true;
+        self.here = Conjunction::new();
+        self.stated.clear();
+        Ok(())
+    }
+}
+
+impl Building<'_> {
+    /// The set, at the end of the text. `Err` is out of memory.
+    fn into_set(
+        self,
+        dialect: Dialect,
+        rule: PreReleases,
+    ) -> Result<VersionSet, AllocError> {
+        let digits = dialect.grammar().digits();
+        if (self.every | self.nothing) & is_by_default_of_npm(dialect, rule) {
+            return Ranges::new().into_set(&Conjunction::new(), digits);
+        }
+        let mut ranges = self.ranges;
+        push_pre_releases(&mut ranges, &self.here, &self.stated, takes_all(rule))?;
+        let set = ranges.into_set(&self.here, digits)?;
+        match rule {
+            PreReleases::Excluded => Ok(set.only_releases()),
+            PreReleases::Default | PreReleases::Included => Ok(set),
+        }
+    }
+}
+
+/// Adds the pre-releases of a range that count. `Err` is out of memory.
+fn push_pre_releases<'text>(
+    ranges: &mut Ranges<'text>,
+    here: &Conjunction<'text>,
+    stated: &[Release],
+    all: bool,
+) -> Result<(), AllocError> {
+    if all {
+        return ranges.push_pre_releases(here);
+    }
+    for numbers in stated {
+        ranges.push_stated(here, numbers)?;
+    }
+    Ok(())
+}
+
+/// The numbers that a partial states with a pre-release, if it does.
+fn stated_numbers(partial: &Partial<'_>) -> Option<Release> {
+    if partial.has_pre_release() && partial.states_three() {
+        Some(numbers(partial))
+    } else {
+        None
+    }
+}
+
+/// Whether npm takes each release and no pre-release where some range matches everything.
+fn is_by_default_of_npm(dialect: Dialect, rule: PreReleases) -> bool {
+    matches!(dialect, Dialect::Npm) && !takes_all(rule)
+}

@@ -1,0 +1,16 @@
+// Made by tools/erase.py from crates/version_sets/src/pre_release_place.rt; not edited by hand.
+//! Where spans of pre-releases begin and end.
+
+use crate::rattle_std::prelude::*;
+use crate::proved::version_sets::release::Release;
+use crate::proved::semver_texts::grammar::Digits;
+
+/// Where pre-releases begin or end: at some numbers with these identifiers, and, if `successor`,
+/// with the number 0 after them. No identifiers are the lowest, the number 0 alone.
+#[derive(Clone, Copy)]
+pub(crate) struct PreReleaseEnd<'text> {
+    pub(crate) numbers: Release,
+    pub(crate) pre: &'text [u8],
+    pub(crate) successor: bool,
+    pub(crate) digits: Digits,
+}

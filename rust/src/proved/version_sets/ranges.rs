@@ -1,0 +1,132 @@
+// Made by tools/erase.py from crates/version_sets/src/ranges.rt; not edited by hand.
+//! The set of the versions in some range, where each range is some intervals.
+
+use crate::rattle_std::prelude::*;
+use crate::proved::version_sets::conjunction::{Conjunction, Ranges};
+use crate::proved::version_sets::cut::Interval;
+use crate::proved::version_sets::pre_release_end::first_release;
+use crate::proved::version_sets::pre_release_place::PreReleaseEnd;
+use crate::proved::version_sets::release::{LOWEST, Release};
+use crate::proved::version_sets::spans::{Bounds, Span, boundaries_of};
+use crate::proved::version_sets::version_set::VersionSet;
+use crate::proved::semver_texts::grammar::Digits;
+use crate::rattle_std::AllocError;
+
+impl<'text> Conjunction<'text> {
+    /// Those of no interval: all versions.
+    pub fn new() -> Conjunction<'text> {
+        Conjunction {
+            releases: Bounds {
+                from: Some(LOWEST),
+                to: None,
+            },
+            pre_releases: Bounds {
+                from: Some(PreReleaseEnd::lowest(LOWEST)),
+                to: None,
+            },
+        }
+    }
+
+    /// Those that are in one more interval: of the releases in one, and of the pre-releases in
+    /// another, if identifiers of digits alone are read so.
+    pub fn and(
+        self,
+        releases: &Interval<'text>,
+        pre_releases: &Interval<'text>,
+        digits: Digits,
+    ) -> Conjunction<'text> {
+        Conjunction {
+            releases: self.releases.and(released(releases)),
+            pre_releases: self.pre_releases.and(pre_released(pre_releases, digits)),
+        }
+    }
+}
+
+/// The releases of an interval.
+fn released(interval: &Interval<'_>) -> Bounds<Release> {
+    let from = match &interval.lower {
+        Some(cut) => first_release(cut),
+        None => Some(LOWEST),
+    };
+    let to = match &interval.upper {
+        Some(cut) => first_release(cut),
+        None => None,
+    };
+    Bounds { from, to }
+}
+
+/// The pre-releases of an interval.
+fn pre_released<'text>(interval: &Interval<'text>, digits: Digits) -> Bounds<PreReleaseEnd<'text>> {
+    let from = match &interval.lower {
+        Some(cut) => PreReleaseEnd::first(cut, digits),
+        None => Some(PreReleaseEnd::lowest(LOWEST)),
+    };
+    let to = match &interval.upper {
+        Some(cut) => PreReleaseEnd::first(cut, digits),
+        None => None,
+    };
+    Bounds { from, to }
+}
+
+impl<'text> Ranges<'text> {
+    /// No range. It does not allocate.
+    pub fn new() -> Ranges<'text> {
+        Ranges {
+            releases: Vec::new(),
+            pre_releases: Vec::new(),
+        }
+    }
+
+    /// Adds the releases of a range. `Err` is out of memory.
+    pub fn push_releases(&mut self, range: &Conjunction<'text>) -> Result<(), AllocError> {
+        range.releases.push_to(&mut self.releases)
+    }
+
+    /// Adds its pre-releases. `Err` is out of memory.
+    pub fn push_pre_releases(&mut self, range: &Conjunction<'text>) -> Result<(), AllocError> {
+        range.pre_releases.push_to(&mut self.pre_releases)
+    }
+
+    /// Adds those of its pre-releases that have some numbers. `Err` is out of memory.
+    pub fn push_stated(
+        &mut self,
+        range: &Conjunction<'text>,
+        numbers: &Release,
+    ) -> Result<(), AllocError> {
+        let stated = Bounds {
+            from: Some(PreReleaseEnd::lowest(*numbers)),
+            to: PreReleaseEnd::above_numbers(*numbers),
+        };
+        range
+            .pre_releases
+            .and(stated)
+            .push_to(&mut self.pre_releases)
+    }
+
+    /// The set of the versions in some range, or among the releases of a last one. `Err` is out of
+    /// memory.
+    pub fn into_set(
+        self,
+        last: &Conjunction<'text>,
+        digits: Digits,
+    ) -> Result<VersionSet, AllocError> {
+        let releases = all_releases(self.releases, &last.releases)?;
+        let mut spans = self.pre_releases;
+        let pre_releases = boundaries_of(&mut spans)?;
+        Ok(VersionSet::of_boundaries(digits, releases, pre_releases))
+    }
+}
+
+/// The boundaries of releases, and of those of a last range. For speed, as most texts are one range,
+/// these alone aren't sorted.
+fn all_releases(
+    spans: Vec<Span<Release>>,
+    last: &Bounds<Release>,
+) -> Result<Vec<Release>, AllocError> {
+    if spans.is_empty() {
+        return last.boundaries();
+    }
+    let mut spans = spans;
+    last.push_to(&mut spans)?;
+    boundaries_of(&mut spans)
+}
