@@ -134,18 +134,18 @@ pub fn is_digit(byte: u8) -> bool
         'a comment within a comment hides a ghost item',
         edits=[
     ('crates/release_filter/src/selection.rt',
-     '''        self.best = None;
-        self.sorted.clear();
+     '''        self.lines.clear();
+        bytes.clear();
 ''',
-     '''        /* /* */ self.spare.clear(); ghost x = { */
-        self.best = None;
+     '''        /* /* */ kept.clear(); ghost x = { */
+        self.lines.clear();
         /* }; */
-        self.sorted.clear();
+        bytes.clear();
 '''),
         ],
         careless=[
-    ('release_filter/selection.rs', '        self.best = None;\n',
-     '        /* /* */ self.spare.clear(); */\n'),
+    ('release_filter/selection.rs', '        self.lines.clear();\n        bytes.clear();\n',
+     '        /* /* */ kept.clear(); */\n        bytes.clear();\n'),
         ],
         at=('crates/release_filter/src/selection.rt', '/* /* */'),
         why='no rule for what begins here'),
@@ -153,16 +153,17 @@ pub fn is_digit(byte: u8) -> bool
         'a comment ends at a carriage return for one reader',
         edits=[
     ('crates/release_filter/src/selection.rt',
-     '''        self.best = None;
-        self.sorted.clear();
+     '''        self.lines.clear();
+        bytes.clear();
 ''',
-     '        self.best = None; // as at first \r        self.spare.clear();\n'
-     '        self.sorted.clear();\n'),
+     '        self.lines.clear(); // as at first \r        kept.clear();\n'
+     '        bytes.clear();\n'),
         ],
         careless=[
-    ('release_filter/selection.rs', '        self.best = None;\n',
-     '''        self.best = None; // as at first
-        self.spare.clear();
+    ('release_filter/selection.rs', '        self.lines.clear();\n        bytes.clear();\n',
+     '''        self.lines.clear(); // as at first
+        kept.clear();
+        bytes.clear();
 '''),
         ],
         at=('crates/release_filter/src/selection.rt', '// as at first'),
@@ -338,11 +339,8 @@ pub(crate) fn one_more(count: &mut usize) {
             }
 '''),
     ('release_filter/mod.rs',
-     '''use crate::rattle_std::prelude::*;
-mod filter;
-''',
-     '''use crate::rattle_std::prelude::*;
-mod counting;
+     'mod filter;\n',
+     '''mod counting;
 mod filter;
 '''),
         ],

@@ -19,7 +19,7 @@ UNKNOWN = {'unsafe', 'extern', 'static', 'macro_rules', 'async', 'await', 'isize
 # Methods of std, some only with a type of what they return.
 CALLS = {'parse :: < u32'} | set('''
     alloc all and_then any as_mut_slice as_ref as_slice by_ref bytes chars checked_add
-    checked_ilog10 checked_mul clone cmp copied copy_from_slice ends_with enumerate escape_ascii
+    checked_ilog10 checked_mul clear clone cmp copied copy_from_slice ends_with enumerate escape_ascii
     extend_from_slice get get_mut into is_ascii is_ascii_alphanumeric is_ascii_digit
     is_char_boundary is_eq is_err is_ge is_gt is_le is_lt is_ne is_none is_ok is_ok_and
     is_some is_some_and is_terminal iter iter_mut last len lines map map_err map_or min ok
@@ -37,7 +37,7 @@ PATHS = set('''
     ExitCode::from Ordering::Equal Ordering::Greater Ordering::Less String::from_str String::new
     String::with_capacity Vec::from_elem Vec::from_slice Vec::new Vec::with_capacity Write::write
     env::args fmt::Display fmt::Error fmt::Formatter fmt::Result fmt::Write fs::open io::Error
-    io::Result io::Write io::writer mem::replace mem::swap str::from_utf8 u128::from u16::from
+    io::Result io::Write io::writer str::from_utf8 u128::from u16::from
     u32::from u64::MAX u64::from u8::is_ascii_alphanumeric usize::MAX usize::from
 '''.split())
 

@@ -59,7 +59,7 @@ The comment `// Answer: ..` above a public call says what determines its result:
   file of tests that shows it.
 
 If memory ran out, what is left of `Parser::version` is an end part of the tokens (`out_of_memory`; of `Parser::identifier`
-the law fixes it), and what `Lines::push` appended is what as much of the piece as it took gives.
+the law fixes it). What a call of `Lines` appended, and its counts, are those of some first lines of what it was given (`stops`).
 '''
 
 

@@ -295,7 +295,9 @@ hostile_input() {
     run 'a null byte' given '1.2.3\000\n1.2.4\n' '^1'
     run 'a line of ten million bytes' a_long_line '^1'
     run 'a line of a hundred million bytes, in a tenth of that memory' a_skipped_line '^1'
-    run 'a version of ten million bytes' a_long_version '^1'
+    run 'a version of 1,048,576 bytes' a_long_version 1048576 '^1'
+    run 'a version of one byte more' a_long_version 1048577 '^1'
+    run 'a version of ten million bytes' a_long_version 10000000 '^1'
     run 'a million empty lines' a_million_empty_lines '^1'
     run 'a million versions' a_million_versions '^1'
 }
@@ -309,9 +311,16 @@ a_skipped_line() {
     { head -c 100000000 /dev/zero | tr '\0' a; printf '\n1.2.3\n'; } | (ulimit -v 10000 && "$program" "$@")
 }
 
-# The long version is counted, with its line feed.
+# The bytes of the long version are counted, with its line feed. A text of more than 1,048,576 bytes
+# has no version.
 a_long_version() {
-    { printf '1.2.3+'; head -c 9999994 /dev/zero | tr '\0' a; printf '\n2.0.0\n'; } | "$program" "$@" | wc -c
+    bytes=$1
+    shift
+    {
+        printf '1.2.3+'
+        head -c $((bytes - 6)) /dev/zero | tr '\0' a
+        printf '\n2.0.0\n'
+    } | "$program" "$@" | wc -c
 }
 
 a_million_empty_lines() {

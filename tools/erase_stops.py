@@ -7,7 +7,7 @@ from rattle_source import NO_CALLEES, OPEN, begins_item
 # What means the same in both languages, and is left as it is; any other call of std, macro or
 # attribute stops the run. Of these types and modules of std each function is listed.
 OWNERS = set('Vec String Box Rc Option Result Iterator str mem io env fs iter slice char'.split())
-SAME_FUNCTIONS = set('''Vec::new String::new str::from_utf8 mem::replace mem::swap io::writer
+SAME_FUNCTIONS = set('''Vec::new String::new str::from_utf8 io::writer
     env::args fs::open'''.split())
 SAME_CALLS = set('''
     all and_then any as_bytes as_mut_slice as_ref as_slice as_str by_ref bytes chars checked_add

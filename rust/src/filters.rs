@@ -14,5 +14,5 @@
 
 pub use crate::proved::release_filter::{filter_text, release_meets, version_meets, Selection};
 pub use crate::proved::release_filter::{
-    Counts, InvalidLine, LineEnd, LineOptions, Lines, LinesError, Stopped,
+    Counts, InvalidLine, LineEnd, LineOptions, Lines, LinesError,
 };

@@ -1,20 +1,17 @@
 mod Tests
 pub mod Matching
 mod KeptVersions
-mod NumberedLines
 mod Prefixes
-mod LineChecks
-mod Holding
-mod HeldLines
 mod OneOrder
-mod SortedLines
-mod NotedLines
-mod Sorting
-mod TakenPieces
-mod SkippedFronts
-mod Rooms
-mod Looks
-mod SkippedLines
-mod Endings
-mod PieceLaws
-mod SkippedPieces
+pub mod Verdicts
+pub mod LongLines
+pub mod Holding
+pub mod HeldLines
+pub mod Folds
+pub mod Cuts
+pub mod Sorting
+pub mod SortedLines
+pub mod Alike
+pub mod Pieces
+pub mod Outcomes
+pub mod NotedLines

@@ -1,29 +1,17 @@
 -- serves: release_filter::filter::filter_text, kept
 -- What matches a range, and what is said of a text by it.
-use Rattle.std.proofs.Common.{◌≡◌, ◌<◌, ◌^◌, ◌==◌, ◌∷◌, arith, length, ℕ, List, [], Option, Some, None, IfErr, Result, Ok, Err}
-use Rattle.std.proofs.Common.{◌↔◌, ◌&&◌, ◌∙◌, ap, sym, Bool, true, false, refl, rules}
-use Rattle.tool_ranges.specs.VersionRanges.{RangeValue, versions_grammar}
-use Rattle.semver_texts.specs.Texts.{Text}
-use Rattle.semver_texts.specs.Versions.{PlainVersion, VersionValue}
-use Rattle.semver_texts.specs.ToolVersions.{SpellsIn, IsVersionTextIn}
-use Rattle.semver_texts.specs.declared.grammar.Grammar.{Grammar}
-use Rattle.semver_versions.specs.Outlines.{OutlineValue, IsOutlineIn, version_of}
+use Rattle.std.proofs.Common.{◌≡◌, ◌<◌, ◌^◌, ◌==◌, ◌∷◌, arith, length, ℕ, List, [], Some}
+use Rattle.std.proofs.Common.{◌&&◌, ◌∙◌, ap, sym, Bool, true, false, refl, rules}
+use Rattle.semver_texts.specs.Versions.{PlainVersion}
 use Rattle.semver_ranges.specs.RangeTree.{SetTree}
 use Rattle.semver_ranges.specs.declared.range.Compat.{Compat}
 use Rattle.version_sets.specs.PreReleaseRules.{is_kept, meets_text_with, numbers_fit}
 use Rattle.version_sets.specs.declared.PreReleases.TheVariants.{Excluded}
-use Rattle.release_filter.specs.Steps.Outlined.{IsOutlined}
-use Rattle.version_sets.specs.VersionSets.{contains, contains_kept, Fits}
-use Rattle.release_filter.specs.Matching.{matches}
+use Rattle.version_sets.specs.VersionSets.{contains_kept, Fits}
 use Rattle.release_filter.specs.Steps.Members.{is_member}
 use Rattle.semver_texts.specs.VersionViews.{version_value}
 use Rattle.semver_texts.specs.declared.version.Version.{Version}
 use Rattle.version_sets.specs.VersionSets.{SetValue}
-
--- what is so, is so where an error is answered
-pub on_err : {T E : Type 0} (P : Type 0) (r : Result T E) → P → IfErr r (λ e. P)
-on_err P (Ok x) p = tt
-on_err P (Err e) p = p
 
 pub not_both : {b : Bool} → b ≡ true → b ≡ false → ⊥
 not_both met never = absurd (search rules)
@@ -44,16 +32,6 @@ fitting v fits = grind (arith, rules)
 pub all_fit : (v : PlainVersion) → v.major < 2 ^ 64 → v.minor < 2 ^ 64 → v.patch < 2 ^ 64 → numbers_fit v ≡ true
 all_fit v major minor patch = grind (arith, rules)
 
--- what a range says of an outline, it says of the version that the text spells
-pub outlined_matches : (range : RangeValue) (o : OutlineValue) (text : Text) (answer : Bool)
-    → ((v : VersionValue) (t : Text) → IsOutlineIn (versions_grammar range) t o → SpellsIn (versions_grammar range) v t
-    → v ≡ version_of o)
-    → numbers_fit (version_of o).plain ≡ true → answer ≡ contains range.versions (version_of o).plain
-    → IsOutlineIn (versions_grammar range) text o → (v : VersionValue) → SpellsIn (versions_grammar range) v text
-    → matches range v ≡ answer
-outlined_matches range o text answer one fits told outlined v spells =
-    ap (matches range) (one v text outlined spells) ∙ ap (λ b. b && contains range.versions (version_of o).plain) fits ∙ sym told
-
 -- a member of the set of a text is a version that the text means
 pub member_as_meant : (mode : Compat) (tree : SetTree) (set : SetValue) (v : Version)
     → (Fits (version_value v).plain → contains_kept set (version_value v).plain ≡ is_kept mode tree (version_value v))
@@ -64,10 +42,3 @@ member_as_meant mode tree set v told = by_fit (numbers_fit (version_value v).pla
     by_fit true e = ap (λ b. b && contains_kept set (version_value v).plain) e ∙ told (fitting (version_value v).plain e)
     by_fit false e = ap (λ b. b && contains_kept set (version_value v).plain) e
         ∙ sym (ap (λ b. b && meets_text_with Excluded mode tree (version_value v)) e)
-
--- what `outline_in` tells of a text
-pub outlined_as : (grammar : Grammar) (text : Text) (found : Option OutlineValue)
-    → ((o : OutlineValue) → (found ≡ Some o) ↔ IsOutlineIn grammar text o) → ((found ≡ None) ↔ ¬ (IsVersionTextIn grammar text))
-    → IsOutlined grammar text found
-outlined_as grammar text None told none = none.0 refl
-outlined_as grammar text (Some o) told none = (told o).0 refl

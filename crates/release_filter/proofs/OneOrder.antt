@@ -1,9 +1,8 @@
 -- serves: release_filter::laws::one_finish
 -- What matches a test of a list and of a permutation of it is one list, if it keeps its order.
-use Rattle.std.proofs.Common.{◌≡◌, ◌∙◌, ◌∷◌, ◌++◌, [], List, ℕ, ◌==◌, ◌<◌, ◌≤◌, Bool, true, cond, refl, sym, ap, ap₂, arith}
+use Rattle.std.proofs.Common.{◌≡◌, ◌∙◌, ◌∷◌, [], List, ℕ, ◌==◌, ◌<◌, ◌≤◌, Bool, true, cond, refl, sym, ap, ap₂, arith}
 use Rattle.std.proofs.Common.{IsPermutation, filter, get_or, length, suc}
 use Rattle.std.proofs.lemmas.Bool.Decides.{nat_tests}
-use Rattle.std.proofs.lemmas.Grind.{common_steps}
 use Rattle.std.proofs.lemmas.List.{get_or_default}
 use Rattle.std.proofs.lemmas.List.Elements.{All-cons, All-filter, All-head, All-tail, All-weaker, filter_passes}
 use Rattle.std.proofs.lemmas.List.Kept.{AllPairs-filter}
@@ -15,9 +14,6 @@ module _ {X : Type 0} (index : X → ℕ) where
   -- the indices of a list are 0, 1, 2 and so on
   abbrev pub AreIndexed : List X → Type 0
   AreIndexed xs = (k : ℕ) (d : X) → k < length xs → index (get_or xs k d) ≡ k
-
-  pub one_more_indexed : (xs : List X) (x : X) → AreIndexed xs → index x ≡ length xs → AreIndexed (xs ++ x ∷ [])
-  one_more_indexed xs x indexed is k d inside = grind (arith, common_steps, indexed k d)
 
   -- it is the element of this list at its index
   abbrev IsAt : List X → X → Type 0

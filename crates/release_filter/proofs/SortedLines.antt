@@ -19,7 +19,7 @@ use Rattle.semver_versions.specs.ReadVersions.{read_plain}
 use Rattle.release_filter.specs.Steps.Taking.{selected_value}
 use Rattle.release_filter.specs.Selections.{IsStableSort, SelectedValue}
 use Rattle.release_filter.specs.declared.selection.IndexedLine.{IndexedLine}
-use Rattle.release_filter.proofs.HeldLines.{seen_lines}
+use Rattle.release_filter.specs.Steps.Sorting.{seen_lines}
 use Rattle.release_filter.proofs.OneOrder.{AreIndexed, same_order}
 
 -- the version of a line but for the build

@@ -1,7 +1,8 @@
--- serves: release_filter::laws::one_outcome
--- That lines have one stable sort by precedence.
-use Rattle.std.proofs.Common.{◌≡◌, ◌≢◌, ◌∙◌, ◌∷◌, [], List, ℕ, suc, Bool, true, false, cond, refl, sym, ap, ap₂, arith}
-use Rattle.std.proofs.Common.{filter, Less, Equal, Greater}
+-- serves: release_filter::laws::pieces_do_not_matter, composed
+-- That lines have one stable sort by precedence, and what is written of held lines.
+use Rattle.std.proofs.Common.{◌≡◌, ◌≢◌, ◌∙◌, ◌++◌, ◌∷◌, ◌≤◌, [], List, suc, Bool, true, false, cond, refl, sym, ap, ap₂, arith, length}
+use Rattle.std.proofs.Common.{append-nil, filter, Less, Equal, Greater}
+use Rattle.std.proofs.lemmas.List.Sorted.{IsPermutation-refl}
 use Rattle.std.specs.Cmp.{IsTotalOrder}
 use Rattle.std.specs.List.{AllPairs}
 use Rattle.std.specs.Ordering.{is_eq, ordering_reverse}
@@ -9,9 +10,11 @@ use Rattle.std.specs.declared.cmp.Ordering.{Ordering}
 use Rattle.semver_texts.specs.Precedence.{precedence}
 use Rattle.semver_texts.specs.Texts.{Text}
 use Rattle.semver_texts.specs.Versions.{PlainVersion}
-use Rattle.release_filter.specs.Selections.{AnswersBy, Answers, HeldValue, IsStableSort, SelectedValue, ended_text}
+use Rattle.release_filter.specs.Selections.{Answers, HeldValue, HoldsBy, IsBest, IsStableSort, SelectedValue, Writes, in_order}
+use Rattle.release_filter.specs.Selections.{order_of, text_of}
 use Rattle.release_filter.specs.declared.selection.Selection.{Selection}
-use Rattle.release_filter.specs.declared.selection.Selection.TheVariants.{Each, Highest, Lowest, Sorted}
+use Rattle.release_filter.specs.declared.selection.Selection.TheVariants.{Each, Highest, Lowest, Sorted, Reversed}
+use Rattle.release_filter.proofs.Holding.{one_best, total_of}
 
 -- those of some lines whose version is equal to this one
 abbrev equals : PlainVersion → List SelectedValue → List SelectedValue
@@ -39,7 +42,8 @@ module _ (total : IsTotalOrder precedence) where
   equals_first x xs = ap (λ b. cond b (x ∷ equals x.version xs) (equals x.version xs)) (is_itself x)
 
   -- of lines that rise from one that is above this version none is equal to it
-  first_unequal : (v : PlainVersion) (x : SelectedValue) (xs : List SelectedValue) → precedence v x.version ≡ Less → equals v (x ∷ xs) ≡ equals v xs
+  first_unequal : (v : PlainVersion) (x : SelectedValue) (xs : List SelectedValue) → precedence v x.version ≡ Less → equals v
+      (x ∷ xs) ≡ equals v xs
   first_unequal v x xs less =
       ap (λ b. cond b (x ∷ equals v xs) (equals v xs)) (ap is_eq (total.antisymm x.version v ∙ ap ordering_reverse less))
 
@@ -95,11 +99,57 @@ module _ (total : IsTotalOrder precedence) where
   pub one_sort : (lines xs ys : List SelectedValue) → IsStableSort lines xs → IsStableSort lines ys → xs ≡ ys
   one_sort lines xs ys a b = one_rising xs ys a.rises b.rises (λ v. a.stable v ∙ sym (b.stable v))
 
-  one_answer_by : (end : ℕ) (w : Selection) (h : HeldValue) (a b : Text) → AnswersBy end w h a → AnswersBy end w h b → a ≡ b
-  one_answer_by end Each h a b p q = p ∙ sym q
-  one_answer_by end Sorted h a b (xs, sort, is) (ys, sort', so) = is ∙ ap (ended_text end) (one_sort h.sorted xs ys sort sort') ∙ sym so
-  one_answer_by end Highest h a b p q = p ∙ sym q
-  one_answer_by end Lowest h a b p q = p ∙ sym q
+  pub one_answer : (h : HeldValue) (a b : Text) → Answers h a → Answers h b → a ≡ b
+  one_answer h a b (xs, sort, is) (ys, sort', so) =
+      is ∙ ap (λ l. text_of (in_order h.selection l)) (one_sort h.lines xs ys sort sort') ∙ sym so
 
-  pub one_answer : (end : ℕ) (h : HeldValue) (a b : Text) → Answers end h a → Answers end h b → a ≡ b
-  one_answer end h a b p q = one_answer_by end h.selection h a b p q
+  -- ---- few lines are sorted as they are
+
+  few_sorted : (xs : List SelectedValue) → length xs ≤ 1 → IsStableSort xs xs
+  few_sorted xs few = record {
+    rearranged = IsPermutation-refl xs;
+    rises = λ i j d before inside. absurd (omega arith);
+    stable = λ v. refl;
+  }
+
+  sort_few : (xs sorted : List SelectedValue) → length xs ≤ 1 → IsStableSort xs sorted → sorted ≡ xs
+  sort_few xs sorted few sort = one_sort xs sorted xs sort (few_sorted xs few)
+
+  best_few : (order : PlainVersion → PlainVersion → Ordering) (xs best : List SelectedValue) → IsBest order xs best → length best ≤ 1
+  best_few order xs [] is = omega arith
+  best_few order xs (b ∷ []) is = omega arith
+  best_few order xs (b ∷ c ∷ more) is = absurd is
+
+  -- ---- what is written
+
+  pub written : (w : Selection) (h g : HeldValue) (xs : List SelectedValue) (added rest : Text) → h.lines ≡ [] → HoldsBy w h xs g added
+      → (sorted : List SelectedValue) → IsStableSort g.lines sorted → rest ≡ text_of (in_order w sorted) → Writes w xs (added ++ rest)
+  written Each h g xs added rest none p sorted sort is =
+      let nothing = ap (λ (v : HeldValue). v.lines) p.0 ∙ none in
+      let all = sort_few g.lines sorted (omega (arith, ap length nothing)) sort ∙ nothing in
+      ap₂ (λ a b. a ++ b) p.1 (is ∙ ap text_of all) ∙ append-nil (text_of xs)
+  written Highest h g xs added rest none p sorted sort is = (
+    g.lines,
+    rw none at p.0,
+    ap₂ (λ a b. a ++ b) p.2 (is ∙ ap text_of (sort_few g.lines sorted (best_few (order_of Highest) _ g.lines p.0) sort)),
+  )
+  written Lowest h g xs added rest none p sorted sort is = (
+    g.lines,
+    rw none at p.0,
+    ap₂ (λ a b. a ++ b) p.2 (is ∙ ap text_of (sort_few g.lines sorted (best_few (order_of Lowest) _ g.lines p.0) sort)),
+  )
+  written Sorted h g xs added rest none p sorted sort is =
+      let lines = ap (λ (v : HeldValue). v.lines) p.0 ∙ ap (λ l. l ++ xs) none in
+      (sorted, rw lines at sort, ap₂ (λ a b. a ++ b) p.1 is)
+  written Reversed h g xs added rest none p sorted sort is =
+      let lines = ap (λ (v : HeldValue). v.lines) p.0 ∙ ap (λ l. l ++ xs) none in
+      (sorted, rw lines at sort, ap₂ (λ a b. a ++ b) p.1 is)
+
+  pub one_written : (w : Selection) (xs : List SelectedValue) (a b : Text) → Writes w xs a → Writes w xs b → a ≡ b
+  one_written Each xs a b p q = p ∙ sym q
+  one_written Highest xs a b p q =
+      p.2 ∙ ap text_of (one_best (order_of Highest) (total_of Highest total) xs p.0 q.0 p.1 q.1) ∙ sym q.2
+  one_written Lowest xs a b p q =
+      p.2 ∙ ap text_of (one_best (order_of Lowest) (total_of Lowest total) xs p.0 q.0 p.1 q.1) ∙ sym q.2
+  one_written Sorted xs a b p q = p.2 ∙ ap text_of (one_sort xs p.0 q.0 p.1 q.1) ∙ sym q.2
+  one_written Reversed xs a b p q = p.2 ∙ ap (λ l. text_of (in_order Reversed l)) (one_sort xs p.0 q.0 p.1 q.1) ∙ sym q.2

@@ -1,13 +1,11 @@
 -- How many lines a text has, how many of these are kept, how many have no version, and the first of
 -- those.
-use Rattle.std.specs.Prelude.{◌≡◌, ℕ, ◌+◌, ◌-◌, ◌^◌, min, List, [], ◌∷◌, take, Option, Some, None}
+use Rattle.std.specs.Prelude.{ℕ, ◌+◌, ◌-◌, ◌^◌, min, List, [], ◌∷◌, Option, Some, None}
 use Rattle.std.specs.Option.{option_map}
 use Rattle.semver_texts.specs.Texts.{Text}
-use Rattle.release_filter.specs.LineTexts.{line_text}
-use Rattle.release_filter.specs.Verdicts.{LineCheck, Verdict, kept, dropped, invalid, empty}
-use Rattle.release_filter.specs.declared.line_statistics.Counts.{Counts}
-use Rattle.release_filter.specs.declared.line_statistics.InvalidLine.{InvalidLine}
-use Rattle.release_filter.specs.declared.line_texts.LineEnd.{LineEnd}
+use Rattle.release_filter.specs.Verdicts.{Verdict, kept, dropped, invalid, empty}
+use Rattle.release_filter.specs.declared.counts.Counts.{Counts}
+use Rattle.release_filter.specs.declared.counts.InvalidLine.{InvalidLine}
 
 -- a line that has a text and no version: its number, and the front of its text
 pub record InvalidValue : Type 0 where
@@ -46,26 +44,19 @@ first_of None line = Some line
 first_of (Some first) line = Some first
 
 -- the counts after one more line
-abbrev pub counted_as : LineEnd → Verdict → CountsValue → Text → CountsValue
-counted_as ending (kept version given) c line =
+abbrev pub counted_as : Verdict → CountsValue → CountsValue
+counted_as (kept version given) c =
     record c { lines = one_more c.lines; kept = one_more c.kept }
-counted_as ending dropped c line = record c { lines = one_more c.lines }
-counted_as ending empty c line = record c { lines = one_more c.lines; empty = one_more c.empty }
-counted_as ending invalid c line = record c {
+counted_as dropped c = record c { lines = one_more c.lines }
+counted_as empty c = record c { lines = one_more c.lines; empty = one_more c.empty }
+counted_as (invalid front) c = record c {
   lines = one_more c.lines;
   invalid = one_more c.invalid;
   first_invalid = first_of c.first_invalid
-      (record { number = one_more c.lines; front = take 81 (line_text ending line) });
+      (record { number = one_more c.lines; front = front });
 }
 
 -- the counts after some more lines
-abbrev pub counted : LineEnd → CountsValue → List LineCheck → CountsValue
-counted ending c [] = c
-counted ending c (j ∷ js) = counted ending (counted_as ending j.verdict c j.line) js
-
--- what taking a line that is this allocates for: it is kept, or the first invalid one
-abbrev pub LineAllocates : CountsValue → Verdict → Type 0
-LineAllocates c (kept version given) = Unit {0}
-LineAllocates c dropped = ⊥
-LineAllocates c invalid = c.first_invalid ≡ None
-LineAllocates c empty = ⊥
+abbrev pub counted : CountsValue → List Verdict → CountsValue
+counted c [] = c
+counted c (v ∷ vs) = counted (counted_as v c) vs

@@ -1,9 +1,7 @@
 pub mod KeptReleases
 pub mod Matching
-pub mod Checking
 pub mod LineTexts
 pub mod Verdicts
-pub mod Skipping
 pub mod Counting
 pub mod Selections
 pub mod Pieces

@@ -1,6 +1,7 @@
--- The lines of a text, the text of a line, and where a byte order mark is.
-use Rattle.std.specs.Prelude.{◌≡◌, ◌≢◌, ◌<◌, ◌&&◌, ◌==◌, ℕ, Bool, List, [], ◌∷◌, ◌++◌, All}
-use Rattle.std.specs.Prelude.{if◌then◌else◌, length}
+-- The lines of a text, the text of a line, how long one with a version is at most, and where a byte
+-- order mark is.
+use Rattle.std.specs.Prelude.{◌≡◌, ◌≢◌, ◌<◌, ◌^◌, ◌+◌, ◌&&◌, ◌==◌, ℕ, Bool, List, [], ◌∷◌, ◌++◌}
+use Rattle.std.specs.Prelude.{All, if◌then◌else◌, length, map}
 use Rattle.std.specs.Io.{StopsAt, IsEmptyOrEndsWith}
 use Rattle.std.specs.Io.BufRead.{strip_last}
 use Rattle.std.specs.List.{AllByRecursion, concat}
@@ -29,6 +30,24 @@ lines_of end (x ∷ xs) =
 abbrev pub line_text : LineEnd → Text → Text
 line_text LineFeed line = strip_last 13 (strip_last 10 line)
 line_text ZeroByte line = strip_last 0 line
+
+-- no longer text has a version
+abbrev pub longest_text : ℕ
+longest_text = 2 ^ 20
+
+-- of a line so many bytes show all that is needed of it: a byte order mark, one byte more than the
+-- longest text, and what ends a line
+abbrev pub longest_front : ℕ
+longest_front = longest_text + 6
+
+-- the line with the byte that ends lines at its end, which a line without one gets
+abbrev pub ended : ℕ → Text → Text
+ended end line = strip_last end line ++ end ∷ []
+
+-- the lines of a text, of which the last gets an end if each is to have one
+abbrev pub lines_in : Bool → ℕ → Text → List Text
+lines_in closes end text =
+    if closes then map (λ line. ended end line) (lines_of end text) else lines_of end text
 
 -- a line that ends with this byte
 abbrev pub IsWholeLine : ℕ → Text → Type 0

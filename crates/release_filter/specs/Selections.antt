@@ -1,57 +1,64 @@
 -- Which of the kept lines are wanted: each at once, or of all of them the highest, the lowest, or
 -- all sorted, which come at the end.
-use Rattle.std.specs.Prelude.{◌≡◌, ◌≢◌, ◌<◌, ◌⊎◌, ℕ, List, [], ◌∷◌, ◌++◌, map, filter, length}
-use Rattle.std.specs.Prelude.{Option, Some, None, option_to_list}
+use Rattle.std.specs.Prelude.{◌≡◌, ◌≢◌, ◌≤◌, ℕ, Bool, true, false, List, [], ◌∷◌, ◌++◌, map, filter}
+use Rattle.std.specs.Prelude.{reverse}
 use Rattle.std.specs.List.{AllByRecursion, AllPairs, concat}
 use Rattle.std.specs.List.Sorted.{IsPermutation}
-use Rattle.std.specs.Io.BufRead.{strip_last}
 use Rattle.std.specs.Ordering.{flip_args, is_eq}
 use Rattle.std.specs.declared.cmp.Ordering.{Ordering}
 use Rattle.std.specs.declared.cmp.Ordering.TheVariants.{Less, Greater}
 use Rattle.semver_texts.specs.Precedence.{precedence}
 use Rattle.semver_texts.specs.Texts.{Text}
 use Rattle.semver_texts.specs.Versions.{PlainVersion}
-use Rattle.release_filter.specs.Verdicts.{LineCheck, Verdict, kept, dropped, invalid, empty}
+use Rattle.release_filter.specs.Verdicts.{Verdict, kept, dropped, invalid, empty}
 use Rattle.release_filter.specs.declared.selection.Selection.{Selection}
 use Rattle.release_filter.specs.declared.selection.Selection.TheVariants.{Each, Highest, Lowest}
-use Rattle.release_filter.specs.declared.selection.Selection.TheVariants.{Sorted}
+use Rattle.release_filter.specs.declared.selection.Selection.TheVariants.{Sorted, Reversed}
 
 -- what is given of a kept line, and its version without the build
 pub record SelectedValue : Type 0 where
   pub version : PlainVersion
   pub line : Text
 
--- what is wanted, and what is held for the end of the text
+-- what is wanted, and the lines that are held for the end of the text
 pub record HeldValue : Type 0 where
   pub selection : Selection
-  pub best : Option SelectedValue
-  pub sorted : List SelectedValue
+  pub lines : List SelectedValue
 
 -- the same, with nothing held
 abbrev pub emptied : HeldValue → HeldValue
-emptied h = record h { best = None; sorted = [] }
+emptied h = record h { lines = [] }
+
+-- whether the lines are sorted: then each gets an end
+abbrev pub is_sorted : Selection → Bool
+is_sorted Each = false
+is_sorted Highest = false
+is_sorted Lowest = false
+is_sorted Sorted = true
+is_sorted Reversed = true
+
+-- whether one line is wanted: the best
+abbrev pub is_best : Selection → Bool
+is_best Each = false
+is_best Highest = true
+is_best Lowest = true
+is_best Sorted = false
+is_best Reversed = false
 
 -- the kept ones of some lines, in their order and with repeats
 abbrev pub selected_as : Verdict → List SelectedValue
 selected_as (kept version given) = record { version = version; line = given } ∷ []
 selected_as dropped = []
-selected_as invalid = []
 selected_as empty = []
+selected_as (invalid front) = []
 
-abbrev pub selected_of : List LineCheck → List SelectedValue
+abbrev pub selected_of : List Verdict → List SelectedValue
 selected_of [] = []
-selected_of (j ∷ js) = selected_as j.verdict ++ selected_of js
+selected_of (v ∷ vs) = selected_as v ++ selected_of vs
 
 -- lines one after another, as they are
 abbrev pub text_of : List SelectedValue → Text
 text_of lines = concat (map (λ k. k.line) lines)
-
--- the line with the byte that ends lines at its end, which a line without one gets
-abbrev pub ended : ℕ → Text → Text
-ended end line = strip_last end line ++ end ∷ []
-
-abbrev pub ended_text : ℕ → List SelectedValue → Text
-ended_text end lines = concat (map (λ k. ended end k.line) lines)
 
 -- ---- the highest, and the lowest
 
@@ -66,11 +73,12 @@ pub record IsFirstHighest (order : PlainVersion → PlainVersion
   pub earlier : AllByRecursion (λ k. order k.version best.version ≡ Less) before
   pub later : AllByRecursion (λ k. order k.version best.version ≢ Greater) after
 
+-- it is the best of some lines, as a list of one; or there is none, and no line
 abbrev pub IsBest : (PlainVersion → PlainVersion → Ordering) → List SelectedValue
-    → Option SelectedValue
-    → Type 0
-IsBest order lines None = lines ≡ []
-IsBest order lines (Some best) = IsFirstHighest order lines best
+    → List SelectedValue → Type 0
+IsBest order lines [] = lines ≡ []
+IsBest order lines (best ∷ []) = IsFirstHighest order lines best
+IsBest order lines (best ∷ other ∷ more) = ⊥
 
 -- the lowest is the highest by precedence the other way round
 abbrev pub order_of : Selection → PlainVersion → PlainVersion → Ordering
@@ -78,6 +86,7 @@ order_of Each = precedence
 order_of Highest = precedence
 order_of Lowest = flip_args precedence
 order_of Sorted = precedence
+order_of Reversed = precedence
 
 -- ---- all sorted
 
@@ -89,32 +98,49 @@ pub record IsStableSort (lines sorted : List SelectedValue) : Type 0 where
   pub stable : (v : PlainVersion) → filter (λ k. is_eq (precedence k.version v)) sorted
       ≡ filter (λ k. is_eq (precedence k.version v)) lines
 
+-- ---- what is written of the kept lines of a text
+
+abbrev pub Writes : Selection → List SelectedValue → Text → Type 0
+Writes Each lines written = written ≡ text_of lines
+Writes Highest lines written = (best : List SelectedValue)
+    × IsBest (order_of Highest) lines best × (written ≡ text_of best)
+Writes Lowest lines written = (best : List SelectedValue)
+    × IsBest (order_of Lowest) lines best × (written ≡ text_of best)
+Writes Sorted lines written = (sorted : List SelectedValue) × IsStableSort lines sorted
+    × (written ≡ text_of sorted)
+Writes Reversed lines written = (sorted : List SelectedValue) × IsStableSort lines sorted
+    × (written ≡ text_of (reverse sorted))
+
 -- ---- what lines do, and what the end of the text does
 
 -- of some kept lines this was appended, and that is held then
 abbrev pub HoldsBy : Selection → HeldValue → List SelectedValue → HeldValue → Text → Type 0
 HoldsBy Each h lines g appended = (g ≡ h) × (appended ≡ text_of lines)
+HoldsBy Highest h lines g appended = IsBest (order_of Highest) (h.lines ++ lines) g.lines
+    × (g ≡ record h { lines = g.lines }) × (appended ≡ [])
+HoldsBy Lowest h lines g appended = IsBest (order_of Lowest) (h.lines ++ lines) g.lines
+    × (g ≡ record h { lines = g.lines }) × (appended ≡ [])
 HoldsBy Sorted h lines g appended =
-    (g ≡ record h { sorted = h.sorted ++ lines }) × (appended ≡ [])
-HoldsBy selection h lines g appended = (best : Option SelectedValue)
-    × IsBest (order_of selection) (option_to_list h.best ++ lines) best
-    × (g ≡ record h { best = best }) × (appended ≡ [])
+    (g ≡ record h { lines = h.lines ++ lines }) × (appended ≡ [])
+HoldsBy Reversed h lines g appended =
+    (g ≡ record h { lines = h.lines ++ lines }) × (appended ≡ [])
 
 abbrev pub Holds : HeldValue → List SelectedValue → HeldValue → Text → Type 0
 Holds h lines g appended = HoldsBy h.selection h lines g appended
 
--- at the end of the text this is appended of what is held
-abbrev pub AnswersBy : ℕ → Selection → HeldValue → Text → Type 0
-AnswersBy end Each h appended = appended ≡ []
-AnswersBy end Sorted h appended = (sorted : List SelectedValue) × IsStableSort h.sorted sorted
-    × (appended ≡ ended_text end sorted)
-AnswersBy end selection h appended = appended ≡ text_of (option_to_list h.best)
+-- the order in which sorted lines are wanted
+abbrev pub in_order : Selection → List SelectedValue → List SelectedValue
+in_order Each lines = lines
+in_order Highest lines = lines
+in_order Lowest lines = lines
+in_order Sorted lines = lines
+in_order Reversed lines = reverse lines
 
-abbrev pub Answers : ℕ → HeldValue → Text → Type 0
-Answers end h appended = AnswersBy end h.selection h appended
+-- at the end of the text this is appended of what is held: the lines, sorted
+abbrev pub Answers : HeldValue → Text → Type 0
+Answers h appended = (sorted : List SelectedValue) × IsStableSort h.lines sorted
+    × (appended ≡ text_of (in_order h.selection sorted))
 
--- what the rest of the answer allocates for: the last line, if it is kept; the lines that are
--- sorted; or a copy of the best line, which is moved if nothing was appended before
-abbrev pub AnswerAllocates : HeldValue → List SelectedValue → Text → Type 0
-AnswerAllocates h last old =
-    (0 < length last) ⊎ (0 < length h.sorted) ⊎ ((h.best ≢ None) × (0 < length old))
+-- if the best line is wanted, no more than one is held
+abbrev pub IsFew : Selection → ℕ → Type 0
+IsFew selection count = is_best selection ≡ true → count ≤ 1

@@ -1,4 +1,3 @@
-pub mod Outlined
 pub mod Taking
-pub mod Noting
+pub mod Sorting
 pub mod Members

@@ -1,14 +1,14 @@
 -- What a line is to a filter, after one of some prefixes.
-use Rattle.std.specs.Prelude.{◌≡◌, ◌⊎◌, ℕ, Bool, true, false, List, [], ◌∷◌, ◌++◌, map, IsTrue}
-use Rattle.std.specs.Prelude.{if◌then◌else◌, drop, length}
-use Rattle.std.specs.List.{AllByRecursion, list_any}
+use Rattle.std.specs.Prelude.{◌≡◌, ◌≤◌, ◌⊎◌, ℕ, Bool, true, false, List, [], ◌∷◌, ◌++◌, IsTrue}
+use Rattle.std.specs.Prelude.{if◌then◌else◌, drop, take, length}
+use Rattle.std.specs.List.{list_any}
 use Rattle.tool_ranges.specs.VersionRanges.{RangeValue, versions_grammar}
 use Rattle.semver_texts.specs.Texts.{Text, is_empty}
 use Rattle.semver_texts.specs.Versions.{PlainVersion, VersionValue}
 use Rattle.semver_texts.specs.ToolVersions.{SpellsIn}
 use Rattle.semver_texts.specs.declared.grammar.Grammar.{Grammar}
 use Rattle.release_filter.specs.Matching.{matches}
-use Rattle.release_filter.specs.LineTexts.{line_text}
+use Rattle.release_filter.specs.LineTexts.{line_text, longest_text}
 use Rattle.release_filter.specs.declared.line_texts.LineEnd.{LineEnd}
 
 -- which lines are kept, after which prefixes; what ends a line; and whether a kept line is given
@@ -39,32 +39,33 @@ tried [] = [] ∷ []
 tried (prefix ∷ prefixes) = prefix ∷ prefixes
 
 -- a line is kept: it has this version, without its build, and this is given of it; or it is
--- dropped; or it has no version: then it is invalid, or empty
+-- dropped, since its version doesn't match; or it has no version: then it is empty, or invalid, and
+-- its text begins with this
 pub data Verdict : Type 0 where
   kept : PlainVersion → Text → Verdict
-  dropped invalid empty : Verdict
+  dropped empty : Verdict
+  invalid : Text → Verdict
 
 abbrev pub is_invalid : Verdict → Bool
 is_invalid (kept version given) = false
 is_invalid dropped = false
-is_invalid invalid = true
 is_invalid empty = false
-
--- a line, and what it is
-pub record LineCheck : Type 0 where
-  pub line : Text
-  pub verdict : Verdict
+is_invalid (invalid front) = true
 
 -- some line has a text and no version
-abbrev pub has_invalid : List LineCheck → Bool
-has_invalid checked = list_any (λ j. is_invalid j.verdict) checked
+abbrev pub has_invalid : List Verdict → Bool
+has_invalid verdicts = list_any (λ v. is_invalid v) verdicts
+
+-- of an invalid line so many bytes of its text are reported
+abbrev pub reported : ℕ
+reported = 81
 
 module _ (rule : LineRule) where
   -- the line has this version after this prefix
   abbrev pub HasAfter : Text → Text → VersionValue → Type 0
-  HasAfter line prefix v =
-      HasVersion (versions_grammar rule.filter) (tried rule.prefixes) (line_text rule.ending line)
-      prefix v
+  HasAfter line prefix v = (length (line_text rule.ending line) ≤ longest_text)
+      × HasVersion (versions_grammar rule.filter) (tried rule.prefixes)
+      (line_text rule.ending line) prefix v
 
   abbrev pub HasNoVersion : Text → Type 0
   HasNoVersion line = (prefix : Text) (v : VersionValue) → ¬ (HasAfter line prefix v)
@@ -80,10 +81,15 @@ module _ (rule : LineRule) where
       × (given ≡ given_after (length prefix) line)
   IsVerdictOn line dropped = (prefix : Text) × (v : VersionValue)
       × HasAfter line prefix v × (matches rule.filter v ≡ false)
-  IsVerdictOn line invalid = HasNoVersion line × (is_empty (line_text rule.ending line) ≡ false)
   IsVerdictOn line empty = HasNoVersion line × (is_empty (line_text rule.ending line) ≡ true)
+  IsVerdictOn line (invalid front) = HasNoVersion line
+      × (is_empty (line_text rule.ending line) ≡ false)
+      × (front ≡ take reported (line_text rule.ending line))
 
-  -- these are the lines, each with what it is
-  pub record AreChecked (lines : List Text) (checked : List LineCheck) : Type 0 where
-    pub all : map (λ j. j.line) checked ≡ lines
-    pub each : AllByRecursion (λ j. IsVerdictOn j.line j.verdict) checked
+  -- these lines are those, in their order
+  abbrev pub AreVerdictsOn : List Text → List Verdict → Type 0
+  AreVerdictsOn [] [] = Unit {0}
+  AreVerdictsOn (line ∷ lines) (verdict ∷ verdicts) =
+      IsVerdictOn line verdict × AreVerdictsOn lines verdicts
+  AreVerdictsOn [] (verdict ∷ verdicts) = ⊥
+  AreVerdictsOn (line ∷ lines) [] = ⊥

@@ -3,24 +3,23 @@
 //! which versions satisfy a range set.
 #![tactic(auto)]
 
+mod counts;
 mod filter;
+mod held;
+mod judge;
 mod kept;
 pub mod laws;
-mod line_filter;
 mod line_options;
-mod line_statistics;
 mod line_texts;
 mod lines;
-mod long_lines;
 mod meeting;
 mod precedence;
 mod selection;
-mod verdict;
 
+pub use counts::{Counts, InvalidLine};
 pub use filter::filter_text;
 pub use line_options::LineOptions;
-pub use line_statistics::{Counts, InvalidLine};
 pub use line_texts::LineEnd;
-pub use lines::{Lines, LinesError, Stopped};
+pub use lines::{Lines, LinesError};
 pub use meeting::{release_meets, version_meets};
 pub use selection::Selection;

@@ -1,11 +1,16 @@
-//! The lines of a text, the text of a line, and where a byte order mark is.
+//! The lines of a text, how a piece of it is cut into them, and the text of a line. A text of more
+//! than 1,048,576 bytes has no version.
 
-ghost use Rattle.std.specs.Prelude.{◌≡◌, ◌≢◌, ◌++◌, None, All, IfSome, MatchOption};
-ghost use Rattle.std.specs.Io.{StartsWith};
+ghost use Rattle.std.specs.Prelude.{◌≡◌, ◌≢◌, ◌≤◌, ◌<◌, ◌++◌, ◌∷◌, None, All, IfErr, IfOk};
+ghost use Rattle.std.specs.Prelude.{IfSome, MatchOption, drop, length, take};
+ghost use Rattle.std.specs.Io.{IsEmptyOrEndsWith, StartsWith};
 ghost use Rattle.std.specs.Io.BufRead.{strip_last};
 ghost use Rattle.semver_texts.specs.Texts.{Text};
 ghost use Rattle.release_filter.specs.LineTexts.{IsWholeLine, after_mark, end_byte, line_text};
-ghost use Rattle.release_filter.specs.LineTexts.{without_mark};
+ghost use Rattle.release_filter.specs.LineTexts.{lines_of, longest_front, without_mark};
+ghost use Rattle.release_filter.specs.Steps.Taking.{IsCut, closing};
+
+use std::alloc::AllocError;
 
 /// What ends a line.
 ///
@@ -51,8 +56,75 @@ impl LineEnd {
     }
 }
 
+/// No longer text has a version.
+pub(crate) const LONGEST: usize = 1 << 20;
+
+/// Of a line that has not ended no more bytes are held: a byte order mark, one byte more than the
+/// longest text, and what ends a line.
+const LONGEST_FRONT: usize = LONGEST + 6;
+
 /// The byte order mark, which some programs write before a text in UTF-8.
 const MARK: &[u8] = b"\xEF\xBB\xBF";
+
+/// A piece of a text in three parts: what ends the line that was begun before, whole lines, and
+/// what begins another. If no line ends in it, all of it is the last part.
+pub(crate) fn cut(piece: &[u8], ending: LineEnd) -> (&[u8], &[u8], &[u8])
+    ensures { IsCut (end_byte ending) piece.now result.0.now result.1.now result.2.now }
+{
+    let Some(first) = whole_line(piece, ending) else {
+        return (&[], &[], piece);
+    };
+    let rest = &piece[first.len()..];
+    let (whole, begun) = rest.split_at(ended_size(rest, ending.byte()));
+    (first, whole, begun)
+}
+
+/// How many bytes there are up to the last of this one, and with it.
+fn ended_size(bytes: &[u8], end: u8) -> usize
+    ensures within { result ≤ length bytes.now }
+    ensures ends { IsEmptyOrEndsWith (take result bytes.now) end }
+    ensures no_end { All (λ x. x ≢ end) (drop result bytes.now) }
+{
+    let mut size = bytes.len();
+    while size > 0 && bytes[size - 1] != end {
+        size -= 1;
+    }
+    size
+}
+
+/// Appends bytes to those of a line that has not ended, up to the longest front of one.
+pub(crate) fn hold(begun: &mut Vec<u8>, bytes: &[u8]) -> Result<(), AllocError>
+    requires { length begun.old.items ≤ longest_front }
+    ensures held { IfOk result (λ _. begun.new.items
+        ≡ take longest_front (begun.old.items ++ bytes.now)) }
+    ensures unchanged { IfErr result (λ _. begun.new.items ≡ begun.old.items) }
+{
+    let room = LONGEST_FRONT - begun.len();
+    begun.extend_from_slice(&bytes[..bytes.len().min(room)])
+}
+
+/// The first line, with the byte that ends it if it has one.
+#[inline(always)]
+pub(crate) fn first_line(bytes: &[u8], ending: LineEnd) -> &[u8]
+    requires { 0 < length bytes.now }
+    ensures first { lines_of (end_byte ending) bytes.now
+        ≡ result.now ∷ lines_of (end_byte ending) (drop (length result.now) bytes.now) }
+    ensures within { length result.now ≤ length bytes.now }
+    ensures some { 0 < length result.now }
+{
+    match whole_line(bytes, ending) {
+        Some(line) => line,
+        None => bytes,
+    }
+}
+
+/// What the last line is to get at its end: this, if each line is to have an end and it isn't
+/// empty.
+pub(crate) fn closing<'e>(closes: bool, line: &[u8], end: &'e [u8]) -> &'e [u8]
+    ensures { result.now ≡ closing closes line.now end.now }
+{
+    if closes && !line.is_empty() { end } else { &[] }
+}
 
 /// The first line with the byte that ends it, if some line has one.
 #[inline(always)]

@@ -40,7 +40,7 @@ pub struct Options {
     /// What is done with the lines.
     pub lines: LineOptions,
     /// Whether the order of the lines is reversed.
-    pub is_reversed: bool,
+    is_reversed: bool,
     /// Whether only the number of lines is written.
     pub is_counted: bool,
     /// Whether input and output are arrays of strings in JSON.
@@ -179,6 +179,17 @@ impl Options {
         Ok(())
     }
 
+    /// Reverses the order of the lines, if they are sorted and this is wanted.
+    fn end_order(&mut self) -> Result<(), ArgumentError> {
+        if self.is_reversed {
+            if self.lines.selection != Selection::Sorted {
+                return Err(ArgumentError::NoOrder);
+            }
+            self.lines.selection = Selection::Reversed;
+        }
+        Ok(())
+    }
+
     /// Has each string of JSON end in a zero byte, which none has.
     fn end_strings(&mut self) -> Result<(), ArgumentError> {
         if !self.is_json {
@@ -255,9 +266,7 @@ fn request_of(
         Some(Value::Kind) => return Err(ArgumentError::NoKind),
         None => {}
     }
-    if options.is_reversed && options.lines.selection != Selection::Sorted {
-        return Err(ArgumentError::NoOrder);
-    }
+    options.end_order()?;
     options.end_strings()?;
     let meaning = meaning.finish()?;
     if meaning.pre_releases == PreReleases::Excluded {

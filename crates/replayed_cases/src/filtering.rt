@@ -211,8 +211,8 @@ fn appended(
             break;
         }
         let (piece, rest) = left.split_at(length.min(left.len()));
-        if let Err(stopped) = lines.push(alloc, piece, &mut kept) {
-            return Ok((kept, left.len().saturating_sub(stopped.taken)));
+        if lines.push(alloc, piece, &mut kept).is_err() {
+            return Ok((kept, left.len()));
         }
         left = rest;
     }

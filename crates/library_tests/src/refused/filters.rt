@@ -78,7 +78,7 @@ pub fn line_without_an_end(alloc: Global) -> Ending {
 }
 
 /// The last line of a file is held, and appended with an end when the file ends. After a refusal
-/// nothing was, and the call is repeated.
+/// nothing was.
 pub fn line_of_a_file(alloc: Global) -> Ending {
     let range = match below_two(alloc) {
         Ok(range) => range,
@@ -86,24 +86,12 @@ pub fn line_of_a_file(alloc: Global) -> Ending {
     };
     let mut lines = Lines::new(alloc, range, Vec::new(alloc), LineOptions::new());
     let mut kept = Vec::new(alloc);
-    if lines.push(alloc, b"1.2.0-rc.b", &mut kept).is_err() {
-        return Ending::refused_if(kept.is_empty());
+    if lines.push(alloc, b"1.2.0-rc.b", &mut kept).is_err()
+        || lines.end_file(alloc, &mut kept).is_err()
+    {
+        return Ending::refused_if(kept.is_empty() && lines.counts().lines == 0);
     }
-    let mut is_refused = false;
-    if lines.end_file(alloc, &mut kept).is_err() {
-        is_refused = true;
-        if !kept.is_empty() || lines.end_file(alloc, &mut kept).is_err() {
-            return Ending::Wrong;
-        }
-    }
-    if kept.as_slice() != "1.2.0-rc.b\n".as_bytes() {
-        return Ending::Wrong;
-    }
-    if is_refused {
-        Ending::Refused
-    } else {
-        Ending::Full
-    }
+    Ending::full_if(kept.as_slice() == "1.2.0-rc.b\n".as_bytes())
 }
 
 /// Lines that aren't kept don't allocate; of lines without a version the prefix of the first is
@@ -129,7 +117,8 @@ fn below_two(alloc: Global) -> Result<VersionRange, Ending> {
 }
 
 /// How the lines of a text end that `<2` filters, with its pre-releases, if this is what they
-/// append. After a refusal the call is repeated, with the bytes that are left: nothing is lost.
+/// append. After a refusal a beginning of it was appended, and the counts are those of the lines
+/// before.
 fn ends(alloc: Global, wanted: Selection, text: &str, appended: &str) -> Ending {
     let range = match below_two(alloc) {
         Ok(range) => range,
@@ -139,32 +128,28 @@ fn ends(alloc: Global, wanted: Selection, text: &str, appended: &str) -> Ending 
     options.selection = wanted;
     let mut lines = Lines::new(alloc, range, Vec::new(alloc), options);
     let mut kept = Vec::new(alloc);
-    let piece = text.as_bytes();
-    let mut is_refused = false;
-    if let Err(stopped) = lines.push(alloc, piece, &mut kept) {
-        is_refused = true;
-        if !appended.as_bytes().starts_with(kept.as_slice())
-            || lines
-                .push(alloc, &piece[stopped.taken..], &mut kept)
-                .is_err()
-        {
-            return Ending::Wrong;
+    if lines.push(alloc, text.as_bytes(), &mut kept).is_err()
+        || lines.finish(alloc, &mut kept).is_err()
+    {
+        let are_counted = match wanted {
+            Selection::Each => lines.counts().kept == count_of_ends(kept.as_slice()),
+            _ => kept.is_empty(),
+        };
+        let are_first = appended.as_bytes().starts_with(kept.as_slice());
+        return Ending::refused_if(are_counted && are_first);
+    }
+    Ending::full_if(kept.as_slice() == appended.as_bytes())
+}
+
+/// How many lines have an end.
+fn count_of_ends(lines: &[u8]) -> u64 {
+    let mut count = 0u64;
+    for byte in lines {
+        if *byte == b'\n' {
+            count = count.saturating_add(1);
         }
     }
-    if lines.finish(alloc, &mut kept).is_err() {
-        if is_refused || lines.finish(alloc, &mut kept).is_err() {
-            return Ending::Wrong;
-        }
-        is_refused = true;
-    }
-    if kept.as_slice() != appended.as_bytes() {
-        return Ending::Wrong;
-    }
-    if is_refused {
-        Ending::Refused
-    } else {
-        Ending::Full
-    }
+    count
 }
 
 /// Texts that are refused are refused without a request, whatever the list.

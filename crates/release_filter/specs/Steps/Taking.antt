@@ -1,103 +1,105 @@
--- What one line does: a means of proof, and a part of the view of `Lines`.
-use Rattle.std.specs.Prelude.{◌≡◌, ◌++◌, ℕ, Bool, not, List, [], ◌∷◌, map, String, string_bytes}
-use Rattle.std.specs.Prelude.{if◌then◌else◌}
+-- What a filter says of one line: a means of proof, and a part of the view of `Lines`.
+use Rattle.std.specs.Prelude.{◌≡◌, ◌≢◌, ◌≤◌, ◌++◌, ◌⊎◌, ℕ, Bool, true, false, List, [], ◌∷◌, All}
+use Rattle.std.specs.Prelude.{IsTrue, String, length, map, string_bytes, take}
 use Rattle.std.specs.Global.{Global}
-use Rattle.std.specs.Option.{option_map}
-use Rattle.tool_ranges.specs.VersionRanges.{versions_grammar}
-use Rattle.semver_versions.specs.Outlines.{OutlineValue, version_of}
-use Rattle.semver_texts.specs.Texts.{Text, is_empty}
-use Rattle.semver_texts.specs.Versions.{PlainVersion}
-use Rattle.release_filter.specs.LineTexts.{line_text}
-use Rattle.release_filter.specs.Pieces.{LinesValue, TakesAll}
-use Rattle.release_filter.specs.Skipping.{IsLeft}
-use Rattle.release_filter.specs.Verdicts.{HasNoVersion, IsVerdictOn, LineCheck, LineRule, Verdict}
-use Rattle.release_filter.specs.Verdicts.{dropped, empty, invalid, is_invalid, kept}
-use Rattle.release_filter.specs.Counting.{CountsValue, counted_as}
-use Rattle.release_filter.specs.Selections.{Answers, HeldValue, Holds, SelectedValue, selected_as}
-use Rattle.release_filter.specs.declared.verdict.Checked.{Checked}
-use Rattle.release_filter.specs.declared.verdict.Checked.TheVariants.{NoVersion, DoesNotMatch}
-use Rattle.release_filter.specs.declared.verdict.Checked.TheVariants.{Matches}
+use Rattle.std.specs.Io.{IsEmptyOrEndsWith}
+use Rattle.semver_versions.specs.Outlines.{version_of}
 use Rattle.semver_versions.specs.ReadVersions.{read_plain}
-use Rattle.release_filter.specs.declared.line_filter.LineFilter.{LineFilter}
-use Rattle.release_filter.specs.declared.line_texts.LineEnd.{LineEnd}
-use Rattle.release_filter.specs.declared.selection.Held.{Held}
-use Rattle.release_filter.specs.declared.selection.SelectedLine.{SelectedLine}
+use Rattle.semver_texts.specs.Texts.{Text}
+use Rattle.semver_texts.specs.Versions.{VersionValue}
+use Rattle.release_filter.specs.Counting.{counts_value}
+use Rattle.release_filter.specs.LineTexts.{IsWholeLine, after_mark, longest_front}
+use Rattle.release_filter.specs.Matching.{matches}
+use Rattle.release_filter.specs.Pieces.{FoldValue, LinesValue, TakesLines}
+use Rattle.release_filter.specs.Selections.{HeldValue, SelectedValue}
+use Rattle.semver_texts.specs.declared.grammar.Grammar.{Grammar}
+use Rattle.release_filter.specs.Verdicts.{LineRule, SpellsAfter, Verdict, dropped, empty}
+use Rattle.release_filter.specs.Verdicts.{given_after, invalid, kept, reported}
+use Rattle.release_filter.specs.declared.judge.Judge.{Judge}
+use Rattle.release_filter.specs.declared.judge.Judged.{Judged}
+use Rattle.release_filter.specs.declared.judge.Judged.TheVariants.{NotAVersion, Outside, Kept}
+use Rattle.release_filter.specs.declared.lines.Fold.{Fold}
+use Rattle.release_filter.specs.declared.held.Held.{Held}
+use Rattle.release_filter.specs.declared.held.SelectedLine.{SelectedLine}
 
 abbrev pub texts : List (String Global) → List Text
 texts prefixes = map (λ prefix. string_bytes prefix) prefixes
 
-abbrev pub rule_of : LineFilter → LineRule
-rule_of l = record {
-  filter = l.filter;
-  prefixes = texts l.prefixes.items;
-  ending = l.ending;
-  strips_prefix = l.strips_prefix;
+abbrev pub rule_of : Judge → LineRule
+rule_of j = record {
+  filter = j.range;
+  prefixes = texts j.prefixes.items;
+  ending = j.ending;
+  strips_prefix = j.strips_prefix;
 }
 
 abbrev pub selected_value : SelectedLine → SelectedValue
 selected_value k = record { version = read_plain k.version; line = k.bytes.items }
 
 abbrev pub held_value : Held → HeldValue
-held_value h = record {
-  selection = h.selection;
-  best = option_map selected_value h.best;
-  sorted = map selected_value h.sorted.items;
+held_value h = record { selection = h.selection; lines = map selected_value h.lines.items }
+
+abbrev pub fold_value : Fold → FoldValue
+fold_value f = record {
+  rule = rule_of f.judge;
+  is_strict = f.is_strict;
+  held = held_value f.held;
+  counts = counts_value f.counts;
 }
 
--- what a line is that has no version
-abbrev pub without_version : LineEnd → Text → Verdict
-without_version ending line = if is_empty (line_text ending line) then empty else invalid
+-- ---- one line
 
--- what a line is of which a filter says this, and this is given; if its version matches, it is this
--- one
-abbrev pub verdict_of : LineEnd → Checked → PlainVersion → Text → Verdict
-verdict_of ending NoVersion plain given = without_version ending given
-verdict_of ending DoesNotMatch plain given = dropped
-verdict_of ending (Matches outline) plain given = kept plain given
+-- what a line of this text is that has no version
+abbrev pub without_version : Text → Verdict
+without_version [] = empty
+without_version (x ∷ xs) = invalid (take reported (x ∷ xs))
 
--- the outline is that of a version which is this one but for its build
-abbrev pub Outlines : OutlineValue → PlainVersion → Type 0
-Outlines outline plain = plain ≡ (version_of outline).plain
+abbrev pub verdict_of : Judged → Verdict
+verdict_of (NotAVersion text) = without_version text.now
+verdict_of Outside = dropped
+verdict_of (Kept outline given) = kept (version_of outline).plain given.now
 
-abbrev pub MatchesAs : Checked → PlainVersion → Type 0
-MatchesAs NoVersion plain = Unit {0}
-MatchesAs DoesNotMatch plain = Unit {0}
-MatchesAs (Matches outline) plain = Outlines outline plain
+-- the text has this version after this one prefix
+abbrev pub HasOne : Grammar → Text → Text → Text → VersionValue → Type 0
+HasOne grammar prefix text first v = (first ≡ prefix) × SpellsAfter grammar prefix text v
 
--- what a filter says of a line, and what is given of it: all of a line that has no version
-abbrev pub ChecksLine : LineRule → Text → Text → Checked → Type 0
-ChecksLine rule line given NoVersion = HasNoVersion rule line × (given ≡ line)
-ChecksLine rule line given DoesNotMatch = IsVerdictOn rule line dropped
-ChecksLine rule line given (Matches outline) =
-    (plain : PlainVersion) × Outlines outline plain × IsVerdictOn rule line (kept plain given)
+-- what is said of a line of this text, if it has such versions after such prefixes
+abbrev pub Judges : LineRule → (Text → VersionValue → Type 0) → Text → Text → Judged → Type 0
+Judges rule Has text line (NotAVersion said) =
+    ((prefix : Text) (v : VersionValue) → ¬ (Has prefix v)) × (said.now ≡ text)
+Judges rule Has text line Outside = (prefix : Text) × (v : VersionValue) × Has prefix v
+    × (matches rule.filter v ≡ false)
+Judges rule Has text line (Kept outline given) = (prefix : Text) × (v : VersionValue)
+    × Has prefix v × IsTrue (matches rule.filter v) × (v ≡ version_of outline)
+    × (given.now ≡ given_after rule (length prefix) line)
 
--- some kept lines were the last, and what is wanted at the end of the text was appended
-abbrev pub Concludes : ℕ → HeldValue → List SelectedValue → Text → Text → Type 0
-Concludes end h lines old new = (held : HeldValue) × (added rest : Text)
-    × Holds h lines held added × Answers end held rest × (new ≡ old ++ (added ++ rest))
+-- ---- a piece
 
--- one line was taken, and it is this
-pub record TakesLine (ending : LineEnd) (h : HeldValue) (c : CountsValue) (line : Text)
-    (verdict : Verdict) (g : HeldValue) (d : CountsValue) (old new : Text) : Type 0 where
-  pub added : Text
-  pub holds : Holds h (selected_as verdict) g added
-  pub appended : new ≡ old ++ added
-  pub counted : d ≡ counted_as ending verdict c line
+-- a piece in three parts: what ends the line that was begun before, whole lines, and what begins
+-- another. If no line ends in it, all of it is the last part
+pub record IsCut (end : ℕ) (piece first whole begun : Text) : Type 0 where
+  pub parts : piece ≡ first ++ (whole ++ begun)
+  pub ends_first : ((first ≡ []) × (whole ≡ [])) ⊎ IsWholeLine end first
+  pub ends_whole : IsEmptyOrEndsWith whole end
+  pub no_end : All (λ b. b ≢ end) begun
 
--- one line was checked and taken, and this says whether it is no invalid one
-abbrev pub TakesChecked : LineRule → HeldValue → CountsValue → Text → HeldValue → CountsValue
-    → Text → Text → Bool → Type 0
-TakesChecked rule h c line g d old new is_valid = (verdict : Verdict)
-    × IsVerdictOn rule line verdict × TakesLine rule.ending h c line verdict g d old new
-    × (is_valid ≡ not (is_invalid verdict))
+-- what is taken of the line that has begun, if it isn't empty
+abbrev pub some_line : Text → List Text
+some_line [] = []
+some_line (x ∷ xs) = (x ∷ xs) ∷ []
 
--- bytes that end no line were taken
-abbrev pub TakesRest : LinesValue → Text → LinesValue → Type 0
-TakesRest s rest t = (t ≡ record s { unended = t.unended })
-    × IsLeft (versions_grammar s.rule.filter) s.rule.prefixes s.at_front (s.unended
-    ++ rest) t.unended
+-- the line that has begun was taken with these bytes, if it isn't empty then
+pub record EndsLine (s : LinesValue) (end : Text) (t : LinesValue) (old new : Text) : Type 0 where
+  pub takes : TakesLines s.fold (some_line (after_mark s.at_front (s.begun ++ end))) t.fold old new
+  pub state : t ≡ record { fold = t.fold; at_front = s.at_front; begun = [] }
 
--- the end of a line was taken, and this says whether the line is no invalid one
-abbrev pub TakesWhole : LinesValue → Text → LinesValue → Text → Text → Bool → Type 0
-TakesWhole s end t old new is_valid = (line : LineCheck) × TakesAll s end (line ∷ []) t old new
-    × (t.unended ≡ []) × (is_valid ≡ not (is_invalid line.verdict))
+-- what is held of a line that has not ended: bytes of which none ends a line, and not too many
+pub record IsBegun (end : ℕ) (begun : Text) : Type 0 where
+  pub no_end : All (λ b. b ≢ end) begun
+  pub short : length begun ≤ longest_front
+
+-- what the last line gets at its end, if each line is to have one and it isn't empty
+abbrev pub closing : Bool → Text → Text → Text
+closing true [] end = []
+closing true (x ∷ xs) end = end
+closing false line end = []

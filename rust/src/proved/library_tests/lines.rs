@@ -16,11 +16,12 @@ use crate::proved::version_sets::PreReleases;
 const TEXT: &[u8] = b"\xEF\xBB\xBF1.2.0\r\nx\n1.3.0-rc\n\r\n1.9.0+b\n2.0.0\n1.9.0+a\n1.4.0";
 
 /// What is appended of it, by what is wanted.
-const APPENDED: [(Selection, &str); 4] = [
+const APPENDED: [(Selection, &str); 5] = [
     (Selection::Each, "1.2.0\r\n1.9.0+b\n1.9.0+a\n1.4.0"),
     (Selection::Highest, "1.9.0+b\n"),
     (Selection::Lowest, "1.2.0\r\n"),
     (Selection::Sorted, "1.2.0\r\n1.4.0\n1.9.0+b\n1.9.0+a\n"),
+    (Selection::Reversed, "1.9.0+a\n1.9.0+b\n1.4.0\n1.2.0\r\n"),
 ];
 
 /// Lines that are no version: bytes that are no UTF-8, a bad character, more than a version, less,
@@ -149,8 +150,8 @@ const LONG_LINES: [(&str, u8, bool); 7] = [
     ("1.2.0", b'\r', true),
 ];
 
-/// How many letters late lines have: they are a version so far, and show then that they are none.
-const LATE_LINES: [usize; 2] = [5000, 9000];
+/// How long the text of a line with a version is at most.
+const LONGEST_TEXT: usize = 1_048_576;
 
 /// Writes at which cuts of the text something else is appended, and how many cuts there were.
 pub fn write_cuts(rt: &impl Print) -> io::Result<()> {
@@ -177,9 +178,9 @@ pub fn write_cuts(rt: &impl Print) -> io::Result<()> {
 /// many lengths there were.
 pub fn write_strict_lines(rt: &impl Print) -> io::Result<()> {
     let mut stops = 0u32;
-    for (wanted, appended) in &APPENDED {
+    for (wanted, _) in &APPENDED {
         for length in LENGTHS {
-            if !stops_and_goes_on(*wanted, length, appended)? {
+            if !stops_in_pieces(*wanted, length)? {
                 crate::rattle_std::fallible_println!(rt; "lines: wrong where pieces of {length} have an invalid line")?;
             }
             stops = stops.saturating_add(1);
@@ -208,33 +209,32 @@ pub fn write_invalid_lines(rt: &impl Print) -> io::Result<()> {
     crate::rattle_std::fallible_println!(rt; "lines: {count} invalid lines")
 }
 
-/// Writes which long lines are kept, skipped or counted otherwise, and how many there were. The
-/// first 4,096 bytes show of most that they are no version, and of the late ones twice as many or
-/// four times as many do.
+/// Writes which long lines are kept or counted otherwise, and how many there were: of 4,096 bytes,
+/// and with the longest text that may have a version, one byte less and one more.
 pub fn write_long_lines(rt: &impl Print) -> io::Result<()> {
     let mut count = 0u32;
-    for (front, byte, is_kept) in &LONG_LINES {
+    for (front, byte, is_version) in &LONG_LINES {
         for length in 4094..4100usize {
-            let mut line = Vec::new();
-            line.fallible_extend_from_slice(front.as_bytes())?;
-            for _ in line.len()..length {
-                line.fallible_push(*byte)?;
-            }
+            let line = long_line(front, *byte, length)?;
             for place in [0, 1, 4095, 4096, 4097, length] {
-                if !takes_long(line.as_slice(), place, *is_kept)? {
+                if !takes_long(line.as_slice(), place, *is_version)? {
                     crate::rattle_std::fallible_println!(rt; "lines: wrong at {length} bytes that begin with {front:?}")?;
                 }
                 count = count.saturating_add(1);
             }
         }
     }
-    for letters in LATE_LINES {
-        let line = late_line(letters)?;
-        for place in [0, 4096, 4097, 8191, 8192, 8193, 16384, 16385] {
-            if !takes_long(line.as_slice(), place, false)? {
-                crate::rattle_std::fallible_println!(rt; "lines: wrong at {letters} letters, then a blank")?;
+    for (front, byte, is_version) in [("1.2.0+", b'a', true), ("\u{FEFF}1.2.0", b' ', true)] {
+        let mark = if front.starts_with('\u{FEFF}') { 3 } else { 0 };
+        for length in LONGEST_TEXT - 1..LONGEST_TEXT + 2 {
+            let line = long_line(front, byte, length.saturating_add(mark))?;
+            let is_kept = is_version && length <= LONGEST_TEXT;
+            for place in [0, length - 1, length, length + 2] {
+                if !takes_long(line.as_slice(), place, is_kept)? {
+                    crate::rattle_std::fallible_println!(rt; "lines: wrong at {length} bytes that begin with {front:?}")?;
+                }
+                count = count.saturating_add(1);
             }
-            count = count.saturating_add(1);
         }
     }
     crate::rattle_std::fallible_println!(rt; "lines: {count} long lines")
@@ -310,8 +310,7 @@ pub fn write_files(rt: &impl Print) -> io::Result<()> {
     crate::rattle_std::fallible_println!(rt; "lines: {count} pairs of files")
 }
 
-/// Whether strict lines stop at a last line of a file that is no version, once: then another file
-/// is taken.
+/// Whether strict lines stop at a last line of a file that is no version, which is counted.
 fn stops_at_the_end_of_a_file() -> Result<bool, AllocError> {
     let mut lines = lines_of("^1.2", Selection::Each, true)?;
     let mut kept = Vec::new();
@@ -320,12 +319,11 @@ fn stops_at_the_end_of_a_file() -> Result<bool, AllocError> {
             lines.end_file(&mut kept),
             Err(LinesError::NoVersion(2))
         );
-    let goes_on = lines.push(b"\xEF\xBB\xBF1.9.0\n", &mut kept).is_ok();
     let first = &lines.counts().first_invalid;
     let is_shown = first
         .as_ref()
         .is_some_and(|line| line.front.as_slice() == "x".as_bytes());
-    Ok(has_stopped && goes_on && is_shown && kept.as_slice() == "1.4.0\n1.9.0\n".as_bytes())
+    Ok(has_stopped && is_shown && kept.as_slice() == "1.4.0\n".as_bytes())
 }
 
 /// Whether pieces append this, the kept lines that they end as soon as these end.
@@ -382,47 +380,50 @@ fn appends_in_pieces(
     appends(wanted, pieces.as_slice(), appended)
 }
 
-/// Whether strict lines stop once, after the second line, and append all else if the rest is
-/// pushed.
-fn stops_and_goes_on(
-    wanted: Selection,
-    length: usize,
-    appended: &str,
-) -> Result<bool, AllocError> {
+/// Whether strict lines stop at the second line: what the first appends was appended, and both are
+/// counted.
+fn stops_in_pieces(wanted: Selection, length: usize) -> Result<bool, AllocError> {
     let mut lines = lines_of("^1.2", wanted, true)?;
     let mut kept = Vec::new();
-    let mut taken = 0usize;
-    let mut stops = 0u32;
-    for _ in 0..TEXT.len() + 2 {
-        let rest = TEXT.get(taken..).unwrap_or_default();
-        let piece = &rest[..length.min(rest.len())];
+    let mut rest = TEXT;
+    for _ in 0..TEXT.len() {
+        let (piece, others) = rest.split_at(length.min(rest.len()));
+        rest = others;
         match lines.push(piece, &mut kept) {
-            Ok(()) => taken = taken.saturating_add(piece.len()),
-            Err(stopped) => {
-                taken = taken.saturating_add(stopped.taken);
-                stops = stops.saturating_add(1);
-                if !matches!(stopped.error, LinesError::NoVersion(2)) || taken != 12 {
-                    return Ok(false);
-                }
-            }
+            Ok(()) => {}
+            Err(error) => return Ok(has_stopped(&lines, wanted, &error, kept.as_slice())),
         }
     }
-    let has_ended = taken == TEXT.len() && lines.finish(&mut kept).is_ok();
-    Ok(stops == 1 && has_ended && kept.as_slice() == appended.as_bytes())
+    Ok(false)
 }
 
-/// Whether strict lines stop at a last line that is no version, each time, and append nothing.
+/// Whether this is left after the second line.
+fn has_stopped(lines: &Lines, wanted: Selection, error: &LinesError, kept: &[u8]) -> bool {
+    let appended = match wanted {
+        Selection::Each => "1.2.0\r\n",
+        _ => "",
+    };
+    let counts = lines.counts();
+    matches!(error, LinesError::NoVersion(2))
+        && kept == appended.as_bytes()
+        && (counts.lines, counts.kept, counts.invalid) == (2, 1, 1)
+        && counts
+            .first_invalid
+            .as_ref()
+            .is_some_and(|line| line.number == 2)
+}
+
+/// Whether strict lines stop at a last line that is no version, append nothing, and count it.
 fn stops_at_the_end(wanted: Selection) -> Result<bool, AllocError> {
     let mut lines = lines_of("^1.2", wanted, true)?;
     let mut kept = Vec::new();
-    let mut is_right = lines.push(b"2.0.0\n\nx", &mut kept).is_ok();
-    for _ in 0..2 {
-        is_right &= matches!(
+    let has_stopped = lines.push(b"2.0.0\n\nx", &mut kept).is_ok()
+        && matches!(
             lines.finish(&mut kept),
             Err(LinesError::NoVersion(3))
         );
-    }
-    Ok(is_right && kept.is_empty() && lines.counts().invalid == 0)
+    let counts = lines.counts();
+    Ok(has_stopped && kept.is_empty() && (counts.lines, counts.invalid) == (3, 1))
 }
 
 /// Whether a line is skipped and counted, and the lines before and after it are appended.
@@ -446,16 +447,12 @@ fn skips(before: &str, line: &[u8], after: &str) -> Result<bool, AllocError> {
     Ok(has_ended && is_counted && kept == wanted)
 }
 
-/// A line that is a version for so many letters, and then has a blank and as many letters.
-fn late_line(letters: usize) -> Result<Vec<u8>, AllocError> {
+/// A line of this length that begins so, and this byte again and again.
+fn long_line(front: &str, byte: u8, length: usize) -> Result<Vec<u8>, AllocError> {
     let mut line = Vec::new();
-    line.fallible_extend_from_slice(b"1.2.3-")?;
-    for _ in 0..letters {
-        line.fallible_push(b'a')?;
-    }
-    line.fallible_push(b' ')?;
-    for _ in 0..letters {
-        line.fallible_push(b'a')?;
+    line.fallible_extend_from_slice(front.as_bytes())?;
+    for _ in line.len()..length {
+        line.fallible_push(byte)?;
     }
     Ok(line)
 }
@@ -466,8 +463,11 @@ fn takes_long(line: &[u8], place: usize, is_kept: bool) -> Result<bool, AllocErr
     let mut lines = lines_of("^1.2", Selection::Each, false)?;
     let mut kept = Vec::new();
     let mut wanted = Vec::new();
+    let text = line
+        .strip_prefix(b"\xEF\xBB\xBF".as_slice())
+        .unwrap_or(line);
     if is_kept {
-        wanted.fallible_extend_from_slice(line)?;
+        wanted.fallible_extend_from_slice(text)?;
         wanted.fallible_extend_from_slice(b"\n")?;
     }
     wanted.fallible_extend_from_slice(b"1.9.0")?;
@@ -478,9 +478,6 @@ fn takes_long(line: &[u8], place: usize, is_kept: bool) -> Result<bool, AllocErr
         }
     }
     let has_ended = lines.finish(&mut kept).is_ok();
-    let text = line
-        .strip_prefix(b"\xEF\xBB\xBF".as_slice())
-        .unwrap_or(line);
     let shown = text.get(..81).unwrap_or_default();
     let is_counted = match &lines.counts().first_invalid {
         Some(first) => !is_kept && first.number == 1 && first.front.as_slice() == shown,

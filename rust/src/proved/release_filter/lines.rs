@@ -1,16 +1,14 @@
 // Made by tools/erase.py from crates/release_filter/src/lines.rt; not edited by hand.
-//! The lines of a text that comes in pieces, and which of them a filter keeps.
+//! The lines of a text that comes in pieces, and which of them a filter keeps. A line is held until
+//! it ends, up to what shows that it has no version: a text of more than 1,048,576 bytes has none.
 
 use crate::rattle_std::prelude::*;
-use crate::proved::release_filter::line_filter::LineFilter;
+use crate::proved::release_filter::counts::Counts;
+use crate::proved::release_filter::held::Held;
+use crate::proved::release_filter::judge::Judge;
 use crate::proved::release_filter::line_options::LineOptions;
-use crate::proved::release_filter::line_statistics::{Counts, Noted, is_invalid};
-use crate::proved::release_filter::line_texts::{LineEnd, after_mark, whole_line};
-use crate::proved::release_filter::selection::{Held, Selection};
-use crate::proved::release_filter::verdict::Checked;
-use crate::proved::semver_versions::read_version::ReadVersion;
+use crate::proved::release_filter::line_texts::{after_mark, closing, cut, first_line, hold};
 use crate::rattle_std::AllocError;
-use crate::rattle_std::mem;
 use crate::proved::tool_ranges::version_range::VersionRange;
 
 /// Why lines were not taken to the end.
@@ -48,38 +46,11 @@ impl crate::rattle_std::fmt::Display for LinesError {
 #[cfg(feature = "std")]
 impl crate::rattle_std::Error for LinesError {}
 
-/// A piece was not taken to its end.
-///
-/// ```
-/// use semver_parser::filters::{LineOptions, Lines, LinesError};
-/// use semver_parser::{Dialect, VersionRange};
-///
-/// let range = VersionRange::parse("^1", Dialect::Npm)?;
-/// let options = LineOptions { is_strict: true, ..LineOptions::new() };
-/// let mut lines = Lines::new(range, vec![], options);
-/// let stopped = lines.push(b"1.4.0\n1.2\n1.5.0\n", &mut Vec::new()).unwrap_err();
-/// assert_eq!(stopped.taken, 10);
-/// assert!(matches!(stopped.error, LinesError::NoVersion(2)));
-/// # Ok::<(), semver_parser::RangeError>(())
-/// ```
-#[derive(Debug)]
-pub struct Stopped {
-    /// How many bytes of the piece were taken. The rest can be pushed again.
-    pub taken: usize,
-    /// Why.
-    pub error: LinesError,
-}
-
-impl crate::rattle_std::fmt::Display for Stopped {
-    fn fmt(&self, f: &mut crate::rattle_std::fmt::Formatter<'_>) -> crate::rattle_std::fmt::Result {
-        match self {
-            Stopped { taken: _, error } => write!(f, "{error}"),
-        }
+impl From<AllocError> for LinesError {
+    fn from(_error: AllocError) -> LinesError {
+        LinesError::OutOfMemory
     }
 }
-
-#[cfg(feature = "std")]
-impl crate::rattle_std::Error for Stopped {}
 
 /// The lines of a text that comes in pieces of any length, and which of them a filter keeps.
 ///
@@ -88,13 +59,14 @@ impl crate::rattle_std::Error for Stopped {}
 /// before a line feed. A line is kept if its text is one of the prefixes and then spells a version
 /// that matches, by the dialect of the filter (docs/GRAMMAR.md): by the crate's and npm's, white
 /// space may be around the version. The first prefix after which it spells a version decides.
-/// Without a prefix it is as with the empty one.
+/// Without a prefix it is as with the empty one. A text of more than 1,048,576 bytes has no
+/// version.
 ///
 /// A byte order mark at the front of the text is dropped, also one that is cut between pieces.
 ///
-/// Of a line that goes on into the next piece its bytes are held. At 4,096 of them, at twice as
-/// many, and so on, they are checked: if no line with a version begins with them, no more than
-/// these are held, and the rest of the line is skipped.
+/// A line that goes on into the next piece is held until it ends, but no more of it than shows that
+/// its text is too long. So memory is bounded, however long a line is. After an error only the
+/// counts are of use.
 ///
 /// ```
 /// use semver_parser::filters::{LineOptions, Lines};
@@ -109,13 +81,17 @@ impl crate::rattle_std::Error for Stopped {}
 /// # Ok::<(), semver_parser::RangeError>(())
 /// ```
 pub struct Lines {
-    chosen: LineFilter,
-    is_strict: bool,
+    fold: Fold,
     at_front: bool,
-    unended: Vec<u8>,
-    is_skipped: bool,
-    held: Held,
-    counts: Counts,
+    begun: Vec<u8>,
+}
+
+/// What is done with each line, and what came of those so far.
+pub(crate) struct Fold {
+    pub(crate) judge: Judge,
+    pub(crate) is_strict: bool,
+    pub(crate) held: Held,
+    pub(crate) counts: Counts,
 }
 
 impl Lines {
@@ -138,18 +114,19 @@ impl Lines {
         options: LineOptions,
     ) -> Lines {
         Lines {
-            chosen: LineFilter {
-                filter,
-                prefixes,
-                ending: options.ending,
-                strips_prefix: options.strips_prefix,
+            fold: Fold {
+                judge: Judge {
+                    range: filter,
+                    prefixes,
+                    ending: options.ending,
+                    strips_prefix: options.strips_prefix,
+                },
+                is_strict: options.is_strict,
+                held: Held::new(options.selection),
+                counts: Counts::new(),
             },
-            is_strict: options.is_strict,
             at_front: true,
-            unended: Vec::new(),
-            is_skipped: false,
-            held: Held::new(options.selection),
-            counts: Counts::new(),
+            begun: Vec::new(),
         }
     }
 
@@ -158,11 +135,9 @@ impl Lines {
     ///
     /// # Errors
     ///
-    /// [`Stopped`] has how many bytes of the piece were taken: what was appended is what these end,
-    /// and pushing the rest goes on. `OutOfMemory` if an allocation fails: for a line that another
-    /// piece begins or ends, the first line of the text, a kept line, or the first invalid one.
-    /// `NoVersion`, only where the lines are strict, if a line of the piece isn't empty and has no
-    /// version: the piece was taken up to the end of the first such line.
+    /// `OutOfMemory` if an allocation fails. `NoVersion`, only if the lines are strict, for the
+    /// first line that isn't empty and has no version. Then lines were taken up to the error: what
+    /// they append was appended, and they are counted. After an error only the counts are of use.
     ///
     /// # Details
     ///
@@ -183,26 +158,19 @@ impl Lines {
     /// assert_eq!(kept, b"1.4.0\n1.9.2\n");
     /// # Ok::<(), semver_parser::RangeError>(())
     /// ```
-    pub fn push(&mut self, piece: &[u8], kept: &mut Vec<u8>) -> Result<(), Stopped> {
-        let _ = &self.unended;
-        let mut taken = 0;
-        'lines: loop {
-            match self.take_first(&piece[taken..], kept) {
-                Ok(Some((end, is_valid))) => {
-                    taken += end.len();
-                    if self.is_strict && !is_valid {
-                        let error = LinesError::NoVersion(self.counts.lines);
-                        return Err(Stopped { taken, error });
-                    }
-                }
-                Ok(None) => break,
-                Err(_) => return Err(out_of_memory(taken)),
-            }
+    pub fn push(
+        &mut self,
+        piece: &[u8],
+        kept: &mut Vec<u8>,
+    ) -> Result<(), LinesError> {
+        let (first, whole, begun) = cut(piece, self.fold.judge.ending);
+        if first.is_empty() {
+            return self.begin_line(begun);
         }
-        match self.take_rest(&piece[taken..]) {
-            Ok(_) => Ok(()),
-            Err(_) => Err(out_of_memory(taken)),
-        }
+        self.end_line(first, kept)?;
+        self.at_front = false;
+        self.fold.take_all(whole, kept)?;
+        self.begin_line(begun)
     }
 
     /// Takes the end of the text, with the last line if it has no end of its own, and appends the
@@ -210,16 +178,15 @@ impl Lines {
     ///
     /// # Errors
     ///
-    /// `OutOfMemory` if an allocation fails: for the last line, if it is kept or the first invalid
-    /// one, for lines that are sorted, or for the best line, if `kept` isn't empty. `NoVersion`,
-    /// exactly where the lines are strict and the last line isn't empty and has no version. Then
-    /// nothing was appended, the lines are as they were, and the call can be repeated.
+    /// `OutOfMemory` if an allocation fails. `NoVersion`, only if the lines are strict, if the last
+    /// line isn't empty and has no version: it is counted. After an error only the counts are of
+    /// use.
     ///
     /// # Details
     ///
-    /// But for `Selection::Sorted` a line is appended as it is, with no byte added. Then no byte
-    /// of a text was taken, as after [`Lines::new`], so that another text can be pushed; the lines
-    /// of both are counted.
+    /// A last line without an end gets one if the lines are sorted, and otherwise stays as it is.
+    /// Then no byte of a text was taken, as after [`Lines::new`], so that another text can be
+    /// pushed. The lines of both are counted.
     ///
     /// ```
     /// use semver_parser::filters::{LineOptions, Lines, Selection};
@@ -235,31 +202,9 @@ impl Lines {
     /// # Ok::<(), semver_parser::RangeError>(())
     /// ```
     pub fn finish(&mut self, kept: &mut Vec<u8>) -> Result<(), LinesError> {
-        let ending = self.chosen.ending;
-        let line = after_mark(self.at_front, self.unended.as_slice());
-        if line.is_empty() {
-            let none = Checked::NoVersion;
-            let Ok(_) = self.held.finish(ending, line, &none, kept) else {
-                return Err(LinesError::OutOfMemory);
-            };
-            self.begin();
-            return Ok(());
-        }
-        let mut count = 0;
-        let checked = self.chosen.check_line(line, &mut count);
-        let given = self.chosen.given(line, count);
-        let is_bad = is_invalid(ending, given, &checked);
-        if self.is_strict && is_bad {
-            return Err(LinesError::NoVersion(self.counts.lines.saturating_add(1)));
-        }
-        let Ok(noted) = self.counts.noted(ending, given, &checked) else {
-            return Err(LinesError::OutOfMemory);
-        };
-        let Ok(_) = self.held.finish(ending, given, &checked, kept) else {
-            return Err(LinesError::OutOfMemory);
-        };
-        self.counts.add(noted);
-        self.begin();
+        let closes = self.fold.held.selection.closes_lines();
+        self.end(closes, kept)?;
+        self.fold.held.finish(kept)?;
         Ok(())
     }
 
@@ -268,9 +213,9 @@ impl Lines {
     ///
     /// # Errors
     ///
-    /// `OutOfMemory` if an allocation fails: then nothing was appended, the lines are as they were,
-    /// and the call can be repeated. `NoVersion`, exactly where the lines are strict and the last
-    /// line isn't empty and has no version: the end of the file was taken, too.
+    /// `OutOfMemory` if an allocation fails. `NoVersion`, only if the lines are strict, if the last
+    /// line isn't empty and has no version: it is counted. After an error only the counts are of
+    /// use.
     ///
     /// ```
     /// use semver_parser::filters::{LineOptions, Lines};
@@ -287,19 +232,7 @@ impl Lines {
     /// # Ok::<(), semver_parser::RangeError>(())
     /// ```
     pub fn end_file(&mut self, kept: &mut Vec<u8>) -> Result<(), LinesError> {
-        let mut is_valid = true;
-        if !after_mark(self.at_front, self.unended.as_slice()).is_empty() {
-            let end = [self.chosen.ending.byte()];
-            let Ok(valid) = self.take_line(&end, kept) else {
-                return Err(LinesError::OutOfMemory);
-            };
-            is_valid = valid;
-        }
-        self.begin_file();
-        if self.is_strict && !is_valid {
-            return Err(LinesError::NoVersion(self.counts.lines));
-        }
-        Ok(())
+        self.end(true, kept)
     }
 
     /// Returns the counts of the lines so far. It does not allocate.
@@ -316,177 +249,72 @@ impl Lines {
     /// # Ok::<(), semver_parser::RangeError>(())
     /// ```
     pub fn counts(&self) -> &Counts {
-        &self.counts
+        &self.fold.counts
     }
 
-    /// Makes this the state before the first byte of a text.
-    fn begin(&mut self) {
-        self.held.clear();
-        self.begin_file();
-    }
-
-    /// Makes this the state before the first byte of a file.
-    fn begin_file(&mut self) {
+    /// Takes the end of a file: a line that has no end gets one, if it is to have one.
+    fn end(&mut self, closes: bool, kept: &mut Vec<u8>) -> Result<(), LinesError> {
+        let line = after_mark(self.at_front, self.begun.as_slice());
+        let end = [self.fold.judge.ending.byte()];
+        let end = closing(closes, line, &end);
+        self.end_line(end, kept)?;
         self.at_front = true;
-        self.unended.clear();
-        self.is_skipped = false;
+        Ok(())
     }
 
-    /// Takes the bytes up to the first end of a line, if there is one: these bytes, and whether the
-    /// line is no invalid one. For speed, a line of which no byte was taken before is checked where
-    /// it is.
-    #[inline(always)]
-    fn take_first<'p>(
+    /// Holds more bytes of the line that has begun, if some may be needed.
+    fn begin_line(&mut self, bytes: &[u8]) -> Result<(), LinesError> {
+        hold(&mut self.begun, bytes)?;
+        Ok(())
+    }
+
+    /// Takes the line that has begun, with these bytes, if it isn't empty then.
+    fn end_line(&mut self, end: &[u8], kept: &mut Vec<u8>) -> Result<(), LinesError> {
+        hold(&mut self.begun, end)?;
+        let line = after_mark(self.at_front, self.begun.as_slice());
+        let taken = self.fold.take_some(line, kept);
+        self.begun.clear();
+        taken
+    }
+}
+
+impl Fold {
+    /// Takes all lines of some bytes. The last one may have no end.
+    fn take_all(
         &mut self,
-        bytes: &'p [u8],
+        bytes: &[u8],
         kept: &mut Vec<u8>,
-    ) -> Result<Option<(&'p [u8], bool)>, AllocError> {
-        if self.at_front || !self.unended.is_empty() {
-            let Some(end) = whole_line(bytes, self.chosen.ending) else {
-                return Ok(None);
-            };
-            let is_valid = self.take_line(end, kept)?;
-            return Ok(Some((end, is_valid)));
-        }
-        let mut count = 0;
-        let Some((line, checked)) = self.chosen.first_checked(bytes, &mut count) else {
-            return Ok(None);
-        };
-        let given = self.chosen.given(line, count);
-        let is_valid = take(
-            self.chosen.ending,
-            given,
-            &checked,
-            &mut self.held,
-            &mut self.counts,
-            kept,
-        )?;
-        Ok(Some((line, is_valid)))
-    }
-
-    /// Takes bytes that end no line. Of a line that is skipped none are held or looked at.
-    fn take_rest(&mut self, rest: &[u8]) -> Result<(), AllocError> {
-        if self.is_skipped {
-            return Ok(());
-        }
-        if rest.is_empty() {
-            return Ok(());
-        }
-        let shown = self.chosen.hold(self.at_front, &mut self.unended, rest)?;
-        if let Some(size) = shown {
-            self.unended.truncate(size);
-            self.is_skipped = true;
+    ) -> Result<(), LinesError> {
+        let mut rest = bytes;
+        while !rest.is_empty() {
+            let line = first_line(rest, self.judge.ending);
+            self.take(line, kept)?;
+            rest = &rest[line.len()..];
         }
         Ok(())
     }
 
-    /// Ends the line that has not ended, and returns whether it isn't an invalid one. Of a skipped
-    /// line nothing more is held but the byte that ends it.
-    fn take_line(
+    /// Takes a line.
+    #[inline(always)]
+    fn take(&mut self, line: &[u8], kept: &mut Vec<u8>) -> Result<(), LinesError> {
+        let judged = self.judge.judge(line);
+        self.held.keep(&judged, kept)?;
+        let is_valid = self.counts.count(&judged)?;
+        if self.is_strict && !is_valid {
+            return Err(LinesError::NoVersion(self.counts.lines));
+        }
+        Ok(())
+    }
+
+    /// Takes a line, if it isn't empty.
+    fn take_some(
         &mut self,
-        end: &[u8],
+        line: &[u8],
         kept: &mut Vec<u8>,
-    ) -> Result<bool, AllocError> {
-        let begun = self.unended.len();
-        let last = [self.chosen.ending.byte()];
-        let end = if self.is_skipped { &last } else { end };
-        self.unended.fallible_extend_from_slice(end)?;
-        match take_ended(
-            &self.chosen,
-            self.at_front,
-            &mut self.unended,
-            &mut self.held,
-            &mut self.counts,
-            kept,
-        ) {
-            Ok(is_valid) => {
-                self.unended.clear();
-                self.at_front = false;
-                self.is_skipped = false;
-                Ok(is_valid)
-            }
-            Err(error) => {
-                self.unended.truncate(begun);
-                Err(error)
-            }
+    ) -> Result<(), LinesError> {
+        if line.is_empty() {
+            return Ok(());
         }
-    }
-}
-
-/// Takes a line that has ended, and returns whether it is no invalid one. So that a long line isn't
-/// held twice, one that is kept is handed over if nothing was appended before it, or held as it is.
-fn take_ended(
-    chosen: &LineFilter,
-    at_front: bool,
-    bytes: &mut Vec<u8>,
-    held: &mut Held,
-    counts: &mut Counts,
-    kept: &mut Vec<u8>,
-) -> Result<bool, AllocError> {
-    let marked = bytes.as_slice();
-    let line = after_mark(at_front, marked);
-    let mut count = 0;
-    let checked = chosen.check_line(line, &mut count);
-    let given = chosen.given(line, count);
-    let may_hand_over = may_hand_over(held.selection, given, marked, kept.as_slice());
-    let may_hold = may_hold(held.selection, given, marked);
-    if let Checked::Matches(outline) = &checked {
-        if may_hand_over {
-            counts.add(Noted::Kept);
-            mem::swap(kept, bytes);
-            return Ok(true);
-        }
-        if may_hold {
-            let version = ReadVersion::of(outline)?;
-            held.hold_whole(version, bytes);
-            counts.add(Noted::Kept);
-            return Ok(true);
-        }
-    }
-    take(chosen.ending, given, &checked, held, counts, kept)
-}
-
-/// Whether a kept line may take the place of what was appended, since it is all that is: all of it
-/// is given, it has no byte order mark before it, and nothing was appended.
-fn may_hand_over(selection: Selection, given: &[u8], marked: &[u8], kept: &[u8]) -> bool {
-    match selection {
-        Selection::Each => given.len() == marked.len() && kept.is_empty(),
-        Selection::Highest | Selection::Lowest | Selection::Sorted => false,
-    }
-}
-
-/// Whether a kept line may be held as it is: all of it is given, it has no byte order mark before
-/// it, and the best line is wanted.
-fn may_hold(selection: Selection, given: &[u8], marked: &[u8]) -> bool {
-    match selection {
-        Selection::Highest | Selection::Lowest => given.len() == marked.len(),
-        Selection::Each | Selection::Sorted => false,
-    }
-}
-
-/// Takes a line of which a filter says this and this is given, and returns whether it is no invalid
-/// one. All is given of a line that has no version.
-#[inline(always)]
-fn take(
-    ending: LineEnd,
-    given: &[u8],
-    checked: &Checked<'_>,
-    held: &mut Held,
-    counts: &mut Counts,
-    kept: &mut Vec<u8>,
-) -> Result<bool, AllocError> {
-    let noted = counts.noted(ending, given, checked)?;
-    if let Checked::Matches(outline) = checked {
-        held.keep(outline, given, kept)?;
-    }
-    counts.add(noted);
-    Ok(!is_invalid(ending, given, checked))
-}
-
-/// The memory ran out after so many bytes of a piece.
-fn out_of_memory(taken: usize) -> Stopped {
-    Stopped {
-        taken,
-        error: LinesError::OutOfMemory,
+        self.take(line, kept)
     }
 }

@@ -2,13 +2,12 @@
 //! Which of the kept lines are wanted, and those that are held until the end of the text.
 
 use crate::rattle_std::prelude::*;
-use crate::proved::release_filter::line_texts::{LineEnd, without_last};
-use crate::proved::release_filter::verdict::Checked;
+use crate::proved::release_filter::held::{Held, SelectedLine};
+use crate::proved::release_filter::judge::Judged;
 use crate::proved::semver_versions::read_version::ReadVersion;
 use crate::proved::semver_versions::version::Outline;
 use crate::rattle_std::AllocError;
 use crate::rattle_std::cmp::Ordering;
-use crate::rattle_std::mem;
 
 /// Which of the kept lines are wanted.
 ///
@@ -37,12 +36,15 @@ pub enum Selection {
     /// All, from the lowest version to the highest, and those of equal versions in their order. A
     /// line without the byte that ends lines gets it.
     Sorted,
+    /// The lines of [`Selection::Sorted`], in reverse order.
+    Reversed,
 }
 
-/// A kept line, and its version without the build.
-pub(crate) struct SelectedLine {
-    pub(crate) version: ReadVersion,
-    pub(crate) bytes: Vec<u8>,
+impl Selection {
+    /// Whether the lines are sorted: then each gets an end.
+    pub(crate) fn closes_lines(self) -> bool {
+        matches!(self, Selection::Sorted | Selection::Reversed)
+    }
 }
 
 /// A kept line, and its index among the kept ones: by that a sort without a buffer keeps lines of
@@ -61,31 +63,31 @@ impl IndexedLine<'_> {
     }
 }
 
-/// What is wanted, and the kept lines that are held for it.
-pub(crate) struct Held {
-    pub(crate) selection: Selection,
-    /// The highest line so far, or the lowest.
-    pub(crate) best: Option<SelectedLine>,
-    /// All lines so far.
-    pub(crate) sorted: Vec<SelectedLine>,
-    /// Memory for the next best line.
-    pub(crate) spare: Vec<u8>,
-}
-
 impl Held {
     /// Holds no line.
     pub(crate) fn new(selection: Selection) -> Held {
         Held {
             selection,
-            best: None,
-            sorted: Vec::new(),
-            spare: Vec::new(),
+            lines: Vec::new(),
         }
     }
 
-    /// Holds or appends a kept line of this outline.
+    /// Appends a line, or holds it, if it is kept: this is said of it.
     #[inline(always)]
     pub(crate) fn keep(
+        &mut self,
+        judged: &Judged<'_>,
+        kept: &mut Vec<u8>,
+    ) -> Result<(), AllocError> {
+        if let Judged::Kept(outline, line) = judged {
+            return self.keep_line(outline, line, kept);
+        }
+        Ok(())
+    }
+
+    /// Appends a kept line of this outline, or holds it.
+    #[inline(always)]
+    fn keep_line(
         &mut self,
         outline: &Outline<'_>,
         line: &[u8],
@@ -93,191 +95,103 @@ impl Held {
     ) -> Result<(), AllocError> {
         match self.selection {
             Selection::Each => kept.fallible_extend_from_slice(line),
-            Selection::Highest | Selection::Lowest => {
+            Selection::Highest | Selection::Lowest => self.hold_best(outline, line),
+            Selection::Sorted | Selection::Reversed => {
                 let version = ReadVersion::of(outline)?;
-                self.hold_best(version, line)?;
-                Ok(())
-            }
-            Selection::Sorted => {
-                self.sorted.fallible_push(selected_line(outline, line)?)?;
+                let bytes = Vec::fallible_from_slice(line)?;
+                self.lines.fallible_push(SelectedLine { version, bytes })?;
                 Ok(())
             }
         }
     }
 
-    /// Holds a line if it is better than the best so far.
+    /// Holds a line of this outline alone, if it is better than the best so far, in the memory of
+    /// that.
     fn hold_best(
         &mut self,
-        version: ReadVersion,
+        outline: &Outline<'_>,
         line: &[u8],
     ) -> Result<(), AllocError> {
-        if !is_better(self.selection, &version, &self.best) {
+        if !is_better(self.selection, outline, self.lines.as_slice()) {
             return Ok(());
         }
-        self.spare.clear();
-        self.spare.fallible_extend_from_slice(line)?;
-        let bytes = mem::replace(&mut self.spare, Vec::new());
-        if let Some(former) = mem::replace(&mut self.best, Some(SelectedLine { version, bytes })) {
-            self.spare = former.bytes;
-        }
+        let version = ReadVersion::of(outline)?;
+        let mut bytes = match self.lines.pop() {
+            Some(former) => former.bytes,
+            None => Vec::new(),
+        };
+        self.lines.clear();
+        bytes.clear();
+        bytes.fallible_extend_from_slice(line)?;
+        self.lines.fallible_push(SelectedLine { version, bytes })?;
         Ok(())
     }
 
-    /// Holds a line if it is better than the best so far, and takes its memory with it.
-    pub(crate) fn hold_whole(&mut self, version: ReadVersion, line: &mut Vec<u8>) {
-        if !is_better(self.selection, &version, &self.best) {
-            return;
-        }
-        let bytes = mem::replace(line, Vec::new());
-        self.best = Some(SelectedLine { version, bytes });
-    }
-
-    /// Appends the rest of the answer at the end of a text, of which this is the last line. What is
-    /// held then is of no use.
-    pub(crate) fn finish(
-        &mut self,
-        ending: LineEnd,
-        line: &[u8],
-        checked: &Checked<'_>,
-        kept: &mut Vec<u8>,
-    ) -> Result<(), AllocError> {
-        match self.selection {
-            Selection::Each => match checked {
-                Checked::Matches(_) => {
-                    kept.fallible_extend_from_slice(line)?;
-                    Ok(())
-                }
-                Checked::NoVersion | Checked::DoesNotMatch => Ok(()),
-            },
-            Selection::Highest | Selection::Lowest => {
-                let last = last_line(line, checked)?;
-                self.append_best(&last, kept)?;
-                Ok(())
-            }
-            Selection::Sorted => {
-                let last = last_line(line, checked)?;
-                self.append_sorted(ending, &last, kept)?;
-                Ok(())
-            }
-        }
-    }
-
-    /// Appends the best line, this last one among them. If nothing else is
-    /// appended, it is moved in place of a copy, and isn't held any more.
-    fn append_best(
-        &mut self,
-        last: &Option<SelectedLine>,
-        kept: &mut Vec<u8>,
-    ) -> Result<(), AllocError> {
-        if last.is_none() && kept.as_slice().is_empty() {
-            if let Some(best) = mem::replace(&mut self.best, None) {
-                *kept = best.bytes;
-            }
-            return Ok(());
-        }
-        match better_of(self.selection, &self.best, last) {
-            Some(best) => kept.fallible_extend_from_slice(best.bytes.as_slice()),
-            None => Ok(()),
-        }
-    }
-
-    /// Appends all lines, sorted, this last one among them.
-    fn append_sorted(
-        &self,
-        ending: LineEnd,
-        last: &Option<SelectedLine>,
-        kept: &mut Vec<u8>,
-    ) -> Result<(), AllocError> {
-        let mut lines = Vec::new();
-        for line in &self.sorted {
-            let index = lines.len();
-            lines.fallible_push(IndexedLine { index, line })?;
-        }
-        if let Some(line) = last {
-            let index = lines.len();
-            lines.fallible_push(IndexedLine { index, line })?;
-        }
-        lines.sort_unstable_by(|line, other| line.compare(other));
-        append_ended(lines.as_slice(), ending, kept)?;
+    /// Appends the lines that are held, sorted, and holds none any more.
+    pub(crate) fn finish(&mut self, kept: &mut Vec<u8>) -> Result<(), AllocError> {
+        append_sorted(self.lines.as_slice(), self.selection, kept)?;
+        self.lines.clear();
         Ok(())
     }
+}
 
-    /// Holds no line any more.
-    pub(crate) fn clear(&mut self) {
-        self.best = None;
-        self.sorted.clear();
+/// Whether the version of an outline is to be held in place of the best so far: there is none, or
+/// it is above that, or, if the lowest is wanted, below it.
+#[inline(always)]
+fn is_better(selection: Selection, outline: &Outline<'_>, held: &[SelectedLine]) -> bool {
+    let [best, ..] = held else {
+        return true;
+    };
+    let ordering = best.version.compared_outline(outline, outline.digits());
+    match selection {
+        Selection::Lowest => ordering.is_lt(),
+        Selection::Each | Selection::Highest | Selection::Sorted | Selection::Reversed => {
+            ordering.is_gt()
+        }
     }
 }
 
-/// Whether a version is to be taken in place of the best so far: it is above that, or, if the
-/// lowest is wanted, below it.
-fn is_better(selection: Selection, version: &ReadVersion, best: &Option<SelectedLine>) -> bool {
-    match (best, selection) {
-        (None, _) => true,
-        (Some(best), Selection::Lowest) => version.compare(&best.version).is_lt(),
-        (Some(best), _) => best.version.compare(version).is_lt(),
-    }
-}
-
-/// The better one of the best line so far and the last one.
-fn better_of<'k>(
+/// The lines that are held, sorted by their versions, as they are wanted.
+fn sorted<'k>(
+    held: &'k [SelectedLine],
     selection: Selection,
-    best: &'k Option<SelectedLine>,
-    last: &'k Option<SelectedLine>,
-) -> &'k Option<SelectedLine> {
-    match last {
-        Some(line) => {
-            if is_better(selection, &line.version, best) {
-                last
-            } else {
-                best
-            }
-        }
-        None => best,
+) -> Result<Vec<IndexedLine<'k>>, AllocError> {
+    let mut lines = Vec::new();
+    for line in held {
+        let index = lines.len();
+        lines.fallible_push(IndexedLine { index, line })?;
+    }
+    lines.sort_unstable_by(|line, other| line.compare(other));
+    put_in_order(&mut lines, selection);
+    Ok(lines)
+}
+
+/// Puts sorted lines into the order in which they are wanted.
+fn put_in_order(lines: &mut Vec<IndexedLine<'_>>, selection: Selection) {
+    match selection {
+        Selection::Reversed => lines.reverse(),
+        Selection::Each | Selection::Highest | Selection::Lowest | Selection::Sorted => {}
     }
 }
 
-/// The last line of a text, if it is kept.
-fn last_line(
-    line: &[u8],
-    checked: &Checked<'_>,
-) -> Result<Option<SelectedLine>, AllocError> {
-    match checked {
-        Checked::Matches(outline) => Ok(Some(selected_line(outline, line)?)),
-        Checked::NoVersion | Checked::DoesNotMatch => Ok(None),
-    }
-}
-
-/// A kept line of this outline.
-fn selected_line(
-    outline: &Outline<'_>,
-    line: &[u8],
-) -> Result<SelectedLine, AllocError> {
-    let version = ReadVersion::of(outline)?;
-    let bytes = Vec::fallible_from_slice(line)?;
-    Ok(SelectedLine { version, bytes })
-}
-
-/// Appends lines, each with the byte that ends lines at its end.
-fn append_ended(
-    lines: &[IndexedLine<'_>],
-    ending: LineEnd,
+/// Appends the lines that are held, sorted by their versions, as they are wanted.
+fn append_sorted(
+    held: &[SelectedLine],
+    selection: Selection,
     kept: &mut Vec<u8>,
 ) -> Result<(), AllocError> {
+    let lines = sorted(held, selection)?;
+    append(lines.as_slice(), kept)
+}
+
+/// Appends lines, as they are.
+fn append(lines: &[IndexedLine<'_>], kept: &mut Vec<u8>) -> Result<(), AllocError> {
     let begun = kept.len();
     for indexed in lines {
-        if let Err(error) = append_ended_line(indexed.line.bytes.as_slice(), ending, kept) {
+        if let Err(error) = kept.fallible_extend_from_slice(indexed.line.bytes.as_slice()) {
             kept.truncate(begun);
             return Err(error);
         }
     }
-    Ok(())
-}
-
-/// Appends a line with the byte that ends lines at its end, or a beginning of that.
-fn append_ended_line(line: &[u8], ending: LineEnd, kept: &mut Vec<u8>) -> Result<(), AllocError> {
-    let end = ending.byte();
-    kept.fallible_extend_from_slice(without_last(line, end))?;
-    kept.fallible_push(end)?;
     Ok(())
 }

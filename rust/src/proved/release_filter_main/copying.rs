@@ -134,8 +134,8 @@ impl<'a> Copying<'a> {
                 self.lines.push(piece, &mut self.kept)
             };
             self.write(rt)?;
-            if let Err(stopped) = pushed {
-                return Err(self.stopped(rt, name, stopped.error));
+            if let Err(error) = pushed {
+                return Err(self.stopped(rt, name, error));
             }
             self.check_json(rt, name, parsed)?;
         }
@@ -160,8 +160,6 @@ impl<'a> Copying<'a> {
     /// Takes the end of the last file, and writes the rest.
     fn finish(&mut self, rt: &HostRuntime, name: &str) -> Result<(), Error> {
         if let Err(error) = self.lines.finish(&mut self.kept) {
-            // The last line is counted, too, so that its text is known.
-            let _ = self.lines.end_file(&mut self.kept);
             return Err(self.stopped(rt, name, error));
         }
         self.write(rt)?;

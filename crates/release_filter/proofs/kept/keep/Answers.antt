@@ -25,5 +25,6 @@ loop-place-preserved c =
     ap (map (λ b. b.now)) c.in_ok-push.ensures.items
     ∙ keeps_next (λ b. b.now) xs _ _ c.args.kept.now.items c.loop-place.kept.items c.loop-place.place-index 0 _ c.loop-place-test.true same
     (ap (slice_get xs) (sym c.from.ensures)
-    ∙ slice_get_read xs _ c.from.result c.index-versions-from.result refl (in_bounds test xs _ _ _ _ c.loop-place-test.true same c.from.ensures)
+    ∙ slice_get_read xs _ c.from.result c.index-versions-from.result refl (in_bounds test xs _ _ _ _ c.loop-place-test.true same
+    c.from.ensures)
     c.index-versions-from.is) c.loop-place.invariant

@@ -1,8 +1,8 @@
-use Rattle.release_filter.proofs.PieceLaws.{one_completion, one_piece}
+use Rattle.release_filter.proofs.Outcomes.{one_completion, one_piece}
 use Rattle.release_filter.proofs.laws.one_outcome.Goals as goal
 
-pub returns : goal.returns
-returns c =
-    let total = c.precedence_is_total.ensures.total in
-    let same = c.one_version_in.ensures.same_version in
-    record { taking = one_piece same total; completion = one_completion same total }
+pub returns-clause-taking : goal.returns-clause-taking
+returns-clause-taking c = one_piece c.one_version_in.ensures.same_version c.precedence_is_total.ensures.total
+
+pub returns-clause-completion : goal.returns-clause-completion
+returns-clause-completion c = one_completion c.one_version_in.ensures.same_version c.precedence_is_total.ensures.total

@@ -1,0 +1,107 @@
+// Made by tools/erase.py from crates/release_filter/src/counts.rt; not edited by hand.
+//! How many lines a text has, how many of these are kept, how many have no version, and the first
+//! of those.
+
+use crate::rattle_std::prelude::*;
+use crate::proved::release_filter::judge::Judged;
+use crate::rattle_std::AllocError;
+
+/// So many bytes of the first line that is invalid are kept.
+const FRONT: usize = 81;
+
+/// How many lines a text has, and how many of these are kept or have no version. Each count stops
+/// at 2^64 - 1.
+///
+/// ```
+/// use semver_parser::filters::{LineOptions, Lines};
+/// use semver_parser::{Dialect, VersionRange};
+///
+/// let range = VersionRange::parse("^1", Dialect::Npm)?;
+/// let mut lines = Lines::new(range, vec![], LineOptions::new());
+/// lines.push(b"1.4.0\n2.0.0\n\n1.2\n", &mut Vec::new()).unwrap();
+/// let counts = lines.counts();
+/// assert_eq!((counts.lines, counts.kept, counts.empty, counts.invalid), (4, 1, 1, 1));
+/// # Ok::<(), semver_parser::RangeError>(())
+/// ```
+#[derive(Debug)]
+pub struct Counts {
+    /// The lines that have ended, and the last one, once the end of the text was taken.
+    pub lines: u64,
+    /// Those of them that are kept, whichever of these are wanted.
+    pub kept: u64,
+    /// Those of them whose text is empty.
+    pub empty: u64,
+    /// Those of them that are invalid: they aren't empty, and have no version.
+    pub invalid: u64,
+    /// The first invalid one.
+    pub first_invalid: Option<InvalidLine>,
+}
+
+/// A line that is not empty and has no version.
+///
+/// ```
+/// use semver_parser::filters::{LineOptions, Lines};
+/// use semver_parser::{Dialect, VersionRange};
+///
+/// let range = VersionRange::parse("^1", Dialect::Npm)?;
+/// let mut lines = Lines::new(range, vec![], LineOptions::new());
+/// lines.push(b"1.4.0\n1.2\n", &mut Vec::new()).unwrap();
+/// let invalid = lines.counts().first_invalid.as_ref().unwrap();
+/// assert_eq!((invalid.number, invalid.front.as_slice()), (2, b"1.2".as_slice()));
+/// # Ok::<(), semver_parser::RangeError>(())
+/// ```
+#[derive(Debug)]
+pub struct InvalidLine {
+    /// Its number: that of the first line is 1.
+    pub number: u64,
+    /// The first 81 bytes of its text, without what ends it; fewer if it is shorter.
+    pub front: Vec<u8>,
+}
+
+impl Counts {
+    /// Counts no line.
+    pub(crate) fn new() -> Counts {
+        Counts {
+            lines: 0,
+            kept: 0,
+            empty: 0,
+            invalid: 0,
+            first_invalid: None,
+        }
+    }
+
+    /// Counts a line of which this is said, and returns whether it isn't an invalid one.
+    #[inline(always)]
+    pub(crate) fn count(&mut self, judged: &Judged<'_>) -> Result<bool, AllocError> {
+        match judged {
+            Judged::NotAVersion(text) => return self.count_without_version(text),
+            Judged::Outside => {}
+            Judged::Kept(_, _) => self.kept = self.kept.saturating_add(1),
+        }
+        self.lines = self.lines.saturating_add(1);
+        Ok(true)
+    }
+
+    /// Counts a line of this text, which has no version, and returns whether it is empty.
+    fn count_without_version(&mut self, text: &[u8]) -> Result<bool, AllocError> {
+        let number = self.lines.saturating_add(1);
+        if text.is_empty() {
+            self.lines = number;
+            self.empty = self.empty.saturating_add(1);
+            return Ok(true);
+        }
+        self.keep_first(number, text)?;
+        self.lines = number;
+        self.invalid = self.invalid.saturating_add(1);
+        Ok(false)
+    }
+
+    /// Keeps the front of an invalid line of this number and text, if it is the first one.
+    fn keep_first(&mut self, number: u64, text: &[u8]) -> Result<(), AllocError> {
+        if self.first_invalid.is_none() {
+            let front = Vec::fallible_from_slice(&text[..text.len().min(FRONT)])?;
+            self.first_invalid = Some(InvalidLine { number, front });
+        }
+        Ok(())
+    }
+}

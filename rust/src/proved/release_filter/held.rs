@@ -1,0 +1,18 @@
+// Made by tools/erase.py from crates/release_filter/src/held.rt; not edited by hand.
+//! The lines that are held until the end of the text.
+
+use crate::rattle_std::prelude::*;
+use crate::proved::release_filter::selection::Selection;
+use crate::proved::semver_versions::read_version::ReadVersion;
+
+/// A kept line, and its version without the build.
+pub(crate) struct SelectedLine {
+    pub(crate) version: ReadVersion,
+    pub(crate) bytes: Vec<u8>,
+}
+
+/// What is wanted, and the lines that are held for it: the best one so far, or all.
+pub(crate) struct Held {
+    pub(crate) selection: Selection,
+    pub(crate) lines: Vec<SelectedLine>,
+}
