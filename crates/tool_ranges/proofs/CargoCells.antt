@@ -16,7 +16,7 @@ use Rattle.semver_ranges.proofs.Rows.{Shape}
 use Rattle.version_sets.specs.Steps.Cuts.{first_numbers}
 use Rattle.version_sets.specs.declared.rules.PreReleases.TheVariants.{Default, Included}
 use Rattle.tool_ranges.specs.CargoMeaning.{against}
-use Rattle.tool_ranges.specs.CargoRules.{meets_by_count}
+use Rattle.tool_ranges.specs.CargoMeaning.{meets_by_count}
 use Rattle.tool_ranges.specs.Steps.Table.{is_within, is_counted_within}
 use Rattle.tool_ranges.specs.declared.dialect.Dialect.{Dialect}
 use Rattle.tool_ranges.specs.declared.dialect.Dialect.TheVariants.{Cargo, CrateCargo, CrateNpm}

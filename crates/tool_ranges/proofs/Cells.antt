@@ -1,4 +1,4 @@
--- serves: tool_ranges::laws::meanings_agree
+-- serves: tool_ranges::meaning::satisfies
 -- How sides of the zero-filled version of stated numbers go with agreement and comparison.
 use Rattle.std.proofs.Common.{◌≡◌, ℕ, Bool, true, false, not, ◌&&◌, ◌||◌, ◌==◌, nat_eq, List, [], ◌∷◌}
 use Rattle.std.proofs.Common.{refl, ap, ◌∙◌}
@@ -61,16 +61,6 @@ same_ge : {g : Ordering → Ordering} {e m : Bool} → Step g e m → (o : Order
 same_ge Step.lower o h = refl
 same_ge Step.level o h = h
 same_ge Step.higher o h = refl
-
-eq_agrees : {g : Ordering → Ordering} {e m : Bool} → Step g e m → is_eq (g Equal) ≡ e
-eq_agrees Step.lower = refl
-eq_agrees Step.level = refl
-eq_agrees Step.higher = refl
-
-agree_ge : {g : Ordering → Ordering} {e m : Bool} → Step g e m → (is_ge (g Equal) && e) ≡ e
-agree_ge Step.lower = refl
-agree_ge Step.level = refl
-agree_ge Step.higher = refl
 
 -- a place among stated numbers
 pub data Spot : List ℕ → ℕ → Type 0 where
@@ -168,16 +158,3 @@ module _ (v : PlainVersion) where
 
   pub numbers_ge : (x y w : ℕ) → is_ge (precedence v (filled (x ∷ y ∷ w ∷ []) lowest_pre_release)) ≡ is_ge (against (x ∷ y ∷ w ∷ []) v)
   numbers_ge x y w = same_ge (after (step v.major x) (after (step v.minor y) (step v.patch w))) _ lowest_ge
-
-  -- what agrees with stated numbers isn't below them, and has the same
-  pub agrees_one : (x : ℕ) → (is_ge (against (x ∷ []) v) && agrees 1 (x ∷ []) v) ≡ agrees 1 (x ∷ []) v
-  agrees_one x = agree_ge (one_step x)
-
-  pub agrees_two : (x y : ℕ) → (is_ge (against (x ∷ y ∷ []) v) && agrees 2 (x ∷ y ∷ []) v) ≡ agrees 2 (x ∷ y ∷ []) v
-  agrees_two x y = agree_ge (two_steps x y)
-
-  pub equals_one : (x : ℕ) → is_eq (against (x ∷ []) v) ≡ agrees 1 (x ∷ []) v
-  equals_one x = eq_agrees (one_step x)
-
-  pub equals_two : (x y : ℕ) → is_eq (against (x ∷ y ∷ []) v) ≡ agrees 2 (x ∷ y ∷ []) v
-  equals_two x y = eq_agrees (two_steps x y)

@@ -39,5 +39,4 @@ mod FitCells
 mod MatchedTerms
 mod MatchedEvents
 mod MatchedRanges
-mod FormerMeanings
 mod BuiltSets

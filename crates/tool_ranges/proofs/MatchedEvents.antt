@@ -28,7 +28,7 @@ use Rattle.tool_ranges.specs.declared.dialect.Dialect.TheVariants.{Cargo, Npm, C
 use Rattle.tool_ranges.specs.declared.matching.Progress.{Progress}
 use Rattle.tool_ranges.specs.CargoMeaning.{as_read}
 use Rattle.tool_ranges.specs.Dialects.{SpellsAs, TreeOf, fits_as}
-use Rattle.tool_ranges.specs.NpmRules.{matches_everything}
+use Rattle.tool_ranges.specs.NpmMeaning.{matches_everything}
 use Rattle.tool_ranges.specs.ToolTable.{fits_in}
 use Rattle.tool_ranges.specs.Steps.Cursors.{ComesFirst, HasLeftIn, events_in, ranges_of, read_as, text_events}
 use Rattle.tool_ranges.specs.Steps.Matching.{Says, after, begun, counts, ended, lower_of, range_every, range_met, taken, term_fits, term_met}

@@ -4,10 +4,10 @@ use Rattle.std.proofs.Common.{◌≡◌, ap}
 use Rattle.semver_texts.specs.Versions.{VersionValue}
 use Rattle.version_sets.specs.declared.rules.PreReleases.{PreReleases}
 use Rattle.version_sets.specs.declared.rules.PreReleases.TheVariants.{Default, Included, Excluded}
-use Rattle.tool_ranges.specs.CargoRules.{meets_requirement}
+use Rattle.tool_ranges.specs.CargoMeaning.{meets_requirement}
 use Rattle.tool_ranges.specs.Dialects.{TreeOf}
 use Rattle.tool_ranges.specs.Meanings.{meant_by}
-use Rattle.tool_ranges.specs.NpmRules.{meets_npm}
+use Rattle.tool_ranges.specs.NpmMeaning.{meets_npm}
 use Rattle.tool_ranges.specs.declared.dialect.Dialect.{Dialect}
 use Rattle.tool_ranges.specs.declared.dialect.Dialect.TheVariants.{Cargo, Npm, CrateCargo, CrateNpm}
 

@@ -1,4 +1,4 @@
--- serves: tool_ranges::laws::meanings_agree
+-- serves: tool_ranges::meaning::satisfies
 -- What the ranges of a tree say of a version is what the tree means.
 use Rattle.std.proofs.Common.{◌≡◌, ℕ, Bool, true, false, ◌&&◌, ◌||◌, ◌==◌, if◌then◌else◌, List, [], ◌∷◌, length, map, refl, sym, ap, ◌∙◌}
 use Rattle.std.proofs.Math.Bool.{and-true, or-false}
@@ -32,10 +32,10 @@ use Rattle.tool_ranges.specs.declared.dialect.Dialect.{Dialect}
 use Rattle.tool_ranges.specs.declared.dialect.Dialect.TheVariants.{Cargo, Npm, CrateCargo, CrateNpm}
 use Rattle.tool_ranges.specs.declared.matching.Progress.{Progress}
 use Rattle.tool_ranges.specs.CargoMeaning.{against, as_read}
-use Rattle.tool_ranges.specs.CargoRules as cargo
+use Rattle.tool_ranges.specs.CargoMeaning as cargo
 use Rattle.tool_ranges.specs.Dialects.{TreeOf}
 use Rattle.tool_ranges.specs.Meanings.{meant_by}
-use Rattle.tool_ranges.specs.NpmRules as npm
+use Rattle.tool_ranges.specs.NpmMeaning as npm
 use Rattle.tool_ranges.specs.Steps.Matching.{Says, range_every, range_met, rule_of, said, takes_all, term_met}
 use Rattle.tool_ranges.proofs.Cells.{numbers_ge}
 

@@ -16,7 +16,7 @@ use Rattle.semver_ranges.proofs.Rows.{Shape}
 use Rattle.version_sets.specs.Steps.Cuts.{at, below, first_numbers}
 use Rattle.version_sets.specs.declared.rules.PreReleases.TheVariants.{Default, Included}
 use Rattle.tool_ranges.specs.CargoMeaning.{against}
-use Rattle.tool_ranges.specs.NpmRules.{is_zero, is_from, meets_by_count}
+use Rattle.tool_ranges.specs.NpmMeaning.{is_zero, is_from, meets_by_count}
 use Rattle.tool_ranges.specs.Steps.Table.{is_within, is_counted_within, is_past_release}
 use Rattle.tool_ranges.specs.declared.dialect.Dialect.TheVariants.{Npm}
 use Rattle.tool_ranges.proofs.ReadMeanings.{step, not_less, is_above, is_above_after}

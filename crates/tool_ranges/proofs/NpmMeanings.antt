@@ -25,9 +25,11 @@ use Rattle.semver_ranges.proofs.Rows.{Shape, Tail, same, past, floor, numbers_st
 use Rattle.semver_ranges.proofs.SetMeanings.{stated_shape, set_meets_by}
 use Rattle.semver_ranges.proofs.Tests.{list_all-same, list_all-weaker, list_any-weaker, list_any-same}
 use Rattle.semver_texts.proofs.Lists.{by_test}
+use Rattle.version_sets.specs.declared.rules.PreReleases.TheVariants.{Default}
+use Rattle.tool_ranges.proofs.MatchedRanges.{all_terms, default_simples}
 use Rattle.tool_ranges.specs.ToolTable.{is_greater, states_some, ends_at, written_in}
 use Rattle.tool_ranges.specs.NpmMeaning.{is_zero, is_from, meets_by_count, meets_one, asks_nothing_by, matches_everything, is_every_release}
-use Rattle.tool_ranges.specs.NpmMeaning.{meets_npm}
+use Rattle.tool_ranges.specs.NpmMeaning.{meets_npm, meets_range}
 use Rattle.tool_ranges.specs.NpmTable.{rewritten_npm}
 use Rattle.tool_ranges.specs.Steps.NpmReading.{is_from_zero}
 use Rattle.version_sets.specs.SetRanges.{is_at_least}
@@ -95,14 +97,14 @@ module _ (v : PlainVersion) where
 
   -- from 0.0.0 on is all that its numbers let in, as for the release
   between : (z b : PlainVersion) (e : Bool) → Between v z b e → Between released z b e
-      → (is_from z v && (is_lt (precedence v (exact_bound b)) && true)) ≡ (is_from z v && e)
+      → (is_from Default z v && (is_lt (precedence v (exact_bound b)) && true)) ≡ (is_from Default z v && e)
   between z b e row released_row = by_test (is_zero z)
       (λ y. let from : is_ge (precedence released z) ≡ true = release_ge released refl z y in
       rw y (sym (same_bound b) ∙ (rw from at released_row)))
       (λ n. rw n row)
 
   abbrev RowMeans : Form → List ℕ → List IdentifierValue → Type 0
-  RowMeans form s p = list_all passes (written_by form s p) ≡ meets_by_count form s (filled s p) v
+  RowMeans form s p = list_all passes (written_by form s p) ≡ meets_by_count Default form s (filled s p) v
 
   pub below_none : (is_lt (precedence v (exact_bound zero_version)) && true) ≡ false
   below_none = and-true _ ∙ no_lower _ (not_less v.major past_major major_ge)
@@ -161,9 +163,17 @@ module _ (v : PlainVersion) where
   any_row form (Shape.two x y) p none = rw (none refl) (row_two form x y)
   any_row form (Shape.three x y w) p none = row_three form x y w p
 
-  pub simple_passes : (s : Simple) → list_all passes (written_any Npm s) ≡ meets_one (of_simple s) v
+  pub simple_passes : (s : Simple) → list_all passes (written_any Npm s) ≡ meets_one Default s v
   simple_passes s = ap (list_all passes) (written_any_is Npm s)
       ∙ any_row s.form (stated_shape s.partial) (pre_any s.partial) (λ n. rw n refl)
+
+-- whether a version meets a term
+abbrev meets_term : PlainVersion → Term → Bool
+meets_term v (of_simple s) = meets_one Default s v
+meets_term v of_nothing = true
+
+range_met : (v : PlainVersion) (r : RangeTree) → list_all (meets_term v) (terms r) ≡ meets_range Default r v
+range_met v r = sym (all_terms (meets_term v) refl (λ l r' a b. rw (a, b) refl) r) ∙ default_simples v r
 
 module _ (v : PlainVersion) (release : v.pre ≡ []) where
   is_release : is_empty v.pre ≡ true
@@ -176,12 +186,12 @@ module _ (v : PlainVersion) (release : v.pre ≡ []) where
       rw (y, at_least_is c.op parts.0) (release_ge v release c.version parts.1))
       (λ n. rw n refl)
 
-  simple_meets : (s : Simple) → list_all (meets_comparator v) (written_any Npm s) ≡ meets_one (of_simple s) v
+  simple_meets : (s : Simple) → list_all (meets_comparator v) (written_any Npm s) ≡ meets_one Default s v
   simple_meets s = list_all-same (meets_comparator v) (passes v) same_test (written_any Npm s) ∙ simple_passes v s
 
   -- a release meets what matches everything
   met : (form : Form) {s : List ℕ} → Shape s → (p : List IdentifierValue) → asks_nothing_by form (is_empty s) (is_zero (filled s p)) ≡ true
-      → meets_by_count form s (filled s p) v ≡ true
+      → meets_by_count Default form s (filled s p) v ≡ true
   met less s p e = cc
   met greater s p e = cc
   met at_least Shape.none p e = refl
@@ -193,26 +203,26 @@ module _ (v : PlainVersion) (release : v.pre ≡ []) where
   met _ (Shape.two x y) p e = cc
   met _ (Shape.three x y w) p e = cc
 
-  term_met : (term : Term) → matches_everything term ≡ true → meets_one term v ≡ true
+  term_met : (term : Term) → matches_everything term ≡ true → meets_term v term ≡ true
   term_met (of_simple s) e = met s.form (stated_shape s.partial) (pre_any s.partial)
       (asks_any s.form (stated s.partial) (zero_filled s.partial) ∙ e)
   term_met of_nothing e = refl
 
   abbrev all_met : RangeTree → Bool
-  all_met r = list_all (λ term. meets_one term v) (terms r)
+  all_met r = list_all (meets_term v) (terms r)
 
-  some_range : (tree : SetTree) → list_any all_met tree ≡ meets_npm tree v
+  some_range : (tree : SetTree) → list_any all_met tree ≡ meets_npm Default tree v
   some_range tree = by_test (list_any is_every_release tree)
       (λ y. rw y (list_any-weaker is_every_release all_met
-      (λ r e. list_all-weaker matches_everything (λ term. meets_one term v) term_met (terms r) e) tree y ∙ sym is_release))
-      (λ n. rw n (list_any-same all_met (λ r. all_met r && counts_in r v) (λ r. sym (counted r)) tree)) where
-        counted : (r : RangeTree) → (all_met r && counts_in r v) ≡ all_met r
-        counted r = rw is_release (and-true _)
+      (λ r e. list_all-weaker matches_everything (meets_term v) term_met (terms r) e) tree y ∙ sym is_release))
+      (λ n. rw n (list_any-same all_met (λ r. meets_range Default r v && counts_in r v) (λ r. sym (counted r)) tree)) where
+        counted : (r : RangeTree) → (meets_range Default r v && counts_in r v) ≡ all_met r
+        counted r = rw is_release (and-true _) ∙ sym (range_met v r)
 
-  pub npm_meets_any : (tree : SetTree) → meets_set v (set_any (rewritten_npm tree)) ≡ meets_npm tree v
+  pub npm_meets_any : (tree : SetTree) → meets_set v (set_any (rewritten_npm tree)) ≡ meets_npm Default tree v
   npm_meets_any tree =
       ap (meets_set v) (table_any (written_in Npm) Npm tree)
-      ∙ set_meets_by (any_table npm_table) Npm v (λ term. meets_one term v) simple_meets (from_zero v release) tree ∙ some_range tree
+      ∙ set_meets_by (any_table npm_table) Npm v (meets_term v) simple_meets (from_zero v release) tree ∙ some_range tree
 
-  pub npm_meets : (tree : SetTree) → meets_set v (rewritten_npm tree) ≡ meets_npm tree v
+  pub npm_meets : (tree : SetTree) → meets_set v (rewritten_npm tree) ≡ meets_npm Default tree v
   npm_meets tree = sym (release_set v (rewritten_npm tree) is_release) ∙ npm_meets_any tree

@@ -28,6 +28,7 @@ use Rattle.semver_ranges.proofs.Rows.{Step, Shape, exact_row}
 use Rattle.semver_ranges.proofs.SetMeanings.{stated_shape}
 use Rattle.semver_texts.proofs.Lists.{by_test}
 use Rattle.std.proofs.Common.{map}
+use Rattle.version_sets.specs.declared.rules.PreReleases.TheVariants.{Default}
 use Rattle.tool_ranges.specs.AnySize.{comparator_any}
 use Rattle.tool_ranges.proofs.AnySizes.{one_range_any, pre_any, release_set, written_any_is}
 use Rattle.tool_ranges.specs.CargoGrammar.{is_one, is_of_cargo, SpellsComparators}
@@ -140,7 +141,7 @@ module _ (v : PlainVersion) (release : v.pre ≡ []) where
   is_release = ap is_empty release
 
   abbrev RowMeans : Form → List ℕ → List IdentifierValue → Type 0
-  RowMeans form s p = list_all (meets_comparator v) (written_by form s p) ≡ meets_by_count form s (filled s p) v
+  RowMeans form s p = list_all (meets_comparator v) (written_by form s p) ≡ meets_by_count Default form s (filled s p) v
 
   row_none : (p : List IdentifierValue) → RowMeans equal [] p
   row_none p = and-true _ ∙ not_less v.major past_major major_ge ∙ sym is_release
@@ -217,7 +218,7 @@ every_equal s e none = elim (or_cases _ (not (states_nothing s.partial)) (and_pa
   wild (three a b c pre build) o none = cc
 
 one_meets : (v : PlainVersion) (s : Simple) → v.pre ≡ [] → is_of_cargo s ≡ true
-    → list_all (meets_comparator v) (map comparator_any (written_one s)) ≡ meets_one s v
+    → list_all (meets_comparator v) (map comparator_any (written_one s)) ≡ meets_one Default s v
 one_meets v s release e = ap (list_all (meets_comparator v)) (written_any_is Cargo (as_read s))
     ∙ any_row v release (as_read s).form (stated_shape s.partial) (pre_any s.partial) (λ n. rw n refl)
     (never_bare (has_wildcard s.partial) s.form) (every_equal s e)
@@ -233,11 +234,11 @@ module _ (v : PlainVersion) (written : Simple → List PlainComparator) (meets :
       ∙ (λ i. each s h.is_read i && all_meet (next ∷ others) back more i)
 
 pub requirement_meets : (v : PlainVersion) (tree : List Simple) (t : Text) → v.pre ≡ [] → SpellsComparators tree t
-    → meets_set v (rewritten_requirement tree) ≡ meets_requirement tree v
+    → meets_set v (rewritten_requirement tree) ≡ meets_requirement Default tree v
 requirement_meets v tree t release h =
     sym (release_set v (rewritten_requirement tree) (ap is_empty release))
     ∙ or-false _ ∙ ap (list_all (meets_comparator v)) (one_range_any written_one tree)
-    ∙ all_meet v (λ s. map comparator_any (written_one s)) (λ s. meets_one s v) (λ s e. one_meets v s release e) tree t h
+    ∙ all_meet v (λ s. map comparator_any (written_one s)) (λ s. meets_one Default s v) (λ s e. one_meets v s release e) tree t h
     ∙ sym (and-true _)
-    ∙ ap (λ b. list_all (λ s. meets_one s v) tree && b) (sym (ap (λ q. is_empty q || list_any
+    ∙ ap (λ b. list_all (λ s. meets_one Default s v) tree && b) (sym (ap (λ q. is_empty q || list_any
     (λ s. states_pre_release_at (of_simple s) v) tree) release))

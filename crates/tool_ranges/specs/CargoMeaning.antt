@@ -1,12 +1,16 @@
--- What a requirement means to Cargo for a version, by agreement on stated numbers and by precedence
--- against the zero-filled version.
-use Rattle.std.specs.Prelude.{ℕ, Bool, ◌&&◌, ◌||◌, if◌then◌else◌, List, [], ◌∷◌}
+-- What a requirement means to Cargo for a version, by a rule for pre-releases: by agreement on
+-- stated numbers and by precedence against the zero-filled version. By default a pre-release counts
+-- only beside a comparator that states its numbers and a pre-release. Cargo has no rule by which
+-- each within the bounds counts: it is precedence against the comparators of `cargo::rewrite`, where
+-- a lower bound of fewer than three numbers begins with the lowest pre-release, as `>=1.2.0-0`.
+use Rattle.std.specs.Prelude.{ℕ, Bool, true, ◌&&◌, ◌||◌, if◌then◌else◌, List, [], ◌∷◌}
 use Rattle.std.specs.Prelude.{length, take}
 use Rattle.std.specs.List.{list_all, list_any}
 use Rattle.std.specs.Ordering.{nat_cmp, is_eq, is_lt, is_gt, is_ge}
 use Rattle.std.specs.Cmp.Lexicographic.{slice_cmp}
 use Rattle.std.specs.declared.cmp.Ordering.{Ordering}
 use Rattle.semver_ranges.specs.declared.range.Compat.TheVariants.{Cargo}
+use Rattle.semver_texts.specs.Precedence.{precedence}
 use Rattle.semver_texts.specs.Texts.{is_empty}
 use Rattle.semver_texts.specs.Versions.{numbers, PlainVersion}
 use Rattle.semver_ranges.specs.RangeTree.{Form, bare, equal, less, at_most, greater, at_least}
@@ -15,6 +19,8 @@ use Rattle.semver_ranges.specs.Partials.{stated}
 use Rattle.semver_ranges.specs.Terms.{of_simple}
 use Rattle.semver_ranges.specs.OwnMeaning.{agrees_past_zeros, meets_form}
 use Rattle.semver_ranges.specs.StatedPreReleases.{states_pre_release_at}
+use Rattle.version_sets.specs.declared.rules.PreReleases.{PreReleases}
+use Rattle.version_sets.specs.declared.rules.PreReleases.TheVariants.{Default, Included, Excluded}
 use Rattle.tool_ranges.specs.AnySize.{zero_filled_any}
 
 -- whether some component is a wildcard
@@ -33,36 +39,52 @@ as_read s = record { form = named (has_wildcard s.partial) s.form; partial = s.p
 abbrev pub against : List ℕ → PlainVersion → Ordering
 against s v = slice_cmp nat_cmp (take (length s) (numbers v)) s
 
--- a release with the stated numbers
-abbrev pub is_release_of : List ℕ → PlainVersion → Bool
-is_release_of s v = is_eq (against s v) && is_empty v.pre
+-- whether a version may be one of those with the same numbers: by default a release
+abbrev pub is_one : PreReleases → PlainVersion → Bool
+is_one Included v = true
+is_one _ v = is_empty v.pre
 
--- one or two numbers stated: by only these, and a pre-release isn't one of them but for `^`
-abbrev pub meets_some_stated : Form → List ℕ → PlainVersion → Bool
-meets_some_stated less s v = is_lt (against s v)
-meets_some_stated greater s v = is_gt (against s v)
-meets_some_stated at_most s v = is_lt (against s v) || is_release_of s v
-meets_some_stated at_least s v = is_gt (against s v) || is_release_of s v
-meets_some_stated caret s v = is_ge (against s v) && agrees_past_zeros s (numbers v)
-meets_some_stated _ s v = is_release_of s v
+-- one with the stated numbers
+abbrev pub is_one_of : PreReleases → List ℕ → PlainVersion → Bool
+is_one_of rule s v = is_eq (against s v) && is_one rule v
 
--- nothing stated: a release. Three stated: as the port in Cargo mode
-abbrev pub meets_by_count : Form → List ℕ → PlainVersion → PlainVersion → Bool
-meets_by_count form [] z v = is_empty v.pre
-meets_by_count form (a ∷ []) z v = meets_some_stated form (a ∷ []) v
-meets_by_count form (a ∷ b ∷ []) z v = meets_some_stated form (a ∷ b ∷ []) v
-meets_by_count form (a ∷ b ∷ c ∷ rest) z v = meets_form Cargo form (a ∷ b ∷ c ∷ rest) z v
+-- below one or two stated numbers: by default by only these
+abbrev pub is_below_some : PreReleases → List ℕ → PlainVersion → PlainVersion → Bool
+is_below_some Included s z v = is_lt (precedence v z)
+is_below_some _ s z v = is_lt (against s v)
+
+-- one or two numbers stated
+abbrev pub meets_some_stated : PreReleases → Form → List ℕ → PlainVersion → PlainVersion → Bool
+meets_some_stated rule less s z v = is_below_some rule s z v
+meets_some_stated rule greater s z v = is_gt (against s v)
+meets_some_stated rule at_most s z v = is_lt (against s v) || is_one_of rule s v
+meets_some_stated rule at_least s z v = is_gt (against s v) || is_one_of rule s v
+meets_some_stated rule caret s z v = is_ge (against s v) && agrees_past_zeros s (numbers v)
+meets_some_stated rule _ s z v = is_one_of rule s v
+
+-- nothing stated: by default a release. Three stated: as the port in Cargo mode
+abbrev pub meets_by_count : PreReleases → Form → List ℕ → PlainVersion → PlainVersion → Bool
+meets_by_count rule form [] z v = is_one rule v
+meets_by_count rule form (a ∷ []) z v = meets_some_stated rule form (a ∷ []) z v
+meets_by_count rule form (a ∷ b ∷ []) z v = meets_some_stated rule form (a ∷ b ∷ []) z v
+meets_by_count rule form (a ∷ b ∷ c ∷ rest) z v = meets_form Cargo form (a ∷ b ∷ c ∷ rest) z v
 
 -- whether a version meets a comparator
-abbrev pub meets_one : Simple → PlainVersion → Bool
-meets_one s v =
-    meets_by_count (as_read s).form (stated s.partial) (zero_filled_any s.partial) v
+abbrev pub meets_one : PreReleases → Simple → PlainVersion → Bool
+meets_one rule s v =
+    meets_by_count rule (as_read s).form (stated s.partial) (zero_filled_any s.partial) v
 
--- whether a version counts: a release does, and a pre-release where some comparator states its
--- three numbers and a pre-release
+-- whether a version counts by default: a release does, and a pre-release where some comparator
+-- states its three numbers and a pre-release
 abbrev pub counts : List Simple → PlainVersion → Bool
 counts tree v = is_empty v.pre || list_any (λ s. states_pre_release_at (of_simple s) v) tree
 
--- whether a version meets a requirement: each comparator, and it counts
-abbrev pub meets_requirement : List Simple → PlainVersion → Bool
-meets_requirement tree v = list_all (λ s. meets_one s v) tree && counts tree v
+-- whether a version meets a requirement by default: each comparator, and it counts
+abbrev pub meets_by_default : List Simple → PlainVersion → Bool
+meets_by_default tree v = list_all (λ s. meets_one Default s v) tree && counts tree v
+
+-- by each rule; without pre-releases a release that meets it by default
+abbrev pub meets_requirement : PreReleases → List Simple → PlainVersion → Bool
+meets_requirement Default tree v = meets_by_default tree v
+meets_requirement Included tree v = list_all (λ s. meets_one Included s v) tree
+meets_requirement Excluded tree v = is_empty v.pre && meets_by_default tree v

@@ -12,6 +12,7 @@ use Rattle.semver_ranges.specs.RangeTree.{SetTree, Simple, Spells}
 use Rattle.semver_ranges.specs.RangeTexts.{Refuses}
 use Rattle.semver_ranges.specs.RewritingTable.{PlainSet, fits}
 use Rattle.semver_ranges.specs.ExactBounds.{rewritten_exactly}
+use Rattle.version_sets.specs.declared.rules.PreReleases.TheVariants.{Default}
 use Rattle.tool_ranges.specs.declared.dialect.Dialect.{Dialect}
 use Rattle.tool_ranges.specs.declared.dialect.Dialect.TheVariants.{Cargo, Npm, CrateCargo}
 use Rattle.tool_ranges.specs.declared.dialect.Dialect.TheVariants.{CrateNpm}
@@ -58,8 +59,8 @@ IsRewrittenAs dialect t set =
 
 -- whether a tree means a release
 abbrev pub means_release : (dialect : Dialect) → TreeOf dialect → PlainVersion → Bool
-means_release Cargo tree v = meets_requirement tree v
-means_release Npm tree v = meets_npm tree v
+means_release Cargo tree v = meets_requirement Default tree v
+means_release Npm tree v = meets_npm Default tree v
 means_release CrateCargo tree v = meets_tree compat.Cargo tree v
 means_release CrateNpm tree v = meets_tree compat.Npm tree v
 

@@ -1,14 +1,11 @@
 pub mod CargoGrammar
 pub mod CargoMeaning
-pub mod CargoRules
-pub mod NpmRules
 pub mod AnySize
 pub mod CargoTable
 pub mod ToolTable
 pub mod NpmGrammar
 pub mod NpmMeaning
 pub mod NpmTable
-pub mod AllPreReleases
 pub mod Steps
 pub mod Dialects
 pub mod DialectTable

@@ -10,8 +10,8 @@ use Rattle.tool_ranges.specs.declared.dialect.Dialect.{Dialect}
 use Rattle.tool_ranges.specs.declared.dialect.Dialect.TheVariants.{Cargo, Npm, CrateCargo}
 use Rattle.tool_ranges.specs.declared.dialect.Dialect.TheVariants.{CrateNpm}
 use Rattle.tool_ranges.specs.declared.meaning.Meaning.{Meaning}
-use Rattle.tool_ranges.specs.CargoRules.{meets_requirement}
-use Rattle.tool_ranges.specs.NpmRules.{meets_npm}
+use Rattle.tool_ranges.specs.CargoMeaning.{meets_requirement}
+use Rattle.tool_ranges.specs.NpmMeaning.{meets_npm}
 use Rattle.tool_ranges.specs.Dialects.{TreeOf, SpellsAs}
 
 -- whether a tree of a dialect means a version by a rule for pre-releases

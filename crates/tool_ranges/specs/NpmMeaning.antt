@@ -1,5 +1,7 @@
--- What a range text means to npm for a version, by agreement on stated numbers and by precedence
--- against the zero-filled version.
+-- What a range text means to npm for a version, by a rule for pre-releases: by agreement on stated
+-- numbers and by precedence against the zero-filled version. By default a pre-release counts only
+-- beside a term that states its numbers and a pre-release. Where each within the bounds counts, it
+-- is `includePrerelease` of node-semver.
 use Rattle.std.specs.Prelude.{ℕ, Bool, true, false, ◌&&◌, ◌||◌, ◌==◌, if◌then◌else◌, List, []}
 use Rattle.std.specs.Prelude.{◌∷◌, length}
 use Rattle.std.specs.List.{list_all, list_any}
@@ -8,12 +10,15 @@ use Rattle.semver_texts.specs.Texts.{is_empty}
 use Rattle.semver_texts.specs.Precedence.{precedence}
 use Rattle.semver_texts.specs.Versions.{numbers, PlainVersion}
 use Rattle.semver_ranges.specs.RangeTree.{Form, less, at_most, greater, at_least, tilde, caret}
-use Rattle.semver_ranges.specs.RangeTree.{SetTree, RangeTree}
+use Rattle.semver_ranges.specs.RangeTree.{PartialTree, Simple, SetTree, RangeTree, empty, hyphen}
+use Rattle.semver_ranges.specs.RangeTree.{simples}
 use Rattle.semver_ranges.specs.Partials.{stated, states_nothing, zero_filled}
-use Rattle.semver_ranges.specs.Terms.{Term, of_simple, of_nothing, terms}
+use Rattle.semver_ranges.specs.Terms.{Term, of_simple, of_nothing, left_side, right_side, terms}
 use Rattle.semver_ranges.specs.OwnMeaning.{agrees, agrees_past_zeros}
 use Rattle.semver_ranges.specs.RewritingTable.{up}
 use Rattle.semver_ranges.specs.StatedPreReleases.{counts_in}
+use Rattle.version_sets.specs.declared.rules.PreReleases.{PreReleases}
+use Rattle.version_sets.specs.declared.rules.PreReleases.TheVariants.{Default, Included, Excluded}
 use Rattle.tool_ranges.specs.AnySize.{zero_filled_any}
 use Rattle.tool_ranges.specs.CargoMeaning.{against}
 
@@ -21,9 +26,28 @@ use Rattle.tool_ranges.specs.CargoMeaning.{against}
 abbrev pub is_zero : PlainVersion → Bool
 is_zero z = list_all (λ n. n == 0) (numbers z) && is_empty z.pre
 
--- not below the zero-filled version; any version where that is 0.0.0
-abbrev pub is_from : PlainVersion → PlainVersion → Bool
-is_from z v = is_zero z || is_ge (precedence v z)
+-- not below the zero-filled version; by default any version where that is 0.0.0
+abbrev pub is_from : PreReleases → PlainVersion → PlainVersion → Bool
+is_from Included z v = is_ge (precedence v z)
+is_from _ z v = is_zero z || is_ge (precedence v z)
+
+-- not below the zero-filled version; where that has no pre-release, not below its numbers
+abbrev pub is_from_numbers : List ℕ → PlainVersion → PlainVersion → Bool
+is_from_numbers s z v = if is_empty z.pre then is_ge (against s v) else is_ge (precedence v z)
+
+-- where the versions of one or two stated numbers begin. If each pre-release counts, they begin with
+-- the numbers, but those of `~` with the zero-filled version
+abbrev pub begins_some : PreReleases → Form → List ℕ → PlainVersion → PlainVersion → Bool
+begins_some Included tilde s z v = is_ge (precedence v z)
+begins_some Included form s z v = is_ge (against s v)
+begins_some rule form s z v = is_from rule z v
+
+-- where those of three begin. If each pre-release counts, `^` of a first number 0 begins with the
+-- numbers
+abbrev pub begins_three : PreReleases → Form → List ℕ → PlainVersion → PlainVersion → Bool
+begins_three Included caret s z v =
+    if z.major == 0 then is_from_numbers s z v else is_ge (precedence v z)
+begins_three rule form s z v = is_from rule z v
 
 -- nothing stated: none for `<` and `>`, any for the others
 abbrev pub meets_nothing_stated : Form → Bool
@@ -31,37 +55,57 @@ meets_nothing_stated less = false
 meets_nothing_stated greater = false
 meets_nothing_stated _ = true
 
--- one or two numbers stated: `<` and `<=` by only these, `>` from the version on in which the last
--- of them is raised
-abbrev pub meets_some_stated : Form → List ℕ → PlainVersion → PlainVersion → Bool
-meets_some_stated less s z v = is_lt (against s v)
-meets_some_stated at_most s z v = is_le (against s v)
-meets_some_stated greater s z v = is_ge (precedence v (up (length s) s))
-meets_some_stated at_least s z v = is_from z v
-meets_some_stated caret s z v = is_from z v && agrees_past_zeros s (numbers v)
-meets_some_stated _ s z v = is_from z v && agrees (length s) s v
+-- above the versions with one or two stated numbers: by default from the version on in which the
+-- last of them is raised
+abbrev pub is_above_some : PreReleases → List ℕ → PlainVersion → Bool
+is_above_some Included s v = is_gt (against s v)
+is_above_some _ s v = is_ge (precedence v (up (length s) s))
+
+-- one or two numbers stated: `<` and `<=` by only these
+abbrev pub meets_some_stated : PreReleases → Form → List ℕ → PlainVersion → PlainVersion → Bool
+meets_some_stated rule less s z v = is_lt (against s v)
+meets_some_stated rule at_most s z v = is_le (against s v)
+meets_some_stated rule greater s z v = is_above_some rule s v
+meets_some_stated rule at_least s z v = begins_some rule at_least s z v
+meets_some_stated rule caret s z v =
+    begins_some rule caret s z v && agrees_past_zeros s (numbers v)
+meets_some_stated rule form s z v = begins_some rule form s z v && agrees (length s) s v
 
 -- three numbers stated
-abbrev pub meets_three_stated : Form → List ℕ → PlainVersion → PlainVersion → Bool
-meets_three_stated less s z v = is_lt (precedence v z)
-meets_three_stated at_most s z v = is_le (precedence v z)
-meets_three_stated greater s z v = is_gt (precedence v z)
-meets_three_stated at_least s z v = is_from z v
-meets_three_stated tilde s z v = is_from z v && agrees 2 s v
-meets_three_stated caret s z v = is_from z v && agrees_past_zeros s (numbers v)
-meets_three_stated _ s z v = is_eq (precedence v z)
+abbrev pub meets_three_stated : PreReleases → Form → List ℕ → PlainVersion → PlainVersion → Bool
+meets_three_stated rule less s z v = is_lt (precedence v z)
+meets_three_stated rule at_most s z v = is_le (precedence v z)
+meets_three_stated rule greater s z v = is_gt (precedence v z)
+meets_three_stated rule at_least s z v = begins_three rule at_least s z v
+meets_three_stated rule tilde s z v = begins_three rule tilde s z v && agrees 2 s v
+meets_three_stated rule caret s z v =
+    begins_three rule caret s z v && agrees_past_zeros s (numbers v)
+meets_three_stated rule _ s z v = is_eq (precedence v z)
 
-abbrev pub meets_by_count : Form → List ℕ → PlainVersion → PlainVersion → Bool
-meets_by_count form [] z v = meets_nothing_stated form
-meets_by_count form (a ∷ []) z v = meets_some_stated form (a ∷ []) z v
-meets_by_count form (a ∷ b ∷ []) z v = meets_some_stated form (a ∷ b ∷ []) z v
-meets_by_count form (a ∷ b ∷ c ∷ rest) z v = meets_three_stated form (a ∷ b ∷ c ∷ rest) z v
+abbrev pub meets_by_count : PreReleases → Form → List ℕ → PlainVersion → PlainVersion → Bool
+meets_by_count rule form [] z v = meets_nothing_stated form
+meets_by_count rule form (a ∷ []) z v = meets_some_stated rule form (a ∷ []) z v
+meets_by_count rule form (a ∷ b ∷ []) z v = meets_some_stated rule form (a ∷ b ∷ []) z v
+meets_by_count rule form (a ∷ b ∷ c ∷ rest) z v =
+    meets_three_stated rule form (a ∷ b ∷ c ∷ rest) z v
 
--- whether a version meets a term
-abbrev pub meets_one : Term → PlainVersion → Bool
-meets_one (of_simple s) v =
-    meets_by_count s.form (stated s.partial) (zero_filled_any s.partial) v
-meets_one of_nothing v = true
+-- whether a version meets a simple
+abbrev pub meets_one : PreReleases → Simple → PlainVersion → Bool
+meets_one rule s v =
+    meets_by_count rule s.form (stated s.partial) (zero_filled_any s.partial) v
+
+-- whether a version meets the left side of a hyphen range. If each pre-release counts, it begins
+-- with its numbers
+abbrev pub meets_left : PreReleases → PartialTree → PlainVersion → Bool
+meets_left Included p v = is_from_numbers (stated p) (zero_filled_any p) v
+meets_left rule p v = meets_one rule (left_side p) v
+
+-- whether a version meets a range: each of its simples, or both sides
+abbrev pub meets_range : PreReleases → RangeTree → PlainVersion → Bool
+meets_range rule empty v = true
+meets_range rule (hyphen left right) v =
+    meets_left rule left v && meets_one rule (right_side right) v
+meets_range rule (simples first others) v = list_all (λ s. meets_one rule s v) (first ∷ others)
 
 -- whether npm matches everything of a version by a term: the empty range, `>=0.0.0`, and what
 -- states no number, but for `<` and `>`
@@ -79,10 +123,15 @@ matches_everything of_nothing = true
 abbrev pub is_every_release : RangeTree → Bool
 is_every_release range = list_all matches_everything (terms range)
 
--- whether a version meets a text: where some range of it matches everything, every release and no
--- pre-release does; else what meets each term of some range and counts in it
-abbrev pub meets_npm : SetTree → PlainVersion → Bool
-meets_npm tree v =
+-- whether a version meets a text by default: where some range of it matches everything, every
+-- release and no pre-release does; else what meets some range and counts in it
+abbrev pub meets_by_default : SetTree → PlainVersion → Bool
+meets_by_default tree v =
     if list_any is_every_release tree then is_empty v.pre
-    else list_any (λ range. list_all (λ term. meets_one term v) (terms range) && counts_in range v)
-    tree
+    else list_any (λ range. meets_range Default range v && counts_in range v) tree
+
+-- by each rule; without pre-releases a release that meets it by default
+abbrev pub meets_npm : PreReleases → SetTree → PlainVersion → Bool
+meets_npm Default tree v = meets_by_default tree v
+meets_npm Included tree v = list_any (λ range. meets_range Included range v) tree
+meets_npm Excluded tree v = is_empty v.pre && meets_by_default tree v

@@ -11,6 +11,7 @@ ghost use Rattle.semver_ranges.specs.declared.range.Compat.TheVariants.{Cargo};
 ghost use Rattle.semver_ranges.specs.Meeting.{meets_set};
 ghost use Rattle.semver_ranges.specs.PrintedRanges.{IsPrintableSet, set_text};
 ghost use Rattle.semver_ranges.specs.RewritingTable.{fits, rewritten};
+ghost use Rattle.version_sets.specs.declared.rules.PreReleases.TheVariants.{Default};
 ghost use Rattle.tool_ranges.specs.CargoGrammar.{SpellsRequirement};
 ghost use Rattle.tool_ranges.specs.CargoMeaning.{meets_requirement};
 ghost use Rattle.tool_ranges.specs.CargoTable.{rewritten_requirement, written_one};
@@ -63,7 +64,7 @@ pub fn rewrite(alloc: Global, requirement: &str) -> Result<RangeSet, RangeError>
     // A release satisfies the answer exactly if the requirement means it.
     ensures releases { IfOk result (λ set. (tree : List SimpleTree) (v : PlainVersion)
         → SpellsRequirement tree requirement.now → v.pre ≡ [] →
-        meets_set v (set_of set) ≡ meets_requirement tree v) }
+        meets_set v (set_of set) ≡ meets_requirement Default tree v) }
     // The result is printable, and its text is a range text that `RangeSet::parse` rewrites
     // to that set again.
     ensures printable { IfOk result (λ set. IsPrintableSet (set_of set)) }

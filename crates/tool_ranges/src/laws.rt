@@ -3,15 +3,6 @@
 ghost use Rattle.std.specs.Prelude.{◌≡◌, ◌++◌, ℕ, [], List, Option};
 ghost use Rattle.semver_texts.specs.Digits.{digits_in};
 ghost use Rattle.semver_texts.specs.Texts.{Text};
-ghost use Rattle.semver_texts.specs.Versions.{PlainVersion};
-ghost use Rattle.semver_ranges.specs.RangeTree.{SetTree, Simple as SimpleTree};
-ghost use Rattle.version_sets.specs.declared.rules.PreReleases.TheVariants.{Default, Included};
-ghost use Rattle.tool_ranges.specs.AllPreReleases as former_all;
-ghost use Rattle.tool_ranges.specs.CargoGrammar.{SpellsRequirement};
-ghost use Rattle.tool_ranges.specs.CargoMeaning as former_cargo;
-ghost use Rattle.tool_ranges.specs.CargoRules as cargo;
-ghost use Rattle.tool_ranges.specs.NpmMeaning as former_npm;
-ghost use Rattle.tool_ranges.specs.NpmRules as npm;
 ghost use Rattle.invalid_strings.specs.Prefixes.{IsLongestPrefix};
 ghost use Rattle.tool_ranges.specs.Prefixes.{BeginsAs};
 ghost use Rattle.tool_ranges.specs.declared.dialect.Dialect.{Dialect as SomeDialect};
@@ -31,20 +22,6 @@ use semver_versions::laws::one_version_in;
 pub fn one_tree()
     ensures same_tree { (dialect : SomeDialect) (tree other : TreeOf dialect) (t : Text)
         → SpellsAs dialect tree t → SpellsAs dialect other t → tree ≡ other }
-{}
-
-/// What a range means by a rule for pre-releases is what the definitions of that rule alone said: to
-/// npm and to Cargo, by default and where each pre-release within the bounds counts.
-pub fn meanings_agree()
-    ensures npm { (tree : SetTree) (v : PlainVersion)
-        → former_npm.meets_npm tree v ≡ npm.meets_npm Default tree v }
-    ensures npm_with_all { (tree : SetTree) (v : PlainVersion)
-        → former_all.meets_npm_with_all tree v ≡ npm.meets_npm Included tree v }
-    ensures cargo { (tree : List SimpleTree) (v : PlainVersion)
-        → former_cargo.meets_requirement tree v ≡ cargo.meets_requirement Default tree v }
-    ensures cargo_with_all { (tree : List SimpleTree) (t : Text) (v : PlainVersion)
-        → SpellsRequirement tree t → former_all.meets_requirement_with_all tree v
-        ≡ cargo.meets_requirement Included tree v }
 {}
 
 /// What begins a prefix of a range text is one, so is nothing, and so is each range text.

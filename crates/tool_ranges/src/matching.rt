@@ -19,7 +19,7 @@ ghost use Rattle.tool_ranges.specs.Steps.Matching.{said, states_at, taken, takes
 ghost use Rattle.tool_ranges.specs.Steps.Matching.{term_met};
 ghost use Rattle.tool_ranges.specs.Steps.Reading.{IsRead, IsRefusedAs};
 ghost use Rattle.tool_ranges.specs.Steps.Table.{is_counted_within, is_within, sides_fit};
-ghost use Rattle.tool_ranges.specs.NpmRules.{asks_nothing_by, is_zero};
+ghost use Rattle.tool_ranges.specs.NpmMeaning.{asks_nothing_by, is_zero};
 
 use crate::cursor::Cursor;
 use crate::dialect::Dialect;

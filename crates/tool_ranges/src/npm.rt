@@ -12,6 +12,7 @@ ghost use Rattle.semver_ranges.specs.Meeting.{meets_set};
 ghost use Rattle.semver_ranges.specs.PrintedRanges.{IsPrintableSet, set_text};
 ghost use Rattle.semver_ranges.specs.RewritingTable.{fits, rewritten};
 ghost use Rattle.version_sets.specs.Printable.{HasPrintableRanges};
+ghost use Rattle.version_sets.specs.declared.rules.PreReleases.TheVariants.{Default};
 ghost use Rattle.tool_ranges.specs.Steps.LowerBounds.{set_begun, written_for};
 ghost use Rattle.tool_ranges.specs.NpmGrammar.{may_stand, SpellsNpmRange};
 ghost use Rattle.tool_ranges.specs.NpmMeaning.{meets_npm};
@@ -58,7 +59,7 @@ pub fn rewrite(alloc: Global, range: &str) -> Result<RangeSet, RangeError>
     // A release satisfies the answer exactly if the text means it.
     ensures releases { IfOk result (λ set. (tree : SetTree) (v : PlainVersion)
         → SpellsNpmRange tree range.now → v.pre ≡ [] →
-        meets_set v (set_of set) ≡ meets_npm tree v) }
+        meets_set v (set_of set) ≡ meets_npm Default tree v) }
     // The result is printable, and its text is a range text that `RangeSet::parse` rewrites
     // to that set again.
     ensures printable { IfOk result (λ set. IsPrintableSet (set_of set)) }

@@ -20,7 +20,7 @@ ghost use Rattle.version_sets.specs.Steps.Cuts.{is_past_upper, is_between};
 ghost use Rattle.version_sets.specs.Steps.Cuts.{above};
 ghost use Rattle.version_sets.specs.Releases.{release_value};
 ghost use Rattle.tool_ranges.specs.declared.dialect.Dialect.TheVariants.{Cargo, Npm};
-ghost use Rattle.tool_ranges.specs.NpmRules.{is_zero};
+ghost use Rattle.tool_ranges.specs.NpmMeaning.{is_zero};
 ghost use Rattle.tool_ranges.specs.Steps.Table.{block_begins, sides, sides_of_nothing, is_within};
 ghost use Rattle.tool_ranges.specs.Steps.Table.{cargo_sides, is_counted_within, is_past_release};
 ghost use Rattle.tool_ranges.specs.Steps.Table.{sides_beside};

@@ -23,8 +23,8 @@ use Rattle.semver_versions.specs.Outlines as outlines
 use Rattle.version_sets.specs.declared.rules.PreReleases.{PreReleases}
 use Rattle.version_sets.specs.declared.rules.PreReleases.TheVariants.{Default, Included, Excluded}
 use Rattle.tool_ranges.specs.AnySize.{zero_filled_any}
-use Rattle.tool_ranges.specs.CargoRules as cargo
-use Rattle.tool_ranges.specs.NpmRules as npm
+use Rattle.tool_ranges.specs.CargoMeaning as cargo
+use Rattle.tool_ranges.specs.NpmMeaning as npm
 use Rattle.tool_ranges.specs.NpmTable.{is_safe_simple}
 use Rattle.tool_ranges.specs.ToolTable.{fits_in}
 use Rattle.tool_ranges.specs.declared.dialect.Dialect.{Dialect}

@@ -17,7 +17,7 @@ use Rattle.version_sets.specs.Steps.Cuts.{is_above_upper, is_between}
 use Rattle.tool_ranges.specs.declared.dialect.Dialect.{Dialect}
 use Rattle.tool_ranges.specs.declared.dialect.Dialect.TheVariants.{Cargo, Npm, CrateCargo}
 use Rattle.tool_ranges.specs.declared.dialect.Dialect.TheVariants.{CrateNpm}
-use Rattle.tool_ranges.specs.NpmRules.{is_zero}
+use Rattle.tool_ranges.specs.NpmMeaning.{is_zero}
 
 -- the stated numbers make a block of versions: those that have them. Where it begins: of the crate
 -- at the zero-filled version; of the tools below all of fewer than three numbers, but for Cargo's

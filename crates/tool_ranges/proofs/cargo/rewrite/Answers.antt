@@ -10,6 +10,7 @@ use Rattle.semver_ranges.specs.PrintedRanges.{IsPrintableSet, set_text}
 use Rattle.semver_ranges.specs.RangeTree.{Simple, SetTree, Spells}
 use Rattle.semver_ranges.specs.RangeViews.{set_of}
 use Rattle.semver_ranges.specs.RewritingTable.{fits, rewritten}
+use Rattle.version_sets.specs.declared.rules.PreReleases.TheVariants.{Default}
 use Rattle.tool_ranges.specs.CargoGrammar.{SpellsRequirement}
 use Rattle.tool_ranges.specs.CargoMeaning.{meets_requirement}
 use Rattle.tool_ranges.specs.CargoTable.{rewritten_requirement}
@@ -33,7 +34,7 @@ as_rewritten t (Err e) none = tt
 
 releases : (t : Text) (r : Result RangeSet RangeError) → IsRewritten t r
     → IfOk r (λ set. (tree : List Simple) (v : PlainVersion) → SpellsRequirement tree t → v.pre ≡ []
-    → meets_set v (set_of set) ≡ meets_requirement tree v)
+    → meets_set v (set_of set) ≡ meets_requirement Default tree v)
 releases t (Ok set) is = λ tree v h release.
     ap (meets_set v) (as_rewritten t (Ok set) is tree h) ∙ requirement_meets v tree t release h.comparators
 releases t (Err e) none = tt

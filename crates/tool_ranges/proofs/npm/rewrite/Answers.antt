@@ -11,6 +11,7 @@ use Rattle.semver_ranges.specs.PrintedRanges.{IsPrintableSet, set_text}
 use Rattle.semver_ranges.specs.RangeTree.{SetTree, Spells}
 use Rattle.semver_ranges.specs.RangeViews.{set_of}
 use Rattle.semver_ranges.specs.RewritingTable.{fits, rewritten}
+use Rattle.version_sets.specs.declared.rules.PreReleases.TheVariants.{Default}
 use Rattle.tool_ranges.specs.NpmGrammar.{SpellsNpmRange}
 use Rattle.tool_ranges.specs.NpmMeaning.{meets_npm}
 use Rattle.tool_ranges.specs.NpmTable.{rewritten_npm}
@@ -39,7 +40,7 @@ module _ (t : Text) where
   as_rewritten (Err e) is = tt
 
   releases : (r : Result RangeSet RangeError) → IfOk r IsBegun → IfOk r (λ set. (tree : SetTree) (v : PlainVersion)
-      → SpellsNpmRange tree t → v.pre ≡ [] → meets_set v (set_of set) ≡ meets_npm tree v)
+      → SpellsNpmRange tree t → v.pre ≡ [] → meets_set v (set_of set) ≡ meets_npm Default tree v)
   releases (Ok set) is = λ tree v h release. ap (meets_set v) (spelled set is tree h) ∙ npm_meets v release tree
   releases (Err e) is = tt
 
