@@ -1,4 +1,4 @@
--- serves: tool_ranges::version_range::VersionRange::parse
+-- serves: tool_ranges::meaning::check
 -- The comparators of a requirement, as the cursor reads them one after the other, are those of its tree.
 use Rattle.std.proofs.Common.{◌≡◌, ℕ, zero, suc, ◌≤◌, Bool, true, false, not, ◌&&◌, ◌||◌, List, [], ◌∷◌, ◌++◌, length, refl, sym, ap, ◌∙◌, subst, arith}
 use Rattle.std.proofs.Common.{Option, Some, None, map}

@@ -13,6 +13,7 @@ mod NpmMeanings
 mod NpmLaws
 mod PrintableSets
 mod MatchedMeanings
+mod CheckedEvents
 pub mod ReadingLaws
 mod Places
 mod RangeErrors

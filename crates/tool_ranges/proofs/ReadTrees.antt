@@ -1,4 +1,4 @@
--- serves: tool_ranges::meaning::satisfies
+-- serves: tool_ranges::meaning::check
 -- What is read of a text in a dialect is its one tree, and what a call refuses is what has none that fits.
 use Rattle.std.proofs.Common.{◌≡◌, true, false, Some, None, refl, sym, ap, ◌∙◌}
 use Rattle.std.proofs.lemmas.Bool.{both_ways}

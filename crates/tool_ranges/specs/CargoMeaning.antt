@@ -1,8 +1,9 @@
 -- What a requirement means to Cargo for a version, by a rule for pre-releases: by agreement on
 -- stated numbers and by precedence against the zero-filled version. By default a pre-release counts
--- only beside a comparator that states its numbers and a pre-release. Cargo has no rule by which
--- each within the bounds counts: it is precedence against the comparators of `cargo::rewrite`, where
--- a lower bound of fewer than three numbers begins with the lowest pre-release, as `>=1.2.0-0`.
+-- only if some comparator states its numbers and a pre-release. Cargo has no rule by which each
+-- within the bounds counts. Here it is precedence against the comparators of `cargo::rewrite`, of
+-- which a lower bound of fewer than three numbers begins with the lowest pre-release, such as
+-- `>=1.2.0-0`.
 use Rattle.std.specs.Prelude.{ℕ, Bool, true, ◌&&◌, ◌||◌, if◌then◌else◌, List, [], ◌∷◌}
 use Rattle.std.specs.Prelude.{length, take}
 use Rattle.std.specs.List.{list_all, list_any}

@@ -35,8 +35,8 @@ is_from _ z v = is_zero z || is_ge (precedence v z)
 abbrev pub is_from_numbers : List ℕ → PlainVersion → PlainVersion → Bool
 is_from_numbers s z v = if is_empty z.pre then is_ge (against s v) else is_ge (precedence v z)
 
--- where the versions of one or two stated numbers begin. If each pre-release counts, they begin with
--- the numbers, but those of `~` with the zero-filled version
+-- where the versions of one or two stated numbers begin. If each pre-release counts, they begin
+-- with the numbers, and those of `~` with the zero-filled version
 abbrev pub begins_some : PreReleases → Form → List ℕ → PlainVersion → PlainVersion → Bool
 begins_some Included tilde s z v = is_ge (precedence v z)
 begins_some Included form s z v = is_ge (against s v)

@@ -34,7 +34,7 @@ use semver_ranges::{Comparator, Compat, Range, RangeError, RangeSet};
 use std::alloc::{AllocError, Global};
 
 /// Cargo reads at most so many comparators.
-const MOST_COMPARATORS: usize = 32;
+pub(crate) const MOST_COMPARATORS: usize = 32;
 
 // Answer: law answer_laws::ranges::one_cargo_rewrite.
 /// Rewrites a requirement, as Cargo reads it, into plain comparators with exact bounds.

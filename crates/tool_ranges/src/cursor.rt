@@ -9,7 +9,7 @@ ghost use Rattle.tool_ranges.specs.Dialects.{grammar_of};
 ghost use Rattle.tool_ranges.specs.Steps.Cursors.{GivesNext, HasLeftIn, size_of, text_events};
 ghost use Rattle.tool_ranges.specs.Steps.Cursors.{FindsNext, read_as};
 
-use crate::cargo::read_comparator;
+use crate::cargo::{MOST_COMPARATORS, read_comparator};
 use crate::dialect::Dialect;
 use crate::npm::may_stand;
 use semver_ranges::RangeError;
@@ -18,17 +18,14 @@ use semver_ranges::grammar::Simple;
 use semver_ranges::partial::LowerBounds;
 use semver_texts::grammar::Grammar;
 
-/// Cargo reads at most so many comparators.
-const MOST_COMPARATORS: usize = 32;
-
 /// What is left of the comparators of a requirement.
 #[derive(Clone, Copy)]
 pub(crate) struct Comparators<'text> {
     /// What follows the last comma, or the whole text. None at the end.
     rest: Option<&'text [u8]>,
-    /// How many may come.
+    /// How many more may come.
     more: usize,
-    /// Whether none came.
+    /// Whether none has come yet.
     is_first: bool,
 }
 
@@ -42,7 +39,7 @@ pub(crate) enum Cursor<'text> {
 }
 
 impl<'text> Cursor<'text> {
-    /// At the beginning of a text, if each of its characters may be in a range.
+    /// Returns the cursor at the beginning of a text, if each of its characters may be in a range.
     #[inline(always)]
     pub(crate) fn new(
         text: &'text str,
@@ -72,8 +69,8 @@ impl<'text> Cursor<'text> {
         }
     }
 
-    /// The next term, or that the next range begins; or that the text isn't in the grammar from
-    /// there on. None at the end.
+    /// Returns the next term, or that the next range begins, or an error if the text isn't in the
+    /// grammar. Returns `None` at the end.
     #[inline(always)]
     pub(crate) fn next(&mut self, grammar: Grammar) -> Option<Result<Event<'text>, RangeError>>
         ensures gives { (o : Option (List SomeEvent)) → HasLeftIn grammar self.old o
@@ -88,7 +85,7 @@ impl<'text> Cursor<'text> {
 }
 
 impl<'text> Comparators<'text> {
-    /// The next comparator.
+    /// Returns the next comparator.
     #[inline(always)]
     fn next(&mut self) -> Option<Result<Event<'text>, RangeError>>
         ensures gives { (d : SomeGrammar) (o : Option (List SomeEvent))
@@ -112,7 +109,8 @@ impl<'text> Comparators<'text> {
         }
     }
 
-    /// The comparator at the front of a text, where one may come, and what follows its comma.
+    /// Returns the comparator at the beginning of a text, if one may come there, and what follows
+    /// its comma.
     #[inline(always)]
     fn read(&self, rest: &'text [u8]) -> Option<(Simple<'text>, Option<&'text [u8]>)>
         ensures { FindsNext self.now.more self.now.is_first rest.now result }
@@ -127,7 +125,7 @@ impl<'text> Comparators<'text> {
         Some((simple, after))
     }
 
-    /// Whether a comparator may come: one that states no number has to be alone.
+    /// Returns whether a comparator may come. One that states no number has to be the only one.
     #[inline(always)]
     fn may_come(&self, simple: &Simple<'_>, after: Option<&[u8]>) -> bool
         ensures { result ≡ not (states_none simple.now.partial.kind

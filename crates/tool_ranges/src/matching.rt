@@ -31,7 +31,7 @@ use semver_ranges::partial::{LowerBounds, Partial};
 use semver_versions::version::Outline;
 use version_sets::{Interval, PreReleases};
 
-/// What a range text says of a version.
+/// Returns whether a version satisfies a range text.
 #[inline(always)]
 pub(crate) fn answer(
     version: &Outline<'_>,
@@ -51,7 +51,7 @@ pub(crate) fn answer(
     }
 }
 
-/// Whether each pre-release within the bounds counts.
+/// Returns whether each pre-release within the bounds counts.
 #[inline(always)]
 pub(crate) fn takes_all(rule: PreReleases) -> bool
     ensures { result ≡ takes_all rule }
@@ -59,8 +59,8 @@ pub(crate) fn takes_all(rule: PreReleases) -> bool
     matches!(rule, PreReleases::Included)
 }
 
-/// The answer of what is known at the end. Where some range matches everything, npm takes by default
-/// each release and no pre-release.
+/// Returns whether the version satisfies the text, by what is known at its end. If some range
+/// matches everything, then to npm each release satisfies the text by default, and no pre-release.
 #[inline(always)]
 fn said(progress: &Progress, is_release: bool, dialect: Dialect, rule: PreReleases) -> bool
     ensures { (v : PlainVersion) → is_release ≡ is_empty v.pre
@@ -77,23 +77,24 @@ fn said(progress: &Progress, is_release: bool, dialect: Dialect, rule: PreReleas
     }
 }
 
-/// What is known of a version at some place of a range text.
+/// What is known of a version after some terms of a range text.
 #[derive(Clone, Copy)]
 pub(crate) struct Progress {
-    /// Whether it satisfies the terms of this range.
+    /// Whether it satisfies the terms of this range so far.
     here: bool,
     /// Whether it counts in this range.
     counts: bool,
-    /// Whether this range matches everything.
+    /// Whether this range matches everything so far.
     nothing: bool,
-    /// Whether it satisfies a range before, and counts there.
+    /// Whether it satisfies an earlier range, and counts in it.
     met: bool,
-    /// Whether a range before matches everything.
+    /// Whether an earlier range matches everything.
     every: bool,
 }
 
 impl Progress {
-    /// Before the first term. A version counts from the beginning, or where a term states it.
+    /// Returns what is known before the first term. A version counts from the beginning, or from a
+    /// term on that states its numbers and a pre-release.
     #[inline(always)]
     fn new(counts: bool) -> Progress
         ensures { result ≡ begun counts }
@@ -107,7 +108,8 @@ impl Progress {
         }
     }
 
-    /// With a term, of which by default only what counts is looked at.
+    /// Returns what is known after one more term. `by_default` says whether the interval for
+    /// pre-releases that count by default is taken.
     #[inline(always)]
     fn with_term(
         self,
@@ -117,7 +119,8 @@ impl Progress {
         by_default: bool,
     ) -> Progress
         requires { (s : SimpleTree) × IsSimpleOf s simple.now }
-        ensures { (s : SimpleTree) (all : Bool) → IsSimpleOf s simple.now → term_fits dialect s ≡ true
+        ensures { (s : SimpleTree) (all : Bool) → IsSimpleOf s simple.now
+            → term_fits dialect s ≡ true
             → by_default ≡ (not all && not (is_empty (plain_of version.now).pre))
             → result ≡ taken dialect all (plain_of version.now) s self }
     {
@@ -129,7 +132,7 @@ impl Progress {
         }
     }
 
-    /// At the end of a range.
+    /// Returns what is known at the end of a range.
     #[inline(always)]
     fn ended(self, counts: bool) -> Progress
         ensures { result ≡ ended counts self }
@@ -144,7 +147,8 @@ impl Progress {
     }
 }
 
-/// What the ranges of a text say of a version, where each pre-release counts or by default.
+/// Returns what is known of a version at the end of a text. If `takes_all`, each pre-release
+/// counts.
 #[inline(always)]
 fn matches(
     version: &Outline<'_>,
@@ -153,7 +157,8 @@ fn matches(
     takes_all: bool,
 ) -> Result<Progress, RangeError>
     ensures { MatchResult result
-        (λ progress. IsRead dialect range.now (Says dialect takes_all (plain_of version.now) progress))
+        (λ progress. IsRead dialect range.now
+        (Says dialect takes_all (plain_of version.now) progress))
         (λ e. IsRefusedAs dialect range.now e) }
 {
     let grammar = dialect.grammar();
@@ -176,7 +181,7 @@ fn matches(
     Ok(progress.ended(counts))
 }
 
-/// Whether a version counts in each range.
+/// Returns whether a version counts in each range.
 #[inline(always)]
 fn counts(version: &Outline<'_>, takes_all: bool) -> bool
     ensures { result ≡ counts takes_all (plain_of version.now) }
@@ -184,7 +189,7 @@ fn counts(version: &Outline<'_>, takes_all: bool) -> bool
     takes_all || is_release(version)
 }
 
-/// How the left side of a hyphen range is written.
+/// Returns how the left side of a hyphen range begins.
 #[inline(always)]
 pub(crate) fn lower(dialect: Dialect, takes_all: bool) -> LowerBounds
     ensures { result ≡ lower_of dialect takes_all }
@@ -195,7 +200,7 @@ pub(crate) fn lower(dialect: Dialect, takes_all: bool) -> LowerBounds
     }
 }
 
-/// Whether a version satisfies a term.
+/// Returns whether a version satisfies a term.
 #[inline(always)]
 fn meets(simple: &Simple<'_>, version: &Outline<'_>, dialect: Dialect, by_default: bool) -> bool
     requires { (s : SimpleTree) × IsSimpleOf s simple.now }
@@ -206,7 +211,7 @@ fn meets(simple: &Simple<'_>, version: &Outline<'_>, dialect: Dialect, by_defaul
     looked_at(simple, dialect, by_default).contains(version, dialect.grammar().digits())
 }
 
-/// The versions that satisfy a term, of all or of those that count by default.
+/// Returns the interval of a term: of all versions, or of the pre-releases that count by default.
 #[inline(always)]
 pub(crate) fn looked_at<'t>(simple: &Simple<'t>, dialect: Dialect, by_default: bool) -> Interval<'t>
     requires { PartsPass simple.now.partial }
@@ -226,7 +231,7 @@ pub(crate) fn looked_at<'t>(simple: &Simple<'t>, dialect: Dialect, by_default: b
     }
 }
 
-/// Whether it has no pre-release.
+/// Returns whether a version has no pre-release.
 #[inline(always)]
 fn is_release(version: &Outline<'_>) -> bool
     ensures { result ≡ is_empty (plain_of version.now).pre }
@@ -234,7 +239,7 @@ fn is_release(version: &Outline<'_>) -> bool
     !version.is_pre_release()
 }
 
-/// Whether a partial states its three numbers, and a pre-release.
+/// Returns whether a partial states the three numbers of a version, and a pre-release.
 #[inline(always)]
 fn is_stated_by(version: &Outline<'_>, partial: &Partial<'_>) -> bool
     ensures { result ≡ states_at partial.now (plain_of version.now) }
@@ -246,7 +251,7 @@ fn is_stated_by(version: &Outline<'_>, partial: &Partial<'_>) -> bool
         && version.patch() == partial.patch()
 }
 
-/// Whether npm matches everything of a version by a term.
+/// Returns whether npm matches everything by a term.
 #[inline(always)]
 pub(crate) fn matches_everything(simple: &Simple<'_>) -> bool
     ensures { result ≡ asks_nothing_by (form_of simple.now.form)
@@ -259,7 +264,27 @@ pub(crate) fn matches_everything(simple: &Simple<'_>) -> bool
     }
 }
 
-/// How many terms of a range text that state a number, from the left, fit.
+/// Returns an error if a text isn't a range, or if its numbers are above the limit of its dialect.
+pub(crate) fn check(range: &str, dialect: Dialect) -> Result<(), RangeError>
+    ensures { MatchResult result (λ _. IsRead dialect range.now (λ _. Unit {0}))
+        (λ e. IsRefusedAs dialect range.now e) }
+{
+    let grammar = dialect.grammar();
+    let mut cursor = Cursor::new(range, dialect, LowerBounds::Stated)?;
+    let mut fit = true;
+    while let Some(event) = cursor.next(grammar) {
+        match event? {
+            Event::Simple(simple) => fit &= fits(&simple, dialect),
+            Event::NextRange => {}
+        }
+    }
+    if !fit {
+        return Err(RangeError::NumberTooLarge);
+    }
+    Ok(())
+}
+
+/// Returns how many terms that state a number come before the first one that doesn't fit.
 pub(crate) fn fitting(range: &str, dialect: Dialect) -> u128
     ensures { (tree : TreeOf dialect) → SpellsAs dialect tree range.now
         → result ≡ prefix_len (term_fits_as dialect) (stating (terms_as dialect tree)) }

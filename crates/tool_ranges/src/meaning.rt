@@ -17,7 +17,7 @@ ghost use Rattle.tool_ranges.specs.Dialects.{RefusesAs, SpellsAs, TreeOf, gramma
 ghost use Rattle.tool_ranges.specs.Meanings.{MeansAs, meant_as};
 
 use crate::dialect::Dialect;
-use crate::matching::answer;
+use crate::matching::{self, answer};
 use crate::sets;
 use semver_ranges::RangeError;
 use semver_versions::laws;
@@ -111,8 +111,5 @@ pub fn check(meaning: Meaning, range: &str) -> Result<(), RangeError>
     ensures refusals { RefusesAs meaning.dialect range.now result }
     ensures no_memory { result ≢ Err RangeError.OutOfMemory }
 {
-    match satisfies(&Outline::zero(), range, meaning) {
-        Ok(_) => Ok(()),
-        Err(refusal) => Err(refusal),
-    }
+    matching::check(range, meaning.dialect)
 }

@@ -31,8 +31,8 @@ use semver_ranges::partial::Partial;
 use std::alloc::{AllocError, Global};
 use version_sets::{Conjunction, PreReleases, Ranges, Release, VersionSet};
 
-/// Reads a range into the set of the versions that it means. What is refused doesn't allocate, so
-/// the text is checked first.
+/// Reads a range into the set of the versions that it means. The text is checked first, so that an
+/// invalid one doesn't allocate.
 pub(crate) fn read(
     alloc: Global,
     range: &str,
@@ -57,7 +57,7 @@ pub(crate) fn read(
     }
 }
 
-/// The set of a text that has one. `Err` is out of memory.
+/// Returns the set of a text that has one. `Err` is out of memory.
 fn set_of(
     alloc: Global,
     range: &str,
@@ -84,23 +84,23 @@ fn set_of(
     building.into_set(alloc, dialect, rule)
 }
 
-/// What is known of a range text up to a place.
+/// What is known after some terms of a range text.
 #[derive(Drop)]
 pub(crate) struct Building<'text> {
-    /// The versions of the ranges before.
+    /// The versions of earlier ranges.
     ranges: Ranges<'text>,
-    /// Those that satisfy the terms of this range.
+    /// The versions that satisfy the terms of this range so far.
     here: Conjunction<'text>,
-    /// The numbers that its terms state with a pre-release.
+    /// The numbers that the terms of this range state together with a pre-release.
     stated: Vec<Release>,
-    /// Whether it matches everything.
+    /// Whether this range matches everything so far.
     nothing: bool,
-    /// Whether a range before does.
+    /// Whether an earlier range matches everything.
     every: bool,
 }
 
 impl<'text> Building<'text> {
-    /// Before the first term. It does not allocate.
+    /// Returns what is known before the first term. It does not allocate.
     fn new(alloc: Global) -> Building<'text>
         ensures known { (all : Bool) (v : PlainVersion) → Fits v
             → known all v result ≡ begun (counts all v) }
@@ -115,7 +115,7 @@ impl<'text> Building<'text> {
         }
     }
 
-    /// With a term. `Err` is out of memory.
+    /// Adds a term. `Err` is out of memory.
     fn push_term(
         &mut self,
         simple: &Simple<'text>,
@@ -141,7 +141,7 @@ impl<'text> Building<'text> {
         Ok(())
     }
 
-    /// At the end of a range. `Err` is out of memory.
+    /// Ends a range. `Err` is out of memory.
     fn end_range(&mut self, all: bool) -> Result<(), AllocError>
         ensures known { IfOk result (λ _. (v : PlainVersion) → Fits v
             → known all v self.new ≡ ended (counts all v) (known all v self.old)) }
@@ -159,7 +159,7 @@ impl<'text> Building<'text> {
 }
 
 impl Building<'_> {
-    /// The set, at the end of the text. `Err` is out of memory.
+    /// Returns the set at the end of the text. `Err` is out of memory.
     fn into_set(
         self,
         alloc: Global,
@@ -209,7 +209,7 @@ fn push_pre_releases<'text>(
     Ok(())
 }
 
-/// The numbers that a partial states with a pre-release, if it does.
+/// Returns the numbers of a partial that states three of them and a pre-release.
 fn stated_numbers(partial: &Partial<'_>) -> Option<Release>
     ensures { (v : PlainVersion) → states_at partial.now v ≡ is_one_of result v }
 {
@@ -220,7 +220,8 @@ fn stated_numbers(partial: &Partial<'_>) -> Option<Release>
     }
 }
 
-/// Whether npm takes each release and no pre-release where some range matches everything.
+/// Returns whether each release satisfies the text, and no pre-release, if some range matches
+/// everything.
 fn is_by_default_of_npm(dialect: Dialect, rule: PreReleases) -> bool
     ensures { result ≡ takes_releases dialect rule }
 {

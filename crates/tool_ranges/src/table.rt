@@ -1,9 +1,9 @@
-//! The table: between which cuts the versions of a term are, in each dialect.
+//! The table of the interval of each term, in each dialect.
 //!
-//! The numbers that a term states make a block of versions, those that have these numbers. `<` takes
-//! what is below the block, `<=` what isn't above it, `>=` what isn't below it, and `>` what is
-//! above it. `=` takes the block, and `~` and `^` go from its beginning to the end of a block of
-//! fewer numbers.
+//! The numbers that a term states have a block of versions: all versions with these numbers. `<`
+//! contains the versions below the block, and `<=` those that aren't above it. `>=` contains the
+//! versions that aren't below it, and `>` those above it. `=` contains the block itself. `~` and
+//! `^` go from the beginning of the block to the end of the block of fewer numbers.
 
 ghost use Rattle.std.specs.Prelude.{◌≡◌, ◌&&◌, ◌-◌, ◌^◌, true, not, option_map, Some};
 ghost use Rattle.semver_texts.specs.Digits.{plain_by};
@@ -32,7 +32,7 @@ use semver_ranges::partial::{Partial, PartialKind, Place};
 use semver_texts::npm_limits::MAX_SAFE_INTEGER;
 use version_sets::{Cut, Interval, Release, Side};
 
-/// The versions within the bounds of a term, pre-releases too.
+/// Returns the interval of a term, which includes all pre-releases within its bounds.
 #[inline(always)]
 pub(crate) fn bounds<'t>(simple: &Simple<'t>, dialect: Dialect) -> Interval<'t>
     requires { PartsPass simple.now.partial }
@@ -43,7 +43,7 @@ pub(crate) fn bounds<'t>(simple: &Simple<'t>, dialect: Dialect) -> Interval<'t>
     between(&simple.partial, sides(simple, dialect))
 }
 
-/// The versions between two sides of the zero-filled version of a partial.
+/// Returns the interval between two sides of the zero-filled version of a partial.
 #[inline(always)]
 fn between<'t>(partial: &Partial<'t>, sides: (Option<Side>, Option<Side>)) -> Interval<'t>
     requires { PartsPass partial.now }
@@ -57,7 +57,7 @@ fn between<'t>(partial: &Partial<'t>, sides: (Option<Side>, Option<Side>)) -> In
     }
 }
 
-/// The cut at a side of the zero-filled version of a partial.
+/// Returns the cut at a side of the zero-filled version of a partial, if there is a side.
 #[inline(always)]
 fn beside<'t>(partial: &Partial<'t>, side: Option<Side>) -> Option<Cut<'t>>
     requires { PartsPass partial.now }
@@ -74,7 +74,7 @@ fn beside<'t>(partial: &Partial<'t>, side: Option<Side>) -> Option<Cut<'t>>
     }
 }
 
-/// The cut at a side of the zero-filled version of a partial.
+/// Returns the cut at a side of the zero-filled version of a partial.
 #[inline(always)]
 fn cut<'t>(partial: &Partial<'t>, side: Side) -> Cut<'t>
     requires { PartsPass partial.now }
@@ -88,7 +88,7 @@ fn cut<'t>(partial: &Partial<'t>, side: Side) -> Cut<'t>
     }
 }
 
-/// Of the pre-releases that count by default, those that satisfy a term.
+/// Returns the interval in which a pre-release satisfies a term, if it counts by default.
 #[inline(always)]
 pub(crate) fn counted<'t>(simple: &Simple<'t>, dialect: Dialect) -> Interval<'t>
     requires { PartsPass simple.now.partial }
@@ -105,7 +105,8 @@ pub(crate) fn counted<'t>(simple: &Simple<'t>, dialect: Dialect) -> Interval<'t>
     }
 }
 
-/// Those of Cargo: none is in the block of fewer than three numbers, but for `^`.
+/// Returns that interval for Cargo. No pre-release is in the block of one or two numbers, except
+/// for `^`.
 #[inline(always)]
 fn besides_block<'t>(simple: &Simple<'t>) -> Interval<'t>
     requires { PartsPass simple.now.partial }
@@ -116,7 +117,7 @@ fn besides_block<'t>(simple: &Simple<'t>) -> Interval<'t>
     between(&simple.partial, cargo_sides(simple))
 }
 
-/// The sides between which they are.
+/// Returns the sides of that interval.
 #[inline(always)]
 fn cargo_sides(simple: &Simple<'_>) -> (Option<Side>, Option<Side>)
     ensures lower { option_map side_value result.0 ≡ (cargo_sides (form_of simple.now.form)
@@ -131,7 +132,7 @@ fn cargo_sides(simple: &Simple<'_>) -> (Option<Side>, Option<Side>)
     }
 }
 
-/// Those of one or two numbers.
+/// Returns the sides for a term of one or two numbers.
 #[inline(always)]
 fn sides_beside(simple: &Simple<'_>) -> (Option<Side>, Option<Side>)
     ensures lower { option_map side_value result.0 ≡ (sides_beside (form_of simple.now.form)
@@ -153,8 +154,8 @@ fn sides_beside(simple: &Simple<'_>) -> (Option<Side>, Option<Side>)
     }
 }
 
-/// Those of npm: they begin at the release beside which the lower cut is, and anywhere where that is
-/// 0.0.0, but for `=0.0.0`.
+/// Returns that interval for npm. It begins at the release at which the lower cut is. If that is
+/// 0.0.0, there is no lower bound, except for `=0.0.0`.
 #[inline(always)]
 fn from_release<'t>(simple: &Simple<'t>) -> Interval<'t>
     requires { PartsPass simple.now.partial }
@@ -171,7 +172,7 @@ fn from_release<'t>(simple: &Simple<'t>) -> Interval<'t>
     }
 }
 
-/// Whether an upper side is right above its version.
+/// Returns whether an upper side is directly above its version.
 #[inline(always)]
 fn is_past(upper: Option<Side>) -> bool
     ensures { result ≡ ends_past (option_map side_value upper) }
@@ -179,7 +180,7 @@ fn is_past(upper: Option<Side>) -> bool
     matches!(upper, Some(Side::Past))
 }
 
-/// The cut at the release beside which a lower side is, if there is any version below.
+/// Returns the cut at the release of a lower side, if it excludes any version.
 #[inline(always)]
 fn release_of<'t>(partial: &Partial<'t>, lower: Option<Side>, is_one: bool) -> Option<Cut<'t>>
     requires { PartsPass partial.now }
@@ -201,7 +202,7 @@ fn release_of<'t>(partial: &Partial<'t>, lower: Option<Side>, is_one: bool) -> O
     }
 }
 
-/// Whether the zero-filled version is 0.0.0.
+/// Returns whether the zero-filled version is 0.0.0.
 #[inline(always)]
 pub(crate) fn is_zero(partial: &Partial<'_>) -> bool
     ensures { (digits : SomeDigits) → result ≡ is_zero (plain_by digits (version_of partial.now)) }
@@ -212,7 +213,7 @@ pub(crate) fn is_zero(partial: &Partial<'_>) -> bool
         && !partial.has_pre_release()
 }
 
-/// The lowest numbers above those up to a place.
+/// Returns the numbers up to a place, with the last of them raised by one, and zeros after it.
 #[inline(always)]
 fn raised(partial: &Partial<'_>, place: Place) -> Release
     ensures { may_rise (2 ^ 53 - 1) (Some (above (place_number place)))
@@ -232,7 +233,8 @@ fn raised(partial: &Partial<'_>, place: Place) -> Release
     }
 }
 
-/// Whether the numbers of a term, and those that are raised, are within the limits of a dialect.
+/// Returns whether the numbers of a term, and those that are raised, are within the limit of a
+/// dialect.
 #[inline(always)]
 pub(crate) fn fits(simple: &Simple<'_>, dialect: Dialect) -> bool
     ensures { result ≡ (simple.now.partial.fits && sides_fit dialect (form_of simple.now.form)
@@ -244,7 +246,7 @@ pub(crate) fn fits(simple: &Simple<'_>, dialect: Dialect) -> bool
     partial.states_at_most(most) & may_rise(partial, lower, most) & may_rise(partial, upper, most)
 }
 
-/// What the numbers of a dialect are at most.
+/// Returns the highest number of a dialect.
 #[inline(always)]
 fn limit(dialect: Dialect) -> u64
     ensures { result ≡ limit dialect }
@@ -255,7 +257,7 @@ fn limit(dialect: Dialect) -> u64
     }
 }
 
-/// Whether the number that is raised above a side is below a limit.
+/// Returns whether the number that would be raised for a side is below a limit.
 #[inline(always)]
 fn may_rise(partial: &Partial<'_>, side: Option<Side>, most: u64) -> bool
     ensures { result
@@ -267,7 +269,7 @@ fn may_rise(partial: &Partial<'_>, side: Option<Side>, most: u64) -> bool
     }
 }
 
-/// The three numbers of the zero-filled version of a partial.
+/// Returns the three numbers of the zero-filled version of a partial.
 #[inline(always)]
 pub(crate) fn numbers(partial: &Partial<'_>) -> Release
     ensures major { result.major ≡ partial.now.major }
@@ -281,7 +283,7 @@ pub(crate) fn numbers(partial: &Partial<'_>) -> Release
     }
 }
 
-/// The sides of the zero-filled version at which the versions of a term begin and end.
+/// Returns on which sides of the zero-filled version the interval of a term begins and ends.
 #[inline(always)]
 fn sides(simple: &Simple<'_>, dialect: Dialect) -> (Option<Side>, Option<Side>)
     ensures lower { option_map side_value result.0 ≡ (sides dialect (form_of simple.now.form)
@@ -314,7 +316,8 @@ fn sides(simple: &Simple<'_>, dialect: Dialect) -> (Option<Side>, Option<Side>)
     }
 }
 
-/// Those of a term that states no number. To Cargo it is one without operator.
+/// Returns the sides for a term that states no number. In Cargo's dialect such a term has no
+/// operator.
 #[inline(always)]
 fn sides_of_nothing(form: Form, dialect: Dialect, first: Side) -> (Option<Side>, Option<Side>)
     ensures lower { option_map side_value result.0
@@ -329,9 +332,12 @@ fn sides_of_nothing(form: Form, dialect: Dialect, first: Side) -> (Option<Side>,
     }
 }
 
-/// Where the block of a term begins: of the crate at the zero-filled version; of the tools below all
-/// of fewer than three numbers, but for Cargo's `<` and npm's `~`; and of npm below all of `^0.2.3`,
-/// too.
+/// Returns where the block of a term begins:
+///
+/// - In the dialects of the crate it begins at the zero-filled version.
+/// - For Cargo and npm the block of fewer than three numbers begins below all pre-releases of them,
+///   except for Cargo's `<` and npm's `~`. The block of three begins at the version.
+/// - For npm `^0.2.3` begins below all pre-releases of 0.2.3, too.
 #[inline(always)]
 fn beginning(simple: &Simple<'_>, dialect: Dialect) -> Side
     ensures { side_value result ≡ block_begins dialect (form_of simple.now.form)

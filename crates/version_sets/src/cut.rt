@@ -7,37 +7,37 @@ ghost use Rattle.semver_texts.specs.Texts.{cut_at_dots, is_part};
 use crate::release::Release;
 use semver_ranges::partial::Place;
 
-/// Where a cut is beside its version.
+/// On which side of its version a cut is.
 #[derive(Clone, Copy, PartialEq, Eq)]
 pub enum Side {
-    /// Below each version with its three numbers.
+    /// Below each version with the same three numbers.
     Below,
-    /// Right below it.
+    /// Directly below the version.
     At,
-    /// Right above it.
+    /// Directly above the version.
     Past,
-    /// Above each version with its numbers up to a place.
+    /// Above each version with the same first numbers, up to a place.
     Above(Place),
 }
 
-/// A place in the order of versions: a side of a version, whose pre-release is borrowed from the
-/// text.
+/// A place in the order of versions: one side of a version. The pre-release of that version is
+/// borrowed from the text of the range.
 #[derive(Clone, Copy)]
 pub struct Cut<'text> {
     /// The three numbers of the version.
     pub numbers: Release,
-    /// Its identifiers, joined by dots.
+    /// The identifiers of its pre-release, separated by dots.
     pub pre: &'text [u8],
-    /// The side.
+    /// On which side of the version the cut is.
     pub side: Side,
     ghost parts: { list_all is_part (cut_at_dots pre.now) ≡ true },
 }
 
-/// The versions above one cut and below another. Where there is no cut, there is no bound.
+/// The versions above one cut and below another. Without a cut there is no bound on that side.
 #[derive(Clone, Copy)]
 pub struct Interval<'text> {
-    /// Above what they are.
+    /// The cut below all of them.
     pub lower: Option<Cut<'text>>,
-    /// Below what they are.
+    /// The cut above all of them.
     pub upper: Option<Cut<'text>>,
 }

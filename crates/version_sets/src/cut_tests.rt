@@ -1,4 +1,4 @@
-//! Whether a version is above a cut, and in an interval.
+//! Whether a version is above a cut, and whether it is in an interval.
 
 ghost use Rattle.std.specs.Prelude.{◌≡◌};
 ghost use Rattle.semver_texts.specs.Precedence.{precedence};
@@ -17,7 +17,8 @@ use std::cmp::Ordering;
 
 impl Cut<'_> {
     // Answer: equation.
-    /// Whether a version is above the cut, if identifiers of digits alone are read so.
+    /// Returns whether the cut is below a version. `digits` says how identifiers of digits alone
+    /// are read.
     #[inline(always)]
     pub fn is_below(&self, version: &Outline<'_>, digits: Digits) -> bool
         ensures { result ≡ is_above_cut digits self.now (version_of version.now).plain }
@@ -35,7 +36,7 @@ impl Cut<'_> {
         }
     }
 
-    /// How the numbers of a version compare.
+    /// Compares the numbers of a version with those of the cut.
     #[inline(always)]
     fn against_numbers(&self, version: &Outline<'_>) -> Ordering
         ensures { result ≡ first_numbers 3 (version_of version.now).plain (beside_kept self.now) }
@@ -48,7 +49,7 @@ impl Cut<'_> {
             .then(minor.then(patch))
     }
 
-    /// How a version compares by precedence.
+    /// Compares a version with that of the cut by precedence.
     #[inline(always)]
     fn against(&self, version: &Outline<'_>, digits: Digits) -> Ordering
         ensures { result ≡ precedence (version_of version.now).plain (beside digits self.now) }
@@ -64,7 +65,8 @@ impl Cut<'_> {
 
 impl Interval<'_> {
     // Answer: equation.
-    /// Whether a version is in the interval, if identifiers of digits alone are read so.
+    /// Returns whether the interval contains a version. `digits` says how identifiers of digits
+    /// alone are read.
     #[inline(always)]
     pub fn contains(&self, version: &Outline<'_>, digits: Digits) -> bool
         ensures { result ≡ is_in_interval digits self.now (version_of version.now).plain }

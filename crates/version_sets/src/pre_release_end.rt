@@ -36,8 +36,8 @@ use semver_versions::version::{Identifier, Version};
 use std::alloc::{AllocError, Global};
 use std::cmp::Ordering;
 
-/// Where the releases above a cut begin, if there are any. The release of a pre-release's numbers is
-/// above it.
+/// Returns the lowest release above a cut, if there is one. Above a pre-release it has the same
+/// numbers.
 pub(crate) fn first_release(cut: &Cut<'_>) -> Option<Release>
     ensures { (digits : SomeDigits) (v : PlainVersion) → IsRelease v
         → reached precedence (option_map release_value result) v ≡ is_above_cut digits cut.now v }
@@ -50,7 +50,7 @@ pub(crate) fn first_release(cut: &Cut<'_>) -> Option<Release>
     }
 }
 
-/// The highest numbers that are the same up to a place.
+/// Returns the highest numbers that are equal to these up to a place.
 fn highest_numbers(numbers: Release, place: Place) -> Release
     ensures { (v : PlainVersion) → Fits v → is_gt (numbers_cmp v (release_value result))
         ≡ is_gt (first_numbers (place_number place) v (release_value numbers)) }
@@ -76,7 +76,7 @@ fn highest_numbers(numbers: Release, place: Place) -> Release
 }
 
 impl<'text> PreReleaseEnd<'text> {
-    /// Where the pre-releases of some numbers begin.
+    /// Returns where the pre-releases of some numbers begin.
     pub(crate) fn lowest(numbers: Release) -> PreReleaseEnd<'text>
         ensures place { end_place result ≡ lowest_place numbers }
         ensures printable { (digits : SomeDigits) → prints_by digits (end_place result) ≡ true }
@@ -89,7 +89,7 @@ impl<'text> PreReleaseEnd<'text> {
         }
     }
 
-    /// Where the pre-releases of greater numbers begin.
+    /// Returns where the pre-releases of the next numbers begin.
     pub(crate) fn above_numbers(numbers: Release) -> Option<PreReleaseEnd<'text>>
         ensures meaning { (v : PlainVersion) → IsPreRelease v
             → reached precedence (option_map end_place result) v
@@ -100,8 +100,9 @@ impl<'text> PreReleaseEnd<'text> {
         Some(PreReleaseEnd::lowest(next_numbers(numbers)?))
     }
 
-    /// Where those above a cut begin, if there are any. None of the same numbers is above a release,
-    /// and nothing is between a pre-release and that with one more identifier, the number 0.
+    /// Returns where the pre-releases above a cut begin, if there are any. Above a release they
+    /// begin with the next numbers, since none of the same numbers is above it. Directly above a
+    /// pre-release comes the one that has the number 0 as one more identifier.
     pub(crate) fn first(cut: &Cut<'text>, digits: Digits) -> Option<PreReleaseEnd<'text>>
         ensures meaning { (v : PlainVersion) → IsPreRelease v
             → reached precedence (option_map end_place result) v ≡ is_above_cut digits cut.now v }
@@ -116,7 +117,7 @@ impl<'text> PreReleaseEnd<'text> {
         }
     }
 
-    /// At the version of a cut, or right above it.
+    /// Returns the version of a cut, or the next pre-release above it.
     fn beside(cut: &Cut<'text>, successor: bool, digits: Digits) -> PreReleaseEnd<'text>
         ensures numbers { result.numbers ≡ cut.now.numbers }
         ensures pre { result.pre.now ≡ cut.now.pre.now }
@@ -131,7 +132,7 @@ impl<'text> PreReleaseEnd<'text> {
         }
     }
 
-    /// The identifiers, as they are compared.
+    /// Returns the identifiers as they are compared.
     fn compared_pre(&self) -> ByDigits<Successor<Joined<'text, InRanges>>>
         ensures { ⟦<ByDigits<Successor<Joined<'text, InRanges>>> as Identifiers<'text>>⟧.left result
             ≡ (end_place self.now).pre }
@@ -175,7 +176,7 @@ impl<'text> Endpoint for PreReleaseEnd<'text> {
 }
 
 impl PreReleaseEnd<'_> {
-    /// The identifiers, as those of a version are kept. `Err` is out of memory.
+    /// Returns the identifiers as a version keeps them. `Err` is out of memory.
     fn kept_pre(&self, alloc: Global) -> Result<Vec<Identifier>, AllocError>
         ensures { IfOk result (λ pre. map identifier_value pre.items ≡ (kept_end self.now).pre) }
     {
@@ -187,7 +188,7 @@ impl PreReleaseEnd<'_> {
     }
 }
 
-/// The parts of a pre-release, as ranges keep them. `Err` is out of memory.
+/// Returns the parts of a pre-release as ranges keep them. `Err` is out of memory.
 fn kept_parts(alloc: Global, pre: &[u8]) -> Result<Vec<Identifier>, AllocError>
     requires { list_all is_part (cut_at_dots pre.now) ≡ true }
     ensures { IfOk result (λ parts. map identifier_value parts.items
@@ -196,7 +197,7 @@ fn kept_parts(alloc: Global, pre: &[u8]) -> Result<Vec<Identifier>, AllocError>
     of_parts(alloc, text_of_parts(pre), |part| kept(alloc, part))
 }
 
-/// A part of a pre-release, as ranges keep it.
+/// Returns a part of a pre-release as ranges keep it.
 fn kept(alloc: Global, part: &str) -> Result<Identifier, AllocError>
     ensures { IfOk result (λ identifier. identifier_value identifier ≡ kept part.now) }
 {

@@ -1,4 +1,5 @@
-//! The set of the versions in some range, where each range is some intervals.
+//! The set of the versions that are in at least one range, where a range is the intersection of
+//! intervals.
 
 ghost use Rattle.std.specs.Prelude.{◌≡◌, ◌&&◌, ◌||◌, true, false, map, if◌then◌else◌, IfOk, not};
 ghost use Rattle.semver_texts.specs.Precedence.{precedence};
@@ -29,7 +30,7 @@ use std::alloc::{AllocError, Global};
 
 impl<'text> Conjunction<'text> {
     // Answer: equation.
-    /// Those of no interval: all versions.
+    /// Returns the intersection of no interval, which is all versions.
     pub fn new() -> Conjunction<'text>
         ensures all { (v : PlainVersion) → Fits v → in_each result v ≡ true }
         ensures printable { (digits : SomeDigits) → each_prints digits result ≡ true }
@@ -47,8 +48,8 @@ impl<'text> Conjunction<'text> {
     }
 
     // Answer: equation.
-    /// Those that are in one more interval: of the releases in one, and of the pre-releases in
-    /// another, if identifiers of digits alone are read so.
+    /// Returns the intersection with one more term. A term has an interval for releases and one for
+    /// pre-releases. `digits` says how identifiers of digits alone are read.
     pub fn and(
         self,
         releases: &Interval<'text>,
@@ -58,7 +59,8 @@ impl<'text> Conjunction<'text> {
         ensures meaning { (v : PlainVersion) → Fits v → in_each result v ≡ (in_each self.entry v
             && (if is_empty v.pre then is_in_interval digits releases.now v
             else is_in_interval digits pre_releases.now v)) }
-        ensures printable { each_prints digits self.entry ≡ true → each_prints digits result ≡ true }
+        ensures printable { each_prints digits self.entry ≡ true
+            → each_prints digits result ≡ true }
     {
         Conjunction {
             releases: self.releases.and(released(releases)),
@@ -67,7 +69,7 @@ impl<'text> Conjunction<'text> {
     }
 }
 
-/// The releases of an interval.
+/// Returns the releases of an interval.
 fn released(interval: &Interval<'_>) -> Bounds<Release>
     ensures { (digits : SomeDigits) (v : PlainVersion) → IsRelease v
         → is_within release_value result v ≡ is_in_interval digits interval.now v }
@@ -83,7 +85,7 @@ fn released(interval: &Interval<'_>) -> Bounds<Release>
     Bounds { from, to }
 }
 
-/// The pre-releases of an interval.
+/// Returns the pre-releases of an interval.
 fn pre_released<'text>(interval: &Interval<'text>, digits: Digits) -> Bounds<PreReleaseEnd<'text>>
     ensures meaning { (v : PlainVersion) → IsPreRelease v
         → is_within end_place result v ≡ is_in_interval digits interval.now v }
@@ -102,7 +104,7 @@ fn pre_released<'text>(interval: &Interval<'text>, digits: Digits) -> Bounds<Pre
 
 impl<'text> Ranges<'text> {
     // Answer: equation.
-    /// No range. It does not allocate.
+    /// Returns no range. It does not allocate.
     pub fn new(alloc: Global) -> Ranges<'text>
         ensures none { (v : PlainVersion) → in_ranges result v ≡ false }
         ensures printable { (digits : SomeDigits) → ranges_print digits result ≡ true }
@@ -125,7 +127,7 @@ impl<'text> Ranges<'text> {
     }
 
     // Answer: equation.
-    /// Adds its pre-releases. `Err` is out of memory.
+    /// Adds the pre-releases of a range. `Err` is out of memory.
     pub fn push_pre_releases(&mut self, range: &Conjunction<'text>) -> Result<(), AllocError>
         ensures meaning { IfOk result (λ _. (v : PlainVersion) → in_ranges self.new v
             ≡ (in_ranges self.old v || (not (is_empty v.pre) && in_each range.now v))) }
@@ -136,7 +138,7 @@ impl<'text> Ranges<'text> {
     }
 
     // Answer: equation.
-    /// Adds those of its pre-releases that have some numbers. `Err` is out of memory.
+    /// Adds the pre-releases of a range that have these numbers. `Err` is out of memory.
     pub fn push_stated(
         &mut self,
         range: &Conjunction<'text>,
@@ -159,8 +161,8 @@ impl<'text> Ranges<'text> {
     }
 
     // Answer: equation.
-    /// The set of the versions in some range, or among the releases of a last one. `Err` is out of
-    /// memory.
+    /// Returns the set of the versions in these ranges and of the releases in a last one. `Err` is
+    /// out of memory.
     pub fn into_set(
         self,
         alloc: Global,
@@ -179,8 +181,8 @@ impl<'text> Ranges<'text> {
     }
 }
 
-/// The boundaries of releases, and of those of a last range. For speed, as most texts are one range,
-/// these alone aren't sorted.
+/// Returns the boundaries of releases, together with those of a last range. For speed nothing is
+/// sorted if there is only the last range, since most texts have one range.
 fn all_releases(
     alloc: Global,
     spans: Vec<Span<Release>>,

@@ -1,9 +1,11 @@
--- A means of proof, which no public clause cites: what a set that is being built says of each version.
+-- A means of proof, which no public clause cites: what a set that is being built says of each
+-- version.
 use Rattle.std.specs.Prelude.{◌≡◌, Bool, true, false, ◌||◌, Option, Some, None}
 use Rattle.std.specs.List.{list_any}
 use Rattle.semver_texts.specs.Versions.{PlainVersion}
 use Rattle.semver_texts.specs.declared.grammar.Digits.{Digits}
-use Rattle.version_sets.specs.Steps.Ends.{each_prints, has_numbers, in_each, in_ranges, ranges_print}
+use Rattle.version_sets.specs.Steps.Ends.{each_prints, has_numbers, in_each, in_ranges}
+use Rattle.version_sets.specs.Steps.Ends.{ranges_print}
 use Rattle.version_sets.specs.declared.release.Release.{Release}
 use Rattle.tool_ranges.specs.declared.matching.Progress.{Progress}
 use Rattle.tool_ranges.specs.declared.sets.Building.{Building}

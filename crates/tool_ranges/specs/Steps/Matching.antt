@@ -120,10 +120,11 @@ range_every ss = list_all (λ s. npm.matches_everything (of_simple s)) ss
 -- what a tree says of a version
 abbrev pub Says : (dialect : Dialect) → Bool → PlainVersion → Progress → TreeOf dialect → Type 0
 Says dialect all v progress tree =
-    (progress.met ≡ list_any (range_met dialect all v) (ranges_of (lower_of dialect all) dialect tree))
+    (progress.met
+    ≡ list_any (range_met dialect all v) (ranges_of (lower_of dialect all) dialect tree))
     × (progress.every ≡ list_any range_every (ranges_of (lower_of dialect all) dialect tree))
 
--- the answer: where some range of npm matches everything, by default each release and no pre-release
+-- the answer: if some range of npm matches everything, by default each release and no pre-release
 abbrev pub met_by : Dialect → Bool → PlainVersion → Progress → Bool
 met_by Npm false v progress = if progress.every then is_empty v.pre else progress.met
 met_by dialect all v progress = progress.met

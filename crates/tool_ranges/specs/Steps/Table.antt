@@ -64,7 +64,8 @@ greater_begins Npm s = block_ends s
 greater_begins dialect s = past
 
 -- something stated
-abbrev pub sides_of_stated : Dialect → Form → List ℕ → SideValue → Option SideValue × Option SideValue
+abbrev pub sides_of_stated : Dialect → Form → List ℕ → SideValue
+    → Option SideValue × Option SideValue
 sides_of_stated dialect less s first = (None, Some first)
 sides_of_stated dialect at_most s first = (None, Some (block_ends s))
 sides_of_stated dialect at_least s first = (Some first, None)
@@ -95,7 +96,7 @@ cargo_sides form [] pre = (Some below, Some below)
 cargo_sides form (a ∷ b ∷ c ∷ rest) pre = sides Cargo form (a ∷ b ∷ c ∷ rest) pre
 cargo_sides form s pre = sides_beside form s pre
 
--- to npm they begin at the release beside which the lower side is; anywhere where that is 0.0.0, but
+-- to npm they begin at the release of the lower side. If that is 0.0.0 there is no lower bound, but
 -- for `=0.0.0`, which ends past it
 abbrev pub ends_past : Option SideValue → Bool
 ends_past (Some past) = true
@@ -107,7 +108,8 @@ is_past_release (Some past) is_one z v = is_above past z v
 is_past_release (Some (above n)) is_one z v = is_ge (precedence v (up n (numbers z)))
 is_past_release (Some _) is_one z v = (is_zero z && not is_one) || is_ge (precedence v z)
 
-abbrev pub is_between_releases : Option SideValue × Option SideValue → PlainVersion → PlainVersion → Bool
+abbrev pub is_between_releases : Option SideValue × Option SideValue
+    → PlainVersion → PlainVersion → Bool
 is_between_releases sides z v =
     is_past_release sides.0 (ends_past sides.1) z v && not (is_above_upper sides.1 z v)
 

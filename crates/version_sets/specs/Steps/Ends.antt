@@ -22,7 +22,8 @@ in_each range v = if is_empty v.pre then is_within release_value range.releases 
 
 abbrev pub in_ranges : Ranges → PlainVersion → Bool
 in_ranges ranges v =
-    if is_empty v.pre then in_some precedence (map (span_value release_value) ranges.releases.items) v
+    if is_empty v.pre
+    then in_some precedence (map (span_value release_value) ranges.releases.items) v
     else in_some precedence (map (span_value end_place) ranges.pre_releases.items) v
 
 -- whether a version has some numbers

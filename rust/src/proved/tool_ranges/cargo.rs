@@ -12,7 +12,7 @@ use crate::proved::semver_ranges::{Comparator, Compat, Range, RangeError, RangeS
 use crate::rattle_std::AllocError;
 
 /// Cargo reads at most so many comparators.
-const MOST_COMPARATORS: usize = 32;
+pub(crate) const MOST_COMPARATORS: usize = 32;
 
 /// Rewrites a requirement, as Cargo reads it, into plain comparators with exact bounds.
 ///

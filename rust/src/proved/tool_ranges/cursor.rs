@@ -2,7 +2,7 @@
 //! The terms of a range text, one after the other, in each dialect. Nothing here allocates.
 
 use crate::rattle_std::prelude::*;
-use crate::proved::tool_ranges::cargo::read_comparator;
+use crate::proved::tool_ranges::cargo::{MOST_COMPARATORS, read_comparator};
 use crate::proved::tool_ranges::dialect::Dialect;
 use crate::proved::tool_ranges::npm::may_stand;
 use crate::proved::semver_ranges::RangeError;
@@ -11,17 +11,14 @@ use crate::proved::semver_ranges::grammar::Simple;
 use crate::proved::semver_ranges::partial::LowerBounds;
 use crate::proved::semver_texts::grammar::Grammar;
 
-/// Cargo reads at most so many comparators.
-const MOST_COMPARATORS: usize = 32;
-
 /// What is left of the comparators of a requirement.
 #[derive(Clone, Copy)]
 pub(crate) struct Comparators<'text> {
     /// What follows the last comma, or the whole text. None at the end.
     rest: Option<&'text [u8]>,
-    /// How many may come.
+    /// How many more may come.
     more: usize,
-    /// Whether none came.
+    /// Whether none has come yet.
     is_first: bool,
 }
 
@@ -35,7 +32,7 @@ pub(crate) enum Cursor<'text> {
 }
 
 impl<'text> Cursor<'text> {
-    /// At the beginning of a text, if each of its characters may be in a range.
+    /// Returns the cursor at the beginning of a text, if each of its characters may be in a range.
     #[inline(always)]
     pub(crate) fn new(
         text: &'text str,
@@ -61,8 +58,8 @@ impl<'text> Cursor<'text> {
         }
     }
 
-    /// The next term, or that the next range begins; or that the text isn't in the grammar from
-    /// there on. None at the end.
+    /// Returns the next term, or that the next range begins, or an error if the text isn't in the
+    /// grammar. Returns `None` at the end.
     #[inline(always)]
     pub(crate) fn next(&mut self, grammar: Grammar) -> Option<Result<Event<'text>, RangeError>> {
         match self {
@@ -73,7 +70,7 @@ impl<'text> Cursor<'text> {
 }
 
 impl<'text> Comparators<'text> {
-    /// The next comparator.
+    /// Returns the next comparator.
     #[inline(always)]
     fn next(&mut self) -> Option<Result<Event<'text>, RangeError>> {
         let rest = self.rest?;
@@ -91,7 +88,8 @@ impl<'text> Comparators<'text> {
         }
     }
 
-    /// The comparator at the front of a text, where one may come, and what follows its comma.
+    /// Returns the comparator at the beginning of a text, if one may come there, and what follows
+    /// its comma.
     #[inline(always)]
     fn read(&self, rest: &'text [u8]) -> Option<(Simple<'text>, Option<&'text [u8]>)> {
         if self.more == 0 {
@@ -104,7 +102,7 @@ impl<'text> Comparators<'text> {
         Some((simple, after))
     }
 
-    /// Whether a comparator may come: one that states no number has to be alone.
+    /// Returns whether a comparator may come. One that states no number has to be the only one.
     #[inline(always)]
     fn may_come(&self, simple: &Simple<'_>, after: Option<&[u8]>) -> bool {
         !simple.partial.states_nothing() || (self.is_first && after.is_none())

@@ -12,7 +12,7 @@ use crate::proved::semver_ranges::partial::{LowerBounds, Partial};
 use crate::proved::semver_versions::version::Outline;
 use crate::proved::version_sets::{Interval, PreReleases};
 
-/// What a range text says of a version.
+/// Returns whether a version satisfies a range text.
 #[inline(always)]
 pub(crate) fn answer(
     version: &Outline<'_>,
@@ -26,14 +26,14 @@ pub(crate) fn answer(
     }
 }
 
-/// Whether each pre-release within the bounds counts.
+/// Returns whether each pre-release within the bounds counts.
 #[inline(always)]
 pub(crate) fn takes_all(rule: PreReleases) -> bool {
     matches!(rule, PreReleases::Included)
 }
 
-/// The answer of what is known at the end. Where some range matches everything, npm takes by default
-/// each release and no pre-release.
+/// Returns whether the version satisfies the text, by what is known at its end. If some range
+/// matches everything, then to npm each release satisfies the text by default, and no pre-release.
 #[inline(always)]
 fn said(progress: &Progress, is_release: bool, dialect: Dialect, rule: PreReleases) -> bool {
     let met = match (dialect, rule) {
@@ -47,23 +47,24 @@ fn said(progress: &Progress, is_release: bool, dialect: Dialect, rule: PreReleas
     }
 }
 
-/// What is known of a version at some place of a range text.
+/// What is known of a version after some terms of a range text.
 #[derive(Clone, Copy)]
 pub(crate) struct Progress {
-    /// Whether it satisfies the terms of this range.
+    /// Whether it satisfies the terms of this range so far.
     here: bool,
     /// Whether it counts in this range.
     counts: bool,
-    /// Whether this range matches everything.
+    /// Whether this range matches everything so far.
     nothing: bool,
-    /// Whether it satisfies a range before, and counts there.
+    /// Whether it satisfies an earlier range, and counts in it.
     met: bool,
-    /// Whether a range before matches everything.
+    /// Whether an earlier range matches everything.
     every: bool,
 }
 
 impl Progress {
-    /// Before the first term. A version counts from the beginning, or where a term states it.
+    /// Returns what is known before the first term. A version counts from the beginning, or from a
+    /// term on that states its numbers and a pre-release.
     #[inline(always)]
     fn new(counts: bool) -> Progress {
         Progress {
@@ -75,7 +76,8 @@ impl Progress {
         }
     }
 
-    /// With a term, of which by default only what counts is looked at.
+    /// Returns what is known after one more term. `by_default` says whether the interval for
+    /// pre-releases that count by default is taken.
     #[inline(always)]
     fn with_term(
         self,
@@ -92,7 +94,7 @@ impl Progress {
         }
     }
 
-    /// At the end of a range.
+    /// Returns what is known at the end of a range.
     #[inline(always)]
     fn ended(self, counts: bool) -> Progress {
         Progress {
@@ -105,7 +107,8 @@ impl Progress {
     }
 }
 
-/// What the ranges of a text say of a version, where each pre-release counts or by default.
+/// Returns what is known of a version at the end of a text. If `takes_all`, each pre-release
+/// counts.
 #[inline(always)]
 fn matches(
     version: &Outline<'_>,
@@ -133,13 +136,13 @@ fn matches(
     Ok(progress.ended(counts))
 }
 
-/// Whether a version counts in each range.
+/// Returns whether a version counts in each range.
 #[inline(always)]
 fn counts(version: &Outline<'_>, takes_all: bool) -> bool {
     takes_all || is_release(version)
 }
 
-/// How the left side of a hyphen range is written.
+/// Returns how the left side of a hyphen range begins.
 #[inline(always)]
 pub(crate) fn lower(dialect: Dialect, takes_all: bool) -> LowerBounds {
     match dialect {
@@ -148,13 +151,13 @@ pub(crate) fn lower(dialect: Dialect, takes_all: bool) -> LowerBounds {
     }
 }
 
-/// Whether a version satisfies a term.
+/// Returns whether a version satisfies a term.
 #[inline(always)]
 fn meets(simple: &Simple<'_>, version: &Outline<'_>, dialect: Dialect, by_default: bool) -> bool {
     looked_at(simple, dialect, by_default).contains(version, dialect.grammar().digits())
 }
 
-/// The versions that satisfy a term, of all or of those that count by default.
+/// Returns the interval of a term: of all versions, or of the pre-releases that count by default.
 #[inline(always)]
 pub(crate) fn looked_at<'t>(simple: &Simple<'t>, dialect: Dialect, by_default: bool) -> Interval<'t> {
     if by_default {
@@ -164,13 +167,13 @@ pub(crate) fn looked_at<'t>(simple: &Simple<'t>, dialect: Dialect, by_default: b
     }
 }
 
-/// Whether it has no pre-release.
+/// Returns whether a version has no pre-release.
 #[inline(always)]
 fn is_release(version: &Outline<'_>) -> bool {
     !version.is_pre_release()
 }
 
-/// Whether a partial states its three numbers, and a pre-release.
+/// Returns whether a partial states the three numbers of a version, and a pre-release.
 #[inline(always)]
 fn is_stated_by(version: &Outline<'_>, partial: &Partial<'_>) -> bool {
     partial.has_pre_release()
@@ -180,7 +183,7 @@ fn is_stated_by(version: &Outline<'_>, partial: &Partial<'_>) -> bool {
         && version.patch() == partial.patch()
 }
 
-/// Whether npm matches everything of a version by a term.
+/// Returns whether npm matches everything by a term.
 #[inline(always)]
 pub(crate) fn matches_everything(simple: &Simple<'_>) -> bool {
     match simple.form {
@@ -190,7 +193,24 @@ pub(crate) fn matches_everything(simple: &Simple<'_>) -> bool {
     }
 }
 
-/// How many terms of a range text that state a number, from the left, fit.
+/// Returns an error if a text isn't a range, or if its numbers are above the limit of its dialect.
+pub(crate) fn check(range: &str, dialect: Dialect) -> Result<(), RangeError> {
+    let grammar = dialect.grammar();
+    let mut cursor = Cursor::new(range, dialect, LowerBounds::Stated)?;
+    let mut fit = true;
+    while let Some(event) = cursor.next(grammar) {
+        match event? {
+            Event::Simple(simple) => fit &= fits(&simple, dialect),
+            Event::NextRange => {}
+        }
+    }
+    if !fit {
+        return Err(RangeError::NumberTooLarge);
+    }
+    Ok(())
+}
+
+/// Returns how many terms that state a number come before the first one that doesn't fit.
 pub(crate) fn fitting(range: &str, dialect: Dialect) -> u128 {
     let grammar = dialect.grammar();
     let Ok(mut cursor) = Cursor::new(range, dialect, LowerBounds::Stated) else {

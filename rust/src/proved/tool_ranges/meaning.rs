@@ -3,7 +3,7 @@
 
 use crate::rattle_std::prelude::*;
 use crate::proved::tool_ranges::dialect::Dialect;
-use crate::proved::tool_ranges::matching::answer;
+use crate::proved::tool_ranges::matching::{self, answer};
 use crate::proved::tool_ranges::sets;
 use crate::proved::semver_ranges::RangeError;
 use crate::proved::semver_versions::version::Outline;
@@ -70,8 +70,5 @@ pub fn satisfies(version: &Outline<'_>, range: &str, meaning: Meaning) -> Result
 /// ||` isn't in Cargo's dialect. It does not allocate.
 #[inline(never)]
 pub fn check(meaning: Meaning, range: &str) -> Result<(), RangeError> {
-    match satisfies(&Outline::zero(), range, meaning) {
-        Ok(_) => Ok(()),
-        Err(refusal) => Err(refusal),
-    }
+    matching::check(range, meaning.dialect)
 }

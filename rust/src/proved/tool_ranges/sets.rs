@@ -14,8 +14,8 @@ use crate::proved::semver_ranges::partial::Partial;
 use crate::rattle_std::AllocError;
 use crate::proved::version_sets::{Conjunction, PreReleases, Ranges, Release, VersionSet};
 
-/// Reads a range into the set of the versions that it means. What is refused doesn't allocate, so
-/// the text is checked first.
+/// Reads a range into the set of the versions that it means. The text is checked first, so that an
+/// invalid one doesn't allocate.
 pub(crate) fn read(
     range: &str,
     dialect: Dialect,
@@ -34,7 +34,7 @@ pub(crate) fn read(
     }
 }
 
-/// The set of a text that has one. `Err` is out of memory.
+/// Returns the set of a text that has one. `Err` is out of memory.
 fn set_of(
     range: &str,
     dialect: Dialect,
@@ -55,22 +55,22 @@ fn set_of(
     building.into_set(dialect, rule)
 }
 
-/// What is known of a range text up to a place.
+/// What is known after some terms of a range text.
 pub(crate) struct Building<'text> {
-    /// The versions of the ranges before.
+    /// The versions of earlier ranges.
     ranges: Ranges<'text>,
-    /// Those that satisfy the terms of this range.
+    /// The versions that satisfy the terms of this range so far.
     here: Conjunction<'text>,
-    /// The numbers that its terms state with a pre-release.
+    /// The numbers that the terms of this range state together with a pre-release.
     stated: Vec<Release>,
-    /// Whether it matches everything.
+    /// Whether this range matches everything so far.
     nothing: bool,
-    /// Whether a range before does.
+    /// Whether an earlier range matches everything.
     every: bool,
 }
 
 impl<'text> Building<'text> {
-    /// Before the first term. It does not allocate.
+    /// Returns what is known before the first term. It does not allocate.
     fn new() -> Building<'text> {
         Building {
             ranges: Ranges::new(),
@@ -81,7 +81,7 @@ impl<'text> Building<'text> {
         }
     }
 
-    /// With a term. `Err` is out of memory.
+    /// Adds a term. `Err` is out of memory.
     fn push_term(
         &mut self,
         simple: &Simple<'text>,
@@ -100,7 +100,7 @@ impl<'text> Building<'text> {
         Ok(())
     }
 
-    /// At the end of a range. `Err` is out of memory.
+    /// Ends a range. `Err` is out of memory.
     fn end_range(&mut self, all: bool) -> Result<(), AllocError> {
         self.ranges.push_releases(&self.here)?;
         push_pre_releases(&mut self.ranges, &self.here, &self.stated, all)?;
@@ -113,7 +113,7 @@ impl<'text> Building<'text> {
 }
 
 impl Building<'_> {
-    /// The set, at the end of the text. `Err` is out of memory.
+    /// Returns the set at the end of the text. `Err` is out of memory.
     fn into_set(
         self,
         dialect: Dialect,
@@ -149,7 +149,7 @@ fn push_pre_releases<'text>(
     Ok(())
 }
 
-/// The numbers that a partial states with a pre-release, if it does.
+/// Returns the numbers of a partial that states three of them and a pre-release.
 fn stated_numbers(partial: &Partial<'_>) -> Option<Release> {
     if partial.has_pre_release() && partial.states_three() {
         Some(numbers(partial))
@@ -158,7 +158,8 @@ fn stated_numbers(partial: &Partial<'_>) -> Option<Release> {
     }
 }
 
-/// Whether npm takes each release and no pre-release where some range matches everything.
+/// Returns whether each release satisfies the text, and no pre-release, if some range matches
+/// everything.
 fn is_by_default_of_npm(dialect: Dialect, rule: PreReleases) -> bool {
     matches!(dialect, Dialect::Npm) && !takes_all(rule)
 }

@@ -1,5 +1,5 @@
 // Made by tools/erase.py from crates/version_sets/src/cut_tests.rt; not edited by hand.
-//! Whether a version is above a cut, and in an interval.
+//! Whether a version is above a cut, and whether it is in an interval.
 
 use crate::rattle_std::prelude::*;
 use crate::proved::version_sets::cut::{Cut, Interval, Side};
@@ -12,7 +12,8 @@ use crate::proved::semver_versions::version::Outline;
 use crate::rattle_std::cmp::Ordering;
 
 impl Cut<'_> {
-    /// Whether a version is above the cut, if identifiers of digits alone are read so.
+    /// Returns whether the cut is below a version. `digits` says how identifiers of digits alone
+    /// are read.
     #[inline(always)]
     pub fn is_below(&self, version: &Outline<'_>, digits: Digits) -> bool {
         match self.side {
@@ -28,7 +29,7 @@ impl Cut<'_> {
         }
     }
 
-    /// How the numbers of a version compare.
+    /// Compares the numbers of a version with those of the cut.
     #[inline(always)]
     fn against_numbers(&self, version: &Outline<'_>) -> Ordering {
         let patch = version.patch().cmp(&self.numbers.patch);
@@ -39,7 +40,7 @@ impl Cut<'_> {
             .then(minor.then(patch))
     }
 
-    /// How a version compares by precedence.
+    /// Compares a version with that of the cut by precedence.
     #[inline(always)]
     fn against(&self, version: &Outline<'_>, digits: Digits) -> Ordering {
         compare(
@@ -52,7 +53,8 @@ impl Cut<'_> {
 }
 
 impl Interval<'_> {
-    /// Whether a version is in the interval, if identifiers of digits alone are read so.
+    /// Returns whether the interval contains a version. `digits` says how identifiers of digits
+    /// alone are read.
     #[inline(always)]
     pub fn contains(&self, version: &Outline<'_>, digits: Digits) -> bool {
         let is_above = match &self.lower {

@@ -19,8 +19,8 @@ use crate::proved::semver_versions::version::{Identifier, Version};
 use crate::rattle_std::AllocError;
 use crate::rattle_std::cmp::Ordering;
 
-/// Where the releases above a cut begin, if there are any. The release of a pre-release's numbers is
-/// above it.
+/// Returns the lowest release above a cut, if there is one. Above a pre-release it has the same
+/// numbers.
 pub(crate) fn first_release(cut: &Cut<'_>) -> Option<Release> {
     match cut.side {
         Side::Below | Side::At => Some(cut.numbers),
@@ -30,7 +30,7 @@ pub(crate) fn first_release(cut: &Cut<'_>) -> Option<Release> {
     }
 }
 
-/// The highest numbers that are the same up to a place.
+/// Returns the highest numbers that are equal to these up to a place.
 fn highest_numbers(numbers: Release, place: Place) -> Release {
     let (major, minor, patch) = (numbers.major, numbers.minor, numbers.patch);
     match place {
@@ -53,7 +53,7 @@ fn highest_numbers(numbers: Release, place: Place) -> Release {
 }
 
 impl<'text> PreReleaseEnd<'text> {
-    /// Where the pre-releases of some numbers begin.
+    /// Returns where the pre-releases of some numbers begin.
     pub(crate) fn lowest(numbers: Release) -> PreReleaseEnd<'text> {
         PreReleaseEnd {
             numbers,
@@ -63,13 +63,14 @@ impl<'text> PreReleaseEnd<'text> {
         }
     }
 
-    /// Where the pre-releases of greater numbers begin.
+    /// Returns where the pre-releases of the next numbers begin.
     pub(crate) fn above_numbers(numbers: Release) -> Option<PreReleaseEnd<'text>> {
         Some(PreReleaseEnd::lowest(next_numbers(numbers)?))
     }
 
-    /// Where those above a cut begin, if there are any. None of the same numbers is above a release,
-    /// and nothing is between a pre-release and that with one more identifier, the number 0.
+    /// Returns where the pre-releases above a cut begin, if there are any. Above a release they
+    /// begin with the next numbers, since none of the same numbers is above it. Directly above a
+    /// pre-release comes the one that has the number 0 as one more identifier.
     pub(crate) fn first(cut: &Cut<'text>, digits: Digits) -> Option<PreReleaseEnd<'text>> {
         match cut.side {
             Side::Below => Some(PreReleaseEnd::lowest(cut.numbers)),
@@ -80,7 +81,7 @@ impl<'text> PreReleaseEnd<'text> {
         }
     }
 
-    /// At the version of a cut, or right above it.
+    /// Returns the version of a cut, or the next pre-release above it.
     fn beside(cut: &Cut<'text>, successor: bool, digits: Digits) -> PreReleaseEnd<'text> {
         PreReleaseEnd {
             numbers: cut.numbers,
@@ -90,7 +91,7 @@ impl<'text> PreReleaseEnd<'text> {
         }
     }
 
-    /// The identifiers, as they are compared.
+    /// Returns the identifiers as they are compared.
     fn compared_pre(&self) -> ByDigits<Successor<Joined<'text, InRanges>>> {
         let pre = Successor {
             identifiers: Joined::of(self.pre, InRanges),
@@ -127,7 +128,7 @@ impl<'text> Endpoint for PreReleaseEnd<'text> {
 }
 
 impl PreReleaseEnd<'_> {
-    /// The identifiers, as those of a version are kept. `Err` is out of memory.
+    /// Returns the identifiers as a version keeps them. `Err` is out of memory.
     fn kept_pre(&self) -> Result<Vec<Identifier>, AllocError> {
         let mut pre = kept_parts(self.pre)?;
         if self.successor || self.pre.is_empty() {
@@ -137,12 +138,12 @@ impl PreReleaseEnd<'_> {
     }
 }
 
-/// The parts of a pre-release, as ranges keep them. `Err` is out of memory.
+/// Returns the parts of a pre-release as ranges keep them. `Err` is out of memory.
 fn kept_parts(pre: &[u8]) -> Result<Vec<Identifier>, AllocError> {
     of_parts(text_of_parts(pre), |part| kept(part))
 }
 
-/// A part of a pre-release, as ranges keep it.
+/// Returns a part of a pre-release as ranges keep it.
 fn kept(part: &str) -> Result<Identifier, AllocError> {
     match number_of_digits(part.as_bytes()) {
         Some(number) => Ok(Identifier::Numeric(number)),

@@ -5,8 +5,9 @@ use crate::rattle_std::prelude::*;
 use crate::proved::version_sets::release::Release;
 use crate::proved::semver_texts::grammar::Digits;
 
-/// Where pre-releases begin or end: at some numbers with these identifiers, and, if `successor`,
-/// with the number 0 after them. No identifiers are the lowest, the number 0 alone.
+/// Where pre-releases begin or end: at the version with these numbers and identifiers. If
+/// `successor`, the number 0 follows the identifiers. Without identifiers it is the lowest
+/// pre-release of the numbers, whose only identifier is 0.
 #[derive(Clone, Copy)]
 pub(crate) struct PreReleaseEnd<'text> {
     pub(crate) numbers: Release,

@@ -1,5 +1,6 @@
 // Made by tools/erase.py from crates/version_sets/src/ranges.rt; not edited by hand.
-//! The set of the versions in some range, where each range is some intervals.
+//! The set of the versions that are in at least one range, where a range is the intersection of
+//! intervals.
 
 use crate::rattle_std::prelude::*;
 use crate::proved::version_sets::conjunction::{Conjunction, Ranges};
@@ -13,7 +14,7 @@ use crate::proved::semver_texts::grammar::Digits;
 use crate::rattle_std::AllocError;
 
 impl<'text> Conjunction<'text> {
-    /// Those of no interval: all versions.
+    /// Returns the intersection of no interval, which is all versions.
     pub fn new() -> Conjunction<'text> {
         Conjunction {
             releases: Bounds {
@@ -27,8 +28,8 @@ impl<'text> Conjunction<'text> {
         }
     }
 
-    /// Those that are in one more interval: of the releases in one, and of the pre-releases in
-    /// another, if identifiers of digits alone are read so.
+    /// Returns the intersection with one more term. A term has an interval for releases and one for
+    /// pre-releases. `digits` says how identifiers of digits alone are read.
     pub fn and(
         self,
         releases: &Interval<'text>,
@@ -42,7 +43,7 @@ impl<'text> Conjunction<'text> {
     }
 }
 
-/// The releases of an interval.
+/// Returns the releases of an interval.
 fn released(interval: &Interval<'_>) -> Bounds<Release> {
     let from = match &interval.lower {
         Some(cut) => first_release(cut),
@@ -55,7 +56,7 @@ fn released(interval: &Interval<'_>) -> Bounds<Release> {
     Bounds { from, to }
 }
 
-/// The pre-releases of an interval.
+/// Returns the pre-releases of an interval.
 fn pre_released<'text>(interval: &Interval<'text>, digits: Digits) -> Bounds<PreReleaseEnd<'text>> {
     let from = match &interval.lower {
         Some(cut) => PreReleaseEnd::first(cut, digits),
@@ -69,7 +70,7 @@ fn pre_released<'text>(interval: &Interval<'text>, digits: Digits) -> Bounds<Pre
 }
 
 impl<'text> Ranges<'text> {
-    /// No range. It does not allocate.
+    /// Returns no range. It does not allocate.
     pub fn new() -> Ranges<'text> {
         Ranges {
             releases: Vec::new(),
@@ -82,12 +83,12 @@ impl<'text> Ranges<'text> {
         range.releases.push_to(&mut self.releases)
     }
 
-    /// Adds its pre-releases. `Err` is out of memory.
+    /// Adds the pre-releases of a range. `Err` is out of memory.
     pub fn push_pre_releases(&mut self, range: &Conjunction<'text>) -> Result<(), AllocError> {
         range.pre_releases.push_to(&mut self.pre_releases)
     }
 
-    /// Adds those of its pre-releases that have some numbers. `Err` is out of memory.
+    /// Adds the pre-releases of a range that have these numbers. `Err` is out of memory.
     pub fn push_stated(
         &mut self,
         range: &Conjunction<'text>,
@@ -103,8 +104,8 @@ impl<'text> Ranges<'text> {
             .push_to(&mut self.pre_releases)
     }
 
-    /// The set of the versions in some range, or among the releases of a last one. `Err` is out of
-    /// memory.
+    /// Returns the set of the versions in these ranges and of the releases in a last one. `Err` is
+    /// out of memory.
     pub fn into_set(
         self,
         last: &Conjunction<'text>,
@@ -117,8 +118,8 @@ impl<'text> Ranges<'text> {
     }
 }
 
-/// The boundaries of releases, and of those of a last range. For speed, as most texts are one range,
-/// these alone aren't sorted.
+/// Returns the boundaries of releases, together with those of a last range. For speed nothing is
+/// sorted if there is only the last range, since most texts have one range.
 fn all_releases(
     spans: Vec<Span<Release>>,
     last: &Bounds<Release>,
