@@ -279,14 +279,14 @@ pub fn counted(count: &usize) {
         careless=[
     ('tool_ranges/meaning.rs',
      '''pub fn satisfies(version: &Outline<'_>, range: &str, meaning: Meaning) -> Result<bool, RangeError> {
-    matches(meaning, range, version)
+    let rule = meaning.pre_releases;
 ''',
      '''pub fn satisfies(version: &Outline<'_>, range: &str, meaning: Meaning) -> Result<bool, RangeError> {
     let mut is_checked = false;
     if !is_checked {
         return Ok(false);
     }
-    matches(meaning, range, version)
+    let rule = meaning.pre_releases;
 '''),
         ],
         at=('crates/tool_ranges/src/meaning.rt', 'laws::numbers_of_outlines_fit({'),

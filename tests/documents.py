@@ -544,7 +544,7 @@ def errors():
 
 # What has to be seen: a file, what is replaced in it, by what; or a file that is moved.
 EDITS = [
-    ('crates/version_sets/src/range_texts.rt', 'ensures refusals {', 'ensures refused {'),
+    ('crates/tool_ranges/src/meaning.rt', 'ensures refusals {', 'ensures refused {'),
     ('crates/release_filter/src/lines.rt', 'ensures stops {', 'ensures stopped {'),
     ('README.md', '(docs/GRAMMAR.md)', '(docs/GRAMMARS.md)'),
     ('README.md', 'Licence: ', 'Licence: ' + 'or ' * 400),
@@ -574,8 +574,8 @@ EDITS = [
     ('docs/MEANING.md', '## Terms\n', '## Terms\n\n| a | b | c | d |\n|---|---|---|---|\n| `crate-npm` | the crate, npm mode | `CrateNpm` | `CRATE_NPM` |\n'),
     ('docs/GRAMMAR.md', '# Grammars\n', '# Grammars\n\nA term is a partial and its operator. A hyphen range has the terms `>=` of its left side and `<=`\n'
      'of its right side; a wildcard side is dropped unless both are wildcards. An empty range is one term.\n'),
-    ('crates/version_sets/src/range_texts.rt', '/// ', '/// By whose reading\n/// '),
-    ('crates/version_sets/src/range_texts.rt', '/// ', '/// It asks for the greatest version.\n/// '),
+    ('crates/version_sets/src/ranges.rt', '/// ', '/// By whose reading\n/// '),
+    ('crates/version_sets/src/ranges.rt', '/// ', '/// It asks for the greatest version.\n/// '),
     ('crates.txt', 'version_sets: semver_texts semver_versions semver_ranges', 'version_sets: semver_texts semver_ranges'),
 ]
 
