@@ -14,8 +14,8 @@ SAME_CALLS = set('''
     checked_ilog10 checked_mul clear cmp copied copy_from_slice count enumerate escape_ascii
     first flush from get get_mut into is_ascii is_ascii_alphanumeric is_ascii_digit
     is_char_boundary is_empty is_eq is_err is_ge is_gt is_le is_lt is_ne is_none is_ok is_ok_and
-    is_some is_some_and is_terminal iter iter_mut kind last len lines map_err map_or min new
-    next ok parse partition_point println push_reserved read reader retain reverse rsplit_once
+    is_some is_some_and is_terminal iter kind last len lines map_err map_or min new
+    next ok parse partition_point println push_reserved read reader reverse rsplit_once
     saturating_add saturating_mul saturating_sub skip sort_unstable_by split split_at
     split_first split_last split_once starts_with stderr stdin stdout strip_prefix strip_suffix
     take take_while then then_some transpose trim_start trim_start_matches truncate unwrap_or
