@@ -49,7 +49,8 @@ the word "one".
 The comment `// Answer: ..` above a public call says what determines its result:
 
 - **equation**: a clause gives what the call returns and leaves as a function of what it was given, always, or if it
-  returns `Ok`, and then `Err` is out of memory or the writer's own error.
+  returns `Ok`, and then `Err` is out of memory or the writer's own error. For `Conjunction` and `Ranges` of
+  `version_sets`, which a set is made of, the clause gives which versions they contain, and not how they hold them.
 - **a law** by its name: a function that makes the call twice with the same arguments, and whose clause says that both
   results have equal views, or that one is out of memory. Its proof sees the clauses of the call and the invariants of types
   only. Some say less: if a text is refused as a version, memory may run out before the error is found
