@@ -1,4 +1,4 @@
--- serves: semver_ranges::desugared_texts::read_by
+-- serves: semver_ranges::range_set::RangeSet::parse
 -- What the loops over the events of a text keep, and what they answer of its tree.
 use Rattle.std.proofs.Common.{◌≡◌, Bool, true, false, ◌&&◌, List, [], ◌∷◌, ◌++◌, Option, Some, None, refl, sym, ap, ◌∙◌, arith}
 use Rattle.std.proofs.Common.{append-nil, append_assoc, Result, Ok, Err}
@@ -63,7 +63,7 @@ module _ (written : Simple → List PlainComparator) (mode : Compat) (lower : Lo
   abbrev made_by : RangeTree → PlainRange
   made_by r = range_of_simples written mode (yielded lower r)
 
-  front_made : (ss : List Simple) (cs : List PlainComparator) (es : List Event)
+  pub front_made : (ss : List Simple) (cs : List PlainComparator) (es : List Event)
       → ranges_by written mode cs (in_front ss es) ≡ ranges_by written mode (cs ++ flat_map written ss) es
   front_made [] cs es = rw append-nil refl
   front_made (s ∷ ss) cs es = front_made ss (cs ++ written s) es ∙ rw append_assoc refl

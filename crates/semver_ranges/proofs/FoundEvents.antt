@@ -1,4 +1,4 @@
--- serves: semver_ranges::desugared_texts::read_by
+-- serves: tool_ranges::offset::is_range
 -- What is found first is the first of the events that are left.
 use Rattle.std.proofs.Common.{◌≡◌, ◌≤◌, Bool, true, false, arith, List, [], ◌∷◌, Option, Some, None, refl}
 use Rattle.semver_texts.specs.declared.grammar.Grammar.{Grammar}

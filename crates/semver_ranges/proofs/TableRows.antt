@@ -1,4 +1,4 @@
--- serves: semver_ranges::desugaring::rewritten
+-- serves: semver_ranges::range_set::RangeSet::parse
 -- The comparators of a simple that was read, by the columns of the table.
 use Rattle.std.proofs.Common.{arith}
 use Rattle.std.proofs.Common.{◌≡◌, true, false, ◌&&◌, List, [], refl, sym, ap, ◌∙◌}
@@ -56,7 +56,6 @@ row_of mode s simple b placed is raised comparators = (
   by_test p.fits fits (λ n. and_left _ _ n ∙ sym (and_left _ _ (is.1.0 ∙ n))),
   λ all bounds. let f = (and_parts p.fits _ all).0 in
       cell_comparators bounds b p ∙ rw ((is.1.1 f).0, (is.1.1 f).1) (comparators f (pre_of bounds)),
-  λ f. rw ((is.1.1 f).0) (raised f),
 )
   where
     p : Partial

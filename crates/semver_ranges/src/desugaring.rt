@@ -23,7 +23,7 @@ use std::alloc::{AllocError, Global};
 
 /// The cell of the table that has the one or two comparators of a simple.
 #[derive(Drop)]
-pub enum Desugared {
+pub(crate) enum Desugared {
     /// A comparison with the partial.
     Against(Op),
     /// Below the bound that is raised at a place.
@@ -33,11 +33,10 @@ pub enum Desugared {
 }
 
 impl Desugared {
-    // Answer: equation.
     /// Whether the numbers that the partial states, and the bound that is raised, are at most
     /// 2^64 - 1.
     #[inline(always)]
-    pub fn fits(&self, partial: &Partial<'_>) -> bool
+    pub(crate) fn fits(&self, partial: &Partial<'_>) -> bool
         requires { IsPlaced self.now partial.now }
         ensures { result ≡ bounds_fit self.now partial.now }
     {
@@ -48,28 +47,15 @@ impl Desugared {
             }
     }
 
-    // Answer: equation.
     /// How many comparators. Vectors are made at this size.
     #[inline(always)]
-    pub fn count(&self) -> usize
+    pub(crate) fn count(&self) -> usize
         ensures { (raised : RaisedView) (partial : PartialView)
             → result ≡ length (comparators_of raised self.now partial) }
     {
         match self {
             Desugared::Against(_) | Desugared::Below(_) => 1,
             Desugared::Between(_) => 2,
-        }
-    }
-
-    // Answer: equation.
-    /// The place of the bound that is raised, where there is one.
-    #[inline(always)]
-    pub fn raised(&self) -> Option<Place>
-        ensures { result ≡ place_of self.now }
-    {
-        match self {
-            Desugared::Against(_) => None,
-            Desugared::Below(place) | Desugared::Between(place) => Some(*place),
         }
     }
 
@@ -87,10 +73,9 @@ impl Desugared {
         }
     }
 
-    // Answer: equation.
     /// The comparators by themselves. For speed none is pushed where there might be no capacity.
     #[inline(always)]
-    pub fn to_vec(
+    pub(crate) fn to_vec(
         self,
         alloc: Global,
         partial: &Partial<'_>,
@@ -113,10 +98,9 @@ impl Desugared {
         }
     }
 
-    // Answer: equation.
     /// Adds the comparators.
     #[inline(always)]
-    pub fn push(
+    pub(crate) fn push(
         self,
         alloc: Global,
         partial: &Partial<'_>,
@@ -149,10 +133,9 @@ fn singleton(alloc: Global, comparator: Comparator) -> Result<Vec<Comparator>, A
     Ok(comparators)
 }
 
-// Answer: free, the row of a number above 2^64 - 1: ../replayed_cases/stdin.
 /// The comparators of a simple, by the table: its form, how many numbers it states, and the mode.
 #[inline(always)]
-pub fn rewritten(simple: &Simple<'_>, compat: Compat) -> Desugared
+pub(crate) fn rewritten(simple: &Simple<'_>, compat: Compat) -> Desugared
     ensures { (s : SimpleTree) → IsSimpleOf s simple.now
         → IsRow compat s simple.now.partial result }
 {

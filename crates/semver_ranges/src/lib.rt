@@ -8,8 +8,8 @@
 #![tactic(auto)]
 
 pub mod comparing;
-pub mod desugared_texts;
-pub mod desugaring;
+mod desugared_texts;
+mod desugaring;
 pub mod events;
 pub mod grammar;
 pub mod laws;

@@ -8,7 +8,7 @@ ghost use Rattle.semver_ranges.specs.RangeTree.{PartialTree, one, two};
 ghost use Rattle.semver_texts.specs.Texts.{is_part};
 ghost use Rattle.semver_ranges.specs.Partials.{kept, leading_place};
 ghost use Rattle.semver_ranges.specs.RewritingTable.{comparator, up, up_with, bound_fits};
-ghost use Rattle.semver_ranges.specs.ExactBounds.{exact_bound};
+ghost use Rattle.semver_ranges.specs.ExactBounds.{exact_bound, lowest_pre_release};
 ghost use Rattle.semver_ranges.specs.RangeViews.{comparator_of, identifier_of};
 ghost use Rattle.semver_ranges.specs.Steps.PartialViews.{states_none, stated_of};
 ghost use Rattle.semver_texts.specs.Texts.{cut_at_dots};
@@ -170,10 +170,9 @@ impl<'input> Partial<'input> {
         matches!(self.kind, PartialKind::XRangeOnly)
     }
 
-    // Answer: equation.
     /// Whether the numbers that are stated are at most 2^64 - 1.
     #[inline(always)]
-    pub fn fits(&self) -> bool
+    pub(crate) fn fits(&self) -> bool
         ensures { result ≡ self.now.fits }
     {
         self.fits
@@ -197,10 +196,9 @@ impl<'input> Partial<'input> {
         }
     }
 
-    // Answer: equation.
     /// The same numbers with the lowest pre-release: `0`.
     #[inline(always)]
-    pub fn lowest(self) -> Partial<'input>
+    pub(crate) fn lowest(self) -> Partial<'input>
         ensures stated { stated_of result ≡ stated_of self.entry }
         ensures kind { result.kind ≡ self.entry.kind }
         ensures fits { result.fits ≡ self.entry.fits }
@@ -310,10 +308,9 @@ impl<'input> Partial<'input> {
         }
     }
 
-    // Answer: equation.
     /// Whether the number at a place is below 2^64 - 1.
     #[inline(always)]
-    pub fn may_rise(&self, place: Place) -> bool
+    pub(crate) fn may_rise(&self, place: Place) -> bool
         requires { place_number place ≤ length (stated_of self.now) }
         ensures { result ≡ bound_fits (Some (up (place_number place) (stated_of self.now))) }
     {
@@ -348,11 +345,10 @@ impl<'input> Partial<'input> {
         })
     }
 
-    // Answer: equation.
     /// Below the bound above all versions with these numbers up to a place: that number is raised
     /// by one, and those after it are 0.
     #[inline(always)]
-    pub fn raised(
+    pub(crate) fn raised(
         &self,
         alloc: Global,
         place: Place,
@@ -389,12 +385,19 @@ fn raised_pre(alloc: Global, raised: RaisedBounds) -> Result<Vec<Identifier>, Al
 {
     match raised {
         RaisedBounds::Plain => Ok(Vec::new(alloc)),
-        RaisedBounds::Exact => {
-            let mut pre = Vec::with_capacity(alloc, 1)?;
-            pre.push_reserved(Identifier::Numeric(0));
-            Ok(pre)
-        }
+        RaisedBounds::Exact => lowest_pre_release(alloc),
     }
+}
+
+// Answer: equation.
+/// The lowest pre-release: `0`.
+#[inline(always)]
+pub fn lowest_pre_release(alloc: Global) -> Result<Vec<Identifier>, AllocError>
+    ensures { IfOk result (λ pre. map identifier_of pre.items ≡ lowest_pre_release) }
+{
+    let mut pre = Vec::with_capacity(alloc, 1)?;
+    pre.push_reserved(Identifier::Numeric(0));
+    Ok(pre)
 }
 
 /// The parts of a pre-release as they are kept. For speed it is a function of its own: most

@@ -7,7 +7,6 @@ ghost use Rattle.semver_ranges.specs.RangeTree.{Simple as SimpleTree, SetTree, S
 ghost use Rattle.semver_texts.specs.Versions.{PlainVersion};
 ghost use Rattle.semver_ranges.specs.OwnMeaning.{meets_tree};
 ghost use Rattle.semver_ranges.specs.RewritingTable.{PlainSet, fits, rewritten, simple_fits};
-ghost use Rattle.semver_ranges.specs.RewritingTable.{written_simple};
 ghost use Rattle.semver_ranges.specs.RangeTexts.{RefusesExactly};
 ghost use Rattle.semver_ranges.specs.ParsedSets.{IsParsed};
 ghost use Rattle.semver_ranges.specs.ExactBounds.{rewritten_exactly};
@@ -20,11 +19,11 @@ ghost use Rattle.semver_ranges.specs.Steps.PartialViews.{pre_of};
 ghost use Rattle.semver_ranges.specs.Steps.DesugaredViews.{comparators_of, bounds_fit, IsBuildable};
 ghost use Rattle.semver_ranges.specs.Steps.DesugaredViews.{IsRow};
 
-use crate::desugared_texts::{Desugaring, read_by};
+use crate::desugared_texts::read_in_two_runs;
 use crate::desugaring::{Desugared, rewritten};
-use crate::grammar::{Simple, read_simple};
-use crate::partial::{LowerBounds, Partial, RaisedBounds};
-use crate::range::{Comparator, Compat, Range};
+use crate::grammar::read_simple;
+use crate::partial::{Partial, RaisedBounds};
+use crate::range::{Compat, Range};
 use semver_texts::grammar::Grammar;
 use semver_texts::printing::write_joined;
 use std::alloc::{AllocError, Global};
@@ -225,9 +224,8 @@ fn parse_with(
     ensures { IsAnswer (pre_of raised) input.now compat result }
 {
     let text = input.as_bytes();
-    let rows = Rows { compat, raised };
     let Some((partial, bounds)) = read_only_simple(text, compat) else {
-        return read_by(alloc, text, compat, LowerBounds::Stated, &rows);
+        return read_in_two_runs(alloc, text, compat, raised);
     };
     match build_only_simple(alloc, &partial, bounds, compat, raised) {
         Ok(set) => Ok(set),
@@ -283,39 +281,6 @@ fn build_only_simple(
         compat,
     });
     Ok(RangeSet { ranges, compat })
-}
-
-/// The crate's tables.
-#[derive(Clone, Copy)]
-struct Rows {
-    compat: Compat,
-    raised: RaisedBounds,
-}
-
-impl Desugaring for Rows {
-    ghost DIALECT = { Crate };
-
-    ghost fit = { λ rows s. simple_fits rows.compat s };
-
-    ghost written = { λ rows s. written_simple (pre_of rows.raised) rows.compat s };
-
-    const DIALECT: Grammar = Grammar::Crate;
-
-    #[inline(always)]
-    fn size(&self, simple: &Simple<'_>) -> (bool, usize) {
-        let bounds = rewritten(simple, self.compat);
-        (bounds.fits(&simple.partial), bounds.count())
-    }
-
-    #[inline(always)]
-    fn push(
-        &self,
-        alloc: Global,
-        simple: &Simple<'_>,
-        comparators: &mut Vec<Comparator>,
-    ) -> Result<(), AllocError> {
-        rewritten(simple, self.compat).push(alloc, &simple.partial, comparators, self.raised)
-    }
 }
 
 // Answer: equation.

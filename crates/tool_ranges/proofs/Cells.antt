@@ -1,4 +1,4 @@
--- serves: tool_ranges::meaning::satisfies
+-- serves: tool_ranges::cargo::rewrite
 -- How sides of the zero-filled version of stated numbers go with agreement and comparison.
 use Rattle.std.proofs.Common.{◌≡◌, ℕ, Bool, true, false, not, ◌&&◌, ◌||◌, ◌==◌, nat_eq, List, [], ◌∷◌}
 use Rattle.std.proofs.Common.{refl, ap, ◌∙◌}

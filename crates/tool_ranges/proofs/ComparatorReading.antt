@@ -1,4 +1,4 @@
--- serves: tool_ranges::cargo::rewrite
+-- serves: tool_ranges::meaning::check
 -- What the reader finds at the front of a requirement is what is there: one comparator, up to its comma or the end.
 use Rattle.std.proofs.Common.{◌≡◌, ℕ, Bool, true, false, ◌==◌, [], ◌∷◌, ◌++◌, refl, sym, ap, ◌∙◌, rules}
 use Rattle.std.proofs.Common.{Option, Some, None, append_assoc, append-nil, inl, inr}

@@ -1,4 +1,4 @@
--- serves: tool_ranges::offset::is_range
+-- serves: tool_ranges::cargo::rewrite
 -- The numbers that are raised above the sides of a term are those of its raised bound.
 use Rattle.std.proofs.Common.{◌≡◌, ℕ, ◌+◌, ◌-◌, ◌^◌, Bool, true, false, not, ◌&&◌, if◌then◌else◌, ◌==◌, List, [], ◌∷◌, length, nat_le, nat_lt}
 use Rattle.std.proofs.Common.{Option, Some, None, refl, sym, ap, ◌∙◌, arith}
@@ -181,7 +181,7 @@ safe_is n = refl
 safe_next : (n : ℕ) → is_safe (n + 1) ≡ nat_lt n (2 ^ 53 - 1)
 safe_next n = grind arith
 
-none_stated : (s : Simple) → (length (stated s.partial) == 3) ≡ false → pre_release s.partial ≡ []
+pub none_stated : (s : Simple) → (length (stated s.partial) == 3) ≡ false → pre_release s.partial ≡ []
 none_stated s n = rw n refl
 
 same_u64 : (o : Option PlainVersion) → small_bound fits_u64 (2 ^ 64 - 1) u64_is u64_next refl o ≡ bound_fits o

@@ -1,17 +1,12 @@
 mod ComparatorReading
 mod FoundComparators
-mod RequirementSteps
-mod RequirementLaws
 mod RequirementPrinted
 mod AnySizes
 mod ReadMeanings
-mod ReadRows
-pub mod ReadSets
 mod SafeNumbers
+pub mod ReadSets
 mod ToolRows
 mod NpmMeanings
-mod NpmLaws
-mod PrintableSets
 mod MatchedMeanings
 mod CheckedEvents
 pub mod ReadingLaws
@@ -41,3 +36,7 @@ mod MatchedTerms
 mod MatchedEvents
 mod MatchedRanges
 mod BuiltSets
+mod LeftEvents
+mod PrintedTerms
+mod PrintedCells
+mod PrintedSets

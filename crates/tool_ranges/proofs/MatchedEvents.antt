@@ -1,4 +1,4 @@
--- serves: tool_ranges::offset::is_range
+-- serves: tool_ranges::cargo::rewrite
 -- What is known of a range text as its events come.
 use Rattle.std.proofs.Common.{◌≡◌, Bool, true, false, ◌&&◌, ◌||◌, if◌then◌else◌, List, [], ◌∷◌, map, Option, Some, None, refl, sym, ap, ◌∙◌}
 use Rattle.std.proofs.Math.Bool.{and-true, and-false, or-false}

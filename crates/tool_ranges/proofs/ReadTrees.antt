@@ -67,3 +67,12 @@ module _ (d : Dialect) (t : Text) where
     out_of_memory = λ wrong. cc;
   }
   refused_as OutOfMemory h = absurd h
+
+  pub out_of_memory_as : {A : Type 0} (tree : TreeOf d) → read_as d t ≡ Some tree → fits_as d tree ≡ true
+      → RefusesAs {A = A} d t (Err OutOfMemory)
+  out_of_memory_as tree e fit = record {
+    accepted = tt;
+    not_a_range = (λ wrong. cc, λ none. absurd (none (tree, sound_as d t tree e)));
+    too_large = (λ wrong. cc, λ (other, h, large). absurd (unfit tree other e fit h large));
+    out_of_memory = λ _. (tree, sound_as d t tree e, fit);
+  }

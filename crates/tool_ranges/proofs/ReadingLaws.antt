@@ -1,22 +1,16 @@
 -- serves: tool_ranges::laws::one_tree
 -- Whatever the dialect is: a text has one tree, and what is refused isn't by the result.
-use Rattle.std.proofs.Common.{◌≡◌, Ok, arith, rules}
+use Rattle.std.proofs.Common.{◌≡◌, Ok, rules}
 use Rattle.semver_texts.specs.Texts.{Text}
 use Rattle.semver_ranges.specs.RangeTexts.{Refuses}
-use Rattle.semver_ranges.proofs.ReadingComplete.{same_tree}
 use Rattle.tool_ranges.specs.declared.dialect.Dialect.{Dialect}
-use Rattle.tool_ranges.specs.declared.dialect.Dialect.TheVariants.{Cargo, Npm, CrateCargo, CrateNpm}
 use Rattle.tool_ranges.specs.Dialects.{TreeOf, SpellsAs}
-use Rattle.tool_ranges.proofs.RequirementLaws.{same_comparators}
-use Rattle.std.proofs.lemmas.Grind.{common_steps}
+use Rattle.tool_ranges.proofs.ReadTrees.{complete_as, same_read}
 
 -- a text has one tree
 pub one_tree : (dialect : Dialect) (tree other : TreeOf dialect) (t : Text) → SpellsAs dialect tree t → SpellsAs dialect other t
     → tree ≡ other
-one_tree Cargo tree other t h k = same_comparators other tree t k.comparators h.comparators
-one_tree Npm tree other t h k = grind (arith, common_steps, same_tree)
-one_tree CrateCargo tree other t h k = grind (arith, common_steps, same_tree)
-one_tree CrateNpm tree other t h k = grind (arith, common_steps, same_tree)
+one_tree dialect tree other t h k = same_read dialect t tree other (complete_as dialect t tree h) k
 
 -- where a text isn't refused, it isn't by another answer
 pub answered_too : {A B : Type 0} (T L F : Type 0) (x : A) (y : B) → Refuses T L F (Ok x) → Refuses T L F (Ok y)

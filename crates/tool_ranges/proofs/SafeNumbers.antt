@@ -1,24 +1,19 @@
--- serves: tool_ranges::cargo::rewrite, reads_back
--- Numbers that are at most 2^53 - 1: they fit 64 bits, and the cell of a simple says whether its numbers are.
-use Rattle.std.proofs.Common.{◌≡◌, ℕ, true, ◌&&◌, List, refl, ap, ◌∙◌, arith}
+-- serves: tool_ranges::npm::rewrite
+-- Numbers that are at most 2^53 - 1 fit 64 bits.
+use Rattle.std.proofs.Common.{◌≡◌, ℕ, true, List, refl, arith}
 use Rattle.std.proofs.Common.{Option, Some, None}
 use Rattle.std.specs.List.{list_all}
-use Rattle.std.proofs.lemmas.Bool.{and_parts, both_ways}
+use Rattle.std.proofs.lemmas.Bool.{and_parts}
 use Rattle.semver_texts.proofs.Lists.{by_test}
 use Rattle.semver_texts.specs.Versions.{PlainVersion, numbers}
-use Rattle.semver_ranges.specs.declared.grammar.Simple as read
 use Rattle.semver_ranges.specs.declared.range.Compat.TheVariants.{Npm}
 use Rattle.semver_ranges.specs.RangeTree.{Simple}
 use Rattle.semver_ranges.specs.Partials.{stated, fits_u64}
 use Rattle.semver_ranges.specs.RewritingTable.{bound_fits}
-use Rattle.semver_ranges.specs.Steps.PartialViews.{stated_of}
-use Rattle.semver_ranges.specs.Steps.CursorViews.{IsSimpleOf}
 use Rattle.semver_ranges.proofs.Tests.{list_all-weaker}
-use Rattle.tool_ranges.specs.declared.desugaring.ToolDesugared.{ToolDesugared}
 use Rattle.semver_texts.specs.NpmLimits.{is_safe}
 use Rattle.tool_ranges.specs.NpmTable.{is_safe_bound, is_safe_simple}
 use Rattle.tool_ranges.specs.ToolTable.{begins_above, fits_in, raised_in}
-use Rattle.tool_ranges.specs.Steps.ToolDesugared.{bound_at, raised_place, is_safe_desugared, IsDesugaredOf}
 
 -- they fit 64 bits
 safe_number : (n : ℕ) → is_safe n ≡ true → fits_u64 n ≡ true
@@ -39,16 +34,3 @@ safe_fits s e =
     by_test (begins_above s)
     (λ y. rw y (cc))
     (λ n. rw n (cc))
-
--- the cell of a simple that was read
-pub safe_cell : (s : Simple) (simple : read.Simple) (c : ToolDesugared) → IsSimpleOf s simple → IsDesugaredOf Npm s simple.partial c
-    → is_safe_desugared c simple.partial ≡ is_safe_simple s
-safe_cell s simple c is of = by_test simple.partial.fits
-    (λ f. let p = simple.partial in
-    ap (λ fits. (fits && list_all is_safe (stated_of p)) && is_safe_bound (bound_at (raised_place c) p)) f
-    ∙ ap (λ bound. list_all is_safe (stated_of p) && is_safe_bound bound) (of.3 f)
-    ∙ ap (λ ns. list_all is_safe ns && is_safe_bound (raised_in Npm s)) (is.1.1 f).0)
-    (λ n. let large = is.1.0 ∙ n in
-    let unsafe_numbers = by_test _
-    (λ y. absurd (both_ways _ large (safe_numbers (stated s.partial) y))) (λ no. no) in
-    rw n (cc))

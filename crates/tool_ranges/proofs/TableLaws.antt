@@ -1,12 +1,12 @@
 -- serves: tool_ranges::dialect::rewrite
 -- The sides of a term don't depend on how its identifiers of digits alone are read.
-use Rattle.std.proofs.Common.{◌≡◌, ℕ, Bool, true, false, not, ◌&&◌, Option, List, nat_le, refl, ap, sym, ◌∙◌}
+use Rattle.std.proofs.Common.{◌≡◌, ℕ, zero, suc, ◌-◌, ◌^◌, Bool, true, false, not, ◌&&◌, Option, Some, None, List, nat_le, refl, ap, sym, ◌∙◌, arith}
 use Rattle.std.specs.List.{list_all}
 use Rattle.semver_texts.specs.Digits.{plain_by}
 use Rattle.semver_texts.specs.Texts.{is_empty}
-use Rattle.semver_texts.specs.Versions.{PlainVersion}
+use Rattle.semver_texts.specs.Versions.{numbers, PlainVersion}
 use Rattle.semver_texts.specs.declared.grammar.Digits.{Digits}
-use Rattle.version_sets.specs.Steps.Cuts.{SideValue, is_between}
+use Rattle.version_sets.specs.Steps.Cuts.{SideValue, below, at, past, above, is_between}
 use Rattle.version_sets.proofs.DigitLaws.{by_empty}
 use Rattle.tool_ranges.specs.Steps.Table.{is_between_releases, may_rise}
 
@@ -39,3 +39,12 @@ pub fit_so : (f : Bool) (most most' : ℕ) (lower upper : Option SideValue) (all
 fit_so f most most' lower upper all s ns e g h =
     (λ i. ((f && list_all (λ n. nat_le n (e i)) s) && may_rise (e i) (g i) ns) && may_rise (e i) (h i) ns)
     ∙ regroup f (list_all (λ n. nat_le n most') s) (may_rise most' all.0 ns) (may_rise most' all.1 ns)
+
+-- what may rise below the limit of npm may rise below that of 64 bits
+pub rises_too : (o : Option SideValue) (v : PlainVersion) → may_rise (2 ^ 53 - 1) o (numbers v) ≡ true → may_rise (2 ^ 64 - 1) o (numbers v) ≡ true
+rises_too None v e = refl
+rises_too (Some below) v e = refl
+rises_too (Some at) v e = refl
+rises_too (Some past) v e = refl
+rises_too (Some (above zero)) v e = refl
+rises_too (Some (above (suc k))) v e = grind arith

@@ -1,4 +1,4 @@
--- serves: tool_ranges::cargo::rewrite, reads_back
+-- serves: tool_ranges::npm::rewrite
 -- The tables of the tools: sides that state nothing, and printable comparators.
 use Rattle.std.proofs.Common.{◌≡◌, true, false, refl, arith, rules}
 use Rattle.std.proofs.lemmas.Bool.{and_parts, and_from}

@@ -5,7 +5,6 @@ pub mod Matching
 pub mod Building
 pub mod CargoReading
 pub mod NpmReading
-pub mod ToolDesugared
 pub mod Places
-pub mod LowerBounds
+pub mod Printed
 pub mod SameRanges

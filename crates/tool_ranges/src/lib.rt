@@ -3,7 +3,6 @@
 
 pub mod cargo;
 mod cursor;
-mod desugaring;
 pub mod dialect;
 mod highest;
 pub mod laws;
@@ -12,6 +11,7 @@ pub mod meaning;
 pub mod npm;
 pub mod offset;
 mod overflow_offset;
+mod printing;
 pub mod range_operations;
 mod reasons;
 pub mod refusals;

@@ -4,30 +4,24 @@ ghost use Rattle.std.specs.Prelude.{◌≡◌, [], IsTrue, IfOk};
 ghost use Rattle.std.specs.List.{list_all};
 ghost use Rattle.std.specs.Str.{chars};
 ghost use Rattle.semver_texts.specs.Versions.{PlainVersion};
-ghost use Rattle.semver_texts.specs.declared.grammar.Grammar.TheVariants as grammar;
 ghost use Rattle.semver_ranges.specs.declared.range.Compat.TheVariants.{Npm};
 ghost use Rattle.semver_ranges.specs.RangeTree.{SetTree, Spells};
 ghost use Rattle.semver_ranges.specs.RangeViews.{set_of};
 ghost use Rattle.semver_ranges.specs.Meeting.{meets_set};
 ghost use Rattle.semver_ranges.specs.PrintedRanges.{IsPrintableSet, set_text};
 ghost use Rattle.semver_ranges.specs.RewritingTable.{fits, rewritten};
-ghost use Rattle.version_sets.specs.Printable.{HasPrintableRanges};
 ghost use Rattle.version_sets.specs.declared.rules.PreReleases.TheVariants.{Default};
-ghost use Rattle.tool_ranges.specs.Steps.LowerBounds.{set_begun, written_for};
 ghost use Rattle.tool_ranges.specs.NpmGrammar.{may_stand, SpellsNpmRange};
 ghost use Rattle.tool_ranges.specs.NpmMeaning.{meets_npm};
-ghost use Rattle.tool_ranges.specs.NpmTable.{is_safe_simple, rewritten_npm};
+ghost use Rattle.tool_ranges.specs.NpmTable.{rewritten_npm};
 ghost use Rattle.tool_ranges.specs.Dialects.{RefusesAs};
 ghost use Rattle.tool_ranges.specs.declared.dialect.Dialect.TheVariants as dialect;
 
-use crate::desugaring;
-use semver_ranges::desugared_texts::{Desugaring, read_by};
-use semver_ranges::grammar::Simple;
-use semver_ranges::partial::LowerBounds;
-use semver_ranges::{Comparator, Compat, RangeError, RangeSet};
-use semver_texts::grammar::Grammar;
+use crate::dialect::Dialect;
+use crate::printing;
+use semver_ranges::{Compat, RangeError, RangeSet};
 use semver_texts::white_space::is_white_space_beyond_ascii;
-use std::alloc::{AllocError, Global};
+use std::alloc::Global;
 
 // Answer: law answer_laws::ranges::one_npm_rewrite.
 /// Rewrites a range text, as npm reads it, into plain comparators with exact bounds.
@@ -67,26 +61,7 @@ pub fn rewrite(alloc: Global, range: &str) -> Result<RangeSet, RangeError>
         × Spells tree (set_text (set_of set)) × IsTrue (fits Npm tree)
         × (rewritten Npm tree ≡ set_of set)) }
 {
-    rewritten(alloc, range, LowerBounds::Stated)
-}
-
-/// The set of a text, with lower bounds as they are wanted.
-fn rewritten(alloc: Global, range: &str, lower: LowerBounds) -> Result<RangeSet, RangeError>
-    ensures refusals { RefusesAs dialect.Npm range.now result }
-    ensures begun { IfOk result (λ set. (tree : SetTree) → SpellsNpmRange tree range.now
-        → set_of set ≡ set_begun lower tree) }
-    ensures printable { IfOk result (λ set. HasPrintableRanges (set_of set)) }
-{
-    if !may_stand(range) {
-        return Err(RangeError::NotARange);
-    }
-    read_by(
-        alloc,
-        range.as_bytes(),
-        Compat::Npm,
-        lower,
-        &NpmRows { lower },
-    )
+    printing::rewrite(alloc, range, Dialect::Npm, Compat::Npm)
 }
 
 /// Whether each character beyond ASCII is white space to JavaScript. For speed it is asked first
@@ -97,36 +72,4 @@ pub(crate) fn may_stand(range: &str) -> bool
     range.is_ascii()
         || range.chars().all(|character| character.is_ascii()
             || is_white_space_beyond_ascii(character))
-}
-
-/// npm's table, with lower bounds as they are wanted.
-#[derive(Clone, Copy)]
-struct NpmRows {
-    lower: LowerBounds,
-}
-
-impl Desugaring for NpmRows {
-    ghost DIALECT = { grammar.Npm };
-
-    ghost fit = { λ _ s. is_safe_simple s };
-
-    ghost written = { λ rows s. written_for rows.lower Npm s };
-
-    const DIALECT: Grammar = Grammar::Npm;
-
-    #[inline(always)]
-    fn size(&self, simple: &Simple<'_>) -> (bool, usize) {
-        let cell = desugaring::desugared_by_tool(simple, Compat::Npm);
-        (cell.is_safe(&simple.partial), cell.count())
-    }
-
-    #[inline(always)]
-    fn push(
-        &self,
-        alloc: Global,
-        simple: &Simple<'_>,
-        comparators: &mut Vec<Comparator>,
-    ) -> Result<(), AllocError> {
-        desugaring::push(alloc, simple, Compat::Npm, self.lower, comparators)
-    }
 }

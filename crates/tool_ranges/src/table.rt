@@ -174,7 +174,7 @@ fn from_release<'t>(simple: &Simple<'t>) -> Interval<'t>
 
 /// Returns whether an upper side is directly above its version.
 #[inline(always)]
-fn is_past(upper: Option<Side>) -> bool
+pub(crate) fn is_past(upper: Option<Side>) -> bool
     ensures { result ≡ ends_past (option_map side_value upper) }
 {
     matches!(upper, Some(Side::Past))
@@ -184,7 +184,7 @@ fn is_past(upper: Option<Side>) -> bool
 #[inline(always)]
 fn release_of<'t>(partial: &Partial<'t>, lower: Option<Side>, is_one: bool) -> Option<Cut<'t>>
     requires { PartsPass partial.now }
-    ensures { may_rise (2 ^ 53 - 1) (option_map side_value lower)
+    ensures { may_rise (2 ^ 64 - 1) (option_map side_value lower)
         (numbers (version_of partial.now)) ≡ true → (digits : SomeDigits) (v : PlainVersion)
         → is_past_lower digits result v ≡ is_past_release (option_map side_value lower) is_one
         (plain_by digits (version_of partial.now)) v }
@@ -215,8 +215,8 @@ pub(crate) fn is_zero(partial: &Partial<'_>) -> bool
 
 /// Returns the numbers up to a place, with the last of them raised by one, and zeros after it.
 #[inline(always)]
-fn raised(partial: &Partial<'_>, place: Place) -> Release
-    ensures { may_rise (2 ^ 53 - 1) (Some (above (place_number place)))
+pub(crate) fn raised(partial: &Partial<'_>, place: Place) -> Release
+    ensures { may_rise (2 ^ 64 - 1) (Some (above (place_number place)))
         (numbers (version_of partial.now)) ≡ true
         → release_value result ≡ up (place_number place) (numbers (version_of partial.now)) }
 {
@@ -285,7 +285,7 @@ pub(crate) fn numbers(partial: &Partial<'_>) -> Release
 
 /// Returns on which sides of the zero-filled version the interval of a term begins and ends.
 #[inline(always)]
-fn sides(simple: &Simple<'_>, dialect: Dialect) -> (Option<Side>, Option<Side>)
+pub(crate) fn sides(simple: &Simple<'_>, dialect: Dialect) -> (Option<Side>, Option<Side>)
     ensures lower { option_map side_value result.0 ≡ (sides dialect (form_of simple.now.form)
         (stated_of simple.now.partial) (not (is_empty (version_of simple.now.partial).pre))).0 }
     ensures upper { option_map side_value result.1 ≡ (sides dialect (form_of simple.now.form)

@@ -1,12 +1,11 @@
 -- Which identifiers can be read back from their texts.
-use Rattle.std.specs.Prelude.{Bool, List, true, not, ◌&&◌, ◌||◌, IsTrue}
+use Rattle.std.specs.Prelude.{Bool, true, not, ◌&&◌, ◌||◌, IsTrue}
 use Rattle.std.specs.List.{list_all}
 use Rattle.semver_texts.specs.Texts.{is_large}
 use Rattle.semver_texts.specs.declared.grammar.Digits.{Digits}
 use Rattle.semver_texts.specs.declared.grammar.Digits.TheVariants.{Kept, AnySize}
 use Rattle.semver_ranges.specs.Partials.{fits_u64}
-use Rattle.semver_ranges.specs.PrintedRanges.{is_kept, is_printable_version}
-use Rattle.semver_ranges.specs.RewritingTable.{PlainComparator, PlainSet}
+use Rattle.semver_ranges.specs.PrintedRanges.{is_kept}
 use Rattle.semver_texts.specs.Versions.{IdentifierValue, numeric, alphanumeric, PlainVersion}
 use Rattle.semver_texts.specs.Versions.{numbers}
 use Rattle.version_sets.specs.VersionSets.{SetValue}
@@ -32,11 +31,3 @@ is_printable_boundary v = prints_by Kept v || prints_by AnySize v
 -- each identifier can be read back from its text
 abbrev pub IsPrintable : SetValue → Type 0
 IsPrintable set = IsTrue (list_all is_printable_boundary set.pre_releases)
-
--- whether the identifiers of each comparator can be
-abbrev pub are_printable : List PlainComparator → Bool
-are_printable comparators = list_all (λ c. is_printable_version c.version) comparators
-
--- those of each range can be
-abbrev pub HasPrintableRanges : PlainSet → Type 0
-HasPrintableRanges set = IsTrue (list_all (λ r. are_printable r.comparators) set.ranges)

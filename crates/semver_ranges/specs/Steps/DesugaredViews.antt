@@ -16,8 +16,7 @@ use Rattle.semver_texts.specs.Versions.{PlainVersion}
 use Rattle.semver_ranges.specs.RewritingTable.{PlainComparator, PlainRange, comparator, up_with}
 use Rattle.semver_ranges.specs.RewritingTable.{Cell, from_zero, below_zero, against, below, between}
 use Rattle.semver_ranges.specs.RewritingTable.{cell_raised, bound_fits, written_simple}
-use Rattle.semver_ranges.specs.RewritingTable.{raised_bound, simple_fits}
-use Rattle.semver_ranges.specs.Terms.{of_simple}
+use Rattle.semver_ranges.specs.RewritingTable.{simple_fits}
 use Rattle.semver_ranges.specs.Steps.PartialViews.{stated_of, version_of, place_number, pre_of}
 use Rattle.semver_ranges.specs.Steps.PartialViews.{PartsPass}
 use Rattle.semver_ranges.specs.Steps.RangeEvents.{Event, one_simple, next_range}
@@ -75,12 +74,11 @@ abbrev pub comparators_of : RaisedBounds → Desugared → Partial → List Plai
 comparators_of raised b p =
     compared (op_of b) (version_of p) ++ raised_at raised (place_of b) (stated_of p)
 
--- the comparators of a simple, and its raised bound, where it fits
+-- the comparators of a simple, where it fits
 abbrev pub IsRow : Compat → Simple → Partial → Desugared → Type 0
 IsRow mode s p b = IsBuildable b p × (bounds_fit b p ≡ simple_fits mode s)
     × (bounds_fit b p ≡ true → (raised : RaisedBounds)
     → comparators_of raised b p ≡ written_simple (pre_of raised) mode s)
-    × (p.fits ≡ true → cell_raised (cell_of b) (stated_of p) ≡ raised_bound mode (of_simple s))
 
 -- simples in a mode, as they are rewritten by a table
 abbrev pub range_of_simples : (Simple → List PlainComparator) → Compat → List Simple → PlainRange

@@ -1,28 +1,19 @@
 -- A means of proof, which no public clause cites: the functions on lists that the reader of Cargo's
 -- requirements follows, and what private contracts see of what it finds.
 use Prim.Native.Char.{code}
-use Rattle.std.specs.Prelude.{◌≡◌, Bool, true, false, ◌&&◌, ◌==◌, if◌then◌else◌, Option, Some}
-use Rattle.std.specs.Prelude.{None, List, [], ◌∷◌, map, IsTrue, Result, Ok, Err}
+use Rattle.std.specs.Prelude.{◌≡◌, Bool, false, ◌&&◌, ◌==◌, if◌then◌else◌, Option, Some}
+use Rattle.std.specs.Prelude.{None, List, [], ◌∷◌}
 use Rattle.std.specs.Borrow.{Bor}
 use Rattle.semver_texts.specs.declared.grammar.Grammar.TheVariants as grammar
-use Rattle.semver_ranges.specs.declared.range_set.RangeSet.{RangeSet}
-use Rattle.semver_ranges.specs.declared.range_set.RangeError.{RangeError}
-use Rattle.semver_ranges.specs.declared.range_set.RangeError.TheVariants.{NotARange, NumberTooLarge}
-use Rattle.semver_ranges.specs.declared.range_set.RangeError.TheVariants.{OutOfMemory}
 use Rattle.semver_ranges.specs.declared.grammar.Simple as read
 use Rattle.semver_texts.specs.Texts.{Text}
 use Rattle.semver_ranges.specs.RangeTree.{Form, PartialTree, Simple}
 use Rattle.semver_ranges.specs.Steps.Reading.{after_blanks, operator, with_first, component}
 use Rattle.semver_ranges.specs.declared.range.Compat.TheVariants.{Cargo}
-use Rattle.semver_ranges.specs.declared.range.Range.{Range}
-use Rattle.semver_ranges.specs.RangeViews.{range_of, set_of}
 use Rattle.semver_ranges.specs.RewritingTable.{PlainComparator, PlainSet}
 use Rattle.semver_ranges.specs.Steps.CursorViews.{IsSimpleOf}
-use Rattle.tool_ranges.specs.declared.cargo.Surveyed.{Surveyed}
-use Rattle.tool_ranges.specs.CargoGrammar.{is_of_cargo, SpellsRequirement}
+use Rattle.tool_ranges.specs.CargoGrammar.{is_of_cargo}
 use Rattle.tool_ranges.specs.CargoMeaning.{as_read}
-use Rattle.tool_ranges.specs.CargoTable.{requirement_fits, rewritten_requirement}
-use Rattle.tool_ranges.specs.ToolTable.{fits_in, written_in}
 
 -- whether a text begins with `~>`
 abbrev pub begins_with_tilde_greater : Text → Bool
@@ -62,49 +53,7 @@ FindsComparator o None = o ≡ None
 FindsComparator o (Some found) =
     (s : Simple) × (o ≡ Some (s, after_comma found.1)) × IsSimpleOf (as_read s) found.0
 
--- why there is no set of a text
-abbrev pub IsRefusal : Text → RangeError → Type 0
-IsRefusal t NotARange = (tree : List Simple) → SpellsRequirement tree t → ⊥
-IsRefusal t NumberTooLarge =
-    (tree : List Simple) × SpellsRequirement tree t × (requirement_fits tree ≡ false)
-IsRefusal t OutOfMemory =
-    (tree : List Simple) × SpellsRequirement tree t × IsTrue (requirement_fits tree)
-
--- a requirement that was surveyed: it has this tree, which fits, and this first comparator
-abbrev pub IsSurveyedAs : Text → List Simple → Surveyed → Type 0
-IsSurveyedAs t tree surveyed = SpellsRequirement tree t × IsTrue (requirement_fits tree)
-    × FindsComparator (comparator_at t) (Some (surveyed.first, surveyed.after))
-
--- the set that a text is rewritten to
-abbrev pub IsSetOf : Text → PlainSet → Type 0
-IsSetOf t set = (tree : List Simple) × SpellsRequirement tree t
-    × IsTrue (requirement_fits tree) × (set ≡ rewritten_requirement tree)
-
--- that set, or why there is none
-abbrev pub IsRewritten : Text → Result RangeSet RangeError → Type 0
-IsRewritten t (Ok set) = IsSetOf t (set_of set)
-IsRewritten t (Err e) = IsRefusal t e
-
 -- a set of one range, in Cargo mode
 abbrev pub in_one_range : List PlainComparator → PlainSet
 in_one_range cs =
     record { ranges = record { comparators = cs; compat = Cargo } ∷ []; compat = Cargo }
-
--- the set of ranges that are built, in Cargo mode
-abbrev pub set_with : List Range → PlainSet
-set_with ranges = record { ranges = map range_of ranges; compat = Cargo }
-
--- the set that one comparator is rewritten to, as it is read
-abbrev pub IsRewrittenOne : Simple → Result RangeSet RangeError → Type 0
-IsRewrittenOne s (Ok set) =
-    (fits_in Cargo s ≡ true) × (set_of set ≡ in_one_range (written_in Cargo s))
-IsRewrittenOne s (Err NotARange) = ⊥
-IsRewrittenOne s (Err NumberTooLarge) = fits_in Cargo s ≡ false
-IsRewrittenOne s (Err OutOfMemory) = fits_in Cargo s ≡ true
-
--- the result at the end of a text, where a wildcard is alone or not, and all fits or not
-abbrev pub EndsAs : {A : Type 0} → Bool → Bool → A → Result A RangeError → Type 0
-EndsAs alone fit x (Ok answer) = (alone ≡ true) × (fit ≡ true) × (answer ≡ x)
-EndsAs alone fit x (Err NotARange) = alone ≡ false
-EndsAs alone fit x (Err NumberTooLarge) = (alone ≡ true) × (fit ≡ false)
-EndsAs alone fit x (Err OutOfMemory) = ⊥

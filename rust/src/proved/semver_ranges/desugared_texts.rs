@@ -1,43 +1,25 @@
 // Made by tools/erase.py from crates/semver_ranges/src/desugared_texts.rt; not edited by hand.
-//! Range texts read by a table, of the crate or of a tool: to which comparators a simple is
-//! desugared.
+//! Range texts read by the crate's table, in two runs.
 
 use crate::rattle_std::prelude::*;
+use crate::proved::semver_ranges::desugaring::rewritten;
 use crate::proved::semver_ranges::events::{Event, Events};
 use crate::proved::semver_ranges::grammar::Simple;
-use crate::proved::semver_ranges::partial::LowerBounds;
+use crate::proved::semver_ranges::partial::{LowerBounds, RaisedBounds};
 use crate::proved::semver_ranges::range::{Comparator, Compat, Range};
 use crate::proved::semver_ranges::range_set::{RangeError, RangeSet};
 use crate::proved::semver_texts::grammar::Grammar;
 use crate::rattle_std::AllocError;
 
-/// A table: which simples fit, and to which comparators each is desugared.
-pub(crate) trait Desugaring {
-    /// The dialect of the texts.
-    const DIALECT: Grammar;
-
-    /// Whether the numbers of a simple fit, and to how many comparators it is desugared. Vectors
-    /// are made at this size.
-    fn size(&self, simple: &Simple<'_>) -> (bool, usize);
-
-    /// Adds the comparators of a simple that fits.
-    fn push(
-        &self,
-        simple: &Simple<'_>,
-        comparators: &mut Vec<Comparator>,
-    ) -> Result<(), AllocError>;
-}
-
-/// The range set of a text by a table, in two runs over its events: the first surveys all of it,
-/// and the second builds. `lower` says how the left side of a hyphen range begins.
-pub fn read_by<T: Desugaring>(
+/// The range set of a text, in two runs over its events: the first surveys all of it, and the second
+/// builds.
+pub(crate) fn read_in_two_runs(
     text: &[u8],
     compat: Compat,
-    lower: LowerBounds,
-    table: &T,
+    raised: RaisedBounds,
 ) -> Result<RangeSet, RangeError> {
-    let sizes = survey(text, lower, table)?;
-    match build(text, &sizes, compat, lower, table) {
+    let sizes = survey(text, compat)?;
+    match build(text, &sizes, compat, raised) {
         Ok(ranges) => Ok(RangeSet { ranges, compat }),
         Err(_) => Err(RangeError::OutOfMemory),
     }
@@ -55,16 +37,16 @@ struct Sizes {
 }
 
 /// The sizes of a text, or why there is no set of it.
-fn survey<T: Desugaring>(text: &[u8], lower: LowerBounds, table: &T) -> Result<Sizes, RangeError> {
-    let grammar = T::DIALECT;
-    let mut events = Events::new(text, grammar, lower);
+fn survey(text: &[u8], compat: Compat) -> Result<Sizes, RangeError> {
+    let grammar = Grammar::Crate;
+    let mut events = Events::new(text, grammar, LowerBounds::Stated);
     let mut comparators = [0usize; REMEMBERED];
     let mut ended = 0usize;
     let mut fit = true;
     while let Some(event) = events.next_in(grammar) {
         match event? {
             Event::Simple(simple) => {
-                let (fits, count) = table.size(&simple);
+                let (fits, count) = size(&simple, compat);
                 fit &= fits;
                 remember(&mut comparators, ended, count);
             }
@@ -80,6 +62,14 @@ fn survey<T: Desugaring>(text: &[u8], lower: LowerBounds, table: &T) -> Result<S
     })
 }
 
+/// Whether the numbers of a simple fit, and to how many comparators it is rewritten. Vectors are
+/// made at this size.
+#[inline(always)]
+fn size(simple: &Simple<'_>, compat: Compat) -> (bool, usize) {
+    let bounds = rewritten(simple, compat);
+    (bounds.fits(&simple.partial), bounds.count())
+}
+
 /// Adds to the comparators of a range, if it is one of those that are remembered.
 #[inline(always)]
 fn remember(comparators: &mut [usize; REMEMBERED], range: usize, count: usize) {
@@ -89,15 +79,14 @@ fn remember(comparators: &mut [usize; REMEMBERED], range: usize, count: usize) {
 }
 
 /// The ranges of a text that was surveyed: it has no error.
-fn build<T: Desugaring>(
+fn build(
     text: &[u8],
     sizes: &Sizes,
     compat: Compat,
-    lower: LowerBounds,
-    table: &T,
+    raised: RaisedBounds,
 ) -> Result<Vec<Range>, AllocError> {
-    let grammar = T::DIALECT;
-    let mut events = Events::new(text, grammar, lower);
+    let grammar = Grammar::Crate;
+    let mut events = Events::new(text, grammar, LowerBounds::Stated);
     let mut ranges = Vec::fallible_with_capacity(sizes.ranges)?;
     let mut comparator_set = Vec::fallible_with_capacity(sizes.comparators[0])?;
     while let Some(event) = events.next_in(grammar) {
@@ -105,7 +94,7 @@ fn build<T: Desugaring>(
             return Ok(ranges);
         };
         match event {
-            Event::Simple(simple) => table.push(&simple, &mut comparator_set)?,
+            Event::Simple(simple) => push(&simple, compat, raised, &mut comparator_set)?,
             Event::NextRange => {
                 ranges.fallible_push(Range {
                     comparator_set,
@@ -124,4 +113,15 @@ fn build<T: Desugaring>(
         compat,
     })?;
     Ok(ranges)
+}
+
+/// Adds the comparators of a simple that fits.
+#[inline(always)]
+fn push(
+    simple: &Simple<'_>,
+    compat: Compat,
+    raised: RaisedBounds,
+    comparators: &mut Vec<Comparator>,
+) -> Result<(), AllocError> {
+    rewritten(simple, compat).push(&simple.partial, comparators, raised)
 }

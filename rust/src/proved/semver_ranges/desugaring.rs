@@ -12,7 +12,7 @@ use crate::proved::semver_ranges::range::{Comparator, Compat, Op};
 use crate::rattle_std::AllocError;
 
 /// The cell of the table that has the one or two comparators of a simple.
-pub enum Desugared {
+pub(crate) enum Desugared {
     /// A comparison with the partial.
     Against(Op),
     /// Below the bound that is raised at a place.
@@ -35,19 +35,10 @@ impl Desugared {
 
     /// How many comparators. Vectors are made at this size.
     #[inline(always)]
-    pub fn count(&self) -> usize {
+    pub(crate) fn count(&self) -> usize {
         match self {
             Desugared::Against(_) | Desugared::Below(_) => 1,
             Desugared::Between(_) => 2,
-        }
-    }
-
-    /// The place of the bound that is raised, where there is one.
-    #[inline(always)]
-    pub fn raised(&self) -> Option<Place> {
-        match self {
-            Desugared::Against(_) => None,
-            Desugared::Below(place) | Desugared::Between(place) => Some(*place),
         }
     }
 
@@ -110,7 +101,7 @@ fn singleton(comparator: Comparator) -> Result<Vec<Comparator>, AllocError> {
 
 /// The comparators of a simple, by the table: its form, how many numbers it states, and the mode.
 #[inline(always)]
-pub fn rewritten(simple: &Simple<'_>, compat: Compat) -> Desugared {
+pub(crate) fn rewritten(simple: &Simple<'_>, compat: Compat) -> Desugared {
     let partial = &simple.partial;
     match partial.kind() {
         PartialKind::XRangeOnly => with_nothing_stated(simple.form),

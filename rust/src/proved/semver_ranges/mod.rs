@@ -9,8 +9,8 @@
 
 use crate::rattle_std::prelude::*;
 pub mod comparing;
-pub mod desugared_texts;
-pub mod desugaring;
+mod desugared_texts;
+mod desugaring;
 pub mod events;
 pub mod grammar;
 mod npm_lengths;

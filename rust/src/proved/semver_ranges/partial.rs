@@ -146,7 +146,7 @@ impl<'input> Partial<'input> {
 
     /// Whether the numbers that are stated are at most 2^64 - 1.
     #[inline(always)]
-    pub fn fits(&self) -> bool {
+    pub(crate) fn fits(&self) -> bool {
         self.fits
     }
 
@@ -165,7 +165,7 @@ impl<'input> Partial<'input> {
 
     /// The same numbers with the lowest pre-release: `0`.
     #[inline(always)]
-    pub fn lowest(self) -> Partial<'input> {
+    pub(crate) fn lowest(self) -> Partial<'input> {
         Partial { pre: b"0", ..self }
     }
 
@@ -297,12 +297,16 @@ impl<'input> Partial<'input> {
 fn raised_pre(raised: RaisedBounds) -> Result<Vec<Identifier>, AllocError> {
     match raised {
         RaisedBounds::Plain => Ok(Vec::new()),
-        RaisedBounds::Exact => {
-            let mut pre = Vec::fallible_with_capacity(1)?;
-            pre.push_reserved(Identifier::Numeric(0));
-            Ok(pre)
-        }
+        RaisedBounds::Exact => lowest_pre_release(),
     }
+}
+
+/// The lowest pre-release: `0`.
+#[inline(always)]
+pub fn lowest_pre_release() -> Result<Vec<Identifier>, AllocError> {
+    let mut pre = Vec::fallible_with_capacity(1)?;
+    pre.push_reserved(Identifier::Numeric(0));
+    Ok(pre)
 }
 
 /// The parts of a pre-release as they are kept. For speed it is a function of its own: most

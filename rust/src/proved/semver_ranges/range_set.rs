@@ -2,11 +2,11 @@
 //! Range sets: the ranges of a text in one of two modes, and their printed text.
 
 use crate::rattle_std::prelude::*;
-use crate::proved::semver_ranges::desugared_texts::{Desugaring, read_by};
+use crate::proved::semver_ranges::desugared_texts::read_in_two_runs;
 use crate::proved::semver_ranges::desugaring::{Desugared, rewritten};
-use crate::proved::semver_ranges::grammar::{Simple, read_simple};
-use crate::proved::semver_ranges::partial::{LowerBounds, Partial, RaisedBounds};
-use crate::proved::semver_ranges::range::{Comparator, Compat, Range};
+use crate::proved::semver_ranges::grammar::read_simple;
+use crate::proved::semver_ranges::partial::{Partial, RaisedBounds};
+use crate::proved::semver_ranges::range::{Compat, Range};
 use crate::proved::semver_texts::grammar::Grammar;
 use crate::proved::semver_texts::printing::write_joined;
 use crate::rattle_std::AllocError;
@@ -165,9 +165,8 @@ fn parse_with(
     raised: RaisedBounds,
 ) -> Result<RangeSet, RangeError> {
     let text = input.as_bytes();
-    let rows = Rows { compat, raised };
     let Some((partial, bounds)) = read_only_simple(text, compat) else {
-        return read_by(text, compat, LowerBounds::Stated, &rows);
+        return read_in_two_runs(text, compat, raised);
     };
     match build_only_simple(&partial, bounds, compat, raised) {
         Ok(set) => Ok(set),
@@ -210,32 +209,6 @@ fn build_only_simple(
         compat,
     });
     Ok(RangeSet { ranges, compat })
-}
-
-/// The crate's tables.
-#[derive(Clone, Copy)]
-struct Rows {
-    compat: Compat,
-    raised: RaisedBounds,
-}
-
-impl Desugaring for Rows {
-    const DIALECT: Grammar = Grammar::Crate;
-
-    #[inline(always)]
-    fn size(&self, simple: &Simple<'_>) -> (bool, usize) {
-        let bounds = rewritten(simple, self.compat);
-        (bounds.fits(&simple.partial), bounds.count())
-    }
-
-    #[inline(always)]
-    fn push(
-        &self,
-        simple: &Simple<'_>,
-        comparators: &mut Vec<Comparator>,
-    ) -> Result<(), AllocError> {
-        rewritten(simple, self.compat).push(&simple.partial, comparators, self.raised)
-    }
 }
 
 impl fmt::Display for RangeSet {

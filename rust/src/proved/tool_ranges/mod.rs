@@ -4,7 +4,6 @@
 use crate::rattle_std::prelude::*;
 pub mod cargo;
 mod cursor;
-mod desugaring;
 pub mod dialect;
 mod highest;
 mod matching;
@@ -12,6 +11,7 @@ pub mod meaning;
 pub mod npm;
 pub mod offset;
 mod overflow_offset;
+mod printing;
 pub mod range_operations;
 mod reasons;
 pub mod refusals;

@@ -2,14 +2,10 @@
 //! Range texts as npm reads them: `>1.2` is `>=1.3.0`, and `v1` is a range.
 
 use crate::rattle_std::prelude::*;
-use crate::proved::tool_ranges::desugaring;
-use crate::proved::semver_ranges::desugared_texts::{Desugaring, read_by};
-use crate::proved::semver_ranges::grammar::Simple;
-use crate::proved::semver_ranges::partial::LowerBounds;
-use crate::proved::semver_ranges::{Comparator, Compat, RangeError, RangeSet};
-use crate::proved::semver_texts::grammar::Grammar;
+use crate::proved::tool_ranges::dialect::Dialect;
+use crate::proved::tool_ranges::printing;
+use crate::proved::semver_ranges::{Compat, RangeError, RangeSet};
 use crate::proved::semver_texts::white_space::is_white_space_beyond_ascii;
-use crate::rattle_std::AllocError;
 
 /// Rewrites a range text, as npm reads it, into plain comparators with exact bounds.
 ///
@@ -32,20 +28,7 @@ use crate::rattle_std::AllocError;
 ///   by one is above 2^53 - 1, as `>1.9007199254740991`.
 /// - `OutOfMemory` if an allocation fails. The first two do not allocate.
 pub fn rewrite(range: &str) -> Result<RangeSet, RangeError> {
-    rewritten(range, LowerBounds::Stated)
-}
-
-/// The set of a text, with lower bounds as they are wanted.
-fn rewritten(range: &str, lower: LowerBounds) -> Result<RangeSet, RangeError> {
-    if !may_stand(range) {
-        return Err(RangeError::NotARange);
-    }
-    read_by(
-        range.as_bytes(),
-        Compat::Npm,
-        lower,
-        &NpmRows { lower },
-    )
+    printing::rewrite(range, Dialect::Npm, Compat::Npm)
 }
 
 /// Whether each character beyond ASCII is white space to JavaScript. For speed it is asked first
@@ -54,29 +37,4 @@ pub(crate) fn may_stand(range: &str) -> bool {
     range.is_ascii()
         || range.chars().all(|character| character.is_ascii()
             || is_white_space_beyond_ascii(character))
-}
-
-/// npm's table, with lower bounds as they are wanted.
-#[derive(Clone, Copy)]
-struct NpmRows {
-    lower: LowerBounds,
-}
-
-impl Desugaring for NpmRows {
-    const DIALECT: Grammar = Grammar::Npm;
-
-    #[inline(always)]
-    fn size(&self, simple: &Simple<'_>) -> (bool, usize) {
-        let cell = desugaring::desugared_by_tool(simple, Compat::Npm);
-        (cell.is_safe(&simple.partial), cell.count())
-    }
-
-    #[inline(always)]
-    fn push(
-        &self,
-        simple: &Simple<'_>,
-        comparators: &mut Vec<Comparator>,
-    ) -> Result<(), AllocError> {
-        desugaring::push(simple, Compat::Npm, self.lower, comparators)
-    }
 }

@@ -104,7 +104,7 @@ fn from_release<'t>(simple: &Simple<'t>) -> Interval<'t> {
 
 /// Returns whether an upper side is directly above its version.
 #[inline(always)]
-fn is_past(upper: Option<Side>) -> bool {
+pub(crate) fn is_past(upper: Option<Side>) -> bool {
     matches!(upper, Some(Side::Past))
 }
 
@@ -135,7 +135,7 @@ pub(crate) fn is_zero(partial: &Partial<'_>) -> bool {
 
 /// Returns the numbers up to a place, with the last of them raised by one, and zeros after it.
 #[inline(always)]
-fn raised(partial: &Partial<'_>, place: Place) -> Release {
+pub(crate) fn raised(partial: &Partial<'_>, place: Place) -> Release {
     let (major, minor, patch) = (partial.major(), partial.minor(), partial.patch());
     let (major, minor, patch) = match place {
         Place::Major => (major.saturating_add(1), 0, 0),
@@ -189,7 +189,7 @@ pub(crate) fn numbers(partial: &Partial<'_>) -> Release {
 
 /// Returns on which sides of the zero-filled version the interval of a term begins and ends.
 #[inline(always)]
-fn sides(simple: &Simple<'_>, dialect: Dialect) -> (Option<Side>, Option<Side>) {
+pub(crate) fn sides(simple: &Simple<'_>, dialect: Dialect) -> (Option<Side>, Option<Side>) {
     let first = beginning(simple, dialect);
     let partial = &simple.partial;
     let last = match partial.kind() {

@@ -31,7 +31,7 @@ pub returns-in_default : goal.returns-in_default
 returns-in_default c =
     let pre = pre_of c.args.raised in
     let mode = c.args.compat in
-    subst (λ t. IsAnswer pre t mode c.read_by.result) c.as_bytes-text.ensures.value
+    subst (λ t. IsAnswer pre t mode c.read_in_two_runs.result) c.as_bytes-text.ensures.value
     (answered_by (written_simple pre mode) mode Stated (port_table pre mode) (written_set pre mode)
     (λ tree i. record { ranges = map (λ r. range_made (port_table pre mode) mode r i) tree; compat = mode })
-    Crate c.as_bytes-text.result.now _ c.read_by.result refl c.read_by.ensures)
+    Crate c.as_bytes-text.result.now _ c.read_in_two_runs.result refl c.read_in_two_runs.ensures)

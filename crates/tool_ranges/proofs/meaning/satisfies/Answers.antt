@@ -8,7 +8,7 @@ use Rattle.tool_ranges.specs.Dialects.{RefusesAs, SpellsAs, TreeOf}
 use Rattle.tool_ranges.specs.Meanings.{meant_by}
 use Rattle.tool_ranges.specs.declared.dialect.Dialect.{Dialect}
 use Rattle.tool_ranges.proofs.MatchedMeanings.{same_plain}
-use Rattle.tool_ranges.proofs.ReadRows.{if_ok}
+use Rattle.std.proofs.lemmas.Result.{IfOk-weaker}
 use Rattle.tool_ranges.proofs.meaning.satisfies.Goals as goal
 
 -- what is answered in a dialect of a version, whose build doesn't count
@@ -18,7 +18,7 @@ record Answers (t : Text) (rule : PreReleases) (v : PlainVersion) (r : Result Bo
 
 with_build : (t : Text) (rule : PreReleases) (w : VersionValue) (r : Result Bool RangeError) (d : Dialect) → Answers t rule w.plain r d
     → IfOk r (λ met. (tree : TreeOf d) → SpellsAs d tree t → met ≡ meant_by d rule tree w)
-with_build t rule w r d is = if_ok r (λ met says tree spelled. says tree spelled ∙ same_plain d rule tree (without_build w.plain) w refl) is.meaning
+with_build t rule w r d is = IfOk-weaker r _ _ (λ met says tree spelled. says tree spelled ∙ same_plain d rule tree (without_build w.plain) w refl) is.meaning
 
 pub returns-in-Cargo : goal.returns-in-Cargo
 returns-in-Cargo c =

@@ -1,32 +1,22 @@
-use Rattle.std.proofs.Common.{◌≡◌, Some, None, Option, List, [], ◌∷◌, true, refl, sym, ap, ◌∙◌, subst, rules}
-use Rattle.std.specs.List.{list_all}
+use Rattle.std.proofs.Common.{◌≡◌, Some, None, Option, List, [], true, refl, sym, ap, ◌∙◌, subst, rules}
 use Rattle.semver_texts.specs.Versions.{PlainVersion, without_build}
-use Rattle.semver_ranges.specs.Steps.RangeEvents.{Event, one_simple, next_range, event_fits}
+use Rattle.semver_ranges.specs.Steps.RangeEvents.{Event}
 use Rattle.tool_ranges.specs.Dialects.{grammar_of}
 use Rattle.tool_ranges.specs.Steps.Matching as matching
-use Rattle.tool_ranges.specs.Steps.Cursors.{ComesFirst, GivesNext, HasLeftIn, events_in, ranges_of, text_events}
+use Rattle.tool_ranges.specs.Steps.Cursors.{GivesNext, HasLeftIn, events_in, ranges_of, text_events}
 use Rattle.tool_ranges.specs.Steps.Matching.{after, begun, counts, lower_of, takes_all, term_fits}
+use Rattle.tool_ranges.proofs.LeftEvents.{FirstFits, ended, first_fits}
 use Rattle.tool_ranges.proofs.MatchedEvents.{ranges_fit, says_so}
 use Rattle.tool_ranges.proofs.MatchedMeanings.{same_plain}
 use Rattle.tool_ranges.proofs.MatchedRanges.{means}
 use Rattle.tool_ranges.proofs.ReadingLaws.{one_tree}
 use Rattle.tool_ranges.proofs.ReadTrees.{complete_as}
-use Rattle.tool_ranges.proofs.ReadRows.{if_ok}
+use Rattle.std.proofs.lemmas.Result.{IfOk-weaker}
 use Rattle.tool_ranges.proofs.sets.set_of.Goals as goal
 use Rattle.tool_ranges.proofs.sets.set_of.Goals.{After-into_set, In-Simple, in_default-next, in_default-next-2}
-use Rattle.std.proofs.lemmas.Bool.{and_parts}
-use Rattle.std.specs.Prelude.{Err, Ok, Result, option_map}
-use Rattle.semver_ranges.specs.declared.events.Event as read_event
-use Rattle.semver_ranges.specs.declared.range_set.RangeError.{RangeError}
-use Rattle.semver_texts.specs.declared.grammar.Grammar.{Grammar}
-use Rattle.semver_ranges.specs.RangeTree.{Simple}
-use Rattle.semver_ranges.specs.declared.events.Event.TheVariants as event
-use Rattle.semver_ranges.specs.declared.grammar.Simple as read
-use Rattle.semver_ranges.specs.Steps.CursorViews.{IsSimpleOf}
+use Rattle.std.specs.Prelude.{option_map}
 use Rattle.version_sets.specs.PreReleaseRules.{numbers_fit}
 use Rattle.version_sets.specs.VersionSets.{Fits}
-use Rattle.tool_ranges.specs.declared.cursor.Cursor.{Cursor}
-use Rattle.tool_ranges.specs.declared.dialect.Dialect.{Dialect}
 use Rattle.tool_ranges.specs.Meanings.{meant_by}
 use Rattle.tool_ranges.specs.Steps.Building.{known}
 
@@ -52,25 +42,6 @@ loop-event-init c =
       λ v small. ap (λ p. after d all v p (events_in (ranges_of (lower_of d all) d tree))) (sym (c.new-building.ensures.known all v small)),
       c.new-building.ensures.prints _,
     )
-
--- a term that comes first fits, and what is left
-record FirstFits (g : Grammar) (d : Dialect) (left : List Event) (simple : read.Simple) (cursor : Cursor) : Type 0 where
-  pub s : Simple
-  pub others : List Event
-  pub is : IsSimpleOf s simple
-  pub has : HasLeftIn g cursor (Some others)
-  pub fits : term_fits d s ≡ true
-  pub others_fit : list_all (event_fits (term_fits d)) others ≡ true
-  pub whole : left ≡ one_simple s ∷ others
-
-first_fits : (g : Grammar) (d : Dialect) (left : List Event) (simple : read.Simple) (cursor : Cursor)
-    → list_all (event_fits (term_fits d)) left ≡ true → ComesFirst g (Some left) (event.Simple simple) cursor → FirstFits g d left simple cursor
-first_fits g d left simple cursor fits (one_simple s, None, is, has, e) = cc
-first_fits g d left simple cursor fits (one_simple s, Some others, is, has, e) =
-    let whole : left ≡ one_simple s ∷ others = cc in
-    let both = and_parts (term_fits d s) (list_all (event_fits (term_fits d)) others) (rw whole at fits) in
-    record { s = s; others = others; is = is; has = has; fits = both.0; others_fit = both.1; whole = whole }
-first_fits g d left simple cursor fits (next_range, more, is, has, e) = absurd is
 
 first : (c : In-Simple) → FirstFits (grammar_of c.args.dialect) c.args.dialect c.loop-event.invariant.1 c.in-Simple.simple c.next.new.self
 first c =
@@ -101,12 +72,6 @@ loop-event-preserved-in_ok-push_term-in-Simple c =
       c.in_ok-push_term-in-Simple.ensures.prints so_far.6,
     )
 
-ended : (g : Grammar) (left : List Event) (r : Option (Result read_event.Event RangeError)) (cursor : Cursor) → GivesNext g (Some left) r cursor
-    → ((e : read_event.Event) → r ≡ Some (Ok e) → ⊥) → left ≡ []
-ended g left None cursor gives none = cc
-ended g left (Some (Ok e)) cursor gives none = absurd (none e refl)
-ended g left (Some (Err e)) cursor gives none = cc
-
 nothing_left : (c : After-into_set) → c.loop-event.invariant.1 ≡ []
 nothing_left c =
     let so_far = c.loop-event.invariant in
@@ -117,7 +82,7 @@ nothing_left c =
     ])
 
 pub returns-clause-meaning : goal.returns-clause-meaning
-returns-clause-meaning c = if_ok c.into_set.result (λ set is tree v spelled small.
+returns-clause-meaning c = IfOk-weaker c.into_set.result _ _ (λ set is tree v spelled small.
     let so_far = c.loop-event.invariant in
     let d = c.args.dialect in
     let rule = c.args.rule in

@@ -4,7 +4,7 @@ use Rattle.semver_texts.specs.Texts.{is_empty}
 use Rattle.semver_texts.specs.Versions.{PlainVersion}
 use Rattle.version_sets.specs.VersionSets.{Fits, contains}
 use Rattle.version_sets.specs.Steps.Ends.{has_numbers, in_each, in_ranges}
-use Rattle.tool_ranges.proofs.ReadRows.{if_ok}
+use Rattle.std.proofs.lemmas.Result.{IfOk-weaker}
 use Rattle.tool_ranges.specs.Steps.Building.{known}
 use Rattle.tool_ranges.specs.Steps.Matching.{counts, ended, takes_all, takes_releases}
 use Rattle.tool_ranges.proofs.BuiltSets.{every_said, last_kinds, met_of, met_said}
@@ -13,7 +13,7 @@ use Rattle.tool_ranges.proofs.sets.Building.into_set.Goals.{In_ok-set}
 
 pub returns-then-self-is_by_default_of_npm-clause-meaning : goal.returns-then-self-is_by_default_of_npm-clause-meaning
 returns-then-self-is_by_default_of_npm-clause-meaning c =
-    if_ok c.into_set.result (λ set is v small. is v small
+    IfOk-weaker c.into_set.result _ _ (λ set is v small. is v small
     ∙ ap (λ b. b || (is_empty v.pre && in_each c.new-then-self-is_by_default_of_npm.result v)) (c.new.ensures.none v)
     ∙ ap (λ b. is_empty v.pre && b) (c.new-then-self-is_by_default_of_npm.ensures.all v small)
     ∙ and_true (is_empty v.pre)

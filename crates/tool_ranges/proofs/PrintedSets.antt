@@ -1,0 +1,86 @@
+-- serves: tool_ranges::cargo::rewrite
+-- The ranges that are printed, from the events of a text; and what is printed for each tree of Cargo and npm.
+use Rattle.std.proofs.Common.{◌≡◌, List, [], ◌∷◌, ◌++◌, map, refl, sym, ap, ◌∙◌, append_assoc}
+use Rattle.std.proofs.lemmas.List.{map-append}
+use Rattle.std.specs.List.{flat_map}
+use Rattle.semver_texts.specs.Texts.{Text}
+use Rattle.semver_ranges.specs.declared.partial.LowerBounds.TheVariants.{Stated}
+use Rattle.semver_ranges.specs.declared.range.Comparator.{Comparator}
+use Rattle.semver_ranges.specs.declared.range.Compat.{Compat}
+use Rattle.semver_ranges.specs.declared.range.Compat.TheVariants as mode
+use Rattle.semver_ranges.specs.declared.range.Range.{Range}
+use Rattle.semver_ranges.specs.RangeTree.{RangeTree, SetTree, Simple}
+use Rattle.semver_ranges.specs.RangeViews.{comparator_of, range_of}
+use Rattle.semver_ranges.specs.RewritingTable.{PlainComparator, range_by}
+use Rattle.semver_ranges.specs.Steps.DesugaredViews.{range_of_simples, ranges_by}
+use Rattle.semver_ranges.specs.Steps.RangeEvents.{Event, next_range, yielded}
+use Rattle.semver_ranges.proofs.EventLists.{range_made}
+use Rattle.semver_ranges.proofs.EventSums.{front_made}
+use Rattle.tool_ranges.specs.declared.dialect.Dialect.{Dialect}
+use Rattle.tool_ranges.specs.declared.dialect.Dialect.TheVariants.{Cargo, Npm}
+use Rattle.tool_ranges.specs.CargoGrammar.{SpellsComparators}
+use Rattle.tool_ranges.specs.CargoMeaning.{as_read}
+use Rattle.tool_ranges.specs.CargoTable.{rewritten_requirement, written_one}
+use Rattle.tool_ranges.specs.Dialects.{SpellsAs, TreeOf}
+use Rattle.tool_ranges.specs.NpmTable.{rewritten_npm}
+use Rattle.tool_ranges.specs.ToolTable.{written_in}
+use Rattle.tool_ranges.specs.Steps.Cursors.{events_in, ranges_of}
+use Rattle.tool_ranges.specs.Steps.Printed.{printed_ranges, printed_term}
+use Rattle.tool_ranges.proofs.MatchedEvents.{some_ranges}
+use Rattle.tool_ranges.proofs.PrintedCells.{cargo_term, npm_term}
+use Rattle.tool_ranges.proofs.ToolRows.{npm_table}
+
+-- ---- of events
+module _ (written : Simple → List PlainComparator) (mode : Compat) where
+  listed : (first : List Simple) (others : List (List Simple))
+      → ranges_by written mode [] (events_in (first ∷ others)) ≡ map (range_of_simples written mode) (first ∷ others)
+  listed first [] = front_made written mode Stated first [] []
+  listed first (next ∷ others) = front_made written mode Stated first [] (next_range ∷ events_in (next ∷ others))
+      ∙ ap (λ l. range_of_simples written mode first ∷ l) (listed next others)
+
+  -- the end of a range, and of a text
+  module _ (old new : List Range) (set : List Comparator) (r : Range) (more : new ≡ old ++ r ∷ [])
+      (is : range_of r ≡ record { comparators = map comparator_of set; compat = mode }) where
+    with_range : map range_of new ≡ map range_of old ++ record { comparators = map comparator_of set; compat = mode } ∷ []
+    with_range = ap (map range_of) more ∙ map-append range_of old (r ∷ []) ∙ ap (λ x. map range_of old ++ x ∷ []) is
+
+    pub range_ended : (fresh : List Comparator) (left others : List Event) → fresh ≡ [] → left ≡ next_range ∷ others
+        → map range_of old ++ ranges_by written mode (map comparator_of set) left
+        ≡ map range_of new ++ ranges_by written mode (map comparator_of fresh) others
+    range_ended fresh left others none e =
+        ap (λ es. map range_of old ++ ranges_by written mode (map comparator_of set) es) e
+        ∙ sym (append_assoc (map range_of old) (record { comparators = map comparator_of set; compat = mode } ∷ []) (ranges_by written mode [] others))
+        ∙ (λ i. sym with_range i ++ ranges_by written mode (map comparator_of (sym none i)) others)
+
+    pub text_ended : (left : List Event) → left ≡ []
+        → map range_of new ≡ map range_of old ++ ranges_by written mode (map comparator_of set) left
+    text_ended left none = with_range ∙ ap (λ es. map range_of old ++ ranges_by written mode (map comparator_of set) es) (sym none)
+
+pub printed_events : (d : Dialect) (mode : Compat) (t : Text) (tree : TreeOf d) → SpellsAs d tree t
+    → printed_ranges d mode tree ≡ ranges_by (printed_term d) mode [] (events_in (ranges_of Stated d tree))
+printed_events d mode t tree h =
+    let some = some_ranges Stated d t tree h in
+    ap (map (range_of_simples (printed_term d) mode)) some.2
+    ∙ sym (listed (printed_term d) mode some.0 some.1)
+    ∙ ap (λ rs. ranges_by (printed_term d) mode [] (events_in rs)) (sym some.2)
+
+-- ---- of npm
+npm_range : (r : RangeTree)
+    → range_of_simples (printed_term Npm) mode.Npm (yielded Stated r) ≡ record { comparators = range_by (written_in mode.Npm) r; compat = mode.Npm }
+npm_range r = (λ i. range_of_simples (λ s. npm_term s i) mode.Npm (yielded Stated r)) ∙ range_made npm_table mode.Npm r
+
+pub npm_ranges : (tree : SetTree) → printed_ranges Npm mode.Npm tree ≡ (rewritten_npm tree).ranges
+npm_ranges [] = refl
+npm_ranges (r ∷ others) = λ i. npm_range r i ∷ npm_ranges others i
+
+-- ---- of Cargo
+pub requirement_printed : (tree : List Simple) (t : Text) → SpellsComparators tree t
+    → flat_map (printed_term Cargo) (map as_read tree) ≡ flat_map written_one tree
+requirement_printed [] t h = absurd h
+requirement_printed (s ∷ []) t h = ap (λ cs. cs ++ []) (cargo_term s h.is_read)
+requirement_printed (s ∷ next ∷ others) t (front, back, h, more, text) =
+    λ i. cargo_term s h.is_read i ++ requirement_printed (next ∷ others) back more i
+
+pub requirement_ranges : (tree : List Simple) (t : Text) → SpellsComparators tree t
+    → printed_ranges Cargo mode.Cargo tree ≡ (rewritten_requirement tree).ranges
+requirement_ranges tree t h = ap (λ cs. record { comparators = cs; compat = mode.Cargo } ∷ []) (requirement_printed tree t h)

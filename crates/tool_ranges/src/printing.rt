@@ -1,0 +1,184 @@
+//! A range text as plain comparators with exact bounds: those of the intervals of its terms.
+
+ghost use Rattle.std.specs.Prelude.{◌≡◌, ◌++◌, ◌^◌, ◌-◌, ◌&&◌, Some, IfOk, map, not, option_map, true};
+ghost use Rattle.semver_texts.specs.Texts.{is_empty};
+ghost use Rattle.semver_texts.specs.Versions.{numbers};
+ghost use Rattle.semver_ranges.specs.ExactBounds.{exact_bound};
+ghost use Rattle.semver_ranges.specs.RangeTree.{Simple as SimpleTree};
+ghost use Rattle.semver_ranges.specs.RangeViews.{comparator_of, range_of, set_of};
+ghost use Rattle.semver_ranges.specs.RewritingTable.{comparator};
+ghost use Rattle.semver_ranges.specs.Steps.CursorViews.{IsSimpleOf};
+ghost use Rattle.semver_ranges.specs.Steps.PartialViews.{PartsPass, version_of};
+ghost use Rattle.version_sets.specs.Releases.{release_value};
+ghost use Rattle.version_sets.specs.Steps.Cuts.{side_value};
+ghost use Rattle.tool_ranges.specs.Dialects.{HasSetAs, RefusesAs, SpellsAs, TreeOf};
+ghost use Rattle.tool_ranges.specs.Steps.Matching.{term_fits};
+ghost use Rattle.tool_ranges.specs.Steps.Printed.{IsPrintedAs, lower_comparator};
+ghost use Rattle.tool_ranges.specs.Steps.Printed.{printed_ranges, printed_term, upper_comparator};
+ghost use Rattle.tool_ranges.specs.Steps.Table.{may_rise};
+
+use crate::cursor::Cursor;
+use crate::dialect::Dialect;
+use crate::meaning::{Meaning, check};
+use crate::table::{is_past, numbers, raised, sides};
+use semver_ranges::events::Event;
+use semver_ranges::grammar::Simple;
+use semver_ranges::partial::{LowerBounds, Partial, lowest_pre_release};
+use semver_ranges::{Comparator, Compat, Op, Range, RangeError, RangeSet};
+use std::alloc::{AllocError, Global};
+use version_sets::{PreReleases, Release, Side};
+
+/// Rewrites a range into plain comparators. The text is checked first, so that an invalid one
+/// doesn't allocate.
+pub(crate) fn rewrite(
+    alloc: Global,
+    range: &str,
+    dialect: Dialect,
+    compat: Compat,
+) -> Result<RangeSet, RangeError>
+    ensures refusals { RefusesAs dialect range.now result }
+    ensures printed { IfOk result (λ set. IsPrintedAs dialect compat range.now (set_of set)) }
+{
+    let meaning = Meaning {
+        dialect,
+        pre_releases: PreReleases::Default,
+    };
+    if let Err(refusal) = check(meaning, range) {
+        return Err(refusal);
+    }
+    match ranges(alloc, range, dialect, compat) {
+        Ok(ranges) => Ok(RangeSet { ranges, compat }),
+        Err(_) => Err(RangeError::OutOfMemory),
+    }
+}
+
+/// Returns the ranges of a text that has a set. `Err` is out of memory.
+fn ranges(
+    alloc: Global,
+    range: &str,
+    dialect: Dialect,
+    compat: Compat,
+) -> Result<Vec<Range>, AllocError>
+    requires { HasSetAs dialect range.now }
+    ensures { IfOk result (λ ranges. (tree : TreeOf dialect) → SpellsAs dialect tree range.now
+        → map range_of ranges.items ≡ printed_ranges dialect compat tree) }
+{
+    let grammar = dialect.grammar();
+    let mut ranges = Vec::with_capacity(alloc, 1)?;
+    let mut comparator_set = Vec::with_capacity(alloc, 4)?;
+    let Ok(mut cursor) = Cursor::new(range, dialect, LowerBounds::Stated) else {
+        return Ok(ranges);
+    };
+    while let Some(Ok(event)) = cursor.next(grammar) {
+        match event {
+            Event::Simple(simple) => push(alloc, &simple, dialect, &mut comparator_set)?,
+            Event::NextRange => {
+                ranges.push(Range {
+                    comparator_set,
+                    compat,
+                })?;
+                comparator_set = Vec::with_capacity(alloc, 4)?;
+            }
+        }
+    }
+    ranges.push(Range {
+        comparator_set,
+        compat,
+    })?;
+    Ok(ranges)
+}
+
+/// Adds the comparators of a term. `Err` is out of memory.
+#[inline(always)]
+pub(crate) fn push(
+    alloc: Global,
+    simple: &Simple<'_>,
+    dialect: Dialect,
+    comparators: &mut Vec<Comparator>,
+) -> Result<(), AllocError>
+    requires { (s : SimpleTree) × IsSimpleOf s simple.now }
+    ensures { IfOk result (λ _. (s : SimpleTree) → IsSimpleOf s simple.now
+        → term_fits dialect s ≡ true → map comparator_of comparators.new.items
+        ≡ map comparator_of comparators.old.items ++ printed_term dialect s) }
+{
+    let partial = &simple.partial;
+    let (lower, upper) = sides(simple, dialect);
+    if lower.is_some() & is_past(upper) {
+        comparators.push(partial.as_comparator(alloc, Op::Eq)?)?;
+        return Ok(());
+    }
+    if let Some(lower) = lower {
+        comparators.push(lower_comparator(alloc, partial, lower)?)?;
+    }
+    if let Some(upper) = upper {
+        comparators.push(upper_comparator(alloc, partial, upper)?)?;
+    }
+    Ok(())
+}
+
+/// Returns the comparator of a lower side.
+#[inline(always)]
+fn lower_comparator(
+    alloc: Global,
+    partial: &Partial<'_>,
+    lower: Side,
+) -> Result<Comparator, AllocError>
+    requires { PartsPass partial.now }
+    ensures { may_rise (2 ^ 64 - 1) (Some (side_value lower)) (numbers (version_of partial.now))
+        ≡ true → IfOk result (λ c. comparator_of c
+        ≡ lower_comparator (side_value lower) (version_of partial.now)) }
+{
+    match lower {
+        Side::Below | Side::At => partial.as_comparator(alloc, Op::Gte),
+        Side::Past => partial.as_comparator(alloc, Op::Gt),
+        Side::Above(place) => {
+            let Release {
+                major,
+                minor,
+                patch,
+            } = raised(partial, place);
+            Ok(Comparator {
+                op: Op::Gte,
+                major,
+                minor,
+                patch,
+                pre: Vec::new(alloc),
+            })
+        }
+    }
+}
+
+/// Returns the comparator of an upper side.
+#[inline(always)]
+fn upper_comparator(
+    alloc: Global,
+    partial: &Partial<'_>,
+    upper: Side,
+) -> Result<Comparator, AllocError>
+    requires { PartsPass partial.now }
+    ensures { may_rise (2 ^ 64 - 1) (Some (side_value upper)) (numbers (version_of partial.now))
+        ≡ true → IfOk result (λ c. comparator_of c
+        ≡ upper_comparator (side_value upper) (version_of partial.now)) }
+{
+    match upper {
+        Side::Below => below_all(alloc, numbers(partial)),
+        Side::At => partial.as_comparator(alloc, Op::Lt),
+        Side::Past => partial.as_comparator(alloc, Op::Lte),
+        Side::Above(place) => below_all(alloc, raised(partial, place)),
+    }
+}
+
+/// Returns the comparator that is below all versions with some numbers.
+#[inline(always)]
+fn below_all(alloc: Global, numbers: Release) -> Result<Comparator, AllocError>
+    ensures { IfOk result (λ c. comparator_of c
+        ≡ comparator Op.Lt (exact_bound (release_value numbers))) }
+{
+    Ok(Comparator {
+        op: Op::Lt,
+        major: numbers.major,
+        minor: numbers.minor,
+        patch: numbers.patch,
+        pre: lowest_pre_release(alloc)?,
+    })
+}

@@ -1,0 +1,139 @@
+// Made by tools/erase.py from crates/tool_ranges/src/printing.rt; not edited by hand.
+//! A range text as plain comparators with exact bounds: those of the intervals of its terms.
+
+use crate::rattle_std::prelude::*;
+use crate::proved::tool_ranges::cursor::Cursor;
+use crate::proved::tool_ranges::dialect::Dialect;
+use crate::proved::tool_ranges::meaning::{Meaning, check};
+use crate::proved::tool_ranges::table::{is_past, numbers, raised, sides};
+use crate::proved::semver_ranges::events::Event;
+use crate::proved::semver_ranges::grammar::Simple;
+use crate::proved::semver_ranges::partial::{LowerBounds, Partial, lowest_pre_release};
+use crate::proved::semver_ranges::{Comparator, Compat, Op, Range, RangeError, RangeSet};
+use crate::rattle_std::AllocError;
+use crate::proved::version_sets::{PreReleases, Release, Side};
+
+/// Rewrites a range into plain comparators. The text is checked first, so that an invalid one
+/// doesn't allocate.
+pub(crate) fn rewrite(
+    range: &str,
+    dialect: Dialect,
+    compat: Compat,
+) -> Result<RangeSet, RangeError> {
+    let meaning = Meaning {
+        dialect,
+        pre_releases: PreReleases::Default,
+    };
+    if let Err(refusal) = check(meaning, range) {
+        return Err(refusal);
+    }
+    match ranges(range, dialect, compat) {
+        Ok(ranges) => Ok(RangeSet { ranges, compat }),
+        Err(_) => Err(RangeError::OutOfMemory),
+    }
+}
+
+/// Returns the ranges of a text that has a set. `Err` is out of memory.
+fn ranges(
+    range: &str,
+    dialect: Dialect,
+    compat: Compat,
+) -> Result<Vec<Range>, AllocError> {
+    let grammar = dialect.grammar();
+    let mut ranges = Vec::fallible_with_capacity(1)?;
+    let mut comparator_set = Vec::fallible_with_capacity(4)?;
+    let Ok(mut cursor) = Cursor::new(range, dialect, LowerBounds::Stated) else {
+        return Ok(ranges);
+    };
+    while let Some(Ok(event)) = cursor.next(grammar) {
+        match event {
+            Event::Simple(simple) => push(&simple, dialect, &mut comparator_set)?,
+            Event::NextRange => {
+                ranges.fallible_push(Range {
+                    comparator_set,
+                    compat,
+                })?;
+                comparator_set = Vec::fallible_with_capacity(4)?;
+            }
+        }
+    }
+    ranges.fallible_push(Range {
+        comparator_set,
+        compat,
+    })?;
+    Ok(ranges)
+}
+
+/// Adds the comparators of a term. `Err` is out of memory.
+#[inline(always)]
+pub(crate) fn push(
+    simple: &Simple<'_>,
+    dialect: Dialect,
+    comparators: &mut Vec<Comparator>,
+) -> Result<(), AllocError> {
+    let partial = &simple.partial;
+    let (lower, upper) = sides(simple, dialect);
+    if lower.is_some() & is_past(upper) {
+        comparators.fallible_push(partial.as_comparator(Op::Eq)?)?;
+        return Ok(());
+    }
+    if let Some(lower) = lower {
+        comparators.fallible_push(lower_comparator(partial, lower)?)?;
+    }
+    if let Some(upper) = upper {
+        comparators.fallible_push(upper_comparator(partial, upper)?)?;
+    }
+    Ok(())
+}
+
+/// Returns the comparator of a lower side.
+#[inline(always)]
+fn lower_comparator(
+    partial: &Partial<'_>,
+    lower: Side,
+) -> Result<Comparator, AllocError> {
+    match lower {
+        Side::Below | Side::At => partial.as_comparator(Op::Gte),
+        Side::Past => partial.as_comparator(Op::Gt),
+        Side::Above(place) => {
+            let Release {
+                major,
+                minor,
+                patch,
+            } = raised(partial, place);
+            Ok(Comparator {
+                op: Op::Gte,
+                major,
+                minor,
+                patch,
+                pre: Vec::new(),
+            })
+        }
+    }
+}
+
+/// Returns the comparator of an upper side.
+#[inline(always)]
+fn upper_comparator(
+    partial: &Partial<'_>,
+    upper: Side,
+) -> Result<Comparator, AllocError> {
+    match upper {
+        Side::Below => below_all(numbers(partial)),
+        Side::At => partial.as_comparator(Op::Lt),
+        Side::Past => partial.as_comparator(Op::Lte),
+        Side::Above(place) => below_all(raised(partial, place)),
+    }
+}
+
+/// Returns the comparator that is below all versions with some numbers.
+#[inline(always)]
+fn below_all(numbers: Release) -> Result<Comparator, AllocError> {
+    Ok(Comparator {
+        op: Op::Lt,
+        major: numbers.major,
+        minor: numbers.minor,
+        patch: numbers.patch,
+        pre: lowest_pre_release()?,
+    })
+}
