@@ -12,7 +12,6 @@ use semver_parser::version::{self, Grammar, Outline};
 use semver_texts::version::{Identifier, Version};
 use semver_tokens::lexer::Lexer;
 use semver_tokens::parser::{self, Parser};
-use semver_versions::version::outline_of_numbers;
 use std::alloc::{AllocError, Global};
 
 /// A text has one lexer.
@@ -123,26 +122,6 @@ pub fn one_outline_in(input: &[u8], grammar: Grammar) -> (Option<Outline<'_>>, O
     (
         version::outline_in(input, grammar),
         version::outline_in(input, grammar),
-    )
-}
-
-/// What is outlined after its numbers has one outline in a dialect, or none, if some text begins
-/// with them.
-pub fn one_outline_of_numbers(
-    major: u64,
-    minor: u64,
-    patch: u64,
-    numbers_end: usize,
-    rest: &[u8],
-    grammar: Grammar,
-) -> (Option<Outline<'_>>, Option<Outline<'_>>)
-    requires fits { numbers_end + length rest.now < 2 ^ 64 }
-    ensures one { (text : Text) → BeginsWithNumbers text major minor patch rest.now
-        → length text ≡ numbers_end + length rest.now → result.0 ≡ result.1 }
-{
-    (
-        outline_of_numbers(major, minor, patch, numbers_end, rest, grammar),
-        outline_of_numbers(major, minor, patch, numbers_end, rest, grammar),
     )
 }
 

@@ -1,4 +1,4 @@
--- serves: invalid_strings::bytes::is_prefix
+-- serves: invalid_strings::longest::longest_prefix
 -- A loop over completions, of which none made a text of the language so far.
 use Rattle.std.proofs.Common.{◌≡◌, ◌∙◌, ℕ, ◌+◌, ◌<◌, ◌≤◌, List, [], ◌++◌, get_or, ap, arith, below_more, length, map, subst, sym}
 use Rattle.std.proofs.lemmas.List.{get_or-map, get_or_default, length-map}

@@ -1,4 +1,4 @@
--- serves: invalid_strings::bytes::is_prefix
+-- serves: invalid_strings::laws::prefixes_begin_prefixes
 -- How the prefixes of a language are completed, and those of what is made of languages: nothing by a shortest text, and each other
 -- prefix that does not end within a character by one of a few completions, which is no longer than what completed it.
 use Rattle.std.proofs.Common.{◌≡◌, ℕ, ◌+◌, ◌<◌, ◌≤◌, ◌⊎◌, inl, inr, cond, Bool, true, false, List, [], ◌∷◌, ◌++◌, map, length}

@@ -1,4 +1,4 @@
--- serves: invalid_strings::bytes::is_prefix
+-- serves: invalid_strings::laws::prefixes_begin_prefixes
 -- Prefixes of three numbers or wildcards, a pre-release and a build.
 use Rattle.std.proofs.Common.{◌≡◌, ℕ, ◌⊎◌, inl, inr, List, [], ◌∷◌, ◌++◌, map, codes}
 use Rattle.std.proofs.Common.{refl, sym, ◌∙◌, subst, append_assoc, arith}

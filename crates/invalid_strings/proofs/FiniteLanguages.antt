@@ -1,4 +1,4 @@
--- serves: invalid_strings::bytes::is_prefix
+-- serves: invalid_strings::laws::prefixes_begin_prefixes
 -- How the prefixes of some texts are completed, found by trying each.
 use Rattle.std.proofs.Common.{◌≡◌, ℕ, ◌≤◌, Bool, true, false, List, [], ◌∷◌, ◌++◌, arith, append-nil, append_assoc, subst}
 use Rattle.std.specs.Prelude.{nat_le, not, ◌&&◌, ◌||◌}

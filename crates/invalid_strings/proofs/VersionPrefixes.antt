@@ -1,4 +1,4 @@
--- serves: invalid_strings::bytes::is_prefix
+-- serves: invalid_strings::laws::prefixes_begin_prefixes
 -- Prefixes of versions, by dialect.
 use Rattle.std.proofs.Common.{◌≡◌, ℕ, ◌^◌, ◌<◌, ◌≤◌, ◌⊎◌, true, List, [], ◌∷◌, ◌++◌, Bool, map, codes, decimal, rules}
 use Rattle.std.proofs.Common.{refl, sym, ap, ◌∙◌, append_assoc, arith}

@@ -45,25 +45,6 @@ pub(crate) enum Length {
     Any,
 }
 
-// Answer: equation.
-/// Returns whether some version begins with these bytes but for the last 8, which are free for
-/// completions. The prefix may end within a character: `1.2.` and byte 0xC2 alone begin versions of
-/// npm, and `1.x` begins none.
-///
-/// All bytes are afterwards as they were. It does not allocate.
-pub fn is_prefix(bytes: &mut [u8], grammar: Grammar) -> bool
-    requires { 8 ≤ length bytes.old }
-    ensures found { IsTrue result ↔ IsPrefixIn grammar (take (length bytes.old - 8) bytes.old) }
-    ensures same { bytes.new ≡ bytes.old }
-{
-    let end = bytes.len() - 8;
-    let mut saved = [0; 8];
-    saved.copy_from_slice(&bytes[end..]);
-    let found = goes_on(bytes, end, &COMPLETIONS, Length::Allowed, grammar);
-    bytes[end..].copy_from_slice(&saved);
-    found
-}
-
 /// Whether some version of such a length begins with the bytes.
 pub(crate) fn begins(prefix: &[u8], len: Length, grammar: Grammar, buffer: &mut [u8]) -> bool
     requires { length prefix.now + 8 ≤ length buffer.old }

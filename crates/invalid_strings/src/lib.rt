@@ -7,7 +7,7 @@
 #![tactic(auto)]
 
 pub mod buffers;
-pub mod bytes;
+mod bytes;
 pub mod laws;
 pub mod longest;
 pub mod prefix_bytes;

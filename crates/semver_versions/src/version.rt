@@ -195,33 +195,3 @@ pub fn is_version_at_any_length(input: &[u8], grammar: Grammar) -> bool
 {
     reader::outline_at_any_length(input, grammar).is_some()
 }
-
-// Answer: free, beside its conditions (law one_outline_of_numbers): must-fail/major_is_zero.edit.
-/// Returns what [`outline_in`] does of a text that begins with three numbers, if these are read
-/// already: 1, 2 and 3, their 5 bytes, and the rest `-rc.4` give the outline of `1.2.3-rc.4`. It
-/// does not allocate.
-///
-/// Two conditions have to hold, or the result is not specified: `numbers_end` is the length of the
-/// three numbers with two dots, and the rest does not begin with a digit.
-#[inline(always)]
-pub fn outline_of_numbers(
-    major: u64,
-    minor: u64,
-    patch: u64,
-    numbers_end: usize,
-    rest: &[u8],
-    grammar: Grammar,
-) -> Option<Outline<'_>>
-    requires fits { numbers_end + length rest.now < 2 ^ 64 }
-    // An outline is returned exactly if it is that of a version that the text spells.
-    ensures outlined { (text : Text) (o : OutlineValue)
-        → BeginsWithNumbers text major minor patch rest.now
-        → length text ≡ numbers_end + length rest.now
-        → (result ≡ Some o) ↔ IsOutlineIn grammar text o }
-    // None is returned exactly if the text spells no version.
-    ensures none { (text : Text) → BeginsWithNumbers text major minor patch rest.now
-        → length text ≡ numbers_end + length rest.now
-        → (result ≡ None) ↔ ¬ (IsVersionTextIn grammar text) }
-{
-    reader::outline_of_numbers(major, minor, patch, numbers_end, rest, grammar)
-}

@@ -42,20 +42,6 @@ pub(crate) enum Length {
     Any,
 }
 
-/// Returns whether some version begins with these bytes but for the last 8, which are free for
-/// completions. The prefix may end within a character: `1.2.` and byte 0xC2 alone begin versions of
-/// npm, and `1.x` begins none.
-///
-/// All bytes are afterwards as they were. It does not allocate.
-pub(crate) fn is_prefix(bytes: &mut [u8], grammar: Grammar) -> bool {
-    let end = bytes.len() - 8;
-    let mut saved = [0; 8];
-    saved.copy_from_slice(&bytes[end..]);
-    let found = goes_on(bytes, end, &COMPLETIONS, Length::Allowed, grammar);
-    bytes[end..].copy_from_slice(&saved);
-    found
-}
-
 /// Whether some version of such a length begins with the bytes.
 pub(crate) fn begins(prefix: &[u8], len: Length, grammar: Grammar, buffer: &mut [u8]) -> bool {
     write(buffer, 0, prefix);

@@ -8,7 +8,7 @@
 
 use crate::rattle_std::prelude::*;
 pub mod buffers;
-pub mod bytes;
+mod bytes;
 pub mod longest;
 pub mod prefix_bytes;
 pub mod reasons;

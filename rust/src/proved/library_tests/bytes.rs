@@ -4,7 +4,6 @@
 
 use crate::rattle_std::prelude::*;
 use crate::proved::semver_parser::version::{self, Grammar, Identifier};
-use crate::proved::semver_versions::version::outline_of_numbers;
 use crate::rattle_std::AllocError;
 use crate::rattle_std::io;
 
@@ -67,9 +66,6 @@ pub fn write_bytes(rt: &impl Print) -> io::Result<()> {
             crate::rattle_std::fallible_println!(rt; "dialects: wrong at {place}")?;
         }
     }
-    if !are_read_after_numbers() || !are_read_of_numbers() {
-        crate::rattle_std::fallible_println!(rt; "parts: wrong after numbers")?;
-    }
     crate::rattle_std::fallible_println!(rt; "bytes: {} texts and others", BYTES.len())
 }
 
@@ -105,40 +101,12 @@ fn has_parts(text: &str, pre: (&str, usize), build: (&str, usize)) -> bool {
         && outline.build_offset() == build.1
 }
 
-/// Whether the parts of `1.2.3-rc.4+b5` are read after its numbers, and none of `1.2.3.4`.
-fn are_read_after_numbers() -> bool {
-    let Some(outline) = outline_of_numbers(1, 2, 3, 5, b"-rc.4+b5", Grammar::Crate) else {
-        return false;
-    };
-    outline.patch() == 3
-        && outline.pre() == "rc.4"
-        && outline.pre_offset() == 6
-        && outline.build() == "b5"
-        && outline.build_offset() == 11
-        && outline_of_numbers(1, 2, 3, 5, b".4", Grammar::Crate).is_none()
-}
-
 /// Whether the bytes have an outline in the crate's dialect, in Cargo's and in npm's.
 fn are_versions(bytes: &[u8], wanted: [bool; 3]) -> bool {
     let [by_crate, by_cargo, by_npm] = wanted;
     version::outline_in(bytes, Grammar::Crate).is_some() == by_crate
         && version::outline_in(bytes, Grammar::Cargo).is_some() == by_cargo
         && version::outline_in(bytes, Grammar::Npm).is_some() == by_npm
-}
-
-/// Whether the parts of `1.2.3-a--b+b5` are read after its numbers as npm reads it, and none of it
-/// in the crate's dialect.
-fn are_read_of_numbers() -> bool {
-    let rest = b"-a--b+b5";
-    let Some(outline) = outline_of_numbers(1, 2, 3, 5, rest, Grammar::Npm) else {
-        return false;
-    };
-    outline.minor() == 2
-        && outline.pre() == "a--b"
-        && outline.pre_offset() == 6
-        && outline.build() == "b5"
-        && outline.build_offset() == 11
-        && outline_of_numbers(1, 2, 3, 5, rest, Grammar::Crate).is_none()
 }
 
 /// Whether the identifiers that a text's parts are cut to print as these.

@@ -211,20 +211,3 @@ pub(crate) fn outline_at_any_length(input: &[u8], grammar: Grammar) -> Option<Ou
     let (major, minor, patch, rest) = numbers_at_digit(at)?;
     after_numbers(major, minor, patch, input.len() - rest.len(), rest, grammar)
 }
-
-/// The outline of the version that a text spells, if it spells one, and if the text begins with
-/// these numbers, of so many bytes, and the rest follows them. Numbers alone are never too long.
-#[inline(always)]
-pub(crate) fn outline_of_numbers(
-    major: u64,
-    minor: u64,
-    patch: u64,
-    numbers_end: usize,
-    rest: &[u8],
-    grammar: Grammar,
-) -> Option<Outline<'_>> {
-    if !rest.is_empty() && !is_short(numbers_end, rest, grammar) {
-        return None;
-    }
-    after_numbers(major, minor, patch, numbers_end, rest, grammar)
-}

@@ -121,21 +121,3 @@ pub fn outline_in(input: &[u8], grammar: Grammar) -> Option<Outline<'_>> {
 pub fn is_version_at_any_length(input: &[u8], grammar: Grammar) -> bool {
     reader::outline_at_any_length(input, grammar).is_some()
 }
-
-/// Returns what [`outline_in`] does of a text that begins with three numbers, if these are read
-/// already: 1, 2 and 3, their 5 bytes, and the rest `-rc.4` give the outline of `1.2.3-rc.4`. It
-/// does not allocate.
-///
-/// Two conditions have to hold, or the result is not specified: `numbers_end` is the length of the
-/// three numbers with two dots, and the rest does not begin with a digit.
-#[inline(always)]
-pub(crate) fn outline_of_numbers(
-    major: u64,
-    minor: u64,
-    patch: u64,
-    numbers_end: usize,
-    rest: &[u8],
-    grammar: Grammar,
-) -> Option<Outline<'_>> {
-    reader::outline_of_numbers(major, minor, patch, numbers_end, rest, grammar)
-}
