@@ -5,7 +5,7 @@ allocate unless a rule of docs/ERASURE.md renames it.
 import re
 
 ATTRIBUTE = re.compile(
-    r'inline( \( (always|never) \))?|cold|must_use|error \( " \)|tactic \(.*\)|'
+    r'inline( \( (always|never) \))?|cold|must_use|non_exhaustive|error \( " \)|tactic \(.*\)|'
     r'derive \( ((Clone|Copy|Debug|Drop|Eq|Error|Hash|Ord|Partial(Eq|Ord))( , )?)+ \)')
 
 # Macros, each with what it begins with if rule 13 renames it: `in` and an allocator, or a name and

@@ -147,7 +147,7 @@ def write_derives(code, i, names, copied):
     name, found = code.text(code.after(at)), cases(code, at, message)
     last = code.t[code.item(at)[1] - 1]
     last.text += displayed(code, at, name, found) if 'Error' in names else ''
-    last.text += cloned(name, found, copied) if 'Clone' in names else ''
+    last.text += cloned(name, found, copied) if 'Clone' in names and 'Copy' not in names else ''
 
 
 def copied_types(code):
