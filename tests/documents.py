@@ -564,7 +564,7 @@ EDITS = [
     ('crates/answer_laws/src/ranges.rt', 'pub fn one_parse(', 'pub fn one_parsing('),
     ('crates/answer_laws/src/sets.rt', '.union(', '.joined('),
     ('crates/answer_laws/src/sets.rt', '(first, second)\n}', '(first, first)\n}'),
-    ('crates/version_sets/src/laws.rt', '::of_number(', '::other_number('),
+    ('crates/version_sets/src/laws.rt', '::from_number(', '::other_number('),
     ('crates/semver_parser/must-fail/report_forgets_the_npm_line.edit', None, 'crates/semver_parser/must-fail/report.edit'),
     ('docs/PROOFS.md', '`one_parse`', 'equation'),
     ('docs/TESTED.md', 'C functions', 'calls for C'),

@@ -1,16 +1,16 @@
 //! Writes the texts of the crate's numbers as C needs them: the table of an enumeration has the
 //! text of number N, with a zero at its end, at index N.
 
-use proved::{refusals::Reason, Dialect, PreReleases};
+use proved::{Dialect, PreReleases, Reason};
 use std::{env, fs};
 
 fn table(
     name: &str,
     zero: Option<&'static str>,
-    of_number: fn(i32) -> Option<&'static str>,
+    from_number: fn(i32) -> Option<&'static str>,
 ) -> String {
     let first = i32::from(zero.is_some());
-    let texts = zero.into_iter().chain((first..).map_while(of_number));
+    let texts = zero.into_iter().chain((first..).map_while(from_number));
     let items: Vec<String> = texts.map(|text| format!("{:?}", format!("{text}\0"))).collect();
     format!("pub static {name}: [&str; {}] = [{}];\n", items.len(), items.join(", "))
 }
@@ -20,14 +20,14 @@ fn main() {
         let part = env::var(format!("CARGO_PKG_VERSION_{part}")).expect("cargo sets it");
         1000 * number + part.parse::<u32>().expect("it is a number")
     });
-    let reason_name = |number| Reason::of_number(number).map(Reason::name);
-    let reason_text = |number| Reason::of_number(number).map(Reason::sentence);
+    let reason_name = |number| Reason::from_number(number).map(Reason::name);
+    let reason_text = |number| Reason::from_number(number).map(Reason::sentence);
     let texts = [
         table("REASON_NAMES", Some("none"), reason_name),
         table("REASON_TEXTS", Some("no reason"), reason_text),
-        table("DIALECT_NAMES", None, |number| Dialect::of_number(number).map(Dialect::name)),
+        table("DIALECT_NAMES", None, |number| Dialect::from_number(number).map(Dialect::name)),
         table("PRE_RELEASES_NAMES", None, |rule| {
-            PreReleases::of_number(rule).map(PreReleases::name)
+            PreReleases::from_number(rule).map(PreReleases::name)
         }),
         format!("pub const VERSION_NUMBER: u32 = {number};\n"),
     ];

@@ -9,7 +9,7 @@
 //! let mut selected = Vec::new();
 //! lines.push(b"1.2.0\n2.0.0\n1.9.0\n", &mut selected).unwrap();
 //! assert_eq!(selected, b"1.2.0\n1.9.0\n");
-//! # Ok::<(), semver_parser::RangeError>(())
+//! # Ok::<(), semver_parser::Error>(())
 //! ```
 
 pub use crate::proved::release_filter::{filter_text, release_meets, version_meets, Selection};

@@ -18,7 +18,7 @@
 //!
 //! assert!(satisfies("1.9.0", "^1.2", Dialect::Npm)?);
 //! assert!(satisfies("1.2.4", "1.2.3", Dialect::Cargo)?); // to Cargo it is ^1.2.3
-//! # Ok::<(), semver_parser::SatisfiesError>(())
+//! # Ok::<(), semver_parser::Error>(())
 //! ```
 //!
 //! A range that is used often is read once, as a [`VersionRange`], which has set operations too:
@@ -30,11 +30,11 @@
 //! let new = VersionRange::parse(">=1.2.1, <1.9", Dialect::Cargo)?;
 //! assert_eq!((&old - &new).to_string(), "=1.2.0 || >=1.9.0 <2.0.0");
 //! assert_eq!(new.is_subset(&old), Ok(true));
-//! assert_eq!(old.contains("1.2.0"), Ok(true));
-//! # Ok::<(), semver_parser::RangeError>(())
+//! assert!(old.contains("1.2.0")?);
+//! # Ok::<(), Box<dyn std::error::Error>>(())
 //! ```
 //!
-//! [`refusals`] says where and why a string is refused. [`sets`] has the sets of versions below a
+//! An [`Error`] says where and why a string is invalid. [`sets`] has the sets of versions below a
 //! range, and [`filters`] what selects versions and lines.
 //!
 //! The code is written in Rattle, Rust with contracts, and proved there for every input;
@@ -56,13 +56,18 @@ pub mod proved;
 #[doc(hidden)]
 pub mod rattle_std;
 
+mod error;
 pub mod filters;
+#[doc(hidden)]
+pub mod layers;
+mod names;
 mod original;
 mod range_strings;
-pub mod refusals;
 pub mod sets;
 mod version_range;
+mod version_ref;
 
+pub use proved::invalid_strings::reasons::Reason;
 pub use proved::semver_parser::version::Digits;
 pub use proved::semver_parser::{lexer, parser, version};
 pub use proved::semver_parser::{Comparator, Compat, Identifier, Op, Range, RangeError, RangeSet};
@@ -71,8 +76,13 @@ pub use proved::tool_ranges::meaning::Meaning;
 pub use proved::tool_ranges::range_operations::OperationError;
 pub use proved::tool_ranges::version_range::VersionRange;
 pub use proved::version_sets::PreReleases;
-pub use range_strings::{check_range, comparators, satisfies, satisfies_bytes, SatisfiesError};
+pub use error::{Error, ErrorKind};
+pub use names::UnknownName;
+pub use range_strings::{
+    check_range, check_version, comparators, satisfies, satisfies_bytes, SatisfiesError,
+};
 pub use rattle_std::AllocError;
+pub use version_ref::VersionRef;
 
 #[cfg(all(doctest, feature = "std"))]
 #[doc = include_str!("../README.md")]

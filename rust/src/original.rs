@@ -16,9 +16,9 @@ pub(crate) fn out_of_memory() -> ! {
     handle_alloc_error(Layout::new::<u64>())
 }
 
-/// The sentence of an error. `to_string` of std would panic if `Display` returned an error.
-fn sentence(error: impl Display) -> String {
-    error
+/// The text of an error or a version. `to_string` of std would panic if `Display` returned an error.
+pub(crate) fn printed(value: impl Display) -> String {
+    value
         .fallible_to_string()
         .unwrap_or_else(|_| out_of_memory())
 }
@@ -58,7 +58,7 @@ impl From<RangeError> for String {
     fn from(error: RangeError) -> String {
         match error {
             RangeError::OutOfMemory => out_of_memory(),
-            error => sentence(error),
+            error => printed(error),
         }
     }
 }
@@ -82,7 +82,21 @@ impl From<parser::Error<'_>> for String {
     fn from(error: parser::Error<'_>) -> String {
         match error {
             parser::Error::OutOfMemory => out_of_memory(),
-            error => sentence(error),
+            error => printed(error),
+        }
+    }
+}
+
+impl Clone for parser::Error<'_> {
+    fn clone(&self) -> Self {
+        match self {
+            Self::UnexpectedEnd => Self::UnexpectedEnd,
+            Self::UnexpectedToken(token) => Self::UnexpectedToken(*token),
+            Self::Lexer(error) => Self::Lexer(*error),
+            Self::MoreInput(tokens) => Self::MoreInput(tokens.clone()),
+            Self::EmptyPredicate => Self::EmptyPredicate,
+            Self::EmptyRange => Self::EmptyRange,
+            Self::OutOfMemory => Self::OutOfMemory,
         }
     }
 }

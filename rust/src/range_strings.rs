@@ -1,24 +1,25 @@
 //! Calls on range strings: whether a version satisfies one, whether one is valid, and its
 //! comparators.
 
-use crate::proved::tool_ranges::{dialect, meaning, satisfying};
-use crate::{Dialect, Meaning, PreReleases, RangeError, RangeSet};
+use crate::proved::semver_versions;
+use crate::proved::tool_ranges::satisfying;
+use crate::{layers, Dialect, Error, Meaning, PreReleases, RangeSet};
 
 pub use crate::proved::tool_ranges::satisfying::SatisfiesError;
 
 /// Returns whether a version satisfies a range as Cargo, npm or the crate in one of its modes reads
-/// both. It does not allocate. For many versions and one range, read the range once, as a
+/// both. For many versions and one range, read the range once, as a
 /// [`VersionRange`](crate::VersionRange).
 ///
 /// The third argument is a [`Dialect`], or a [`Meaning`], which says also which pre-releases count.
+/// It allocates only if it returns an error.
 ///
 /// # Errors
 ///
-/// [`SatisfiesError::InvalidVersion`] if the version isn't one in the dialect, or else
-/// [`SatisfiesError::InvalidRange`] if the range isn't.
+/// An [`Error`] of the version if it is invalid in the dialect, or else of the range.
 ///
 /// ```
-/// use semver_parser::{satisfies, Dialect, Meaning, PreReleases, SatisfiesError};
+/// use semver_parser::{satisfies, Dialect, ErrorKind, Meaning, PreReleases};
 ///
 /// assert!(satisfies("1.9.0", "^1.2", Dialect::Npm)?);
 /// assert!(!satisfies("2.0.0-alpha", "^1.2", Dialect::Npm)?);
@@ -27,24 +28,30 @@ pub use crate::proved::tool_ranges::satisfying::SatisfiesError;
 /// let all = Meaning { dialect: Dialect::Npm, pre_releases: PreReleases::Included };
 /// assert!(satisfies("1.3.0-rc.1", "^1.2", all)?);
 ///
-/// let refused = satisfies("1.2", "^1.2", Dialect::Npm);
-/// assert_eq!(refused, Err(SatisfiesError::InvalidVersion));
-/// # Ok::<(), SatisfiesError>(())
+/// let error = satisfies("1.2", "^1.2", Dialect::Npm).unwrap_err();
+/// assert_eq!(error.kind(), ErrorKind::InvalidVersion);
+/// assert_eq!(
+///     error.to_string(),
+///     "invalid version \"1.2\" at offset 3: there are fewer than three numbers"
+/// );
+/// # Ok::<(), semver_parser::Error>(())
 /// ```
 #[inline]
-pub fn satisfies(
-    version: &str,
-    range: &str,
-    meaning: impl Into<Meaning>,
-) -> Result<bool, SatisfiesError> {
-    satisfying::satisfies(version.as_bytes(), range, meaning.into())
+pub fn satisfies(version: &str, range: &str, meaning: impl Into<Meaning>) -> Result<bool, Error> {
+    let meaning = meaning.into();
+    satisfies_bytes(version.as_bytes(), range, meaning).map_err(|error| match error {
+        SatisfiesError::InvalidVersion => Error::from_version(version.as_bytes(), meaning.dialect),
+        SatisfiesError::InvalidRange(error) => Error::from_range(error, range, meaning.dialect),
+    })
 }
 
-/// Returns what [`satisfies`] does, of a version in bytes, which needn't be UTF-8.
+/// Returns what [`satisfies`] does, of a version in bytes, which needn't be UTF-8. It never
+/// allocates, so its error says only which of both is invalid.
 ///
 /// # Errors
 ///
-/// Those of [`satisfies`].
+/// [`SatisfiesError::InvalidVersion`] if the version isn't one in the dialect, or else
+/// [`SatisfiesError::InvalidRange`] if the range isn't.
 ///
 /// ```
 /// use semver_parser::{satisfies_bytes, Dialect, SatisfiesError};
@@ -63,41 +70,62 @@ pub fn satisfies_bytes(
     satisfying::satisfies(version, range, meaning.into())
 }
 
-/// Checks that a string is a range of a dialect whose numbers fit. It does not allocate.
+/// Checks that a string is a version of a dialect. It allocates only if it returns an error.
 ///
 /// # Errors
 ///
-/// [`RangeError::NotARange`] if the dialect has no such range, [`RangeError::NumberTooLarge`] if a
-/// number of it is above the limit of the dialect. [`refusals::of_range`](crate::refusals::of_range) says
-/// where and why.
+/// An [`Error`] of the kind [`InvalidVersion`](crate::ErrorKind::InvalidVersion) if it isn't.
 ///
 /// ```
-/// use semver_parser::{check_range, Dialect, RangeError};
+/// use semver_parser::{check_version, Dialect, Reason};
 ///
-/// assert_eq!(check_range("1 || 2", Dialect::Npm), Ok(()));
-/// assert_eq!(check_range("1 || 2", Dialect::Cargo), Err(RangeError::NotARange));
+/// assert!(check_version("1.2.3-rc.1", Dialect::Cargo).is_ok());
+/// let error = check_version("v1.2.3", Dialect::Cargo).unwrap_err();
+/// assert_eq!((error.offset(), error.reason()), (Some(0), Some(Reason::CargoV)));
 /// ```
-pub fn check_range(range: &str, dialect: Dialect) -> Result<(), RangeError> {
-    meaning::check(dialect.into(), range)
+pub fn check_version(version: &str, dialect: Dialect) -> Result<(), Error> {
+    semver_versions::version::outline_in(version.as_bytes(), dialect.grammar())
+        .map(|_| ())
+        .ok_or_else(|| Error::from_version(version.as_bytes(), dialect))
+}
+
+/// Checks that a string is a range of a dialect whose numbers fit. It allocates only if it returns
+/// an error.
+///
+/// # Errors
+///
+/// An [`Error`] of the kind [`InvalidRange`](crate::ErrorKind::InvalidRange) if the dialect has no
+/// such range, or [`NumberTooLarge`](crate::ErrorKind::NumberTooLarge) if a number of it is above
+/// the limit of the dialect.
+///
+/// ```
+/// use semver_parser::{check_range, Dialect, Reason};
+///
+/// assert!(check_range("1 || 2", Dialect::Npm).is_ok());
+/// let error = check_range("1 || 2", Dialect::Cargo).unwrap_err();
+/// assert_eq!((error.offset(), error.reason()), (Some(2), Some(Reason::CargoBars)));
+/// ```
+pub fn check_range(range: &str, dialect: Dialect) -> Result<(), Error> {
+    layers::check_range(range, dialect).map_err(|error| Error::from_range(error, range, dialect))
 }
 
 /// Rewrites a range string of a dialect into plain comparators with exact bounds: a release
-/// satisfies them exactly if it satisfies the range.
+/// satisfies them if and only if it satisfies the range.
 ///
 /// # Errors
 ///
 /// Those of [`VersionRange::parse`](crate::VersionRange::parse).
 ///
 /// ```
-/// use semver_parser::{comparators, Dialect, RangeError};
+/// use semver_parser::{comparators, Dialect, Error};
 ///
 /// let of_cargo = comparators("1.2", Dialect::Cargo)?;
 /// assert_eq!(of_cargo.to_string(), ">=1.2.0 <2.0.0-0");
 /// assert_eq!(comparators("1.2", Dialect::Npm)?.to_string(), ">=1.2.0 <1.3.0-0");
-/// # Ok::<(), RangeError>(())
+/// # Ok::<(), Error>(())
 /// ```
-pub fn comparators(range: &str, dialect: Dialect) -> Result<RangeSet, RangeError> {
-    dialect::rewrite(dialect, range)
+pub fn comparators(range: &str, dialect: Dialect) -> Result<RangeSet, Error> {
+    layers::comparators(range, dialect).map_err(|error| Error::from_range(error, range, dialect))
 }
 
 impl From<Dialect> for Meaning {

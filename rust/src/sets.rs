@@ -4,39 +4,60 @@
 //! use semver_parser::sets;
 //! use semver_parser::{version, Dialect};
 //!
-//! let old = sets::read("^1.2", Dialect::Cargo)?;
-//! let new = sets::read(">=1.2.1, <1.9", Dialect::Cargo)?;
+//! let old = sets::parse("^1.2", Dialect::Cargo)?;
+//! let new = sets::parse(">=1.2.1, <1.9", Dialect::Cargo)?;
 //! assert_eq!(new.is_subset(&old), Ok(true));
 //! assert!(old.contains(&version::parse("1.2.0").unwrap()));
 //!
 //! let lost = old.difference(&new).unwrap();
 //! assert_eq!(lost.to_string(), "=1.2.0 || >=1.9.0 <2.0.0");
-//! # Ok::<(), semver_parser::RangeError>(())
+//! # Ok::<(), semver_parser::Error>(())
 //! ```
 
 use crate::proved::tool_ranges::meaning;
-use crate::{AllocError, Meaning, RangeError};
+use crate::{AllocError, Error, Meaning, RangeError};
+use core::hash::{Hash, Hasher};
 
 pub use crate::proved::version_sets::{Comparison, Release, SetError, SetRanges, VersionSet};
 
-/// Reads a range string into the set of the versions that it means in a dialect.
+/// Reads a range string into the set of the versions that satisfy it.
 ///
 /// # Errors
 ///
-/// [`RangeError::NotARange`] if the dialect has no such range, [`RangeError::NumberTooLarge`] if a
-/// number of it is above the limit of the dialect, [`RangeError::OutOfMemory`] if an allocation
-/// failed.
+/// An [`Error`], which says where and why the string isn't a range of the dialect.
 ///
 /// ```
-/// use semver_parser::{sets, version, Dialect, RangeError};
+/// use semver_parser::{sets, version, Dialect};
 ///
-/// let set = sets::read("1.x || >=2.5.0", Dialect::Npm)?;
+/// let set = sets::parse("1.x || >=2.5.0", Dialect::Npm)?;
 /// assert!(set.contains(&version::parse("2.6.0").unwrap()));
-/// assert!(matches!(sets::read("1 || 2", Dialect::Cargo), Err(RangeError::NotARange)));
-/// # Ok::<(), RangeError>(())
+/// assert!(sets::parse("1 || 2", Dialect::Cargo).is_err());
+/// # Ok::<(), semver_parser::Error>(())
 /// ```
-pub fn read(range: &str, meaning: impl Into<Meaning>) -> Result<VersionSet, RangeError> {
-    meaning::read(meaning.into(), range)
+pub fn parse(range: &str, meaning: impl Into<Meaning>) -> Result<VersionSet, Error> {
+    let meaning = meaning.into();
+    meaning::read(meaning, range).map_err(|error| Error::from_range(error, range, meaning.dialect))
+}
+
+impl Clone for VersionSet {
+    fn clone(&self) -> VersionSet {
+        VersionSet {
+            releases: self.releases.clone(),
+            pre_releases: self.pre_releases.clone(),
+            digits: self.digits,
+        }
+    }
+}
+
+impl Hash for VersionSet {
+    /// Equal sets have the same boundaries, and so the same numbers in them.
+    fn hash<H: Hasher>(&self, state: &mut H) {
+        self.releases.hash(state);
+        self.digits.hash(state);
+        for boundary in &self.pre_releases {
+            Release::from_version(&boundary.version).hash(state);
+        }
+    }
 }
 
 impl From<AllocError> for RangeError {

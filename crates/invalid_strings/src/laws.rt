@@ -54,5 +54,5 @@ pub fn one_reason()
 pub fn one_reason_of_number(number: i32) -> (Option<Reason>, Option<Reason>)
     ensures one { result.0 ≡ result.1 }
 {
-    (Reason::of_number(number), Reason::of_number(number))
+    (Reason::from_number(number), Reason::from_number(number))
 }

@@ -25,11 +25,12 @@ use std::alloc::{AllocError, Global};
 /// Where and why a text is no valid version.
 ///
 /// ```
-/// use semver_parser::refusals::{self, Reason, VersionRefusal};
-/// use semver_parser::Dialect;
+/// use semver_parser::layers::{explain_version, VersionRefusal};
+/// use semver_parser::{Dialect, Reason};
 ///
-/// let refusal = refusals::of_version("1.2.3-01", Dialect::Npm);
+/// let refusal = explain_version(b"1.2.3-01", Dialect::Npm)?;
 /// assert_eq!(refusal, Some(VersionRefusal { offset: 8, reason: Reason::LeadingZero }));
+/// # Ok::<(), semver_parser::AllocError>(())
 /// ```
 #[derive(Clone, Copy, PartialEq, Eq, Debug)]
 pub struct Refusal {

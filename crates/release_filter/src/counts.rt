@@ -24,7 +24,7 @@ const FRONT: usize = 81;
 /// lines.push(b"1.4.0\n2.0.0\n\n1.2\n", &mut Vec::new()).unwrap();
 /// let counts = lines.counts();
 /// assert_eq!((counts.lines, counts.kept, counts.empty, counts.invalid), (4, 1, 1, 1));
-/// # Ok::<(), semver_parser::RangeError>(())
+/// # Ok::<(), semver_parser::Error>(())
 /// ```
 #[derive(Debug, Drop)]
 pub struct Counts {
@@ -51,7 +51,7 @@ pub struct Counts {
 /// lines.push(b"1.4.0\n1.2\n", &mut Vec::new()).unwrap();
 /// let invalid = lines.counts().first_invalid.as_ref().unwrap();
 /// assert_eq!((invalid.number, invalid.front.as_slice()), (2, b"1.2".as_slice()));
-/// # Ok::<(), semver_parser::RangeError>(())
+/// # Ok::<(), semver_parser::Error>(())
 /// ```
 #[derive(Debug, Drop)]
 pub struct InvalidLine {

@@ -12,7 +12,7 @@ use semver_versions::version::{Outline, outline_in};
 use tool_ranges::version_range::VersionRange;
 
 /// Which lines are kept, and what is given of one.
-#[derive(Drop)]
+#[derive(Debug, Drop)]
 pub(crate) struct Judge {
     pub(crate) range: VersionRange,
     pub(crate) prefixes: Vec<String>,
@@ -21,7 +21,7 @@ pub(crate) struct Judge {
 }
 
 /// What a range says of a line.
-#[derive(Drop)]
+#[derive(Debug, Drop)]
 pub(crate) enum Judged<'l> {
     /// This is its text, which has no version.
     NotAVersion(&'l [u8]),

@@ -32,9 +32,9 @@ use tool_ranges::version_range::VersionRange;
 /// let error = lines.finish(&mut Vec::new()).unwrap_err();
 /// assert!(matches!(error, LinesError::NoVersion(2)));
 /// assert_eq!(error.to_string(), "line 2 is no version");
-/// # Ok::<(), semver_parser::RangeError>(())
+/// # Ok::<(), semver_parser::Error>(())
 /// ```
-#[derive(Debug, Error, Drop)]
+#[derive(Clone, Copy, PartialEq, Eq, Debug, Error)]
 pub enum LinesError {
     /// An allocation failed.
     #[error("out of memory")]
@@ -82,9 +82,9 @@ impl From<AllocError> for LinesError {
 /// lines.push(b"2.0.0\n1.4.0", &mut kept).unwrap();
 /// lines.finish(&mut kept).unwrap();
 /// assert_eq!(kept, b"1.4.0");
-/// # Ok::<(), semver_parser::RangeError>(())
+/// # Ok::<(), semver_parser::Error>(())
 /// ```
-#[derive(Drop)]
+#[derive(Debug, Drop)]
 pub struct Lines {
     fold: Fold,
     at_front: bool,
@@ -92,7 +92,7 @@ pub struct Lines {
 }
 
 /// What is done with each line, and what came of those so far.
-#[derive(Drop)]
+#[derive(Debug, Drop)]
 pub(crate) struct Fold {
     pub(crate) judge: Judge,
     pub(crate) is_strict: bool,
@@ -130,7 +130,7 @@ impl Lines {
     /// let mut kept = Vec::new();
     /// lines.push(b"v1.4.0\nv2.0.0\n1.4.0\nv1.9.2\n", &mut kept).unwrap();
     /// assert_eq!(kept, b"v1.4.0\nv1.9.2\n");
-    /// # Ok::<(), semver_parser::RangeError>(())
+    /// # Ok::<(), semver_parser::Error>(())
     /// ```
     pub fn new(
         alloc: Global,
@@ -198,7 +198,7 @@ impl Lines {
     /// assert_eq!(kept, b"1.4.0\n");
     /// lines.push(b"9.2\n", &mut kept).unwrap();
     /// assert_eq!(kept, b"1.4.0\n1.9.2\n");
-    /// # Ok::<(), semver_parser::RangeError>(())
+    /// # Ok::<(), semver_parser::Error>(())
     /// ```
     pub fn push(
         &mut self,
@@ -249,7 +249,7 @@ impl Lines {
     /// lines.push(b"1.9.0\n1.4.0", &mut kept).unwrap();
     /// lines.finish(&mut kept).unwrap();
     /// assert_eq!(kept, b"1.4.0\n1.9.0\n");
-    /// # Ok::<(), semver_parser::RangeError>(())
+    /// # Ok::<(), semver_parser::Error>(())
     /// ```
     pub fn finish(&mut self, alloc: Global, kept: &mut Vec<u8>) -> Result<(), LinesError>
         ensures finishes { IfOk result (λ _.
@@ -286,7 +286,7 @@ impl Lines {
     /// lines.push(b"\xEF\xBB\xBF1.9.0", &mut kept).unwrap();
     /// lines.finish(&mut kept).unwrap();
     /// assert_eq!(kept, b"1.4.0\n1.9.0");
-    /// # Ok::<(), semver_parser::RangeError>(())
+    /// # Ok::<(), semver_parser::Error>(())
     /// ```
     pub fn end_file(&mut self, alloc: Global, kept: &mut Vec<u8>) -> Result<(), LinesError>
         ensures ends { IfOk result (λ _.
@@ -309,7 +309,7 @@ impl Lines {
     /// lines.push(b"v1.2.0\n\n1.4.0\n", &mut Vec::new()).unwrap();
     /// assert_eq!((lines.counts().lines, lines.counts().empty), (3, 1));
     /// assert_eq!(lines.counts().first_invalid.as_ref().unwrap().front, b"v1.2.0");
-    /// # Ok::<(), semver_parser::RangeError>(())
+    /// # Ok::<(), semver_parser::Error>(())
     /// ```
     pub fn counts(&self) -> &Counts
         ensures { counts_value result.now ≡ self.now.fold.counts }

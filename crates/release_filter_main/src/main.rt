@@ -99,7 +99,7 @@ fn run(rt: &HostRuntime, filtering: &Filtering) -> ExitCode {
 /// Filters, and returns whether a line was kept.
 fn filtered(rt: &HostRuntime, filtering: &Filtering) -> Result<bool, Error> {
     let versions = versions(rt.alloc(), filtering).map_err(Error::Range)?;
-    let Ok(range) = VersionRange::of_versions(versions, filtering.meaning) else {
+    let Ok(range) = VersionRange::from_versions(versions, filtering.meaning) else {
         return Err(Error::OutOfMemory);
     };
     let Ok(mut copying) = Copying::new(rt.alloc(), &filtering.options, range) else {

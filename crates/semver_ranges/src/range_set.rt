@@ -57,7 +57,7 @@ pub struct RangeSet {
 /// assert_eq!(refused("v1.2.3"), RangeError::NotARange);
 /// assert_eq!(refused("99999999999999999999"), RangeError::NumberTooLarge);
 /// ```
-#[derive(Debug, PartialEq, Eq, Error, Drop)]
+#[derive(Clone, Copy, PartialEq, Eq, Debug, Error)]
 pub enum RangeError {
     /// The text isn't in the range grammar.
     #[error("not a range")]

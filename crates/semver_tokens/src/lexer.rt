@@ -21,7 +21,7 @@ use std::marker::Model;
 /// let tokens: Vec<_> = Lexer::new("<=1.x").map(Result::unwrap).collect();
 /// assert_eq!(tokens, [Token::LtEq, Token::Numeric(1), Token::Dot, Token::AlphaNumeric("x")]);
 /// ```
-#[derive(Debug, PartialEq, Eq, PartialOrd, Ord, Drop)]
+#[derive(Clone, Copy, Debug, PartialEq, Eq, PartialOrd, Ord)]
 pub enum Token<'input> {
     /// `=`
     Eq,
@@ -103,7 +103,7 @@ impl<'input> Token<'input> {
 ///
 /// assert_eq!(Lexer::new("|").next(), Some(Err(Error::UnexpectedChar('|'))));
 /// ```
-#[derive(Debug, PartialEq, Eq, PartialOrd, Ord, Drop)]
+#[derive(Clone, Copy, Debug, PartialEq, Eq, PartialOrd, Ord)]
 pub enum Error {
     /// A character that opens no token; also a `|` that no second `|` follows.
     UnexpectedChar(char),

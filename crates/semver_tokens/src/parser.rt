@@ -128,7 +128,7 @@ impl<'input> Error<'input> {
 /// assert!(parser.is_eof());
 /// # Ok::<(), Error>(())
 /// ```
-#[derive(Drop)]
+#[derive(Debug, Drop)]
 pub struct Parser<'input> {
     lexer: Lexer<'input>,
     // The first of the tokens that remain.

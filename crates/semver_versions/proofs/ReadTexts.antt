@@ -1,24 +1,22 @@
 -- serves: semver_versions::laws::one_version_in
 -- A whole text that spells a version in a dialect is read as it, and as no other.
-use Rattle.std.proofs.Common.{codes, ◌≡◌, inl, inr, ⊎_elim, ℕ, ◌+◌, ◌<◌, ◌≤◌, ◌^◌, cond, Bool, true, false, List, [], ◌∷◌, ◌++◌, length}
+use Rattle.std.proofs.Common.{codes, ◌≡◌, inl, inr, ⊎_elim, ℕ, ◌+◌, ◌<◌, ◌^◌, Bool, true, false, List, [], ◌∷◌, ◌++◌, length}
 use Rattle.std.proofs.Common.{refl, ◌∙◌, arith, ap, sym, subst, append_assoc, append-nil, length-append, decimal, map, one-add}
-use Rattle.std.specs.Prelude.{◌==◌, ◌↔◌, IsTrue, is_some, not, Option, Some, None, slice_index}
+use Rattle.std.specs.Prelude.{◌↔◌, IsTrue, is_some, not, Option, Some, None, slice_index}
 use Rattle.std.specs.Char.{is_ascii_digit}
 use Rattle.std.specs.List.{AllZip, join_with_byte, list_all}
-use Rattle.std.proofs.lemmas.Bool.{eqb-true}
 use Rattle.std.proofs.lemmas.Bool.Decides.{nat_tests}
-use Rattle.std.proofs.lemmas.List.Sums.{count_by-le-length, sum_by-cons}
-use Rattle.std.proofs.lemmas.Fmt.{decimal_nonempty, length-decimal-le}
+use Rattle.std.proofs.lemmas.Fmt.{decimal_nonempty}
 use Rattle.semver_texts.specs.Texts.{Text, BeginsWithNumbers, has_no_leading_zero, is_dotted_byte, is_part, marked}
 use Rattle.semver_texts.specs.WhiteSpace.{AreWhiteSpaces}
-use Rattle.semver_texts.specs.ToolVersions.{SpellsIn, SpellsSemver, before_numbers, characters, goes_on}
+use Rattle.semver_texts.specs.ToolVersions.{SpellsIn, SpellsSemver, before_numbers, characters}
 use Rattle.semver_texts.specs.Versions.{VersionValue, numbers}
 use Rattle.semver_texts.specs.VersionGrammar.{SpellsVersion}
 use Rattle.semver_texts.specs.Digits.{digits_in}
 use Rattle.semver_texts.specs.declared.grammar.Digits.TheVariants.{AnySize}
 use Rattle.semver_texts.specs.declared.grammar.Grammar.{Grammar}
 use Rattle.semver_texts.specs.declared.grammar.Grammar.TheVariants.{Crate, Cargo, Npm}
-use Rattle.semver_texts.proofs.Lists.{Passes, all_more, passes_append, joined_pass}
+use Rattle.semver_texts.proofs.Lists.{Passes, all_more, passes_append}
 use Rattle.semver_texts.proofs.Numbers.{all_digits, canonical_decimal}
 use Rattle.semver_versions.specs.AnyLength.{IsVersionAtAnyLength, SpellsAtAnyLength}
 use Rattle.semver_versions.specs.Outlines.{OutlineValue}

@@ -18,7 +18,7 @@ use std::cmp::Ordering;
 
 /// A version, and how its identifiers of digits alone are read: from 2^64 on they are texts, as a
 /// `Version` keeps them, or numbers, as Cargo and npm read them.
-#[derive(Debug, Drop)]
+#[derive(Clone, Debug, Drop)]
 pub struct ReadVersion {
     /// The version.
     pub version: Version,

@@ -25,9 +25,10 @@ use std::alloc::Global;
 ///
 /// assert!(satisfies("1.9.0", "1.2", Dialect::Cargo)?);
 /// assert!(!satisfies("1.9.0", "1.2", Dialect::Npm)?);
-/// # Ok::<(), semver_parser::SatisfiesError>(())
+/// # Ok::<(), semver_parser::Error>(())
 /// ```
-#[derive(Clone, Copy, PartialEq, Eq, Debug)]
+#[derive(Clone, Copy, PartialEq, Eq, Hash, Debug)]
+#[non_exhaustive]
 pub enum Dialect {
     /// Cargo's: `1.2` is `>=1.2.0 <2.0.0`, and commas separate comparators.
     Cargo,
@@ -86,10 +87,10 @@ impl Dialect {
     /// ```
     /// use semver_parser::Dialect;
     ///
-    /// assert_eq!(Dialect::of_number(1), Some(Dialect::Npm));
-    /// assert_eq!(Dialect::of_number(9), None);
+    /// assert_eq!(Dialect::from_number(1), Some(Dialect::Npm));
+    /// assert_eq!(Dialect::from_number(9), None);
     /// ```
-    pub fn of_number(number: i32) -> Option<Dialect>
+    pub fn from_number(number: i32) -> Option<Dialect>
         ensures { MatchOption result (¬ ((it : SomeDialect) × (number ≡ number_of it)))
             (λ it. number ≡ number_of it) }
     {

@@ -29,7 +29,7 @@ impl VersionRange {
     /// let versions: [&[u8]; 4] = [b"1.2.0", b"latest", b"1.10.0", b"2.0.0"];
     /// assert_eq!(range.highest_of(&versions), Some(2));
     /// assert_eq!(range.highest_of(&[b"2.0.0"]), None);
-    /// # Ok::<(), semver_parser::RangeError>(())
+    /// # Ok::<(), semver_parser::Error>(())
     /// ```
     pub fn highest_of(&self, versions: &[&[u8]]) -> Option<usize>
         ensures { FindsHighest false (versions_grammar self.now) self.now.versions versions.now
@@ -47,7 +47,7 @@ impl VersionRange {
     ///
     /// let range = VersionRange::parse("^1.2", Dialect::Npm)?;
     /// assert_eq!(range.lowest_of(&[b"1.1.0", b"1.10.0", b"v1.2.0"]), Some(2));
-    /// # Ok::<(), semver_parser::RangeError>(())
+    /// # Ok::<(), semver_parser::Error>(())
     /// ```
     pub fn lowest_of(&self, versions: &[&[u8]]) -> Option<usize>
         ensures { FindsHighest true (versions_grammar self.now) self.now.versions versions.now

@@ -64,7 +64,7 @@ pub fn ranges_read_digits(range: &VersionRange)
 pub fn one_dialect_of_number(number: i32) -> (Option<Dialect>, Option<Dialect>)
     ensures one { result.0 ≡ result.1 }
 {
-    (Dialect::of_number(number), Dialect::of_number(number))
+    (Dialect::from_number(number), Dialect::from_number(number))
 }
 
 /// `satisfying::satisfies` has one answer.

@@ -18,9 +18,10 @@ use version_sets::SetError;
 /// let npm = VersionRange::parse("^1.2", Dialect::Npm)?;
 /// let cargo = VersionRange::parse("^1.2", Dialect::Cargo)?;
 /// assert_eq!(npm.union(&cargo).unwrap_err(), OperationError::DifferentMeanings);
-/// # Ok::<(), semver_parser::RangeError>(())
+/// # Ok::<(), semver_parser::Error>(())
 /// ```
-#[derive(Debug, PartialEq, Eq, Error, Drop)]
+#[derive(Clone, Copy, PartialEq, Eq, Debug, Error)]
+#[non_exhaustive]
 pub enum OperationError {
     /// The dialects of the ranges differ, or which pre-releases count.
     #[error("the ranges have different meanings")]
@@ -49,7 +50,7 @@ impl VersionRange {
     /// let range = VersionRange::parse(">=1.0.0 <1.5.0", Dialect::Npm)?;
     /// let other = VersionRange::parse(">=1.2.0 <2.0.0", Dialect::Npm)?;
     /// assert_eq!(range.union(&other).unwrap().to_string(), ">=1.0.0 <2.0.0");
-    /// # Ok::<(), semver_parser::RangeError>(())
+    /// # Ok::<(), semver_parser::Error>(())
     /// ```
     pub fn union(&self, alloc: Global, other: &VersionRange) -> Result<VersionRange, OperationError>
         ensures refused { (result ≡ Err OperationError.DifferentMeanings)
@@ -93,7 +94,7 @@ impl VersionRange {
     /// let range = VersionRange::parse(">=1.0.0 <1.5.0", Dialect::Npm)?;
     /// let other = VersionRange::parse(">=1.2.0 <2.0.0", Dialect::Npm)?;
     /// assert_eq!(range.intersection(&other).unwrap().to_string(), ">=1.2.0 <1.5.0");
-    /// # Ok::<(), semver_parser::RangeError>(())
+    /// # Ok::<(), semver_parser::Error>(())
     /// ```
     pub fn intersection(
         &self,
@@ -141,7 +142,7 @@ impl VersionRange {
     /// let range = VersionRange::parse(">=1.0.0 <1.5.0", Dialect::Npm)?;
     /// let other = VersionRange::parse(">=1.2.0 <2.0.0", Dialect::Npm)?;
     /// assert_eq!(range.difference(&other).unwrap().to_string(), ">=1.0.0 <1.2.0");
-    /// # Ok::<(), semver_parser::RangeError>(())
+    /// # Ok::<(), semver_parser::Error>(())
     /// ```
     pub fn difference(
         &self,
@@ -195,7 +196,7 @@ impl VersionRange {
     ///
     /// let kept = VersionRange::parse("1.2", Dialect::CrateNpm)?;
     /// assert_eq!(npm.is_subset(&kept), Err(OperationError::DifferentDigits));
-    /// # Ok::<(), semver_parser::RangeError>(())
+    /// # Ok::<(), semver_parser::Error>(())
     /// ```
     pub fn is_subset(&self, other: &VersionRange) -> Result<bool, OperationError>
         ensures refused { (result ≡ Err OperationError.DifferentDigits)
@@ -227,7 +228,7 @@ impl VersionRange {
     ///
     /// let range = VersionRange::parse("^1.2", Dialect::Npm)?;
     /// assert_eq!(range.is_disjoint(&VersionRange::parse(">=2.0.0", Dialect::Npm)?), Ok(true));
-    /// # Ok::<(), semver_parser::RangeError>(())
+    /// # Ok::<(), semver_parser::Error>(())
     /// ```
     pub fn is_disjoint(&self, other: &VersionRange) -> Result<bool, OperationError>
         ensures refused { (result ≡ Err OperationError.DifferentDigits)
@@ -266,7 +267,7 @@ impl PartialEq for VersionRange {
     /// let range = VersionRange::parse("^1.2", Dialect::Npm)?;
     /// assert!(range == VersionRange::parse(">=1.2.0 <2.0.0-0", Dialect::Npm)?);
     /// assert!(range != VersionRange::parse("^1.2", Dialect::Cargo)?);
-    /// # Ok::<(), semver_parser::RangeError>(())
+    /// # Ok::<(), semver_parser::Error>(())
     /// ```
     fn eq(&self, other: &VersionRange) -> bool
         ensures value { result ≡ same_range self.now other.now }

@@ -22,14 +22,15 @@ use std::alloc::{AllocError, Global};
 /// Where and why a text gives no range.
 ///
 /// ```
-/// use semver_parser::refusals::{self, RangeRefusal, Reason};
-/// use semver_parser::{Dialect, RangeError};
+/// use semver_parser::layers::{explain_range, RangeRefusal};
+/// use semver_parser::{Dialect, RangeError, Reason};
 ///
 /// let (error, reason) = (RangeError::NotARange, Reason::CargoBars);
-/// let refusal = refusals::of_range("1.2 || 3", Dialect::Cargo);
+/// let refusal = explain_range("1.2 || 3", Dialect::Cargo)?;
 /// assert_eq!(refusal, Some(RangeRefusal { error, offset: 4, reason }));
+/// # Ok::<(), semver_parser::AllocError>(())
 /// ```
-#[derive(Debug, PartialEq, Eq, Drop)]
+#[derive(Clone, Copy, PartialEq, Eq, Debug)]
 pub struct Refusal {
     /// `NotARange` or `NumberTooLarge`.
     pub error: RangeError,

@@ -7,15 +7,15 @@ use semver_ranges::RangeError;
 use semver_versions::version::outline_in;
 use thiserror::Error;
 
-/// Why `satisfies` returns no answer. `refusals` says where and why.
+/// Which of a version and a range is invalid.
 ///
 /// ```
-/// use semver_parser::{satisfies, Dialect};
+/// use semver_parser::{satisfies_bytes, Dialect};
 ///
-/// let error = satisfies("1.2.3", "1.2 || 3", Dialect::Cargo).unwrap_err();
+/// let error = satisfies_bytes(b"1.2.3", "1.2 || 3", Dialect::Cargo).unwrap_err();
 /// assert_eq!(error.to_string(), "invalid range: not a range");
 /// ```
-#[derive(Debug, PartialEq, Eq, Error, Drop)]
+#[derive(Clone, Copy, PartialEq, Eq, Debug, Error)]
 pub enum SatisfiesError {
     /// The version isn't one in the dialect.
     #[error("invalid version")]

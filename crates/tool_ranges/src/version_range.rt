@@ -33,7 +33,7 @@ use version_sets::VersionSet;
 /// assert_eq!((&old - &new).to_string(), "=1.2.0 || >=1.9.0 <2.0.0");
 /// assert_eq!(new.is_subset(&old), Ok(true));
 /// assert_eq!(old.contains("1.2.0"), Ok(true));
-/// # Ok::<(), semver_parser::RangeError>(())
+/// # Ok::<(), semver_parser::Error>(())
 /// ```
 #[derive(Debug, Drop)]
 pub struct VersionRange {
@@ -56,7 +56,7 @@ impl Model for VersionRange {
 
 impl VersionRange {
     // Answer: law answer_laws::version_ranges::one_range.
-    // In Rust: read.
+    // In Rust: try_parse.
     /// Reads a range string.
     ///
     /// # Errors
@@ -69,7 +69,7 @@ impl VersionRange {
     /// use semver_parser::{Dialect, Meaning, PreReleases, VersionRange};
     ///
     /// let meaning = Meaning { dialect: Dialect::Npm, pre_releases: PreReleases::Included };
-    /// let range = VersionRange::read("^1.2", meaning)?;
+    /// let range = VersionRange::try_parse("^1.2", meaning)?;
     /// assert_eq!(range.contains("1.3.0-rc.1"), Ok(true));
     /// # Ok::<(), semver_parser::RangeError>(())
     /// ```
@@ -99,15 +99,15 @@ impl VersionRange {
     /// use semver_parser::{Dialect, Digits, OperationError, VersionRange};
     ///
     /// let none = VersionSet::empty(Digits::AnySize);
-    /// let range = VersionRange::of_versions(none, Dialect::Npm.into()).unwrap();
+    /// let range = VersionRange::from_versions(none, Dialect::Npm.into()).unwrap();
     /// assert!(range == VersionRange::parse(">1 <1", Dialect::Npm)?);
     ///
     /// let kept = VersionSet::empty(Digits::Kept);
-    /// let refused = VersionRange::of_versions(kept, Dialect::Npm.into());
+    /// let refused = VersionRange::from_versions(kept, Dialect::Npm.into());
     /// assert_eq!(refused.unwrap_err(), OperationError::DifferentDigits);
-    /// # Ok::<(), semver_parser::RangeError>(())
+    /// # Ok::<(), semver_parser::Error>(())
     /// ```
-    pub fn of_versions(
+    pub fn from_versions(
         versions: VersionSet,
         meaning: Meaning,
     ) -> Result<VersionRange, OperationError>
@@ -132,7 +132,7 @@ impl VersionRange {
     ///
     /// let meaning = VersionRange::parse("^1.2", Dialect::Npm)?.meaning();
     /// assert_eq!((meaning.dialect, meaning.pre_releases), (Dialect::Npm, PreReleases::Default));
-    /// # Ok::<(), semver_parser::RangeError>(())
+    /// # Ok::<(), semver_parser::Error>(())
     /// ```
     #[inline(always)]
     pub fn meaning(&self) -> Meaning
@@ -149,7 +149,7 @@ impl VersionRange {
     ///
     /// let range = VersionRange::parse(">1.2", Dialect::Npm)?;
     /// assert_eq!(range.versions().release_ranges()?.to_string(), ">=1.3.0");
-    /// # Ok::<(), semver_parser::RangeError>(())
+    /// # Ok::<(), semver_parser::Error>(())
     /// ```
     #[inline(always)]
     pub fn versions(&self) -> &VersionSet
@@ -172,7 +172,7 @@ impl VersionRange {
     /// let range = VersionRange::parse("^1.2", Dialect::Npm)?;
     /// assert_eq!(range.contains_bytes(b"v1.9.0+b5"), Ok(true));
     /// assert_eq!(range.contains_bytes(b"1.9.\xff"), Err(SatisfiesError::InvalidVersion));
-    /// # Ok::<(), semver_parser::RangeError>(())
+    /// # Ok::<(), semver_parser::Error>(())
     /// ```
     #[inline(always)]
     pub fn contains_bytes(&self, version: &[u8]) -> Result<bool, SatisfiesError>
@@ -194,7 +194,7 @@ impl VersionRange {
     /// let range = VersionRange::parse("^1.2", Dialect::Npm)?;
     /// let outline = version::outline_in(b"v1.9.0", Dialect::Npm.grammar()).unwrap();
     /// assert!(range.contains_outline(&outline));
-    /// # Ok::<(), semver_parser::RangeError>(())
+    /// # Ok::<(), semver_parser::Error>(())
     /// ```
     #[inline(always)]
     pub fn contains_outline(&self, version: &Outline<'_>) -> bool
@@ -234,7 +234,7 @@ impl VersionRange {
     /// use semver_parser::{Dialect, VersionRange};
     ///
     /// assert!(VersionRange::parse(">2.0.0 <1.0.0", Dialect::Npm)?.is_empty());
-    /// # Ok::<(), semver_parser::RangeError>(())
+    /// # Ok::<(), semver_parser::Error>(())
     /// ```
     pub fn is_empty(&self) -> bool
         ensures { (result ≡ true) ↔ ((v : PlainVersion) → ¬ IsIn v self.now.versions) }

@@ -37,7 +37,7 @@ pub(crate) fn is_release_between(
 {
     for at in 0..versions.len() {
         let version = &versions[at];
-        let release = Release::of(version);
+        let release = Release::from_version(version);
         let is_below = match &to {
             Some(to) => release.is_below(to),
             None => true,

@@ -123,8 +123,8 @@ impl Bound for ReadVersion {
     fn is_alone(&self, to: Option<&ReadVersion>) -> bool {
         match to {
             Some(to) => {
-                Release::of(&to.version)
-                    .compare(&Release::of(&self.version))
+                Release::from_version(&to.version)
+                    .compare(&Release::from_version(&self.version))
                     .is_eq()
                     && are_right_above(to, self)
             }
@@ -135,7 +135,7 @@ impl Bound for ReadVersion {
     fn shown<'a>(&'a self, op: Op) -> Shown<'a> {
         Shown {
             op,
-            numbers: Release::of(&self.version),
+            numbers: Release::from_version(&self.version),
             pre: self.version.pre.as_slice(),
             digits: self.digits,
         }
@@ -147,7 +147,7 @@ impl Bound for ReadVersion {
         }
         Shown {
             op: Op::Lt,
-            numbers: Release::of(&self.version),
+            numbers: Release::from_version(&self.version),
             pre: &[],
             digits: Digits::Kept,
         }
@@ -159,9 +159,11 @@ fn begins_next_numbers(boundary: &ReadVersion, below: &ReadVersion) -> bool
     ensures { result ≡ is_same_end (Some (read_plain boundary.now))
         (pre_release_above (read_plain below.now)) }
 {
-    match next_numbers(Release::of(&below.version)) {
+    match next_numbers(Release::from_version(&below.version)) {
         Some(next) => {
-            Release::of(&boundary.version).compare(&next).is_eq()
+            Release::from_version(&boundary.version)
+                .compare(&next)
+                .is_eq()
                 && !boundary.version.pre.is_empty()
                 && has_lowest_pre(&boundary.version.pre, boundary.digits)
         }

@@ -27,9 +27,9 @@ impl VersionSet {
     /// ```
     /// use semver_parser::{sets, Dialect};
     ///
-    /// let set = sets::read(">1.0.0-rc.1 || >=2.0.0", Dialect::Npm)?;
+    /// let set = sets::parse(">1.0.0-rc.1 || >=2.0.0", Dialect::Npm)?;
     /// assert_eq!(set.lowest().unwrap().unwrap().to_string(), "1.0.0-rc.1.0");
-    /// # Ok::<(), semver_parser::RangeError>(())
+    /// # Ok::<(), semver_parser::Error>(())
     /// ```
     pub fn lowest(&self, alloc: Global) -> Result<Option<Version>, AllocError>
         // It is as it is kept: a number of 2^64 or more as its text.
@@ -53,9 +53,9 @@ impl VersionSet {
     /// use semver_parser::sets::{self, Release};
     /// use semver_parser::Dialect;
     ///
-    /// let set = sets::read(">1.0.0-rc.1 <1.0.0 || >=2.0.0", Dialect::Npm)?;
+    /// let set = sets::parse(">1.0.0-rc.1 <1.0.0 || >=2.0.0", Dialect::Npm)?;
     /// assert_eq!(set.lowest_release(), Some(Release { major: 2, minor: 0, patch: 0 }));
-    /// # Ok::<(), semver_parser::RangeError>(())
+    /// # Ok::<(), semver_parser::Error>(())
     /// ```
     pub fn lowest_release(&self) -> Option<Release>
         ensures lowest { IfSome result (λ release.
@@ -109,7 +109,9 @@ fn is_below(release: Option<&Release>, version: &ReadVersion) -> bool
         (read_plain version.now) }
 {
     match release {
-        Some(release) => release.cmp(&Release::of(&version.version)).is_lt(),
+        Some(release) => release
+            .cmp(&Release::from_version(&version.version))
+            .is_lt(),
         None => false,
     }
 }

@@ -59,7 +59,7 @@ impl fmt::Display for VersionSet {
     /// ```
     /// use semver_parser::{sets, Dialect};
     ///
-    /// let shown = |range| sets::read(range, Dialect::Npm).unwrap().to_string();
+    /// let shown = |range| sets::parse(range, Dialect::Npm).unwrap().to_string();
     /// assert_eq!(shown("1.2.0 || ~1.9"), "=1.2.0 || >=1.9.0 <1.10.0");
     /// assert_eq!(shown("^1.2.3-b"), ">=1.2.3 <2.0.0, pre-releases >=1.2.3-b <1.2.3");
     /// ```

@@ -21,7 +21,7 @@ use std::alloc::Global;
 /// let [low, high] = [2, 10].map(|minor| Release { major: 1, minor, patch: 0 });
 /// assert!(low < high);
 /// ```
-#[derive(Clone, Copy, PartialEq, Eq, PartialOrd, Ord, Debug)]
+#[derive(Clone, Copy, PartialEq, Eq, PartialOrd, Ord, Hash, Debug)]
 pub struct Release {
     /// The first number: 1 in 1.2.3.
     pub major: u64,
@@ -39,11 +39,11 @@ impl Release {
     /// use semver_parser::sets::Release;
     /// use semver_parser::version;
     ///
-    /// let release = Release::of(&version::parse("1.2.3-rc.1+b5")?);
+    /// let release = Release::from_version(&version::parse("1.2.3-rc.1+b5")?);
     /// assert_eq!(release, Release { major: 1, minor: 2, patch: 3 });
     /// # Ok::<(), semver_parser::parser::Error>(())
     /// ```
-    pub fn of(version: &Version) -> Release
+    pub fn from_version(version: &Version) -> Release
         ensures { release_value result
             ≡ record (version_value version.now).plain { pre = [] } }
     {

@@ -21,13 +21,13 @@ use std::alloc::{AllocError, Global};
 /// ```
 /// use semver_parser::{sets, Dialect};
 ///
-/// let old = sets::read("^1.2.3-b", Dialect::Npm)?;
-/// let comparison = old.compare(&sets::read("^1.2.3", Dialect::Npm)?).unwrap();
+/// let old = sets::parse("^1.2.3-b", Dialect::Npm)?;
+/// let comparison = old.compare(&sets::parse("^1.2.3", Dialect::Npm)?).unwrap();
 /// assert_eq!(comparison.lost.unwrap().to_string(), "1.2.3-b");
 /// assert_eq!(comparison.gained, None);
-/// # Ok::<(), semver_parser::RangeError>(())
+/// # Ok::<(), semver_parser::Error>(())
 /// ```
-#[derive(Debug, Drop)]
+#[derive(Debug, PartialEq, Eq, Drop)]
 pub struct Comparison {
     /// The lowest version that is in the old set and not in the new one; `None` where there is
     /// none.
@@ -56,12 +56,12 @@ impl VersionSet {
     /// ```
     /// use semver_parser::{sets, Dialect};
     ///
-    /// let old = sets::read("^1.2.0", Dialect::Npm)?;
-    /// let comparison = old.compare(&sets::read(">=1.4.0", Dialect::Npm)?).unwrap();
+    /// let old = sets::parse("^1.2.0", Dialect::Npm)?;
+    /// let comparison = old.compare(&sets::parse(">=1.4.0", Dialect::Npm)?).unwrap();
     /// assert_eq!(comparison.lost.unwrap().to_string(), "1.2.0");
     /// assert_eq!(comparison.gained.unwrap().to_string(), "2.0.0");
     /// assert_eq!(comparison.shared.unwrap().to_string(), "1.4.0");
-    /// # Ok::<(), semver_parser::RangeError>(())
+    /// # Ok::<(), semver_parser::Error>(())
     /// ```
     pub fn compare(&self, alloc: Global, new: &VersionSet) -> Result<Comparison, SetError>
         ensures refused { (result ≡ Err SetError.DifferentDigits)
@@ -131,8 +131,8 @@ impl VersionSet {
     /// ```
     /// use semver_parser::{sets, Dialect};
     ///
-    /// assert!(sets::read(">2.0.0 <1.0.0", Dialect::Npm)?.is_empty());
-    /// # Ok::<(), semver_parser::RangeError>(())
+    /// assert!(sets::parse(">2.0.0 <1.0.0", Dialect::Npm)?.is_empty());
+    /// # Ok::<(), semver_parser::Error>(())
     /// ```
     pub fn is_empty(&self) -> bool
         ensures { (result ≡ true) ↔ ((v : PlainVersion) → ¬ IsIn v self.now) }
@@ -151,10 +151,10 @@ impl VersionSet {
     /// ```
     /// use semver_parser::{sets, Dialect};
     ///
-    /// let (narrow, wide) = (sets::read("~1.2", Dialect::Npm)?, sets::read("^1", Dialect::Npm)?);
+    /// let (narrow, wide) = (sets::parse("~1.2", Dialect::Npm)?, sets::parse("^1", Dialect::Npm)?);
     /// assert_eq!(narrow.is_subset(&wide), Ok(true));
     /// assert_eq!(wide.is_subset(&narrow), Ok(false));
-    /// # Ok::<(), semver_parser::RangeError>(())
+    /// # Ok::<(), semver_parser::Error>(())
     /// ```
     pub fn is_subset(&self, other: &VersionSet) -> Result<bool, SetError>
         ensures refused { (result ≡ Err SetError.DifferentDigits)
@@ -183,12 +183,12 @@ impl VersionSet {
     /// ```
     /// use semver_parser::{sets, Dialect};
     ///
-    /// let set = sets::read("^1.2.0", Dialect::Npm)?;
-    /// let below = sets::read("<1.2.0", Dialect::Npm)?;
-    /// let to = sets::read("<=1.2.0", Dialect::Npm)?;
+    /// let set = sets::parse("^1.2.0", Dialect::Npm)?;
+    /// let below = sets::parse("<1.2.0", Dialect::Npm)?;
+    /// let to = sets::parse("<=1.2.0", Dialect::Npm)?;
     /// assert_eq!(set.is_disjoint(&below), Ok(true));
     /// assert_eq!(set.is_disjoint(&to), Ok(false)); // 1.2.0 is in both
-    /// # Ok::<(), semver_parser::RangeError>(())
+    /// # Ok::<(), semver_parser::Error>(())
     /// ```
     pub fn is_disjoint(&self, other: &VersionSet) -> Result<bool, SetError>
         ensures refused { (result ≡ Err SetError.DifferentDigits)

@@ -19,12 +19,12 @@ use thiserror::Error;
 /// use semver_parser::sets::{self, SetError};
 /// use semver_parser::Dialect;
 ///
-/// let set = sets::read("^1.2", Dialect::Npm)?;
-/// let other = sets::read("^1.2", Dialect::CrateNpm)?;
+/// let set = sets::parse("^1.2", Dialect::Npm)?;
+/// let other = sets::parse("^1.2", Dialect::CrateNpm)?;
 /// assert_eq!(set.union(&other).unwrap_err(), SetError::DifferentDigits);
-/// # Ok::<(), semver_parser::RangeError>(())
+/// # Ok::<(), semver_parser::Error>(())
 /// ```
-#[derive(Debug, PartialEq, Eq, Error, Drop)]
+#[derive(Clone, Copy, PartialEq, Eq, Debug, Error)]
 pub enum SetError {
     /// The sets read identifiers of digits alone from 2^64 on differently: one as texts, and the
     /// other as numbers.
@@ -131,7 +131,7 @@ impl VersionSet {
     /// ```
     /// use semver_parser::{sets, Dialect};
     ///
-    /// let set = |range| sets::read(range, Dialect::Npm).unwrap();
+    /// let set = |range| sets::parse(range, Dialect::Npm).unwrap();
     /// let union = set(">=1.0.0 <1.5.0").union(&set(">=1.2.0 <2.0.0"))?;
     /// assert_eq!(union, set(">=1.0.0 <2.0.0"));
     /// # Ok::<(), sets::SetError>(())
@@ -165,7 +165,7 @@ impl VersionSet {
     /// ```
     /// use semver_parser::{sets, Dialect};
     ///
-    /// let set = |range| sets::read(range, Dialect::Npm).unwrap();
+    /// let set = |range| sets::parse(range, Dialect::Npm).unwrap();
     /// let intersection = set(">=1.0.0 <1.5.0").intersection(&set(">=1.2.0 <2.0.0"))?;
     /// assert_eq!(intersection, set(">=1.2.0 <1.5.0"));
     /// # Ok::<(), sets::SetError>(())
@@ -200,7 +200,7 @@ impl VersionSet {
     /// ```
     /// use semver_parser::{sets, Dialect};
     ///
-    /// let set = |range| sets::read(range, Dialect::Npm).unwrap();
+    /// let set = |range| sets::parse(range, Dialect::Npm).unwrap();
     /// let difference = set(">=1.0.0 <1.5.0").difference(&set(">=1.2.0 <2.0.0"))?;
     /// assert_eq!(difference, set(">=1.0.0 <1.2.0"));
     /// # Ok::<(), sets::SetError>(())

@@ -33,10 +33,10 @@ use std::fmt;
 /// use semver_parser::Dialect;
 ///
 /// let text = |set: VersionSet| set.release_ranges().unwrap().to_string();
-/// assert_eq!(text(sets::read("1.2.0 || ~1.9", Dialect::Npm)?), "=1.2.0 || >=1.9.0 <1.10.0");
-/// assert_eq!(text(sets::read("x", Dialect::Npm)?), "*");
-/// assert_eq!(text(sets::read("<0.0.0", Dialect::Npm)?), "<0.0.0-0");
-/// # Ok::<(), semver_parser::RangeError>(())
+/// assert_eq!(text(sets::parse("1.2.0 || ~1.9", Dialect::Npm)?), "=1.2.0 || >=1.9.0 <1.10.0");
+/// assert_eq!(text(sets::parse("x", Dialect::Npm)?), "*");
+/// assert_eq!(text(sets::parse("<0.0.0", Dialect::Npm)?), "<0.0.0-0");
+/// # Ok::<(), semver_parser::Error>(())
 /// ```
 #[derive(Debug, Drop)]
 pub struct SetRanges {
@@ -61,10 +61,10 @@ impl VersionSet {
     /// ```
     /// use semver_parser::{sets, Dialect};
     ///
-    /// let set = sets::read("^1.2.0", Dialect::Npm)?;
-    /// let lost = set.difference(&sets::read(">=1.2.1 <1.9.0", Dialect::Npm)?).unwrap();
+    /// let set = sets::parse("^1.2.0", Dialect::Npm)?;
+    /// let lost = set.difference(&sets::parse(">=1.2.1 <1.9.0", Dialect::Npm)?).unwrap();
     /// assert_eq!(lost.release_ranges().unwrap().to_string(), "=1.2.0 || >=1.9.0 <2.0.0");
-    /// # Ok::<(), semver_parser::RangeError>(())
+    /// # Ok::<(), semver_parser::Error>(())
     /// ```
     pub fn release_ranges(&self, alloc: Global) -> Result<SetRanges, AllocError>
         ensures ranges { IfOk result (λ ranges.
@@ -99,9 +99,9 @@ impl VersionSet {
     /// use semver_parser::{sets, Dialect, Meaning, PreReleases};
     ///
     /// let npm = Meaning { dialect: Dialect::Npm, pre_releases: PreReleases::Included };
-    /// let ranges = sets::read(">1.2.3 <2.0.0-0", npm)?.pre_release_ranges().unwrap();
+    /// let ranges = sets::parse(">1.2.3 <2.0.0-0", npm)?.pre_release_ranges().unwrap();
     /// assert_eq!(ranges.to_string(), ">=1.2.4-0 <2.0.0-0");
-    /// # Ok::<(), semver_parser::RangeError>(())
+    /// # Ok::<(), semver_parser::Error>(())
     /// ```
     pub fn pre_release_ranges(&self, alloc: Global) -> Result<SetRanges, AllocError>
         ensures ranges { IfOk result (λ ranges.

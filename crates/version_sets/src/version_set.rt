@@ -35,7 +35,7 @@ use std::marker::Model;
 /// ```
 /// use semver_parser::{sets, version, Dialect};
 ///
-/// let set = sets::read(">=1.2.0 <2.0.0 || 3.1.4", Dialect::Npm)?;
+/// let set = sets::parse(">=1.2.0 <2.0.0 || 3.1.4", Dialect::Npm)?;
 /// assert!(set.contains(&version::parse("1.9.0")?) && set.contains(&version::parse("3.1.4+b5")?));
 /// assert!(!set.contains(&version::parse("2.0.0")?) && !set.contains(&version::parse("3.1.5")?));
 /// # Ok::<(), String>(())
@@ -101,9 +101,9 @@ impl VersionSet {
     /// ```
     /// use semver_parser::{sets, Dialect, Digits};
     ///
-    /// assert_eq!(sets::read("^1.2.0", Dialect::Cargo)?.digits(), Digits::AnySize);
-    /// assert_eq!(sets::read("^1.2.0", Dialect::CrateCargo)?.digits(), Digits::Kept);
-    /// # Ok::<(), semver_parser::RangeError>(())
+    /// assert_eq!(sets::parse("^1.2.0", Dialect::Cargo)?.digits(), Digits::AnySize);
+    /// assert_eq!(sets::parse("^1.2.0", Dialect::CrateCargo)?.digits(), Digits::Kept);
+    /// # Ok::<(), semver_parser::Error>(())
     /// ```
     pub fn digits(&self) -> Digits
         ensures { result ≡ self.now.digits }
@@ -118,7 +118,7 @@ impl VersionSet {
     /// use semver_parser::{sets, version, Dialect, Meaning, PreReleases};
     ///
     /// let npm = Meaning { dialect: Dialect::Npm, pre_releases: PreReleases::Included };
-    /// let releases = sets::read(">=1.2.0-rc", npm)?.only_releases();
+    /// let releases = sets::parse(">=1.2.0-rc", npm)?.only_releases();
     /// assert!(releases.contains(&version::parse("1.2.0")?));
     /// assert!(!releases.contains(&version::parse("1.2.0-rc.2")?));
     /// # Ok::<(), String>(())
@@ -138,7 +138,7 @@ impl VersionSet {
     /// ```
     /// use semver_parser::{sets, version, Dialect};
     ///
-    /// let pre_releases = sets::read(">=1.2.0-rc", Dialect::Npm)?.only_pre_releases();
+    /// let pre_releases = sets::parse(">=1.2.0-rc", Dialect::Npm)?.only_pre_releases();
     /// assert!(pre_releases.contains(&version::parse("1.2.0-rc.2")?));
     /// assert!(!pre_releases.contains(&version::parse("1.2.0")?));
     /// # Ok::<(), String>(())
@@ -163,11 +163,11 @@ impl VersionSet {
     /// ```
     /// use semver_parser::{sets, version, Dialect};
     ///
-    /// let set = sets::read("^1.2.0", Dialect::Cargo)?;
+    /// let set = sets::parse("^1.2.0", Dialect::Cargo)?;
     /// assert!(set.contains(&version::parse("1.9.0+b5")?));
     /// assert!(!set.contains(&version::parse("2.0.0")?));
     ///
-    /// let set = sets::read("<1.0.0-10a", Dialect::Cargo)?;
+    /// let set = sets::parse("<1.0.0-10a", Dialect::Cargo)?;
     /// let large = version::parse("1.0.0-18446744073709551616")?;
     /// assert!(set.contains(&large)); // to Cargo it is a number, and a number is below `10a`
     /// # Ok::<(), String>(())
@@ -177,7 +177,7 @@ impl VersionSet {
         // The numbers of a version fit 64 bits.
         ensures fits { Fits (version_value version.now).plain }
     {
-        let release = Release::of(version);
+        let release = Release::from_version(version);
         let is_release = version.pre.is_empty();
         if self.pre_releases.is_empty() {
             // Evaluates both, so that the answer depends on no branch.
@@ -224,9 +224,9 @@ impl VersionSet {
     /// use semver_parser::sets::{self, Release};
     /// use semver_parser::Dialect;
     ///
-    /// let set = sets::read("^1.2.0", Dialect::Cargo)?;
+    /// let set = sets::parse("^1.2.0", Dialect::Cargo)?;
     /// assert!(set.contains_release(Release { major: 1, minor: 9, patch: 0 }));
-    /// # Ok::<(), semver_parser::RangeError>(())
+    /// # Ok::<(), semver_parser::Error>(())
     /// ```
     #[inline(always)]
     pub fn contains_release(&self, release: Release) -> bool
@@ -244,10 +244,10 @@ impl VersionSet {
     /// use semver_parser::{sets, version, Dialect};
     ///
     /// let dialect = Dialect::Npm;
-    /// let set = sets::read("^1.2.0", dialect)?;
+    /// let set = sets::parse("^1.2.0", dialect)?;
     /// let outline = version::outline_in(b"v1.9.0", dialect.grammar()).unwrap();
     /// assert!(set.contains_outline(&outline));
-    /// # Ok::<(), semver_parser::RangeError>(())
+    /// # Ok::<(), semver_parser::Error>(())
     /// ```
     #[inline(always)]
     pub fn contains_outline(&self, outline: &Outline<'_>) -> bool

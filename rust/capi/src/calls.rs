@@ -6,6 +6,7 @@ use crate::message::printed;
 use crate::types::{dialect, Comparator, Options, StringView, Version};
 use alloc::{string::String, vec::Vec};
 use core::{ffi::c_char, ptr, str};
+use proved::layers;
 use proved::rattle_std::{FalliblePush, FallibleToString};
 use proved::version::{outline_in, Outline};
 use proved::{satisfies_bytes, OperationError, SatisfiesError, VersionRange};
@@ -52,7 +53,7 @@ pub fn satisfies<'a>(bytes: &'a [u8], range: &'a [u8], options: Options) -> Answ
 pub fn check_range(range: &[u8], number: i32) -> Answer<'_, ()> {
     let dialect = dialect(number)?;
     let range = text(range, 0)?;
-    proved::check_range(range, dialect).map_err(refused(range, dialect, 0))
+    layers::check_range(range, dialect).map_err(refused(range, dialect, 0))
 }
 
 pub fn parse_version(bytes: &[u8], number: i32) -> Answer<'_, Version> {
@@ -71,7 +72,7 @@ pub fn compare_versions<'a>(bytes: &'a [u8], other: &'a [u8], number: i32) -> An
 pub fn parse_range(range: &[u8], options: Options) -> Answer<'_, *mut VersionRange> {
     let meaning = options.meaning()?;
     let range = text(range, 0)?;
-    let read = VersionRange::read(range, meaning).map_err(refused(range, meaning.dialect, 0))?;
+    let read = VersionRange::try_parse(range, meaning).map_err(refused(range, meaning.dialect, 0))?;
     Ok(moved(read)?)
 }
 
@@ -153,7 +154,7 @@ pub fn comparators(bytes: &[u8], number: i32, exact: bool) -> Answer<'_, *mut Co
     let read = match dialect {
         Dialect::CrateCargo if !exact => RangeSet::try_parse(range, Compat::Cargo),
         Dialect::CrateNpm if !exact => RangeSet::try_parse(range, Compat::Npm),
-        _ => proved::comparators(range, dialect),
+        _ => layers::comparators(range, dialect),
     };
     let set = read.map_err(refused(range, dialect, 0))?;
     let (mut listed, mut printed) = (Vec::new(), Vec::new());

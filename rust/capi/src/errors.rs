@@ -1,6 +1,7 @@
 //! Why a call ends without an answer, and how it is reported.
 
-use proved::refusals::{self, Reason};
+use proved::layers::{explain_range, explain_version};
+use proved::Reason;
 use proved::{AllocError, Dialect, RangeError};
 
 pub type Status = i32;
@@ -54,12 +55,12 @@ impl Problem<'_> {
     fn error(&self) -> Result<Error, AllocError> {
         let (found, index) = match *self {
             Problem::Version { bytes, dialect, index } => {
-                let refusal = refusals::try_of_version(bytes, dialect)?;
+                let refusal = explain_version(bytes, dialect)?;
                 (refusal.map(|it| (it.reason, it.offset)), index)
             }
             Problem::NotUtf8 { offset, index } => (Some((Reason::NotUtf8, offset)), index),
             Problem::Range { range, dialect, index, .. } if self.status() != OUT_OF_MEMORY => {
-                let refusal = refusals::try_of_range(range, dialect)?;
+                let refusal = explain_range(range, dialect)?;
                 (refusal.map(|it| (it.reason, it.offset)), index)
             }
             _ => (None, 0),

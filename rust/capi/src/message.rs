@@ -6,7 +6,7 @@ use core::ffi::c_char;
 use core::fmt::{self, Display, Formatter};
 use core::{mem::ManuallyDrop, ptr};
 use proved::rattle_std::{FallibleString, FallibleToString};
-use proved::refusals::Reason;
+use proved::Reason;
 
 // The tables of build.rs, of the crate's texts.
 include!(concat!(env!("OUT_DIR"), "/texts.rs"));
@@ -41,7 +41,7 @@ const REACH: usize = 32;
 pub fn of_error<'a>(error: &Error, of: &[u8], caret: bool) -> Result<*mut c_char, Problem<'a>> {
     let status = text_of(&STATUS_TEXTS, error.status).unwrap_or("unknown error\0");
     let status = status.trim_end_matches('\0');
-    let Some(reason) = Reason::of_number(error.reason) else { return printed(status) };
+    let Some(reason) = Reason::from_number(error.reason) else { return printed(status) };
     let offset = of.len().min(error.offset);
     let begin = boundary(of, offset.saturating_sub(REACH));
     let end = boundary(of, of.len().min(offset + REACH)).max(offset);

@@ -44,7 +44,7 @@ impl Options {
     #[inline(always)]
     pub fn meaning<'a>(&self) -> Result<Meaning, Problem<'a>> {
         let dialect = dialect(self.dialect)?;
-        let pre_releases = PreReleases::of_number(self.pre_releases).ok_or(Problem::Argument)?;
+        let pre_releases = PreReleases::from_number(self.pre_releases).ok_or(Problem::Argument)?;
         match self.reserved {
             [0, 0, 0, 0, 0, 0] => Ok(Meaning { dialect, pre_releases }),
             _ => Err(Problem::Argument),
@@ -54,7 +54,7 @@ impl Options {
 
 #[inline(always)]
 pub fn dialect<'a>(number: i32) -> Result<Dialect, Problem<'a>> {
-    Dialect::of_number(number).ok_or(Problem::Argument)
+    Dialect::from_number(number).ok_or(Problem::Argument)
 }
 
 /// semver_parser_version.

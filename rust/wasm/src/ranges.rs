@@ -8,12 +8,12 @@ use alloc::string::String;
 use alloc::vec::Vec;
 use core::fmt::{self, Write};
 use core::ptr::null_mut;
-use semver_parser::refusals::{self, Reason};
+use semver_parser::layers;
 use semver_parser::VersionRange as Range;
-use semver_parser::{satisfies_bytes, Dialect, Meaning, PreReleases, RangeError, SatisfiesError};
+use semver_parser::{satisfies_bytes, Dialect, Meaning, PreReleases, RangeError, Reason, SatisfiesError};
 
 fn meaning(dialect: i32, rule: i32) -> Option<Meaning> {
-    let (dialect, pre_releases) = (Dialect::of_number(dialect)?, PreReleases::of_number(rule)?);
+    let (dialect, pre_releases) = (Dialect::from_number(dialect)?, PreReleases::from_number(rule)?);
     Some(Meaning { dialect, pre_releases })
 }
 
@@ -57,11 +57,11 @@ pub unsafe extern "C" fn range_satisfied(
 /// There are so many bytes at the address.
 #[no_mangle]
 pub unsafe extern "C" fn range_refused(at: *const u8, len: usize, dialect: i32) -> i32 {
-    let (Some(dialect), Some(range)) = (Dialect::of_number(dialect), unsafe { string(at, len) })
+    let (Some(dialect), Some(range)) = (Dialect::from_number(dialect), unsafe { string(at, len) })
     else {
         return Reason::NotUtf8.number();
     };
-    match refusals::try_of_range(range, dialect) {
+    match layers::explain_range(range, dialect) {
         Ok(Some(refusal)) => refused(refusal.offset, refusal.reason),
         Ok(None) => 0,
         Err(_) => status::OUT_OF_MEMORY,
@@ -106,7 +106,7 @@ pub unsafe extern "C" fn range_comparators(
     let (Some(meaning), Some(range)) = (meaning(dialect, rule), unsafe { string(at, len) }) else {
         return status::INVALID_RANGE;
     };
-    match semver_parser::comparators(range, meaning.dialect) {
+    match layers::comparators(range, meaning.dialect) {
         Ok(set) => show(set),
         Err(RangeError::OutOfMemory) => status::OUT_OF_MEMORY,
         Err(_) => status::INVALID_RANGE,
@@ -137,7 +137,7 @@ pub unsafe extern "C" fn range_read(
     let (Some(meaning), Some(range)) = (meaning(dialect, rule), unsafe { string(at, len) }) else {
         return null_mut();
     };
-    Range::read(range, meaning).map_or(null_mut(), kept)
+    Range::try_parse(range, meaning).map_or(null_mut(), kept)
 }
 
 /// Frees a range.
@@ -214,7 +214,7 @@ pub extern "C" fn range_difference(range: &Range, other: &Range) -> *mut Range {
     let Ok(versions) = range.versions().difference(other.versions()) else {
         return null_mut();
     };
-    Range::of_versions(versions, range.meaning()).map_or(null_mut(), kept)
+    Range::from_versions(versions, range.meaning()).map_or(null_mut(), kept)
 }
 
 /// Returns the lowest version in a range as a string, empty if there is none.

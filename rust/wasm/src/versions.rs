@@ -1,13 +1,13 @@
 //! Versions: what one consists of, why a string is none, and how two compare.
 
 use crate::{bytes, state, status};
-use semver_parser::refusals::{self, Reason};
+use semver_parser::layers;
 use semver_parser::version::{outline_in, Outline};
-use semver_parser::Dialect;
+use semver_parser::{Dialect, Reason};
 
 /// The outline of a string that is a version of a dialect. None either if the number is no dialect's.
 pub fn outline(string: &[u8], dialect: i32) -> Option<Outline<'_>> {
-    outline_in(string, Dialect::of_number(dialect)?.grammar())
+    outline_in(string, Dialect::from_number(dialect)?.grammar())
 }
 
 /// Reads a version. The numbers handed back are its three, and then where the pre-release begins in
@@ -55,8 +55,8 @@ pub unsafe extern "C" fn version_compare(
 /// There are so many bytes at the address.
 #[no_mangle]
 pub unsafe extern "C" fn version_refused(at: *const u8, len: usize, dialect: i32) -> i32 {
-    let Some(dialect) = Dialect::of_number(dialect) else { return status::INVALID_VERSION };
-    match refusals::try_of_version(unsafe { bytes(at, len) }, dialect) {
+    let Some(dialect) = Dialect::from_number(dialect) else { return status::INVALID_VERSION };
+    match layers::explain_version(unsafe { bytes(at, len) }, dialect) {
         Ok(Some(refusal)) => refused(refusal.offset, refusal.reason),
         Ok(None) => 0,
         Err(_) => status::OUT_OF_MEMORY,

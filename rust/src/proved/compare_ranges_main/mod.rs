@@ -206,7 +206,7 @@ fn push_tool(
         dialect,
         pre_releases: question.meaning.pre_releases,
     };
-    match VersionRange::read(range, meaning) {
+    match VersionRange::try_parse(range, meaning) {
         Ok(read) => {
             output.push_range(name, read.versions())?;
             Ok(None)
@@ -226,6 +226,6 @@ fn read<'a>(
     question: &Question,
     range: &'a str,
 ) -> Result<VersionRange, Error<'a>> {
-    let read = VersionRange::read(range, question.meaning);
+    let read = VersionRange::try_parse(range, question.meaning);
     read.map_err(|error| Error::Range(error, range))
 }

@@ -8,20 +8,20 @@ use crate::rattle_std::fmt;
 /// Why a text is no valid version, or not a range. It prints as its sentence.
 ///
 /// ```
-/// use semver_parser::refusals::{self, Reason};
-/// use semver_parser::Dialect;
+/// use semver_parser::{check_range, check_version, Dialect, Reason};
 ///
-/// let of_version = |text| refusals::of_version(text, Dialect::Cargo).unwrap().reason;
+/// let of_version = |text| check_version(text, Dialect::Cargo).unwrap_err().reason().unwrap();
 /// assert_eq!(of_version("1.2"), Reason::NotThreeNumbers);
 /// assert_eq!(of_version("1.2.3-01"), Reason::LeadingZero);
 /// assert_eq!(of_version("1.2.3 x"), Reason::TextAfter);
 ///
-/// let of_range = |text| refusals::of_range(text, Dialect::Cargo).unwrap().reason;
+/// let of_range = |text| check_range(text, Dialect::Cargo).unwrap_err().reason().unwrap();
 /// assert_eq!(of_range(">="), Reason::NumberExpected);
 /// assert_eq!(of_range(">=1 <2"), Reason::CargoCommas);
 /// assert_eq!(Reason::CargoCommas.to_string(), "Cargo separates comparators by commas");
 /// ```
-#[derive(Clone, Copy, PartialEq, Eq, Debug)]
+#[derive(Clone, Copy, PartialEq, Eq, Hash, Debug)]
+#[non_exhaustive]
 pub enum Reason {
     /// The text is empty, or only white space that the dialect takes before a version.
     Empty,
@@ -73,7 +73,7 @@ impl Reason {
     /// Returns the reason of a number that is above the limit of a dialect.
     ///
     /// ```
-    /// use semver_parser::refusals::Reason;
+    /// use semver_parser::Reason;
     /// use semver_parser::version::Grammar;
     ///
     /// assert_eq!(Reason::too_large_in(Grammar::Cargo), Reason::TooLarge);
@@ -89,7 +89,7 @@ impl Reason {
     /// Returns its number in C, Python and JavaScript.
     ///
     /// ```
-    /// use semver_parser::refusals::Reason;
+    /// use semver_parser::Reason;
     ///
     /// assert_eq!(Reason::LeadingZero.number(), 3);
     /// ```
@@ -100,12 +100,12 @@ impl Reason {
     /// Returns the reason of a number, or `None` if no reason has it.
     ///
     /// ```
-    /// use semver_parser::refusals::Reason;
+    /// use semver_parser::Reason;
     ///
-    /// assert_eq!(Reason::of_number(3), Some(Reason::LeadingZero));
-    /// assert_eq!(Reason::of_number(0), None);
+    /// assert_eq!(Reason::from_number(3), Some(Reason::LeadingZero));
+    /// assert_eq!(Reason::from_number(0), None);
     /// ```
-    pub fn of_number(number: i32) -> Option<Reason> {
+    pub fn from_number(number: i32) -> Option<Reason> {
         match number {
             1 => Some(Reason::Empty),
             2 => Some(Reason::NotThreeNumbers),
@@ -134,7 +134,7 @@ impl Reason {
     /// Returns its name for programs, in lower case with hyphens.
     ///
     /// ```
-    /// use semver_parser::refusals::Reason;
+    /// use semver_parser::Reason;
     ///
     /// assert_eq!(Reason::LeadingZero.name(), "leading-zero");
     /// ```
@@ -145,7 +145,7 @@ impl Reason {
     /// Returns its sentence for people, without a full stop.
     ///
     /// ```
-    /// use semver_parser::refusals::Reason;
+    /// use semver_parser::Reason;
     ///
     /// assert_eq!(Reason::CargoBars.sentence(), "Cargo takes no ||; npm does");
     /// ```

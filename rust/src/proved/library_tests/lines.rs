@@ -505,7 +505,7 @@ fn releases(range: &str) -> Result<VersionRange, AllocError> {
         dialect: Dialect::CrateCargo,
         pre_releases: PreReleases::Excluded,
     };
-    match VersionRange::read(range, meaning) {
+    match VersionRange::try_parse(range, meaning) {
         Ok(range) => Ok(range),
         Err(_) => Err(AllocError),
     }

@@ -70,7 +70,7 @@ fn contains(range: &str, rule: PreReleases, text: &[u8]) -> io::Result<Contained
         dialect: Dialect::CrateCargo,
         pre_releases: rule,
     };
-    match VersionRange::read(range, meaning) {
+    match VersionRange::try_parse(range, meaning) {
         Ok(range) => Ok(range.contains_bytes(text)),
         Err(_) => Err(io::Error::from(ErrorKind::InvalidInput)),
     }

@@ -7,6 +7,7 @@ use crate::proved::semver_versions::version::{Outline, outline_in};
 use crate::proved::tool_ranges::version_range::VersionRange;
 
 /// Which lines are kept, and what is given of one.
+#[derive(Debug)]
 pub(crate) struct Judge {
     pub(crate) range: VersionRange,
     pub(crate) prefixes: Vec<String>,
@@ -15,6 +16,7 @@ pub(crate) struct Judge {
 }
 
 /// What a range says of a line.
+#[derive(Debug)]
 pub(crate) enum Judged<'l> {
     /// This is its text, which has no version.
     NotAVersion(&'l [u8]),

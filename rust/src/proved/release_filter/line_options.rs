@@ -22,7 +22,7 @@ use crate::proved::release_filter::selection::Selection;
 /// lines.push(b"v1.4.0\nv1.9.2\nv2.0.0\n", &mut kept).unwrap();
 /// lines.finish(&mut kept).unwrap();
 /// assert_eq!(kept, b"1.9.2\n");
-/// # Ok::<(), semver_parser::RangeError>(())
+/// # Ok::<(), semver_parser::Error>(())
 /// ```
 #[derive(Clone, Copy, Debug, PartialEq, Eq)]
 pub struct LineOptions {

@@ -17,7 +17,7 @@ use crate::rattle_std::AllocError;
 /// let mut kept = Vec::new();
 /// lines.push(b"1.4.0\x002.0.0\x00", &mut kept).unwrap();
 /// assert_eq!(kept, b"1.4.0\x00");
-/// # Ok::<(), semver_parser::RangeError>(())
+/// # Ok::<(), semver_parser::Error>(())
 /// ```
 #[derive(Clone, Copy, Debug, PartialEq, Eq)]
 pub enum LineEnd {

@@ -24,9 +24,9 @@ use crate::proved::tool_ranges::version_range::VersionRange;
 /// let error = lines.finish(&mut Vec::new()).unwrap_err();
 /// assert!(matches!(error, LinesError::NoVersion(2)));
 /// assert_eq!(error.to_string(), "line 2 is no version");
-/// # Ok::<(), semver_parser::RangeError>(())
+/// # Ok::<(), semver_parser::Error>(())
 /// ```
-#[derive(Debug)]
+#[derive(Clone, Copy, PartialEq, Eq, Debug)]
 pub enum LinesError {
     /// An allocation failed.
     OutOfMemory,
@@ -78,8 +78,9 @@ impl From<AllocError> for LinesError {
 /// lines.push(b"2.0.0\n1.4.0", &mut kept).unwrap();
 /// lines.finish(&mut kept).unwrap();
 /// assert_eq!(kept, b"1.4.0");
-/// # Ok::<(), semver_parser::RangeError>(())
+/// # Ok::<(), semver_parser::Error>(())
 /// ```
+#[derive(Debug)]
 pub struct Lines {
     fold: Fold,
     at_front: bool,
@@ -87,6 +88,7 @@ pub struct Lines {
 }
 
 /// What is done with each line, and what came of those so far.
+#[derive(Debug)]
 pub(crate) struct Fold {
     pub(crate) judge: Judge,
     pub(crate) is_strict: bool,
@@ -106,7 +108,7 @@ impl Lines {
     /// let mut kept = Vec::new();
     /// lines.push(b"v1.4.0\nv2.0.0\n1.4.0\nv1.9.2\n", &mut kept).unwrap();
     /// assert_eq!(kept, b"v1.4.0\nv1.9.2\n");
-    /// # Ok::<(), semver_parser::RangeError>(())
+    /// # Ok::<(), semver_parser::Error>(())
     /// ```
     pub fn new(
         filter: VersionRange,
@@ -156,7 +158,7 @@ impl Lines {
     /// assert_eq!(kept, b"1.4.0\n");
     /// lines.push(b"9.2\n", &mut kept).unwrap();
     /// assert_eq!(kept, b"1.4.0\n1.9.2\n");
-    /// # Ok::<(), semver_parser::RangeError>(())
+    /// # Ok::<(), semver_parser::Error>(())
     /// ```
     pub fn push(
         &mut self,
@@ -199,7 +201,7 @@ impl Lines {
     /// lines.push(b"1.9.0\n1.4.0", &mut kept).unwrap();
     /// lines.finish(&mut kept).unwrap();
     /// assert_eq!(kept, b"1.4.0\n1.9.0\n");
-    /// # Ok::<(), semver_parser::RangeError>(())
+    /// # Ok::<(), semver_parser::Error>(())
     /// ```
     pub fn finish(&mut self, kept: &mut Vec<u8>) -> Result<(), LinesError> {
         let closes = self.fold.held.selection.closes_lines();
@@ -229,7 +231,7 @@ impl Lines {
     /// lines.push(b"\xEF\xBB\xBF1.9.0", &mut kept).unwrap();
     /// lines.finish(&mut kept).unwrap();
     /// assert_eq!(kept, b"1.4.0\n1.9.0");
-    /// # Ok::<(), semver_parser::RangeError>(())
+    /// # Ok::<(), semver_parser::Error>(())
     /// ```
     pub fn end_file(&mut self, kept: &mut Vec<u8>) -> Result<(), LinesError> {
         self.end(true, kept)
@@ -246,7 +248,7 @@ impl Lines {
     /// lines.push(b"v1.2.0\n\n1.4.0\n", &mut Vec::new()).unwrap();
     /// assert_eq!((lines.counts().lines, lines.counts().empty), (3, 1));
     /// assert_eq!(lines.counts().first_invalid.as_ref().unwrap().front, b"v1.2.0");
-    /// # Ok::<(), semver_parser::RangeError>(())
+    /// # Ok::<(), semver_parser::Error>(())
     /// ```
     pub fn counts(&self) -> &Counts {
         &self.fold.counts

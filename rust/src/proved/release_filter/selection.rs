@@ -22,7 +22,7 @@ use crate::rattle_std::cmp::Ordering;
 /// lines.push(b"1.4.0\n1.9.2\n2.0.0\n1.5.0\n", &mut kept).unwrap();
 /// lines.finish(&mut kept).unwrap();
 /// assert_eq!(kept, b"1.9.2\n");
-/// # Ok::<(), semver_parser::RangeError>(())
+/// # Ok::<(), semver_parser::Error>(())
 /// ```
 #[derive(Clone, Copy, Debug, PartialEq, Eq)]
 pub enum Selection {

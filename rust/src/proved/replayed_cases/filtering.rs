@@ -40,7 +40,7 @@ pub fn write_passed<W: Write>(
     let Some(versions) = versions_of(list)? else {
         return write!(out, "not all are versions");
     };
-    match VersionRange::read(text, meaning_of(compat, pre_releases)) {
+    match VersionRange::try_parse(text, meaning_of(compat, pre_releases)) {
         Ok(range) => {
             let kept = contained(&range, &versions)?;
             let are_same = are_contained(&range, list, &kept, &versions);
@@ -116,7 +116,7 @@ pub fn write_greatest<W: Write>(
         return write!(out, "not all are versions");
     };
     let meaning = meaning_of(Compat::Npm, pre_releases);
-    let range = match VersionRange::read(text, meaning) {
+    let range = match VersionRange::try_parse(text, meaning) {
         Ok(range) => range,
         Err(error) => return write!(out, "{error}"),
     };
@@ -179,7 +179,7 @@ fn lines_of(
     wanted: Selection,
 ) -> io::Result<Result<Lines, RangeError>> {
     let meaning = meaning_of(Compat::Npm, PreReleases::Default);
-    let range = match VersionRange::read(text, meaning) {
+    let range = match VersionRange::try_parse(text, meaning) {
         Ok(range) => range,
         Err(error) => return Ok(Err(error)),
     };

@@ -47,7 +47,7 @@ impl crate::rattle_std::FallibleClone for RangeSet {
 /// assert_eq!(refused("v1.2.3"), RangeError::NotARange);
 /// assert_eq!(refused("99999999999999999999"), RangeError::NumberTooLarge);
 /// ```
-#[derive(Debug, PartialEq, Eq)]
+#[derive(Clone, Copy, PartialEq, Eq, Debug)]
 pub enum RangeError {
     /// The text isn't in the range grammar.
     NotARange,

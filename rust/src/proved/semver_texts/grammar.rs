@@ -10,7 +10,7 @@ use crate::rattle_std::prelude::*;
 /// assert!(version::outline_in(b"v1.2.3", Grammar::Npm).is_some());
 /// assert!(version::outline_in(b"v1.2.3", Grammar::Cargo).is_none());
 /// ```
-#[derive(Clone, Copy, PartialEq, Eq)]
+#[derive(Clone, Copy, PartialEq, Eq, Hash, Debug)]
 pub enum Grammar {
     /// That of the crate `semver-parser`.
     Crate,
@@ -29,7 +29,7 @@ pub enum Grammar {
 /// assert_eq!(Grammar::Crate.digits(), Digits::Kept);
 /// assert_eq!(Grammar::Npm.digits(), Digits::AnySize);
 /// ```
-#[derive(Clone, Copy, Debug, PartialEq, Eq)]
+#[derive(Clone, Copy, PartialEq, Eq, Hash, Debug)]
 pub enum Digits {
     /// A text, as `semver-parser` keeps it.
     Kept,

@@ -94,6 +94,7 @@ impl<'input> Error<'input> {
 /// assert!(parser.is_eof());
 /// # Ok::<(), Error>(())
 /// ```
+#[derive(Debug)]
 pub struct Parser<'input> {
     lexer: Lexer<'input>,
     // The first of the tokens that remain.

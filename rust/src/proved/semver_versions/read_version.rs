@@ -12,12 +12,20 @@ use crate::rattle_std::cmp::Ordering;
 
 /// A version, and how its identifiers of digits alone are read: from 2^64 on they are texts, as a
 /// `Version` keeps them, or numbers, as Cargo and npm read them.
-#[derive(Debug)]
+#[derive(Clone, Debug)]
 pub struct ReadVersion {
     /// The version.
     pub version: Version,
     /// How its identifiers of digits alone are read.
     pub digits: Digits,
+}
+
+impl crate::rattle_std::FallibleClone for ReadVersion {
+    fn fallible_clone(&self) -> Result<Self, crate::rattle_std::AllocError> {
+        match self {
+            ReadVersion { version, digits } => Ok(ReadVersion { version: version.fallible_clone()?, digits: *digits }),
+        }
+    }
 }
 
 impl ReadVersion {

@@ -17,7 +17,7 @@ impl VersionRange {
     /// let versions: [&[u8]; 4] = [b"1.2.0", b"latest", b"1.10.0", b"2.0.0"];
     /// assert_eq!(range.highest_of(&versions), Some(2));
     /// assert_eq!(range.highest_of(&[b"2.0.0"]), None);
-    /// # Ok::<(), semver_parser::RangeError>(())
+    /// # Ok::<(), semver_parser::Error>(())
     /// ```
     pub fn highest_of(&self, versions: &[&[u8]]) -> Option<usize> {
         best_index(self, versions, false)
@@ -31,7 +31,7 @@ impl VersionRange {
     ///
     /// let range = VersionRange::parse("^1.2", Dialect::Npm)?;
     /// assert_eq!(range.lowest_of(&[b"1.1.0", b"1.10.0", b"v1.2.0"]), Some(2));
-    /// # Ok::<(), semver_parser::RangeError>(())
+    /// # Ok::<(), semver_parser::Error>(())
     /// ```
     pub fn lowest_of(&self, versions: &[&[u8]]) -> Option<usize> {
         best_index(self, versions, true)

@@ -16,11 +16,11 @@ use crate::proved::version_sets::{PreReleases, VersionSet};
 /// use semver_parser::{sets, Dialect, Meaning, PreReleases};
 ///
 /// let npm = Meaning { dialect: Dialect::Npm, pre_releases: PreReleases::Included };
-/// let lowest = sets::read("^1.2", npm)?.lowest().unwrap();
+/// let lowest = sets::parse("^1.2", npm)?.lowest().unwrap();
 /// assert_eq!(lowest.unwrap().to_string(), "1.2.0-0");
-/// # Ok::<(), semver_parser::RangeError>(())
+/// # Ok::<(), semver_parser::Error>(())
 /// ```
-#[derive(Clone, Copy, PartialEq, Eq, Debug)]
+#[derive(Clone, Copy, PartialEq, Eq, Hash, Debug)]
 pub struct Meaning {
     /// Whose rules the text follows.
     pub dialect: Dialect,

@@ -13,9 +13,10 @@ use crate::proved::version_sets::SetError;
 /// let npm = VersionRange::parse("^1.2", Dialect::Npm)?;
 /// let cargo = VersionRange::parse("^1.2", Dialect::Cargo)?;
 /// assert_eq!(npm.union(&cargo).unwrap_err(), OperationError::DifferentMeanings);
-/// # Ok::<(), semver_parser::RangeError>(())
+/// # Ok::<(), semver_parser::Error>(())
 /// ```
-#[derive(Debug, PartialEq, Eq)]
+#[derive(Clone, Copy, PartialEq, Eq, Debug)]
+#[non_exhaustive]
 pub enum OperationError {
     /// The dialects of the ranges differ, or which pre-releases count.
     DifferentMeanings,
@@ -53,7 +54,7 @@ impl VersionRange {
     /// let range = VersionRange::parse(">=1.0.0 <1.5.0", Dialect::Npm)?;
     /// let other = VersionRange::parse(">=1.2.0 <2.0.0", Dialect::Npm)?;
     /// assert_eq!(range.union(&other).unwrap().to_string(), ">=1.0.0 <2.0.0");
-    /// # Ok::<(), semver_parser::RangeError>(())
+    /// # Ok::<(), semver_parser::Error>(())
     /// ```
     pub fn union(&self, other: &VersionRange) -> Result<VersionRange, OperationError> {
         if self.meaning != other.meaning {
@@ -82,7 +83,7 @@ impl VersionRange {
     /// let range = VersionRange::parse(">=1.0.0 <1.5.0", Dialect::Npm)?;
     /// let other = VersionRange::parse(">=1.2.0 <2.0.0", Dialect::Npm)?;
     /// assert_eq!(range.intersection(&other).unwrap().to_string(), ">=1.2.0 <1.5.0");
-    /// # Ok::<(), semver_parser::RangeError>(())
+    /// # Ok::<(), semver_parser::Error>(())
     /// ```
     pub fn intersection(
         &self,
@@ -114,7 +115,7 @@ impl VersionRange {
     /// let range = VersionRange::parse(">=1.0.0 <1.5.0", Dialect::Npm)?;
     /// let other = VersionRange::parse(">=1.2.0 <2.0.0", Dialect::Npm)?;
     /// assert_eq!(range.difference(&other).unwrap().to_string(), ">=1.0.0 <1.2.0");
-    /// # Ok::<(), semver_parser::RangeError>(())
+    /// # Ok::<(), semver_parser::Error>(())
     /// ```
     pub fn difference(
         &self,
@@ -152,7 +153,7 @@ impl VersionRange {
     ///
     /// let kept = VersionRange::parse("1.2", Dialect::CrateNpm)?;
     /// assert_eq!(npm.is_subset(&kept), Err(OperationError::DifferentDigits));
-    /// # Ok::<(), semver_parser::RangeError>(())
+    /// # Ok::<(), semver_parser::Error>(())
     /// ```
     pub fn is_subset(&self, other: &VersionRange) -> Result<bool, OperationError> {
         match self.versions.is_subset(&other.versions) {
@@ -173,7 +174,7 @@ impl VersionRange {
     ///
     /// let range = VersionRange::parse("^1.2", Dialect::Npm)?;
     /// assert_eq!(range.is_disjoint(&VersionRange::parse(">=2.0.0", Dialect::Npm)?), Ok(true));
-    /// # Ok::<(), semver_parser::RangeError>(())
+    /// # Ok::<(), semver_parser::Error>(())
     /// ```
     pub fn is_disjoint(&self, other: &VersionRange) -> Result<bool, OperationError> {
         match self.versions.is_disjoint(&other.versions) {
@@ -193,7 +194,7 @@ impl PartialEq for VersionRange {
     /// let range = VersionRange::parse("^1.2", Dialect::Npm)?;
     /// assert!(range == VersionRange::parse(">=1.2.0 <2.0.0-0", Dialect::Npm)?);
     /// assert!(range != VersionRange::parse("^1.2", Dialect::Cargo)?);
-    /// # Ok::<(), semver_parser::RangeError>(())
+    /// # Ok::<(), semver_parser::Error>(())
     /// ```
     fn eq(&self, other: &VersionRange) -> bool {
         self.meaning == other.meaning && self.versions == other.versions

@@ -6,15 +6,15 @@ use crate::proved::tool_ranges::meaning::{self, Meaning};
 use crate::proved::semver_ranges::RangeError;
 use crate::proved::semver_versions::version::outline_in;
 
-/// Why `satisfies` returns no answer. `refusals` says where and why.
+/// Which of a version and a range is invalid.
 ///
 /// ```
-/// use semver_parser::{satisfies, Dialect};
+/// use semver_parser::{satisfies_bytes, Dialect};
 ///
-/// let error = satisfies("1.2.3", "1.2 || 3", Dialect::Cargo).unwrap_err();
+/// let error = satisfies_bytes(b"1.2.3", "1.2 || 3", Dialect::Cargo).unwrap_err();
 /// assert_eq!(error.to_string(), "invalid range: not a range");
 /// ```
-#[derive(Debug, PartialEq, Eq)]
+#[derive(Clone, Copy, PartialEq, Eq, Debug)]
 pub enum SatisfiesError {
     /// The version isn't one in the dialect.
     InvalidVersion,

@@ -18,9 +18,9 @@ impl VersionSet {
     /// ```
     /// use semver_parser::{sets, Dialect};
     ///
-    /// let set = sets::read(">1.0.0-rc.1 || >=2.0.0", Dialect::Npm)?;
+    /// let set = sets::parse(">1.0.0-rc.1 || >=2.0.0", Dialect::Npm)?;
     /// assert_eq!(set.lowest().unwrap().unwrap().to_string(), "1.0.0-rc.1.0");
-    /// # Ok::<(), semver_parser::RangeError>(())
+    /// # Ok::<(), semver_parser::Error>(())
     /// ```
     pub fn lowest(&self) -> Result<Option<Version>, AllocError> {
         lower_one(self.releases.first(), self.pre_releases.first())
@@ -33,9 +33,9 @@ impl VersionSet {
     /// use semver_parser::sets::{self, Release};
     /// use semver_parser::Dialect;
     ///
-    /// let set = sets::read(">1.0.0-rc.1 <1.0.0 || >=2.0.0", Dialect::Npm)?;
+    /// let set = sets::parse(">1.0.0-rc.1 <1.0.0 || >=2.0.0", Dialect::Npm)?;
     /// assert_eq!(set.lowest_release(), Some(Release { major: 2, minor: 0, patch: 0 }));
-    /// # Ok::<(), semver_parser::RangeError>(())
+    /// # Ok::<(), semver_parser::Error>(())
     /// ```
     pub fn lowest_release(&self) -> Option<Release> {
         self.releases.first().copied()
@@ -69,7 +69,9 @@ fn as_version(release: Option<&Release>) -> Option<Version> {
 /// version of the same numbers is above it.
 fn is_below(release: Option<&Release>, version: &ReadVersion) -> bool {
     match release {
-        Some(release) => release.cmp(&Release::of(&version.version)).is_lt(),
+        Some(release) => release
+            .cmp(&Release::from_version(&version.version))
+            .is_lt(),
         None => false,
     }
 }

@@ -13,9 +13,9 @@ use crate::rattle_std::prelude::*;
 /// assert!(!satisfies("1.3.0-rc", "^1.2.0", npm(PreReleases::Default))?);
 /// assert!(satisfies("1.2.3-rc", "^1.2.3-beta", npm(PreReleases::Default))?);
 /// assert!(!satisfies("1.2.3-rc", "^1.2.3-beta", npm(PreReleases::Excluded))?);
-/// # Ok::<(), semver_parser::SatisfiesError>(())
+/// # Ok::<(), semver_parser::Error>(())
 /// ```
-#[derive(Clone, Copy, PartialEq, Eq, Debug)]
+#[derive(Clone, Copy, PartialEq, Eq, Hash, Debug)]
 pub enum PreReleases {
     /// None.
     Excluded,
@@ -49,10 +49,10 @@ impl PreReleases {
     /// ```
     /// use semver_parser::PreReleases;
     ///
-    /// assert_eq!(PreReleases::of_number(1), Some(PreReleases::Included));
-    /// assert_eq!(PreReleases::of_number(9), None);
+    /// assert_eq!(PreReleases::from_number(1), Some(PreReleases::Included));
+    /// assert_eq!(PreReleases::from_number(9), None);
     /// ```
-    pub fn of_number(number: i32) -> Option<PreReleases> {
+    pub fn from_number(number: i32) -> Option<PreReleases> {
         match number {
             0 => Some(PreReleases::Default),
             1 => Some(PreReleases::Included),

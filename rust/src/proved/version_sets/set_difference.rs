@@ -16,13 +16,13 @@ use crate::rattle_std::AllocError;
 /// ```
 /// use semver_parser::{sets, Dialect};
 ///
-/// let old = sets::read("^1.2.3-b", Dialect::Npm)?;
-/// let comparison = old.compare(&sets::read("^1.2.3", Dialect::Npm)?).unwrap();
+/// let old = sets::parse("^1.2.3-b", Dialect::Npm)?;
+/// let comparison = old.compare(&sets::parse("^1.2.3", Dialect::Npm)?).unwrap();
 /// assert_eq!(comparison.lost.unwrap().to_string(), "1.2.3-b");
 /// assert_eq!(comparison.gained, None);
-/// # Ok::<(), semver_parser::RangeError>(())
+/// # Ok::<(), semver_parser::Error>(())
 /// ```
-#[derive(Debug)]
+#[derive(Debug, PartialEq, Eq)]
 pub struct Comparison {
     /// The lowest version that is in the old set and not in the new one; `None` where there is
     /// none.
@@ -50,12 +50,12 @@ impl VersionSet {
     /// ```
     /// use semver_parser::{sets, Dialect};
     ///
-    /// let old = sets::read("^1.2.0", Dialect::Npm)?;
-    /// let comparison = old.compare(&sets::read(">=1.4.0", Dialect::Npm)?).unwrap();
+    /// let old = sets::parse("^1.2.0", Dialect::Npm)?;
+    /// let comparison = old.compare(&sets::parse(">=1.4.0", Dialect::Npm)?).unwrap();
     /// assert_eq!(comparison.lost.unwrap().to_string(), "1.2.0");
     /// assert_eq!(comparison.gained.unwrap().to_string(), "2.0.0");
     /// assert_eq!(comparison.shared.unwrap().to_string(), "1.4.0");
-    /// # Ok::<(), semver_parser::RangeError>(())
+    /// # Ok::<(), semver_parser::Error>(())
     /// ```
     pub fn compare(&self, new: &VersionSet) -> Result<Comparison, SetError> {
         if self.digits != new.digits {
@@ -94,8 +94,8 @@ impl VersionSet {
     /// ```
     /// use semver_parser::{sets, Dialect};
     ///
-    /// assert!(sets::read(">2.0.0 <1.0.0", Dialect::Npm)?.is_empty());
-    /// # Ok::<(), semver_parser::RangeError>(())
+    /// assert!(sets::parse(">2.0.0 <1.0.0", Dialect::Npm)?.is_empty());
+    /// # Ok::<(), semver_parser::Error>(())
     /// ```
     pub fn is_empty(&self) -> bool {
         self.releases.is_empty() && self.pre_releases.is_empty()
@@ -111,10 +111,10 @@ impl VersionSet {
     /// ```
     /// use semver_parser::{sets, Dialect};
     ///
-    /// let (narrow, wide) = (sets::read("~1.2", Dialect::Npm)?, sets::read("^1", Dialect::Npm)?);
+    /// let (narrow, wide) = (sets::parse("~1.2", Dialect::Npm)?, sets::parse("^1", Dialect::Npm)?);
     /// assert_eq!(narrow.is_subset(&wide), Ok(true));
     /// assert_eq!(wide.is_subset(&narrow), Ok(false));
-    /// # Ok::<(), semver_parser::RangeError>(())
+    /// # Ok::<(), semver_parser::Error>(())
     /// ```
     pub fn is_subset(&self, other: &VersionSet) -> Result<bool, SetError> {
         if self.digits != other.digits {
@@ -133,12 +133,12 @@ impl VersionSet {
     /// ```
     /// use semver_parser::{sets, Dialect};
     ///
-    /// let set = sets::read("^1.2.0", Dialect::Npm)?;
-    /// let below = sets::read("<1.2.0", Dialect::Npm)?;
-    /// let to = sets::read("<=1.2.0", Dialect::Npm)?;
+    /// let set = sets::parse("^1.2.0", Dialect::Npm)?;
+    /// let below = sets::parse("<1.2.0", Dialect::Npm)?;
+    /// let to = sets::parse("<=1.2.0", Dialect::Npm)?;
     /// assert_eq!(set.is_disjoint(&below), Ok(true));
     /// assert_eq!(set.is_disjoint(&to), Ok(false)); // 1.2.0 is in both
-    /// # Ok::<(), semver_parser::RangeError>(())
+    /// # Ok::<(), semver_parser::Error>(())
     /// ```
     pub fn is_disjoint(&self, other: &VersionSet) -> Result<bool, SetError> {
         if self.digits != other.digits {

@@ -21,7 +21,7 @@ use crate::proved::semver_versions::version::{Outline, Version};
 /// ```
 /// use semver_parser::{sets, version, Dialect};
 ///
-/// let set = sets::read(">=1.2.0 <2.0.0 || 3.1.4", Dialect::Npm)?;
+/// let set = sets::parse(">=1.2.0 <2.0.0 || 3.1.4", Dialect::Npm)?;
 /// assert!(set.contains(&version::parse("1.9.0")?) && set.contains(&version::parse("3.1.4+b5")?));
 /// assert!(!set.contains(&version::parse("2.0.0")?) && !set.contains(&version::parse("3.1.5")?));
 /// # Ok::<(), String>(())
@@ -67,9 +67,9 @@ impl VersionSet {
     /// ```
     /// use semver_parser::{sets, Dialect, Digits};
     ///
-    /// assert_eq!(sets::read("^1.2.0", Dialect::Cargo)?.digits(), Digits::AnySize);
-    /// assert_eq!(sets::read("^1.2.0", Dialect::CrateCargo)?.digits(), Digits::Kept);
-    /// # Ok::<(), semver_parser::RangeError>(())
+    /// assert_eq!(sets::parse("^1.2.0", Dialect::Cargo)?.digits(), Digits::AnySize);
+    /// assert_eq!(sets::parse("^1.2.0", Dialect::CrateCargo)?.digits(), Digits::Kept);
+    /// # Ok::<(), semver_parser::Error>(())
     /// ```
     pub fn digits(&self) -> Digits {
         self.digits
@@ -81,7 +81,7 @@ impl VersionSet {
     /// use semver_parser::{sets, version, Dialect, Meaning, PreReleases};
     ///
     /// let npm = Meaning { dialect: Dialect::Npm, pre_releases: PreReleases::Included };
-    /// let releases = sets::read(">=1.2.0-rc", npm)?.only_releases();
+    /// let releases = sets::parse(">=1.2.0-rc", npm)?.only_releases();
     /// assert!(releases.contains(&version::parse("1.2.0")?));
     /// assert!(!releases.contains(&version::parse("1.2.0-rc.2")?));
     /// # Ok::<(), String>(())
@@ -95,7 +95,7 @@ impl VersionSet {
     /// ```
     /// use semver_parser::{sets, version, Dialect};
     ///
-    /// let pre_releases = sets::read(">=1.2.0-rc", Dialect::Npm)?.only_pre_releases();
+    /// let pre_releases = sets::parse(">=1.2.0-rc", Dialect::Npm)?.only_pre_releases();
     /// assert!(pre_releases.contains(&version::parse("1.2.0-rc.2")?));
     /// assert!(!pre_releases.contains(&version::parse("1.2.0")?));
     /// # Ok::<(), String>(())
@@ -113,17 +113,17 @@ impl VersionSet {
     /// ```
     /// use semver_parser::{sets, version, Dialect};
     ///
-    /// let set = sets::read("^1.2.0", Dialect::Cargo)?;
+    /// let set = sets::parse("^1.2.0", Dialect::Cargo)?;
     /// assert!(set.contains(&version::parse("1.9.0+b5")?));
     /// assert!(!set.contains(&version::parse("2.0.0")?));
     ///
-    /// let set = sets::read("<1.0.0-10a", Dialect::Cargo)?;
+    /// let set = sets::parse("<1.0.0-10a", Dialect::Cargo)?;
     /// let large = version::parse("1.0.0-18446744073709551616")?;
     /// assert!(set.contains(&large)); // to Cargo it is a number, and a number is below `10a`
     /// # Ok::<(), String>(())
     /// ```
     pub fn contains(&self, version: &Version) -> bool {
-        let release = Release::of(version);
+        let release = Release::from_version(version);
         let is_release = version.pre.is_empty();
         if self.pre_releases.is_empty() {
             // Evaluates both, so that the answer depends on no branch.
@@ -162,9 +162,9 @@ impl VersionSet {
     /// use semver_parser::sets::{self, Release};
     /// use semver_parser::Dialect;
     ///
-    /// let set = sets::read("^1.2.0", Dialect::Cargo)?;
+    /// let set = sets::parse("^1.2.0", Dialect::Cargo)?;
     /// assert!(set.contains_release(Release { major: 1, minor: 9, patch: 0 }));
-    /// # Ok::<(), semver_parser::RangeError>(())
+    /// # Ok::<(), semver_parser::Error>(())
     /// ```
     #[inline(always)]
     pub fn contains_release(&self, release: Release) -> bool {
@@ -179,10 +179,10 @@ impl VersionSet {
     /// use semver_parser::{sets, version, Dialect};
     ///
     /// let dialect = Dialect::Npm;
-    /// let set = sets::read("^1.2.0", dialect)?;
+    /// let set = sets::parse("^1.2.0", dialect)?;
     /// let outline = version::outline_in(b"v1.9.0", dialect.grammar()).unwrap();
     /// assert!(set.contains_outline(&outline));
-    /// # Ok::<(), semver_parser::RangeError>(())
+    /// # Ok::<(), semver_parser::Error>(())
     /// ```
     #[inline(always)]
     pub fn contains_outline(&self, outline: &Outline<'_>) -> bool {

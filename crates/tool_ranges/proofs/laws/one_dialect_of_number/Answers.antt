@@ -11,5 +11,5 @@ pub returns : goal.returns
 returns c =
     let n = to_z w32 (of_z w32 c.args.number) in
     record {
-      one = one_option (λ r. n ≡ number_of r) _ _ (λ r s is is'. one r s (sym is ∙ is')) c.of_number.ensures c.of_number-2.ensures;
+      one = one_option (λ r. n ≡ number_of r) _ _ (λ r s is is'. one r s (sym is ∙ is')) c.from_number.ensures c.from_number-2.ensures;
     }

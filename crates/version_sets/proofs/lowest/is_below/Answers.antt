@@ -24,6 +24,6 @@ returns-in-Some c =
     let v = read_plain c.args.version.now in
     c.is_lt.ensures ∙ ap is_lt c.cmp.ensures
     ∙ ap (λ w. is_lt (ordering_then (nat_cmp r.major w.major) (ordering_then (nat_cmp r.minor w.minor) (nat_cmp r.patch w.patch))))
-    c.of.ensures
+    c.from_version.ensures
     ∙ sym (last (nat_cmp r.major v.major) (nat_cmp r.minor v.minor) (nat_cmp r.patch v.patch) (pre_cmp [] v.pre) (no_pre v.pre))
     ∙ ap (λ o. is_below (option_map (λ r. release_value r.now) o) v) (sym c.in-Some.is)

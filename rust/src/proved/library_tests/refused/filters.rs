@@ -109,7 +109,7 @@ fn below_two() -> Result<VersionRange, Ending> {
         dialect: Dialect::CrateCargo,
         pre_releases: PreReleases::Included,
     };
-    match VersionRange::read("<2", meaning) {
+    match VersionRange::try_parse("<2", meaning) {
         Ok(range) => Ok(range),
         Err(RangeError::OutOfMemory) => Err(Ending::Refused),
         Err(_) => Err(Ending::Wrong),

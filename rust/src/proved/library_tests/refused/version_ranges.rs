@@ -19,7 +19,7 @@ const CARGO: Meaning = Meaning {
 
 /// A range that contains 1.9.0-rc and not 2.0.0.
 pub fn parse() -> Ending {
-    match VersionRange::read("^1.2", CARGO) {
+    match VersionRange::try_parse("^1.2", CARGO) {
         Ok(range) => Ending::full_if(
             range.contains_bytes(b"1.9.0-rc") == Ok(true)
                 && range.contains_bytes(b"2.0.0") == Ok(false),
@@ -31,12 +31,12 @@ pub fn parse() -> Ending {
 
 /// What two ranges contain together, or the first alone. Reading them is part of the call.
 pub fn combined() -> Ending {
-    let range = match VersionRange::read("^1.2", CARGO) {
+    let range = match VersionRange::try_parse("^1.2", CARGO) {
         Ok(range) => range,
         Err(RangeError::OutOfMemory) => return Ending::Refused,
         Err(_) => return Ending::Wrong,
     };
-    let other = match VersionRange::read(">=1.5, <3", CARGO) {
+    let other = match VersionRange::try_parse(">=1.5, <3", CARGO) {
         Ok(other) => other,
         Err(RangeError::OutOfMemory) => return Ending::Refused,
         Err(_) => return Ending::Wrong,

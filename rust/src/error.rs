@@ -1,0 +1,194 @@
+//! The error of strings that aren't a version or a range of a dialect.
+
+use crate::layers::{explain_range, explain_version};
+use crate::original::printed;
+use crate::rattle_std::FallibleString;
+use crate::{AllocError, Dialect, RangeError, Reason};
+use alloc::string::String;
+use core::fmt::{self, Display, Formatter};
+
+/// What is wrong with a string.
+#[derive(Clone, Copy, Debug, PartialEq, Eq, Hash)]
+#[non_exhaustive]
+pub enum ErrorKind {
+    /// It isn't a version of the dialect.
+    InvalidVersion,
+    /// It isn't a range of the dialect.
+    InvalidRange,
+    /// It is a range of the dialect, but a number of it, or a number that has to be raised by one,
+    /// is too large: in npm's dialect above 2^53 - 1, and in the others above 2^64 - 1.
+    NumberTooLarge,
+    /// An allocation failed.
+    OutOfMemory,
+}
+
+impl ErrorKind {
+    /// Returns its sentence, such as `invalid range`.
+    fn sentence(self) -> &'static str {
+        match self {
+            ErrorKind::InvalidVersion => "invalid version",
+            ErrorKind::InvalidRange => "invalid range",
+            ErrorKind::NumberTooLarge => "number too large in the range",
+            ErrorKind::OutOfMemory => "out of memory",
+        }
+    }
+}
+
+/// A string that isn't a version or a range of a dialect: which string, where it is wrong, and why.
+///
+/// `{}` prints one line, and `{:#}` the string with a caret below the offset:
+///
+/// ```
+/// use semver_parser::{Dialect, ErrorKind, Reason, VersionRange};
+///
+/// let error = VersionRange::parse("1 || 2", Dialect::Cargo).unwrap_err();
+/// assert_eq!(
+///     error.to_string(),
+///     "invalid range \"1 || 2\" at offset 2: Cargo takes no ||; npm does"
+/// );
+/// assert_eq!(
+///     format!("{error:#}"),
+///     "invalid range: Cargo takes no ||; npm does\n    1 || 2\n      ^"
+/// );
+/// assert_eq!(error.kind(), ErrorKind::InvalidRange);
+/// assert_eq!((error.offset(), error.reason()), (Some(2), Some(Reason::CargoBars)));
+/// ```
+#[derive(Clone, Debug, PartialEq, Eq)]
+pub struct Error {
+    kind: ErrorKind,
+    string: String,
+    found: Option<(usize, Reason)>,
+}
+
+impl Error {
+    /// Returns what is wrong.
+    ///
+    /// ```
+    /// use semver_parser::{check_range, Dialect, ErrorKind};
+    ///
+    /// let error = check_range("^18446744073709551615", Dialect::Cargo).unwrap_err();
+    /// assert_eq!(error.kind(), ErrorKind::NumberTooLarge);
+    /// ```
+    pub fn kind(&self) -> ErrorKind {
+        self.kind
+    }
+
+    /// Returns the string. Bytes that aren't UTF-8 are replaced.
+    ///
+    /// ```
+    /// use semver_parser::{check_version, Dialect};
+    ///
+    /// assert_eq!(check_version("1.2", Dialect::Npm).unwrap_err().string(), "1.2");
+    /// ```
+    pub fn string(&self) -> &str {
+        &self.string
+    }
+
+    /// Returns the offset in bytes of the first character that can't be there, or the length of the
+    /// string if something is missing at its end. If a number is too large, it is the end of the
+    /// first term with such a number. Returns `None` if an allocation failed.
+    ///
+    /// ```
+    /// use semver_parser::{check_version, Dialect};
+    ///
+    /// assert_eq!(check_version("1.2.03", Dialect::Npm).unwrap_err().offset(), Some(5));
+    /// assert_eq!(check_version("1.2", Dialect::Npm).unwrap_err().offset(), Some(3));
+    /// ```
+    pub fn offset(&self) -> Option<usize> {
+        self.found.map(|(offset, _)| offset)
+    }
+
+    /// Returns why the string is wrong, or `None` if an allocation failed.
+    ///
+    /// ```
+    /// use semver_parser::{check_version, Dialect, Reason};
+    ///
+    /// let error = check_version("1.2.03", Dialect::Npm).unwrap_err();
+    /// assert_eq!(error.reason(), Some(Reason::LeadingZero));
+    /// ```
+    pub fn reason(&self) -> Option<Reason> {
+        self.found.map(|(_, reason)| reason)
+    }
+
+    /// Returns the error of an invalid version.
+    #[cold]
+    pub(crate) fn from_version(version: &[u8], dialect: Dialect) -> Error {
+        let found = explain_version(version, dialect);
+        let found = found
+            .ok()
+            .flatten()
+            .map(|refusal| (refusal.offset, refusal.reason));
+        Error::new(
+            ErrorKind::InvalidVersion,
+            &String::from_utf8_lossy(version),
+            found,
+        )
+    }
+
+    /// Returns the error of an invalid range.
+    #[cold]
+    pub(crate) fn from_range(error: RangeError, range: &str, dialect: Dialect) -> Error {
+        let kind = match error {
+            RangeError::NotARange => ErrorKind::InvalidRange,
+            RangeError::NumberTooLarge => ErrorKind::NumberTooLarge,
+            RangeError::OutOfMemory => ErrorKind::OutOfMemory,
+        };
+        let found = explain_range(range, dialect);
+        let found = found
+            .ok()
+            .flatten()
+            .map(|refusal| (refusal.offset, refusal.reason));
+        Error::new(kind, range, found)
+    }
+
+    /// Returns the error of a string. If an allocation failed, that is the error.
+    fn new(kind: ErrorKind, string: &str, found: Option<(usize, Reason)>) -> Error {
+        match String::fallible_from_str(string) {
+            Ok(string) if found.is_some() => Error {
+                kind,
+                string,
+                found,
+            },
+            _ => Error::from(AllocError),
+        }
+    }
+}
+
+impl From<AllocError> for Error {
+    /// Returns an error of the kind [`ErrorKind::OutOfMemory`].
+    fn from(_: AllocError) -> Error {
+        Error {
+            kind: ErrorKind::OutOfMemory,
+            string: String::new(),
+            found: None,
+        }
+    }
+}
+
+impl Display for Error {
+    fn fmt(&self, f: &mut Formatter<'_>) -> fmt::Result {
+        let (kind, string) = (self.kind.sentence(), &self.string);
+        let Some((offset, reason)) = self.found else {
+            return f.write_str(kind);
+        };
+        if f.alternate() {
+            let before = string
+                .get(..offset)
+                .unwrap_or_default()
+                .escape_debug()
+                .count();
+            let shown = string.escape_debug();
+            return write!(f, "{kind}: {reason}\n    {shown}\n    {:before$}^", "");
+        }
+        write!(f, "{kind} {string:?} at offset {offset}: {reason}")
+    }
+}
+
+impl From<Error> for String {
+    fn from(error: Error) -> String {
+        printed(error)
+    }
+}
+
+#[cfg(feature = "std")]
+impl std::error::Error for Error {}

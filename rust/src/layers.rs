@@ -1,0 +1,79 @@
+//! Calls for the layers for C and JavaScript: their errors are plain values and copy no string.
+
+use crate::proved::{invalid_strings, tool_ranges};
+use crate::{AllocError, Dialect, RangeError, RangeSet};
+
+pub use crate::proved::invalid_strings::refusals::Refusal as VersionRefusal;
+pub use crate::proved::tool_ranges::refusals::Refusal as RangeRefusal;
+
+/// Returns where and why bytes aren't a version of a dialect, or `None` if they are one.
+///
+/// # Errors
+///
+/// [`AllocError`] if an allocation failed. It allocates only if the bytes aren't a version.
+///
+/// ```
+/// use semver_parser::layers::explain_version;
+/// use semver_parser::{Dialect, Reason};
+///
+/// let refusal = explain_version(b"1.2.\xff", Dialect::Npm)?.unwrap();
+/// assert_eq!((refusal.offset, refusal.reason), (4, Reason::UnexpectedCharacter));
+/// # Ok::<(), semver_parser::AllocError>(())
+/// ```
+pub fn explain_version(
+    version: &[u8],
+    dialect: Dialect,
+) -> Result<Option<VersionRefusal>, AllocError> {
+    invalid_strings::refusals::explain(version, dialect.grammar())
+}
+
+/// Returns where and why a string isn't a range of a dialect, or `None` if it is one.
+///
+/// # Errors
+///
+/// [`AllocError`] if an allocation failed. It allocates only if the string isn't a range.
+///
+/// ```
+/// use semver_parser::layers::explain_range;
+/// use semver_parser::{Dialect, Reason};
+///
+/// let refusal = explain_range(">=1.2.0, <2", Dialect::Npm)?.unwrap();
+/// assert_eq!((refusal.offset, refusal.reason), (7, Reason::NpmComma));
+/// # Ok::<(), semver_parser::AllocError>(())
+/// ```
+pub fn explain_range(range: &str, dialect: Dialect) -> Result<Option<RangeRefusal>, AllocError> {
+    tool_ranges::refusals::refused(dialect, range)
+}
+
+/// Checks that a string is a range of a dialect whose numbers fit. It does not allocate.
+///
+/// # Errors
+///
+/// [`RangeError::NotARange`] or [`RangeError::NumberTooLarge`].
+///
+/// ```
+/// use semver_parser::layers::check_range;
+/// use semver_parser::{Dialect, RangeError};
+///
+/// assert_eq!(check_range("1 || 2", Dialect::Cargo), Err(RangeError::NotARange));
+/// ```
+pub fn check_range(range: &str, dialect: Dialect) -> Result<(), RangeError> {
+    tool_ranges::meaning::check(dialect.into(), range)
+}
+
+/// Rewrites a range string of a dialect into plain comparators with exact bounds.
+///
+/// # Errors
+///
+/// Those of [`check_range`], and [`RangeError::OutOfMemory`] if an allocation failed.
+///
+/// ```
+/// use semver_parser::layers::comparators;
+/// use semver_parser::Dialect;
+///
+/// assert_eq!(comparators("1.2", Dialect::Cargo)?.to_string(), ">=1.2.0 <2.0.0-0");
+/// # Ok::<(), semver_parser::RangeError>(())
+/// ```
+pub fn comparators(range: &str, dialect: Dialect) -> Result<RangeSet, RangeError> {
+    tool_ranges::dialect::rewrite(dialect, range)
+}
