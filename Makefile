@@ -53,7 +53,7 @@ $(built)/semver-parser: FORCE
 	build -p semver-parser-proved --bins
 $(built)/libsemver_parser.a: FORCE
 	$(begin)
-	build -p semver-parser-capi
+	build -p semver-parser-capi --no-default-features
 
 # Both forms of the C library are one object file, of what the functions of the header need. It
 # needs only the system's C library, and shows the names alone that semver_parser.map has.

@@ -11,7 +11,6 @@ extern "C" {
     fn malloc(size: usize) -> *mut c_void;
     fn realloc(block: *mut c_void, size: usize) -> *mut c_void;
     fn free(block: *mut c_void);
-    fn abort() -> !;
 }
 
 #[global_allocator]
@@ -42,9 +41,14 @@ unsafe impl GlobalAlloc for Heap {
     }
 }
 
-/// No call of the proved crate panics. Nothing unwinds into C.
+/// No call of the proved crate panics. Nothing unwinds into C. With the feature `std`, std has the
+/// handler instead, and a program has only one.
+#[cfg(not(feature = "std"))]
 #[panic_handler]
 fn panic(_: &core::panic::PanicInfo<'_>) -> ! {
+    extern "C" {
+        fn abort() -> !;
+    }
     // SAFETY: it may always be called.
     unsafe { abort() }
 }
