@@ -29,6 +29,21 @@ checked() {
     same "${3:+$3 }$2" "$1" /dev/null "$lines" "$told" $fields ${3:+"$3"} "cases/$2"
 }
 
+# checked_as_named STATUS NAME: checks a Cargo.lock of cases/cargo-lock, as `checked`, in a copy in
+# which each Cargo.toml.case is Cargo.toml. For a dependency by `git = URL` cargo reads each Cargo.toml
+# of this repository, and prints an error for a manifest of another shape; one that is older than
+# 1.94 also prints one for TOML 1.1.
+checked_as_named() {
+    stored=cases/cargo-lock/$2 copy=$work/named/cases/cargo-lock/$2
+    lines=$stored/Cargo.expected told=$stored/Cargo.told
+    [ -e "$lines" ] || lines=/dev/null
+    [ -e "$told" ] || told=/dev/null
+    mkdir -p "${copy%/*}" && cp -R "$stored" "$copy"
+    find "$copy" -name Cargo.toml.case -execdir mv {} Cargo.toml \;
+    same "$2/Cargo.lock" "$1" /dev/null "$lines" "$told" \
+        sh -c 'cd "$1" && shift && exec "$@"' - "$work/named" "$PWD/"$fields "$stored/Cargo.lock"
+}
+
 # refused TOLD INPUT PROGRAM ARGUMENT..: runs a program on an input, which has to report that and to
 # print nothing.
 refused() {
@@ -72,10 +87,12 @@ for name in no-graph no-node no-package another-format; do checked 2 "cargo/$nam
 
 if python3 -c 'import tomllib' 2> /dev/null; then
     for name in right package empty removed replaced; do checked 0 "cargo-lock/$name/Cargo.lock"; done
-    for name in wrong outside/workspace project root source no-source edges lost unreached beside patches not-replaced exchanged toml-1.1; do
+    for name in wrong outside/workspace project root source no-source edges lost unreached beside patches not-replaced exchanged; do
         checked 1 "cargo-lock/$name/Cargo.lock"
     done
-    for name in alone another-shape no-member zero-path zero-pattern twice newer; do checked 2 "cargo-lock/$name/Cargo.lock"; done
+    for name in alone no-member zero-path zero-pattern twice newer; do checked 2 "cargo-lock/$name/Cargo.lock"; done
+    checked_as_named 1 toml-1.1
+    checked_as_named 2 another-shape
     cp -R cases/cargo-lock/right "$work/right" && cp "$work/right/Cargo.lock" "$work/right/app"
     for path in app/Cargo.lock app; do
         echo 'app/Cargo.lock: left out, since Cargo reads Cargo.lock' > "$work/note"

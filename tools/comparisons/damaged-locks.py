@@ -9,6 +9,7 @@ what it was. It prints each error with what makes it again, and ends with status
 """
 import json
 import os
+import pathlib
 import random
 import re
 import shutil
@@ -189,4 +190,6 @@ if __name__ == "__main__":
     with tempfile.TemporaryDirectory() as work:
         CASES_COPY = os.path.join(work, "cases")
         shutil.copytree(CASES, CASES_COPY)
+        for manifest in pathlib.Path(CASES_COPY).rglob("Cargo.toml.case"):
+            manifest.rename(manifest.with_suffix(""))
         sys.exit(main())
