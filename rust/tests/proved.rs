@@ -74,12 +74,13 @@ fn compare_all() {
     }
 }
 
-/// A file of a program: in the repository it is beside its source, and `make crate` packs it.
+/// A file of a program. In the repository it is next to its source, and `tests/data` links to it;
+/// in the package it is in `tests/data`.
 fn data(name: &str) -> Vec<u8> {
     let root = env!("CARGO_MANIFEST_DIR");
-    let packed = fs::read(format!("{root}/tests/data/{name}"));
-    packed
-        .or_else(|_| fs::read(format!("{root}/../crates/{name}")))
+    let linked = fs::read(format!("{root}/../crates/{name}"));
+    linked
+        .or_else(|_| fs::read(format!("{root}/tests/data/{name}")))
         .unwrap_or_else(|error| panic!("{name}: {error}"))
 }
 
