@@ -106,6 +106,7 @@ cargo_tests() {
     quietly 'without std' cargo test --quiet --no-default-features
     RUSTDOCFLAGS='-D warnings' quietly 'its documentation' cargo doc --quiet --no-deps
     tests/examples.py "${CARGO_TARGET_DIR:-target}/doc/semver_parser"
+    tests/doc-links.py "${CARGO_TARGET_DIR:-target}/doc/semver_parser"
     ! cargo clippy --version > /dev/null 2>&1 ||
         quietly clippy cargo clippy --quiet --all-targets -- -D warnings
 }

@@ -1,5 +1,6 @@
-//! Version strings and range strings of Cargo and npm as plain data: the crate `semver-parser`
-//! 0.10.3 under its own names, and what release tools need beyond it.
+//! Version strings and range strings of Cargo and npm as plain data: the crate
+//! [`semver-parser`](https://docs.rs/semver-parser/0.10.3) 0.10.3 under its own names, and what
+//! release tools need beyond it.
 //!
 //! ```
 //! use semver_parser::{version, Compat, RangeSet};
@@ -37,12 +38,47 @@
 //! An [`Error`] says where and why a string is invalid. [`sets`] has the sets of versions below a
 //! range, and [`filters`] what selects versions and lines.
 //!
-//! The code is written in Rattle, Rust with contracts, and proved there for every input;
-//! `rust/src/proved` is that code without its contracts. It allocates by `try_reserve`: a call that
-//! returns a `Result` with a case for it reports that an allocation failed, and any other ends as
-//! all of Rust does.
+//! # Coming from `semver-parser` 0.10
 //!
-//! Without the feature `std` (default) the crate needs `alloc` alone, and there are no programs.
+//! Names and signatures are the original's. A `match` over [`parser::Error`] needs one more arm, for
+//! `OutOfMemory`. These results differ, and [`docs::original_crate`] has all that do:
+//!
+//! - A comma isn't part of a range. The original accepts one after a comparator, so replace commas by
+//!   spaces before [`RangeSet::parse`], or read the range as Cargo does today, by
+//!   [`Dialect::Cargo`]:
+//!
+//!   ```
+//!   use semver_parser::{comparators, Compat, Dialect, RangeSet};
+//!
+//!   let range = ">=1.2, <2";
+//!   assert!(RangeSet::parse(range, Compat::Cargo).is_err());
+//!   let set = RangeSet::parse(&range.replace(',', " "), Compat::Cargo)?;
+//!   assert_eq!(set.to_string(), ">=1.2.0 <2.0.0");
+//!   assert_eq!(comparators(range, Dialect::Cargo)?.to_string(), ">=1.2.0 <2.0.0");
+//!   # Ok::<(), String>(())
+//!   ```
+//! - A number that doesn't fit is an error, and not a panic.
+//! - [`lexer::Lexer`] returns its error once, and then `None`.
+//!
+//! # Pages
+//!
+//! - [`docs::ranges`]: the dialects, each form of range, the rules for pre-releases
+//! - [`docs::meaning`]: the definitions of Cargo's and npm's ranges, and of sets of versions
+//! - [`docs::grammar`]: which strings are versions and ranges, where and why one is invalid
+//! - [`docs::original_crate`]: the grammar and the comparators of `semver-parser`, and what differs
+//!
+//! Elsewhere: [SemVer 2.0.0](https://semver.org/spec/v2.0.0.html), [requirements in the Cargo
+//! book](https://doc.rust-lang.org/cargo/reference/specifying-dependencies.html), Cargo's crate
+//! [`semver`](https://docs.rs/semver), [node-semver](https://github.com/npm/node-semver), and [the
+//! original `semver-parser`](https://docs.rs/semver-parser/0.10.3).
+//!
+//! # What is proved
+//!
+//! The code is written in Rattle, Rust with contracts, and proved there for every input; `src/proved`
+//! is that code without its contracts. It allocates by `try_reserve`. A call whose error has a case
+//! for it returns that an allocation failed, and any other ends the process, as std does.
+//!
+//! Without the feature `std` (default) the crate needs only `alloc`, and there are no programs.
 #![no_std]
 #![forbid(unsafe_code)]
 #![warn(missing_docs)]
@@ -51,20 +87,24 @@ extern crate alloc;
 #[cfg(feature = "std")]
 extern crate std;
 
+// rustdoc lists methods in the order of the modules: `parse` comes before `try_parse`.
+mod original;
+mod version_range;
+
 #[doc(hidden)]
 pub mod proved;
 #[doc(hidden)]
 pub mod rattle_std;
 
+#[cfg(doc)]
+pub mod docs;
 mod error;
 pub mod filters;
 #[doc(hidden)]
 pub mod layers;
 mod names;
-mod original;
 mod range_strings;
 pub mod sets;
-mod version_range;
 mod version_ref;
 
 pub use proved::invalid_strings::reasons::Reason;

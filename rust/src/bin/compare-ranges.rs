@@ -1,4 +1,4 @@
-//! The program `compare-ranges`, whose code is that of `crates/compare_ranges_main`.
+//! The program `compare-ranges`, whose code is the module `compare_ranges_main`.
 
 use semver_parser::rattle_std::{self, HostRuntime};
 

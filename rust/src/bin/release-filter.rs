@@ -1,4 +1,4 @@
-//! The program `release-filter`, whose code is that of `crates/release_filter_main`.
+//! The program `release-filter`, whose code is the module `release_filter_main`.
 
 use semver_parser::rattle_std::{self, HostRuntime};
 

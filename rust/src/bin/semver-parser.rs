@@ -1,4 +1,4 @@
-//! The program `semver-parser`, whose code is that of `crates/semver_parser_main`.
+//! The program `semver-parser`, whose code is the module `semver_parser_main`.
 
 use semver_parser::rattle_std::{self, HostRuntime};
 

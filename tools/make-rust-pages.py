@@ -1,0 +1,149 @@
+#!/usr/bin/env python3
+"""Writes the pages that are part of the Rust crate's documentation, of those of docs/.
+
+    tools/make-rust-pages.py [DIRECTORY]    writes into the directory, else into rust/src/docs
+
+A page loses its title, its pictures, and links to what the package doesn't have. Links to other
+pages, and what only a clone has, become links within the documentation. It stops if a page no longer
+has a passage that is replaced here, or if a page that it wrote names a file of the repository."""
+
+import os
+import re
+import sys
+
+TOP = os.path.dirname(os.path.dirname(os.path.abspath(__file__)))
+
+# The pages, with the modules of documentation that they become.
+MODULES = {"RANGES": "ranges", "MEANING": "meaning", "GRAMMAR": "grammar", "CRATE": "original_crate"}
+
+SEMVER = "[SemVer 2.0.0](https://semver.org/spec/v2.0.0.html)"
+
+# Passages of each page, and what the documentation has instead. Blanks match any white space.
+PASSAGES = {
+    "RANGES": [
+        ("(SemVer 2.0.0, section 11)", f"({SEMVER}, section 11)"),
+        ("the Rust crate `semver`, and npm's those of node-semver 7",
+         "the Rust crate [`semver`](https://docs.rs/semver) (see the [Cargo book]"
+         "(https://doc.rust-lang.org/cargo/reference/specifying-dependencies.html)), and npm's those of"
+         " [node-semver](https://github.com/npm/node-semver) 7"),
+        ('is the Rust crate `semver-parser`, whose',
+         "is the original Rust crate [`semver-parser`](https://docs.rs/semver-parser/0.10.3), whose"),
+    ],
+    "MEANING": [
+        ("In Rattle, a `Meaning` is a dialect and a rule for pre-releases: `meaning::read` of `tool_ranges`",
+         "A [`Meaning`](crate::Meaning) is a dialect and a rule for pre-releases: [`sets::read`](crate::sets::read)"),
+        ("and `meaning::satisfies` checks", "and [`satisfies`](crate::satisfies) checks"),
+        ("(SemVer 2.0.0, section 11)", f"({SEMVER}, section 11)"),
+        (" (`laws::precedence_is_total`)", ""),
+        (" in `specs/CargoMeaning` and `specs/NpmMeaning`", ""),
+        ("`meaning::read` returns these sets exactly.", "`sets::read` returns these sets exactly."),
+        ("`cargo::rewrite` and `npm::rewrite` return comparators",
+         "[`comparators`](crate::comparators) returns comparators"),
+        (" (`specs/CargoMeaning`, by the rule `Included`)", ""),
+        (" The picture is of `^1.2.3-b || 3.x`. A filled ring begins what is in the set, an empty one ends it.", ""),
+        ("A `VersionSet` has", "A [`VersionSet`](crate::sets::VersionSet) has"),
+    ],
+    "GRAMMAR": [
+        (" The definitions are in `crates/*/specs`: `ToolVersions`, `CargoGrammar`, `NpmGrammar`, `Prefixes`,"
+         " `Reasons`, `RangeReasons` and `TooLarge`.", ""),
+        ("No string has two versions or trees by one grammar (`laws::one_version_in`, `one_tree`).",
+         "It is proved that no string has two versions or trees by one grammar."),
+        ("SemVer 2.0.0 (semver.org, sections 2, 9 and 10)", f"{SEMVER} (sections 2, 9 and 10)"),
+        ("`version::outline_in` reads", "[`version::outline_in`](crate::version::outline_in) reads"),
+        ("By laws of `semver_texts` a version", "It is proved that a version"),
+        ("`invalid_strings::refusals::explain` returns an offset and a reason.",
+         "[`refusals::of_version`](crate::refusals::of_version) returns an offset and a reason."),
+        (" `invalid_strings::bytes::is_prefix` returns whether some version begins with bytes, which may end"
+         " within a character.", ""),
+        ("`tool_ranges::refusals::refused` returns", "[`refusals::of_range`](crate::refusals::of_range) returns"),
+        ("([the list](../crates/invalid_strings/specs/ReasonTable.antt))", "([`Reason`](crate::refusals::Reason))"),
+        (" The definition counts the terms before it that state a number, and then as many such words of the"
+         " string; that these are the same terms is tested.", ""),
+        ("`tools/compare.sh` found no other ([PROVED](PROVED.md#what-was-set-beside-it));",
+         "Comparisons of many strings found no other;"),
+    ],
+    "CRATE": [
+        ("The Rust crate `semver-parser` 0.10.3, of which `crates/semver_parser` is the port:",
+         "The original Rust crate, [`semver-parser`](https://docs.rs/semver-parser/0.10.3) 0.10.3, of which this one"
+         " is the port:"),
+        ("`tools/compare.sh` runs Debian's 0.10.0-1 of the crate;", "What is compared is Debian's 0.10.0-1 of the crate;"),
+        ("No string has two token lists, versions or trees (`laws::one_token_list`, `one_version`, `one_tree`).",
+         "It is proved that no string has two token lists, versions or trees."),
+        ("[The theorem](PROVED.md#the-theorem) (clause `meaning` of `RangeSet::parse`, law `laws::meanings_agree`)"
+         " has one exception,",
+         "It is proved that a version satisfies the comparators if and only if it satisfies the text, with one exception,"),
+        (" Such rows are clauses of `laws::row_facts`.", ""),
+    ],
+}
+
+# Sections that are about Rattle.
+SECTIONS = {"CRATE": ["The Rust crate's calls"]}
+
+# What names a file of the repository.
+FILES = re.compile(r"\b(?:crates|docs|js|python|rust|specs|tests|tools)/[\w*.]|\b\w+\.(?:antt|md|rt|sh|svg)\b")
+
+
+def stop(why):
+    sys.exit(f"tools/make-rust-pages.py: {why}")
+
+
+def replaced(page, text):
+    """A page with its passages replaced."""
+    for old, new in PASSAGES[page]:
+        found = r"\s+".join(re.escape(word) for word in old.split(" ")[bool(old[0] == " "):])
+        text, count = re.subn(r"\s+" * (old[0] == " ") + found, lambda _: new, text)
+        if count != 1:
+            stop(f"docs/{page}.md has this {count} times: {old.strip()}")
+    return text
+
+
+def without_sections(page, text):
+    for title in SECTIONS.get(page, ()):
+        text, count = re.subn(rf"^## {re.escape(title)}\n.*?(?=^## )", "", text, flags=re.M | re.S)
+        if count != 1:
+            stop(f"docs/{page}.md has no section {title}")
+    return text
+
+
+def link(found):
+    """A link to a page is one to its module, and one to another file only its words."""
+    words, page, anchor = found.groups()
+    if page in MODULES:
+        name = MODULES[page]
+        return f"[{f'`docs::{name}`' if words == page else words}](crate::docs::{name}{anchor or ''})"
+    return words
+
+
+def linked(text):
+    """A page without pictures, with its links those of the documentation."""
+    text = re.sub(r"!\[[^\]]*\]\([^)]*\)\n*", "", text)
+    text = re.sub(r"\s\(\[[^\]]*\]\(\.\./[^)]*\)\)", "", text)
+    return re.sub(r"\[([^\]]*)\]\((?![a-z]+:|#)(?:(\w+)\.md|[^)#]*)(#[^)]*)?\)", link, text)
+
+
+def fenced(text):
+    """A page whose code isn't taken for Rust."""
+    text = re.sub(r"^```\n(.*?)^```$", r"```text\n\1```", text, flags=re.M | re.S)
+    return re.sub(r"(?<=\n\n)(?:    .*\n)+", indented, text)
+
+
+def indented(block):
+    """An indented block between fences."""
+    return "```text\n" + re.sub("^    ", "", block[0], flags=re.M) + "```\n"
+
+
+def main():
+    folder = sys.argv[1] if sys.argv[1:] else os.path.join(TOP, "rust/src/docs")
+    os.makedirs(folder, exist_ok=True)
+    for page, module in MODULES.items():
+        with open(os.path.join(TOP, f"docs/{page}.md"), encoding="utf-8") as file:
+            text = file.read().split("\n", 2)[2]
+        text = fenced(linked(without_sections(page, replaced(page, text))))
+        named = FILES.search(text)
+        if named:
+            stop(f"docs/{page}.md names what the package doesn't have: {named[0]}")
+        with open(os.path.join(folder, f"{module}.md"), "w", encoding="utf-8") as file:
+            file.write(f"{text}\n<!-- Made by tools/make-rust-pages.py from docs/{page}.md; not edited by hand. -->\n")
+
+
+main()
