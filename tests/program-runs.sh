@@ -33,6 +33,14 @@ no_value() {
     run 'a text that looks like an option' "$program" '--help'
 }
 
+# The main of rust/src/bin writes a line to standard error for these; the kit's build does not.
+asked_for_help() {
+    run 'built by cargo: --help' "$program" '--help'
+    run 'built by cargo: --version' "$program" '--version'
+    run 'built by cargo: --help, and one more' "$program" '--help' '1.2.3'
+    run 'built by cargo: --help, and a full output' onto_a_full_device '--help'
+}
+
 # Arguments that are more than one text, or can't be read: status 2.
 refused_arguments() {
     run 'two arguments' "$program" '1.2.3' '4.5.6'
@@ -53,6 +61,7 @@ refused_output() {
 {
     some_value
     no_value
+    asked_for_help
     refused_arguments
     refused_output
 } > "$work/runs"

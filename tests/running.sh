@@ -40,11 +40,16 @@ into_a_pipe_without_a_reader() {
     return "$(cat "$work/status")"
 }
 
-# comparable FILE: what it tells of all runs; with OPENED=yes without those with a closed standard
-# stream, in whose place Rust's runtime opens /dev/null.
+# comparable FILE: what it tells of the runs of one build. OPENED=yes is for what cargo builds. This
+# leaves out those with a closed standard stream, instead of which Rust's runtime opens /dev/null, and
+# that of --help as the kit builds it; without OPENED, those that are of what cargo builds.
 comparable() {
-    awk -v opened="${OPENED-}" \
-        '/^== / { out = opened && /^== a closed (in|out)put$/ } !out' "$1"
+    awk -v opened="${OPENED-}" '
+        /^== / {
+            out = opened ? /^== (a closed (in|out)put|a text that looks like an option)$/ \
+                : /^== built by cargo: /
+        }
+        !out' "$1"
 }
 
 # compare: what the runs told in the file `runs` has to be what is expected, to the byte.
