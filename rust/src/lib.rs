@@ -41,11 +41,11 @@
 //! # Coming from `semver-parser` 0.10
 //!
 //! Names and signatures are the original's. A `match` over [`parser::Error`] needs one more arm, for
-//! `OutOfMemory`. These results differ, and [`docs::original_crate`] has all that do:
+//! `OutOfMemory`. These results differ; [`docs::original_crate`] lists every difference in ranges:
 //!
-//! - A comma isn't part of a range. The original accepts one after a comparator, so replace commas by
-//!   spaces before [`RangeSet::parse`], or read the range as Cargo does today, by
-//!   [`Dialect::Cargo`]:
+//! - [`RangeSet::parse`] rejects commas. The original accepts one after a comparator, and `semver` 0.9
+//!   to 0.11 rely on it. Spaces instead of commas keep the original's meaning, and
+//!   [`Dialect::Cargo`] reads commas as Cargo does today, where `1.2` is `^1.2`:
 //!
 //!   ```
 //!   use semver_parser::{comparators, Compat, Dialect, RangeSet};
