@@ -4,19 +4,31 @@ export type Dialect = 'npm' | 'cargo' | 'crate-npm' | 'crate-cargo'
 /** The type of a dialect's numbers: those of 64 bits are `bigint`. */
 export type NumberOf<D extends Dialect> = D extends 'npm' ? number : bigint
 
-export interface Options<D extends Dialect = Dialect> {
+/** The options of a call. `Options` without an argument has no other dialect than npm's, as in `@types/semver`. */
+export interface Options<D extends Dialect = 'npm'> {
   /** Whose rules: by default those of the objects that are given, and npm's if none is. */
-  dialect?: D
+  dialect?: D | undefined
   /** Whether pre-releases within the bounds satisfy a range: node-semver's option, short for `preReleases: 'included'`. */
-  includePrerelease?: boolean
+  includePrerelease?: boolean | undefined
   /** Which pre-releases satisfy a range: those that the tool takes by default, each within the bounds, or none. */
-  preReleases?: 'default' | 'included' | 'excluded'
-  /** Taken, and without effect: versions and ranges are read strictly. */
-  loose?: boolean
+  preReleases?: 'default' | 'included' | 'excluded' | undefined
+  /** Versions and ranges are read strictly all the same: without effect, unless `rejectLoose` is true. */
+  loose?: boolean | undefined
+  /** Whether the call throws a `TypeError` if `loose` is true. */
+  rejectLoose?: boolean | undefined
+}
+
+/** The same, by its name in `@types/semver`. */
+export interface RangeOptions<D extends Dialect = 'npm'> extends Options<D> {}
+
+/** The options of `coerce`. */
+export interface CoerceOptions<D extends Dialect = 'npm'> extends Options<D> {
+  /** Whether the last version of the string is returned instead of the first. */
+  rtl?: boolean | undefined
 }
 
 /** Options, or `true`, which is short for `{ loose: true }`. */
-export type OptionsOrLoose<D extends Dialect = Dialect> = Options<D> | boolean | null | undefined
+export type OptionsOrLoose<D extends Dialect = 'npm'> = Options<D> | boolean | null | undefined
 
 /** The same without a dialect: an object keeps its own. */
 type WithoutDialect = (Options & { dialect?: undefined }) | boolean | null | undefined
@@ -29,7 +41,7 @@ export declare class SemVer<D extends Dialect = 'npm'> {
   /** Throws a `SemverError` if the version is invalid. */
   constructor(version: string | SemVer<D>, options?: WithoutDialect)
   constructor(version: AnyVersion, options: OptionsOrLoose<D>)
-  readonly options: Options
+  readonly options: Options<D>
   readonly loose: boolean
   readonly includePrerelease: boolean
   /** The string that was read. */
@@ -57,7 +69,7 @@ export declare class SemVer<D extends Dialect = 'npm'> {
   /** The same by the build metadata alone. */
   compareBuild(other: AnyVersion): -1 | 0 | 1
   /** Makes the version the next one, and returns it. */
-  inc(release: ReleaseType | 'pre', identifier?: string, identifierBase?: '0' | '1' | false): this
+  inc(release: ReleaseType | 'pre', identifier?: string, identifierBase?: inc.IdentifierBase | false): this
 }
 
 /** A version, as a string or read. */
@@ -65,20 +77,23 @@ export type AnyVersion = string | SemVer<Dialect>
 
 /** A comparator: an operator and a version. */
 export declare class Comparator<D extends Dialect = 'npm'> {
-  /** What a comparator has in place of a version that each version satisfies. */
-  static readonly ANY: unique symbol
+  /** The symbol that `semver` is if each version satisfies the comparator. Its type is that of `semver`, as in `@types/semver`. */
+  static readonly ANY: SemVer<any>
   /** Throws a `TypeError` if the comparator is invalid. */
   constructor(comparator: string | Comparator<D>, options?: WithoutDialect)
   constructor(comparator: string | Comparator<Dialect>, options: OptionsOrLoose<D>)
-  readonly options: Options
+  readonly options: Options<D>
   readonly loose: boolean
-  readonly operator: '' | '>' | '>=' | '<' | '<='
-  readonly semver: SemVer<D> | typeof Comparator.ANY
+  /** Never `=`, which is `''`: it is in the type as in `@types/semver`. */
+  readonly operator: '' | '=' | '<' | '>' | '<=' | '>='
+  readonly semver: SemVer<D>
   readonly value: string
   toString(): string
   toJSON(): object
-  test(version: AnyVersion | typeof Comparator.ANY): boolean
-  intersects(other: Comparator<Dialect>, options?: OptionsOrLoose): boolean
+  /** Makes the comparator another one. Throws a `TypeError` if that is invalid. */
+  parse(comparator: string): void
+  test(version: AnyVersion): boolean
+  intersects(other: Comparator<Dialect>, options?: OptionsOrLoose<Dialect>): boolean
 }
 
 /** A range that was read. */
@@ -86,7 +101,7 @@ export declare class Range<D extends Dialect = 'npm'> {
   /** Throws a `SemverError` if the range is invalid. */
   constructor(range: RangeOf<D>, options?: WithoutDialect)
   constructor(range: AnyRange, options: OptionsOrLoose<D>)
-  readonly options: Options
+  readonly options: Options<D>
   readonly loose: boolean
   readonly includePrerelease: boolean
   /** The string that was read, with single spaces. */
@@ -98,8 +113,10 @@ export declare class Range<D extends Dialect = 'npm'> {
   format(): string
   toString(): string
   toJSON(): object
+  /** The comparators of another range, of its first part if it has several, by the options of this one. */
+  parseRange(range: string): readonly Comparator<D>[]
   test(version: AnyVersion | null | undefined): boolean
-  intersects(other: Range<Dialect>, options?: OptionsOrLoose): boolean
+  intersects(other: Range<Dialect>, options?: OptionsOrLoose<Dialect>): boolean
 }
 
 /** A range, as a string or read by a dialect. */
@@ -152,7 +169,8 @@ export interface Part {
 }
 
 export declare const SEMVER_SPEC_VERSION: '2.0.0'
-export declare const RELEASE_TYPES: readonly ReleaseType[]
+/** They are frozen. */
+export declare const RELEASE_TYPES: ReleaseType[]
 
 /** Compiles the module ahead of the first call, without holding up the thread. */
 export declare function ready(): Promise<void>
@@ -160,22 +178,26 @@ export declare function ready(): Promise<void>
 export declare function init(module: object): void
 
 /** The version without build metadata, or null if it is invalid. */
-export declare function valid(version: unknown, options?: OptionsOrLoose | number): string | null
+export declare function valid(version: unknown, options?: OptionsOrLoose<Dialect> | number): string | null
 /** The version, or null if it is invalid. */
 export declare function parse<D extends Dialect = 'npm'>(version: string | SemVer<D>, options?: WithoutDialect, throwErrors?: boolean): SemVer<D> | null
 export declare function parse<D extends Dialect = 'npm'>(version: unknown, options?: OptionsOrLoose<D>, throwErrors?: boolean): SemVer<D> | null
 /** The version of a string in which it is, after `=`, `v` or white space; null if there is none. */
-export declare function clean(version: string, options?: OptionsOrLoose): string | null
+export declare function clean(version: string, options?: OptionsOrLoose<Dialect>): string | null
 /** The first version of a string, as `2.3.4` of `v2.3.4.5`, or the last with `rtl`; null if there is none. */
-export declare function coerce<D extends Dialect = 'npm'>(version: string | number | SemVer<D> | null | undefined, options?: Options & { dialect?: undefined, rtl?: boolean }): SemVer<D> | null
-export declare function coerce<D extends Dialect = 'npm'>(version: AnyVersion | number | null | undefined, options?: Options<D> & { rtl?: boolean }): SemVer<D> | null
+export declare function coerce<D extends Dialect = 'npm'>(version: string | number | SemVer<D> | null | undefined, options?: CoerceOptions & { dialect?: undefined }): SemVer<D> | null
+export declare function coerce<D extends Dialect = 'npm'>(version: AnyVersion | number | null | undefined, options?: CoerceOptions<D>): SemVer<D> | null
 /** The next version by the kind of release; null if the version is invalid. */
-export declare function inc(version: AnyVersion, release: ReleaseType, options?: OptionsOrLoose, identifier?: string, identifierBase?: '0' | '1' | false): string | null
-export declare function inc(version: AnyVersion, release: ReleaseType, identifier?: string, identifierBase?: '0' | '1' | false): string | null
+export declare function inc(version: AnyVersion, release: ReleaseType, options?: OptionsOrLoose<Dialect>, identifier?: string, identifierBase?: inc.IdentifierBase | false): string | null
+export declare function inc(version: AnyVersion, release: ReleaseType, identifier?: string, identifierBase?: inc.IdentifierBase | false): string | null
+export declare namespace inc {
+  /** The number with which a pre-release begins. */
+  type IdentifierBase = '0' | '1'
+}
 /** The kind of release from one version to the other; null if they have the same precedence. */
 export declare function diff(version: AnyVersion, other: AnyVersion): ReleaseType | null
 /** The pre-release identifiers, or null if there are none or the version is invalid. */
-export declare function prerelease(version: unknown, options?: OptionsOrLoose): ReadonlyArray<string | number> | null
+export declare function prerelease(version: unknown, options?: OptionsOrLoose<Dialect>): ReadonlyArray<string | number> | null
 /** A number of a version. Throws a `SemverError` if that is invalid. */
 export declare function major<D extends Dialect = 'npm'>(version: string | SemVer<D>, options?: WithoutDialect): NumberOf<D>
 export declare function major<D extends Dialect = 'npm'>(version: AnyVersion, options: OptionsOrLoose<D>): NumberOf<D>
@@ -184,60 +206,61 @@ export declare function minor<D extends Dialect = 'npm'>(version: AnyVersion, op
 export declare function patch<D extends Dialect = 'npm'>(version: string | SemVer<D>, options?: WithoutDialect): NumberOf<D>
 export declare function patch<D extends Dialect = 'npm'>(version: AnyVersion, options: OptionsOrLoose<D>): NumberOf<D>
 /** Where and why a string is no version, or null if it is one. */
-export declare function explainVersion(version: AnyVersion, options?: OptionsOrLoose): Explanation | null
+export declare function explainVersion(version: AnyVersion, options?: OptionsOrLoose<Dialect>): Explanation | null
 
 /** Whether a version satisfies a range; false if either is invalid. */
-export declare function satisfies(version: AnyVersion | null | undefined, range: AnyRange, options?: OptionsOrLoose): boolean
+export declare function satisfies(version: AnyVersion | null | undefined, range: AnyRange, options?: OptionsOrLoose<Dialect>): boolean
 /** The highest version that satisfies a range, the first of equal ones; null if none does. */
-export declare function maxSatisfying<T extends AnyVersion>(versions: Iterable<T>, range: AnyRange, options?: OptionsOrLoose): T | null
+export declare function maxSatisfying<T extends AnyVersion>(versions: Iterable<T>, range: AnyRange, options?: OptionsOrLoose<Dialect>): T | null
 /** The lowest version that satisfies a range, the first of equal ones; null if none does. */
-export declare function minSatisfying<T extends AnyVersion>(versions: Iterable<T>, range: AnyRange, options?: OptionsOrLoose): T | null
+export declare function minSatisfying<T extends AnyVersion>(versions: Iterable<T>, range: AnyRange, options?: OptionsOrLoose<Dialect>): T | null
 /** The versions that satisfy a range, in the list's order, without invalid ones. Throws a `SemverError` if the range is invalid. */
-export declare function filter<T extends AnyVersion>(versions: Iterable<T>, range: AnyRange, options?: OptionsOrLoose): T[]
+export declare function filter<T extends AnyVersion>(versions: Iterable<T>, range: AnyRange, options?: OptionsOrLoose<Dialect>): T[]
 /** The normal form of a range, npm's in each dialect, as `>=1.2.0 <2.0.0-0`; null if it is invalid. */
-export declare function validRange(range: unknown, options?: OptionsOrLoose): string | null
+export declare function validRange(range: unknown, options?: OptionsOrLoose<Dialect>): string | null
 /** The comparators of each range between `||`. */
-export declare function toComparators(range: AnyRange, options?: OptionsOrLoose): string[][]
+export declare function toComparators(range: AnyRange, options?: OptionsOrLoose<Dialect>): string[][]
 /** Where and why a string is no range; null if it is one. */
-export declare function explainRange(range: AnyRange, options?: OptionsOrLoose): Explanation | null
+export declare function explainRange(range: AnyRange, options?: OptionsOrLoose<Dialect>): Explanation | null
 /** The lowest version that satisfies a range; null if none does. */
 export declare function minVersion<D extends Dialect = 'npm'>(range: RangeOf<D>, options?: WithoutDialect): SemVer<D> | null
 export declare function minVersion<D extends Dialect = 'npm'>(range: AnyRange, options: OptionsOrLoose<D>): SemVer<D> | null
 /** Whether a version satisfies both ranges. */
-export declare function intersects(range: AnyRange, other: AnyRange, options?: OptionsOrLoose): boolean
+export declare function intersects(range: AnyRange, other: AnyRange, options?: OptionsOrLoose<Dialect>): boolean
 /** Whether each version that satisfies a range satisfies the other. */
-export declare function subset(range: AnyRange, other: AnyRange, options?: OptionsOrLoose): boolean
+export declare function subset(range: AnyRange, other: AnyRange, options?: OptionsOrLoose<Dialect>): boolean
 /** What is lost and what is gained if another range takes the place of a range; each null if nothing is. */
-export declare function compareRanges(range: AnyRange, other: AnyRange, options?: OptionsOrLoose): { lost: Part | null, gained: Part | null }
+export declare function compareRanges(range: AnyRange, other: AnyRange, options?: OptionsOrLoose<Dialect>): { lost: Part | null, gained: Part | null }
 /** Whether a version is above each that satisfies a range. */
-export declare function gtr(version: AnyVersion, range: AnyRange, options?: OptionsOrLoose): boolean
+export declare function gtr(version: AnyVersion, range: AnyRange, options?: OptionsOrLoose<Dialect>): boolean
 /** Whether a version is below each that satisfies a range. */
-export declare function ltr(version: AnyVersion, range: AnyRange, options?: OptionsOrLoose): boolean
+export declare function ltr(version: AnyVersion, range: AnyRange, options?: OptionsOrLoose<Dialect>): boolean
 /** `gtr` by `>`, and `ltr` by `<`. */
-export declare function outside(version: AnyVersion, range: AnyRange, side: '<' | '>', options?: OptionsOrLoose): boolean
+export declare function outside(version: AnyVersion, range: AnyRange, side: '<' | '>', options?: OptionsOrLoose<Dialect>): boolean
 /** A range that the same versions of a list satisfy, in npm's form, if it is shorter; else the range itself. Of an invalid one it is empty. */
-export declare function simplifyRange<R extends AnyRange>(versions: Iterable<string>, range: R, options?: OptionsOrLoose): string | R
+export declare function simplifyRange<R extends AnyRange>(versions: Iterable<string>, range: R, options?: OptionsOrLoose<Dialect>): string | R
 
 /** -1, 0 or 1 by precedence. Throws a `SemverError` if a version is invalid. */
-export declare function compare(version: AnyVersion, other: AnyVersion, options?: OptionsOrLoose): -1 | 0 | 1
+export declare function compare(version: AnyVersion, other: AnyVersion, options?: OptionsOrLoose<Dialect>): -1 | 0 | 1
 /** The same the other way round. */
-export declare function rcompare(version: AnyVersion, other: AnyVersion, options?: OptionsOrLoose): -1 | 0 | 1
+export declare function rcompare(version: AnyVersion, other: AnyVersion, options?: OptionsOrLoose<Dialect>): -1 | 0 | 1
 /** The same as `compare`: strings are read strictly. */
 export declare function compareLoose(version: AnyVersion, other: AnyVersion): -1 | 0 | 1
 /** The same as `compare`, and of equal ones by build metadata. */
-export declare function compareBuild(version: AnyVersion, other: AnyVersion, options?: OptionsOrLoose): -1 | 0 | 1
+export declare function compareBuild(version: AnyVersion, other: AnyVersion, options?: OptionsOrLoose<Dialect>): -1 | 0 | 1
 /** -1, 0 or 1 of two identifiers. */
-export declare function compareIdentifiers(identifier: string | number, other: string | number): -1 | 0 | 1
-export declare function rcompareIdentifiers(identifier: string | number, other: string | number): -1 | 0 | 1
+export declare function compareIdentifiers(identifier: Identifier, other: Identifier): -1 | 0 | 1
+export declare function rcompareIdentifiers(identifier: Identifier, other: Identifier): -1 | 0 | 1
+type Identifier = string | number | null | undefined
 /** A comparison by its operator. Throws a `TypeError` if there is no such operator. */
-export declare function cmp(version: AnyVersion, operator: Operator, other: AnyVersion, options?: OptionsOrLoose): boolean
-export declare function gt(version: AnyVersion, other: AnyVersion, options?: OptionsOrLoose): boolean
-export declare function gte(version: AnyVersion, other: AnyVersion, options?: OptionsOrLoose): boolean
-export declare function lt(version: AnyVersion, other: AnyVersion, options?: OptionsOrLoose): boolean
-export declare function lte(version: AnyVersion, other: AnyVersion, options?: OptionsOrLoose): boolean
-export declare function eq(version: AnyVersion, other: AnyVersion, options?: OptionsOrLoose): boolean
-export declare function neq(version: AnyVersion, other: AnyVersion, options?: OptionsOrLoose): boolean
+export declare function cmp(version: AnyVersion, operator: Operator, other: AnyVersion, options?: OptionsOrLoose<Dialect>): boolean
+export declare function gt(version: AnyVersion, other: AnyVersion, options?: OptionsOrLoose<Dialect>): boolean
+export declare function gte(version: AnyVersion, other: AnyVersion, options?: OptionsOrLoose<Dialect>): boolean
+export declare function lt(version: AnyVersion, other: AnyVersion, options?: OptionsOrLoose<Dialect>): boolean
+export declare function lte(version: AnyVersion, other: AnyVersion, options?: OptionsOrLoose<Dialect>): boolean
+export declare function eq(version: AnyVersion, other: AnyVersion, options?: OptionsOrLoose<Dialect>): boolean
+export declare function neq(version: AnyVersion, other: AnyVersion, options?: OptionsOrLoose<Dialect>): boolean
 /** Sorts a list in place by `compareBuild`, and returns it. */
-export declare function sort<T extends AnyVersion>(versions: T[], options?: OptionsOrLoose): T[]
+export declare function sort<T extends AnyVersion>(versions: T[], options?: OptionsOrLoose<Dialect>): T[]
 /** The same, from the highest on. */
-export declare function rsort<T extends AnyVersion>(versions: T[], options?: OptionsOrLoose): T[]
+export declare function rsort<T extends AnyVersion>(versions: T[], options?: OptionsOrLoose<Dialect>): T[]

@@ -58,9 +58,16 @@ types='no tsc (Debian: apt-get install node-typescript), so its types are not ch
 if command -v tsc > /dev/null; then
     cp "$top/js/tests/types.ts" types.mts
     cp "$top/js/tests/types.ts" types.cts
-    tsc --strict --noEmit --target es2022 --module node16 --moduleResolution node16 \
-        types.mts types.cts > "$work/log" 2>&1 ||
+    check_types() { tsc --strict --noEmit --target es2022 "$@" > "$work/log" 2>&1; }
+    check_types --module node16 --moduleResolution node16 types.mts types.cts ||
         { cat "$work/log" && fail 'tsc --strict refuses its types'; }
+    # A project that is written for `@types/semver`, once with the package as `semver`.
+    mkdir as-semver && cp "$top/js/tests/types-of-semver.ts" as-semver
+    (cd as-semver && echo '{ "private": true }' > package.json &&
+        npm install --silent "semver@file:../../$packed" > "$work/log" 2>&1 &&
+        check_types --module commonjs --moduleResolution node types-of-semver.ts &&
+        check_types --module node16 --moduleResolution node16 types-of-semver.ts) ||
+        { cat "$work/log" && fail 'its types refuse a project that is written for @types/semver'; }
     types='types checked'
 fi
 echo "JavaScript package: $passed tests, $(wc -l < cases.json) cases, $types, passed"

@@ -12,7 +12,7 @@ const ANY = Symbol('SemVer ANY')
 export const NO_VERSION = '<0.0.0-0'
 const PARTS = /^(<=|>=|<|>|=|)(.*)$/s
 
-/** A comparator of node-semver's class. Its fields can't be written. */
+/** A comparator of node-semver's class. Its fields can't be written; `parse` changes them. */
 export class Comparator {
   #meaning
   #operator
@@ -26,14 +26,20 @@ export class Comparator {
       if (isSameMeaning(comparator.#meaning, meaning)) return comparator
       comparator = comparator.value
     }
+    this.#meaning = meaning
+    this.parse(comparator)
+  }
+
+  /** Makes the comparator another one. */
+  parse(comparator) {
     if (typeof comparator !== 'string') throw noString('comparator', comparator)
     const [, operator, version] = PARTS.exec(comparator.trim())
-    this.#meaning = meaning
+    const isAny = operator === '' && version === ''
+    const semver = isAny ? ANY : parse(version.trim(), this.#meaning)
+    if (semver === null) throw new TypeError(`Invalid comparator: ${comparator}`)
     this.#operator = operator === '=' ? '' : operator
-    this.#semver = operator === '' && version === '' ? ANY : parse(version.trim(), meaning)
-    if (this.#semver === null) throw new TypeError(`Invalid comparator: ${comparator}`)
-    const value = this.#semver === ANY ? '' : this.#operator + this.#semver.version
-    identify(this, meaning, 'value', value)
+    this.#semver = semver
+    identify(this, this.#meaning, 'value', isAny ? '' : this.#operator + semver.version)
   }
 
   get [MEANING]() { return this.#meaning }

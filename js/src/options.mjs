@@ -45,8 +45,8 @@ const LOOSE = Object.freeze({ loose: true })
 let byDefault = null
 
 /**
- * What options say, each read once. As in node-semver what is no object stands for `loose`, which
- * changes nothing here: so `versions.map(valid)` may pass an index.
+ * What options say, each read once. As in node-semver what is no object stands for `loose`, by
+ * which nothing is read otherwise: so `versions.map(valid)` may pass an index.
  */
 export function meaningOf(options) {
   if (!options) {
@@ -55,7 +55,8 @@ export function meaningOf(options) {
   }
   if (options instanceof Meaning) return options
   if (typeof options !== 'object') return new Meaning(LOOSE)
-  const { dialect, includePrerelease, preReleases } = options
+  const { dialect, includePrerelease, preReleases, loose, rejectLoose } = options
+  if (loose && rejectLoose) throw new TypeError('loose: versions and ranges are read strictly')
   if (includePrerelease && (preReleases ?? 'included') !== 'included') {
     throw new TypeError('includePrerelease contradicts preReleases')
   }

@@ -136,6 +136,11 @@ export class Range {
     return `Range ${inspect(this.toJSON(), options)}`
   }
 
+  /** The comparators of another range, by the options of this one. */
+  parseRange(range) {
+    return new Range(range, this.#read.meaning).set[0]
+  }
+
   test(version) {
     if (!version) return false
     checkDialect(this.#read.meaning, version)

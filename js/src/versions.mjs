@@ -230,11 +230,10 @@ function compareDigits(digits, others) {
 }
 
 export function compareIdentifiers(identifier, other) {
-  const [one, two] = [`${identifier}`, `${other}`]
-  const [isNumber, otherIsNumber] = [one, two].map((it) => /^\d+$/.test(it))
-  if (isNumber && otherIsNumber) return compareDigits(one, two)
+  const [isNumber, otherIsNumber] = [identifier, other].map((it) => /^\d+$/.test(it))
+  if (isNumber && otherIsNumber) return compareDigits(`${identifier}`, `${other}`)
   if (isNumber !== otherIsNumber) return isNumber ? -1 : 1
-  return one === two ? 0 : one < two ? -1 : 1
+  return identifier === other ? 0 : identifier < other ? -1 : 1
 }
 
 export const rcompareIdentifiers = (identifier, other) => compareIdentifiers(other, identifier)

@@ -89,8 +89,8 @@ for (const string of [...COERCED, ...OTHERS, 1.5, 42]) {
   for (const options of [undefined, { rtl: true }, { includePrerelease: true }, { rtl: true, includePrerelease: true }]) add('coerce', string, options)
 }
 for (const string of [' =v1.2.3 ', '=v1', ' v 1.2.3', '==1.2.3', 'v=1.2.3-a', '  2.1.5', '~1.0.0', '> 1.2.3']) add('clean', string)
-for (const one of ['0', '1', '10', 'a', 'b', 'A', '-', '1a', 1, 2]) {
-  for (const two of ['0', '2', '10', 'a', 'b', '1a', 1]) for (const call of ['compareIdentifiers', 'rcompareIdentifiers']) add(call, one, two)
+for (const one of ['0', '1', '10', 'a', 'b', 'A', '-', '1a', 1, 2, 1.5, null, undefined]) {
+  for (const two of ['0', '2', '10', 'a', 'b', '1a', 1, null, undefined]) for (const call of ['compareIdentifiers', 'rcompareIdentifiers']) add(call, one, two)
 }
 
 // ---- ranges
@@ -113,6 +113,7 @@ for (const range of RANGES) {
   }
   for (const call of ['validRange', 'toComparators', 'Range', 'Comparator']) add(call, range)
   for (const version of SOME) add('Range.test', range, version)
+  if (!range.includes('||')) add('Range.parseRange', '1', range)
 }
 for (const range of PLAIN) {
   add('minVersion', range)

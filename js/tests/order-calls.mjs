@@ -94,7 +94,8 @@ function rangeText(random) {
 const DIALECTS = ['npm', 'cargo', 'crate-npm', 'crate-cargo']
 const RULES = ['default', 'included', 'excluded']
 const OTHER_OPTIONS = [
-  null, true, false, 5, { loose: true }, { includePrerelease: true }, { includePrerelease: false },
+  null, true, false, 5, { loose: true }, { loose: true, rejectLoose: true },
+  { includePrerelease: true }, { includePrerelease: false },
   { rtl: true }, { rtl: true, includePrerelease: true }, { dialect: 'yarn' }, { dialect: '' },
   { includePrerelease: true, preReleases: 'excluded' }, { preReleases: 'all' },
 ]
@@ -260,6 +261,8 @@ export const CALLS = {
   'SemVer.inc': 'release identifier base',
   'Range.test': 'version',
   'Range.intersects': 'Range options',
+  'Range.parseRange': 'range',
+  'Comparator.parse': 'comparator',
   'Comparator.test': 'any',
   'Comparator.intersects': 'Comparator options',
 }

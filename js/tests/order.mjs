@@ -95,8 +95,9 @@ class Instance {
     const given = values.map((value) => this.value(value))
     if (call.startsWith('new ')) return new this.library[call.slice(4)](...given)
     const [name, method] = call.split('.')
-    // `inc` changes the object, which is then another one than its description says.
-    const of = method === 'inc' ? this.madeObject(object) : object && this.object(object)
+    // These change the object, which is then another one than its description says.
+    const isChanged = method === 'inc' || method === 'parse'
+    const of = isChanged ? this.madeObject(object) : object && this.object(object)
     const found = method === undefined ? this.library[name] : of[method]
     const isCall = typeof found === 'function' && name !== 'SemverError'
     return isCall ? found.apply(of, given) : found

@@ -81,6 +81,21 @@ test('loose is taken and read strictly', () => {
   assert.equal(new semver.SemVer('1.2.3', true).loose, true)
 })
 
+test('with rejectLoose, loose throws', () => {
+  const options = { loose: true, rejectLoose: true }
+  const refused = [
+    () => semver.valid('1.2.3', options), () => semver.parse('1.2.3', options), () => semver.clean('1.2.3', options), () => semver.coerce('1.2.3', options),
+    () => semver.inc('1.2.3', 'major', options), () => semver.compare('1.2.3', '1.2.4', options), () => semver.sort(['1.2.3'], options),
+    () => semver.satisfies('1.2.3', '^1', options), () => semver.maxSatisfying(['1.2.3'], '^1', options), () => semver.validRange('^1', options),
+    () => semver.subset('^1', '^1', options), () => semver.explainRange('^1', options), () => new semver.SemVer('1.2.3', options),
+    () => new semver.Range('^1', options), () => new semver.Comparator('>1.2.3', options), () => new semver.Range('^1').intersects(new semver.Range('^1'), options),
+  ]
+  for (const call of refused) assert.throws(call, { name: 'TypeError', message: /^loose: / }, String(call))
+  for (const others of [{ rejectLoose: true }, { loose: false, rejectLoose: true }, { loose: true, rejectLoose: false }]) {
+    assert.equal(semver.satisfies('1.2.3', '^1', others), true)
+  }
+})
+
 test('wrong options are refused', () => {
   for (const options of [{ dialect: 'yarn' }, { dialect: 'toString' }, { preReleases: 'all' }, { includePrerelease: true, preReleases: 'excluded' }]) {
     for (const call of [() => semver.satisfies('1.2.3', '*', options), () => semver.valid('1.2.3', options), () => semver.parse('x', options),
@@ -271,6 +286,13 @@ test('fields can not be written, and inc changes them', () => {
   assert.deepEqual([version.version, version.raw, version.minor, version.prerelease], ['1.3.0', '1.3.0+b', 3, []])
   const range = new semver.Range('^1.2')
   for (const [name, value] of Object.entries(range.toJSON())) assert.throws(() => { range[name] = value }, TypeError, name)
+  const comparator = new semver.Comparator('>1.2.3')
+  for (const [name, value] of Object.entries(comparator.toJSON())) assert.throws(() => { comparator[name] = value }, TypeError, name)
+  assert.throws(() => comparator.parse('^1'), /^TypeError: Invalid comparator: \^1$/)
+  assert.equal(comparator.value, '>1.2.3')
+  assert.equal(comparator.parse('<=2.0.0-a'), undefined)
+  assert.deepStrictEqual(comparator, new semver.Comparator('<=2.0.0-a'))
+  assert.deepEqual([comparator.operator, comparator.semver.version, comparator.test('2.0.0')], ['<=', '2.0.0-a', false])
   const given = new semver.SemVer('1.2.3')
   assert.equal(semver.inc(given, 'major'), '2.0.0')
   assert.equal(given.version, '1.2.3')
