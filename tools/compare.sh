@@ -27,6 +27,8 @@
 #   for both, libc6-i386 and qemu-user);
 # - js: node-semver as npm ships it, each call of it that the JavaScript package has (npm, and what
 #   rust/wasm/build.sh needs);
+# - node-suite [--show]: node-semver 7.6.1, its own tests, by a shim for tap, against the JavaScript
+#   package: which assertions fail (apt-get with its network, node, and what rust/wasm/build.sh needs);
 # - npm-on-it: npm itself with the JavaScript package in the place of semver, what its commands write
 #   of COUNT projects (as js, and python3);
 # - locks FILE..: node-semver, what check-lock-file lists of changed copies of lock files of yarn and
@@ -101,6 +103,11 @@ managers)
     shift
     exec python3 -B tools/comparisons/managers/run.py "${1:-100}" "${2:-1}"
     ;;
+node-suite)
+    shift
+    . tools/comparisons/node-suite.sh
+    exit
+    ;;
 real-locks)
     shift
     . tools/comparisons/real-locks.sh
@@ -127,7 +134,7 @@ crate | cargo | node | npm | versions | real | grid | lines | places | version-p
     kinds='crate|cargo|node|npm|versions|real|grid|lines|places|version-places|js|npm-on-it'
     kinds="$kinds|managers|damaged-locks|erased|order"
     echo "usage: tools/compare.sh $kinds [COUNT] [SEED], or locks FILE.., or real-locks [NAME..]," >&2
-    echo '       or crate-tests, or targets' >&2
+    echo '       or node-suite [--show], or crate-tests, or targets' >&2
     exit 2
     ;;
 esac

@@ -1,0 +1,29 @@
+# Sourced by tools/compare.sh: runs node-semver's own tests, from Debian's source package, against the
+# JavaScript package. The suite of Debian is the one whose version node-suite.expected has.
+suite=trixie
+for tool in apt-get node; do
+    command -v "$tool" > /dev/null || { echo "compare: needs $tool" >&2 && exit 2; }
+done
+work=$(mktemp -d)
+trap 'rm -rf "$work"' EXIT
+trap 'exit 2' HUP INT TERM
+# apt with lists and sources of its own: source packages of the suite, from the system's mirror.
+mkdir -p "$work/lists/partial" "$work/cache/archives/partial" "$work/tree"
+mirror=$(cat /etc/apt/sources.list /etc/apt/sources.list.d/*.sources 2> /dev/null |
+    sed -nE 's/^(URIs:|deb) +([a-z]+:[^ ]*debian)\/?( .*)?$/\2/p' | head -n 1)
+key=/usr/share/keyrings/debian-archive-keyring.gpg
+echo "deb-src [signed-by=$key] ${mirror:-http://deb.debian.org/debian} $suite main" > "$work/list"
+apt() {
+    apt-get -qq -o Dir::Etc::sourcelist="$work/list" -o Dir::Etc::sourceparts=/dev/null \
+        -o Dir::State::lists="$work/lists" -o Dir::Cache="$work/cache" -o APT::Sandbox::User=root "$@"
+}
+apt update || { echo 'compare: apt-get has no source packages here' >&2 && exit 2; }
+# The package has other archives, too, which aren't used: one that can't be had is no error.
+(cd "$work" && apt source --download-only --tar-only node-semver) || :
+for archive in "$work"/node-semver_*.orig.tar.*; do
+    case $archive in *.asc) continue ;; esac
+    [ -e "$archive" ] || { echo "compare: node-semver's source can't be had here" >&2 && exit 2; }
+    tar -C "$work/tree" --strip-components 1 -xf "$archive"
+done
+tools/make-js.sh directory "$work/package"
+node tools/comparisons/node-suite.js "$work/tree" "$work/package" "$@"
