@@ -35,13 +35,16 @@ grep -q "\"version\": \"$(cat "$top/VERSION")\"" "$top/js/package.json" ||
 node "$top/tests/js-rows.js" unpacked/package/index.cjs
 node "$top/js/tests/order.mjs" "$PWD/unpacked/package/index.cjs" 1500 1
 
-# The cases are what node-semver says that npm has, if that is of the version that wrote them.
+# The cases, and the differences that the README lists, are what node-semver says that npm has, if
+# that is of the version that wrote them.
 NODE_PATH=$(npm root -g)/npm/node_modules
 export NODE_PATH
 theirs=$(node -p 'require("semver/package.json").version' 2> /dev/null || :)
 if [ "$theirs" = 7.6.2 ]; then
     node "$top/js/tests/make-cases.cjs" | cmp -s - "$top/js/tests/cases.json" ||
         fail "cases.json isn't what node-semver $theirs says"
+    node "$top/js/tests/differences.mjs" "$top/js/README.md" "$NODE_PATH/semver" ||
+        fail "the README has another result of node-semver $theirs"
 else
     echo "JavaScript package: no node-semver 7.6.2 in npm, so the cases aren't made anew"
 fi
@@ -51,7 +54,9 @@ mkdir project && cd project
 echo '{ "name": "project", "private": true }' > package.json
 npm install --silent "../$packed" > "$work/log" 2>&1 ||
     { cat "$work/log" && fail 'npm does not install it'; }
-cp "$top/js/tests/cases.json" "$top/js/tests/package.test.mjs" "$top/js/tests/results.mjs" .
+for file in cases.json package.test.mjs results.mjs differences.mjs; do
+    cp "$top/js/tests/$file" .
+done
 node --test package.test.mjs > "$work/log" 2>&1 || { cat "$work/log" && fail 'its tests fail'; }
 passed=$(sed -n 's/^# pass //p' "$work/log")
 types='no tsc (Debian: apt-get install node-typescript), so its types are not checked'

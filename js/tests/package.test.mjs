@@ -6,6 +6,7 @@ import { test } from 'node:test'
 import { inspect } from 'node:util'
 import { Worker } from 'node:worker_threads'
 import * as semver from 'semver-parser-proved'
+import { wrongRows } from './differences.mjs'
 import { result } from './results.mjs'
 
 const require = createRequire(import.meta.url)
@@ -404,6 +405,11 @@ test('the example of the README', () => {
     const found = Function(...Object.keys(all), `return ${call}`)(...Object.values(all))
     assert.deepEqual(found, Function(`return (${right})`)(), call)
   }
+})
+
+test('the examples of the README that differ from node-semver', () => {
+  const readme = readFileSync(new URL('node_modules/semver-parser-proved/README.md', import.meta.url), 'utf8')
+  assert.deepEqual(wrongRows(readme, { ...common }, 3), [])
 })
 
 // Its tables of calls and of options name what there is.
