@@ -35,7 +35,8 @@ export class Comparator {
     if (typeof comparator !== 'string') throw noString('comparator', comparator)
     const [, operator, version] = PARTS.exec(comparator.trim())
     const isAny = operator === '' && version === ''
-    const semver = isAny ? ANY : parse(version.trim(), this.#meaning)
+    // As node-semver, which hands on the other options alone: a version has no rule for ranges.
+    const semver = isAny ? ANY : parse(version.trim(), this.#meaning.with('default'))
     if (semver === null) throw new TypeError(`Invalid comparator: ${comparator}`)
     this.#operator = operator === '=' ? '' : operator
     this.#semver = semver

@@ -22,7 +22,8 @@ class Meaning {
   /** The same dialect with a rule for pre-releases. */
   with(preReleases) {
     if (this.preReleases === preReleases) return this
-    return new Meaning({ dialect: this.name, preReleases }, this.name, preReleases)
+    const { loose } = this.options
+    return new Meaning({ loose, dialect: this.name, preReleases }, this.name, preReleases)
   }
 
   /** What these options say where an object is that was read by others. */

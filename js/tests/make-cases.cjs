@@ -128,7 +128,7 @@ for (const range of PLAIN) {
 }
 const COMPARATORS = ['>=1.2.3', '<1.2.3', '>1.2.3-rc.1', '<= 2.0.0', '=1.2.3', '1.2.4', '', '>0.0.0', 'v1.2.3', '>1', '^1.2.3', '<0.0.0']
 for (const comparator of COMPARATORS) {
-  add('Comparator', comparator)
+  for (const options of [undefined, { includePrerelease: true }, { includePrerelease: true, loose: true }]) add('Comparator', comparator, options)
   for (const version of SOME) add('Comparator.test', comparator, version)
   const isOther = (it) => /-rc|<0/.test(it)
   for (const other of COMPARATORS) if (!isOther(comparator) && !isOther(other)) add('Comparator.intersects', comparator, other)
