@@ -22,6 +22,8 @@
 #   random rows and lines, in each dialect and by each rule (python3, cargo);
 # - crate-tests: the Rust crate's own tests and examples, against rust/ (cargo and
 #   librust-semver-parser-dev);
+# - semver-suite: Cargo's crate semver 1.0.14, its own tests, with a shim for its names over rust/ by
+#   Dialect::Cargo: which assertions fail (cargo, python3 and librust-semver-dev);
 # - targets: rows, library tests and refused requests of rust/ on i686, and on aarch64 by qemu, and
 #   cargo check for each other target that is there (cargo, Debian's rustc-web, its std for these, gcc
 #   for both, libc6-i386 and qemu-user);
@@ -95,6 +97,16 @@ crate-tests)
     python3 -B tools/comparisons/crate-tests.py /usr/share/cargo/registry/semver-parser-0.10.*/src "$user"
     exit
     ;;
+semver-suite)
+    user=$(mktemp -d)
+    trap 'rm -rf "$user"' EXIT
+    trap 'exit 2' HUP INT TERM
+    for crate in /usr/share/cargo/registry/semver-1.0.*; do
+        [ -d "$crate/tests" ] || { echo 'compare: needs librust-semver-dev' >&2 && exit 2; }
+        python3 -B tools/comparisons/semver-suite.py "$crate" "$user"
+    done
+    exit
+    ;;
 targets)
     . tools/comparisons/targets.sh
     exit
@@ -134,7 +146,7 @@ crate | cargo | node | npm | versions | real | grid | lines | places | version-p
     kinds='crate|cargo|node|npm|versions|real|grid|lines|places|version-places|js|npm-on-it'
     kinds="$kinds|managers|damaged-locks|erased|order"
     echo "usage: tools/compare.sh $kinds [COUNT] [SEED], or locks FILE.., or real-locks [NAME..]," >&2
-    echo '       or node-suite [--show], or crate-tests, or targets' >&2
+    echo '       or node-suite [--show], or semver-suite, crate-tests or targets' >&2
     exit 2
     ;;
 esac
