@@ -70,8 +70,10 @@ if command -v tsc > /dev/null; then
     mkdir as-semver && cp "$top/js/tests/types-of-semver.ts" as-semver
     (cd as-semver && echo '{ "private": true }' > package.json &&
         npm install --silent "semver@file:../../$packed" > "$work/log" 2>&1 &&
-        check_types --module commonjs --moduleResolution node types-of-semver.ts &&
-        check_types --module node16 --moduleResolution node16 types-of-semver.ts) ||
+        for modules in commonjs:node node16:node16; do
+            check_types --esModuleInterop --module "${modules%:*}" \
+                --moduleResolution "${modules#*:}" types-of-semver.ts || exit
+        done) ||
         { cat "$work/log" && fail 'its types refuse a project that is written for @types/semver'; }
     types='types checked'
 fi

@@ -1,6 +1,7 @@
 // A project that uses each name, member and path of `@types/semver` 7.5.8, as it is written for that:
 // it compiles with these types and, unchanged, with those of the package installed as `semver`.
 import * as semver from 'semver'
+import all from 'semver'
 import { Comparator, Options, Range, SemVer } from 'semver'
 import satisfiesAlone = require('semver/functions/satisfies')
 import incAlone = require('semver/functions/inc')
@@ -89,10 +90,11 @@ const named: boolean = semver.satisfies(entry.version, new Named('^1'), kept)
 const ofPath: Comparator = new ComparatorAlone('>1.2.3')
 const samePath: typeof semver.valid = preload.valid
 const picked: Pick<typeof semver, 'satisfies' | 'validRange'> = semver
+const ofDefault: all.SemVer | null = all.parse(string, options)
 const byMajor = (list: readonly SemVer[]): Map<number, SemVer> => new Map(list.map((it) => [it.major, it]))
 function readOr (text: string, given: semver.Options): semver.SemVer { return semver.parse(text, given) ?? new semver.SemVer('0.0.0', given) }
 
 export {
   two, five, six, specVersion, types, numbers, validStrings, identifiers, kind, fields, strings, orders, next, comparisons, compared, sorted, sortedObjects,
-  satisfied, best, bestObject, normal, lists, simpler, ofRange, set, parts, bound, sign, isEqual, ofComparator, tested, named, ofPath, samePath, picked, byMajor, readOr,
+  satisfied, best, bestObject, normal, lists, simpler, ofRange, set, parts, bound, sign, isEqual, ofComparator, tested, named, ofPath, samePath, picked, ofDefault, byMajor, readOr,
 }

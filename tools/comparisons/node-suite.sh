@@ -1,5 +1,7 @@
 # Sourced by tools/compare.sh: runs node-semver's own tests, from Debian's source package, against the
-# JavaScript package. The suite of Debian is the one whose version node-suite.expected has.
+# JavaScript package. The suite of Debian is the one whose version node-suite.expected has. If tsc is
+# there, js/tests/types-of-semver.ts is compiled with the types of @types/semver, which Debian's
+# package node-semver has.
 suite=trixie
 for tool in apt-get node; do
     command -v "$tool" > /dev/null || { echo "compare: needs $tool" >&2 && exit 2; }
@@ -12,7 +14,9 @@ mkdir -p "$work/lists/partial" "$work/cache/archives/partial" "$work/tree"
 mirror=$(cat /etc/apt/sources.list /etc/apt/sources.list.d/*.sources 2> /dev/null |
     sed -nE 's/^(URIs:|deb) +([a-z]+:[^ ]*debian)\/?( .*)?$/\2/p' | head -n 1)
 key=/usr/share/keyrings/debian-archive-keyring.gpg
-echo "deb-src [signed-by=$key] ${mirror:-http://deb.debian.org/debian} $suite main" > "$work/list"
+for kind in deb deb-src; do
+    echo "$kind [signed-by=$key] ${mirror:-http://deb.debian.org/debian} $suite main"
+done > "$work/list"
 apt() {
     apt-get -qq -o Dir::Etc::sourcelist="$work/list" -o Dir::Etc::sourceparts=/dev/null \
         -o Dir::State::lists="$work/lists" -o Dir::Cache="$work/cache" -o APT::Sandbox::User=root "$@"
@@ -25,5 +29,16 @@ for archive in "$work"/node-semver_*.orig.tar.*; do
     [ -e "$archive" ] || { echo "compare: node-semver's source can't be had here" >&2 && exit 2; }
     tar -C "$work/tree" --strip-components 1 -xf "$archive"
 done
+if command -v tsc > /dev/null; then
+    types=$work/project/node_modules/@types/semver
+    mkdir -p "$work/project/node_modules/@types"
+    (cd "$work" && apt download node-semver && dpkg-deb -x node-semver_*.deb binary)
+    mv "$work/binary/usr/share/nodejs/@types/semver" "$types"
+    cp js/tests/types-of-semver.ts "$work/project"
+    (cd "$work/project" && tsc --strict --noEmit --esModuleInterop --target es2022 \
+        --module node16 --moduleResolution node16 types-of-semver.ts)
+    echo "@types/semver $(sed -n 's/^ *"version": "\(.*\)",/\1/p' "$types/package.json"):" \
+        'js/tests/types-of-semver.ts compiles'
+fi
 tools/make-js.sh directory "$work/package"
 node tools/comparisons/node-suite.js "$work/tree" "$work/package" "$@"
