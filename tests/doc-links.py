@@ -10,11 +10,7 @@ import pathlib
 import re
 import sys
 
-HIDDEN = {'proved', 'rattle_std'}
-
-# Doc comments of crates/ that name a page of docs/.
-FROM_RATTLE = {'enum.Dialect.html', 'enum.PreReleases.html', 'struct.Lines.html', 'struct.Meaning.html', 'struct.RangeSet.html',
-               'fn.outline_in.html'}
+HIDDEN = {'layers', 'proved', 'rattle_std'}
 
 FILES = re.compile(r'\b(?:crates|docs|js|python|rust|specs|tests|tools)/[\w*.]|\b\w+\.(?:antt|md|rt|sh|svg)\b')
 
@@ -46,7 +42,7 @@ def errors(top):
                 yield f'{name}: {target} leads to no heading'
         own = re.sub(r'<(dl|ul) class="item-table.*?</\1>', '', page.partition('<main>')[2], flags=re.S)
         named = FILES.search(html.unescape(re.sub('<[^>]*>', '', own)))
-        if named and name.name not in FROM_RATTLE:
+        if named:
             yield f'{name} names a file that the package lacks: {named[0]}'
         methods = re.findall(r'<section id="method\.(\w+)" class="method">', page)
         for method in methods:

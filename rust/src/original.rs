@@ -24,8 +24,13 @@ pub(crate) fn printed(value: impl Display) -> String {
 }
 
 impl RangeSet {
-    /// Reads a range string into plain comparators, as the Rust crate does: its error is a sentence.
-    /// [`RangeSet::try_parse`] has an error that a program can match.
+    /// Reads a range string into plain comparators, as the original crate does. Its error is a
+    /// sentence; [`RangeSet::try_parse`] has an error that a program can match.
+    ///
+    /// A comma is an error. The original accepts one comma after a comparator, and `semver` 0.9 to
+    /// 0.11 rely on it. `range.replace(',', " ")` keeps that meaning;
+    /// [`comparators`](crate::comparators) with [`Dialect::Cargo`](crate::Dialect::Cargo) reads
+    /// commas as Cargo does today.
     ///
     /// # Errors
     ///
@@ -38,6 +43,9 @@ impl RangeSet {
     /// assert_eq!(set.to_string(), ">=1.2.3 <2.0.0");
     /// assert_eq!(RangeSet::parse("1.2.3", Compat::Npm)?.to_string(), "=1.2.3");
     /// assert_eq!(RangeSet::parse("a", Compat::Npm).unwrap_err(), "not a range");
+    ///
+    /// let set = RangeSet::parse(&">=1.2, <2".replace(',', " "), Compat::Cargo)?;
+    /// assert_eq!(set.to_string(), ">=1.2.0 <2.0.0");
     /// # Ok::<(), String>(())
     /// ```
     pub fn parse(input: &str, compat: Compat) -> Result<RangeSet, String> {

@@ -61,8 +61,8 @@ impl From<AllocError> for LinesError {
 /// A line ends with a line feed, or with a zero byte ([`LineEnd`](crate::line_texts::LineEnd)), and
 /// the last one may have none. Its text is the line without that, and without one carriage return
 /// before a line feed. A line is kept if its text is one of the prefixes and then spells a version
-/// that matches, by the dialect of the filter (docs/GRAMMAR.md): by the crate's and npm's, white
-/// space may be around the version. The first prefix after which it spells a version decides.
+/// that matches, in the dialect of the filter. In the crate's and npm's, white space may be around
+/// the version. The first prefix after which it spells a version decides.
 /// Without a prefix it is as with the empty one. A text of more than 1,048,576 bytes has no
 /// version.
 ///

@@ -74,13 +74,16 @@ pub enum RangeError {
 impl RangeSet {
     // In Rust: try_parse.
     // Answer: law answer_laws::ranges::one_parse.
-    /// Reads a range text, as `>=1.2 <2 || 3.x`, into plain comparators.
+    /// Reads a range string, such as `>=1.2 <2 || 3.x`, into plain comparators.
+    ///
+    /// A comma is `NotARange`. The original crate accepts one comma after a comparator: replace
+    /// commas by spaces to keep that meaning. `Dialect::Cargo` reads commas as Cargo does today.
     ///
     /// The text is one or more ranges separated by `||`. A range is nothing, one or more simples
     /// separated by blanks, or two partials round a hyphen between blanks; a simple is a partial
     /// after `=`, `<`, `<=`, `>`, `>=`, `~`, `~>`, `^` or no operator. A blank is a space or a
-    /// tab. `docs/CRATE.md` states the whole grammar, the comparators of each simple, and what
-    /// they mean.
+    /// tab. The page `docs::original_crate` has the whole grammar, the comparators of each term,
+    /// and what they mean.
     ///
     /// The answer has the ranges in the order of the text, each with its comparators in order, and
     /// `compat` in the set and in each range. It has at least one range, and each range at least

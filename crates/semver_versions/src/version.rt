@@ -156,8 +156,8 @@ pub fn outline_bytes(input: &[u8]) -> Option<Outline<'_>>
 // Answer: law answer_laws::versions::one_outline_in.
 /// Returns what [`outline_bytes`] does, by a dialect.
 ///
-/// The bytes need not be UTF-8, and it does not allocate. `docs/GRAMMAR.md` and
-/// `docs/CRATE.md` have the grammars.
+/// The bytes need not be UTF-8, and it does not allocate. The pages `docs::grammar` and
+/// `docs::original_crate` have the grammars.
 ///
 /// ```
 /// use semver_parser::version::{self, Grammar};

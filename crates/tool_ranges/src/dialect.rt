@@ -18,7 +18,7 @@ use semver_ranges::{Compat, RangeError, RangeSet};
 use semver_texts::grammar::Grammar;
 use std::alloc::Global;
 
-/// A dialect of range texts. `docs/RANGES.md` compares them.
+/// A dialect of range strings. The page `docs::ranges` compares them.
 ///
 /// ```
 /// use semver_parser::{satisfies, Dialect};

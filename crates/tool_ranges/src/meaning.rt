@@ -25,8 +25,8 @@ use semver_versions::version::Outline;
 use std::alloc::Global;
 use version_sets::{PreReleases, VersionSet};
 
-/// The dialect of a range text, and which pre-releases it means (`docs/MEANING.md`). Each dialect
-/// has the same three rules for pre-releases.
+/// The dialect of a range string, and which pre-releases satisfy it (page `docs::meaning`). Each
+/// dialect has the same three rules for pre-releases.
 ///
 /// ```
 /// use semver_parser::{sets, Dialect, Meaning, PreReleases};
@@ -74,8 +74,8 @@ pub fn read(alloc: Global, meaning: Meaning, range: &str) -> Result<VersionSet, 
 /// none, and `>=1.2.3, <2` is a range in Cargo's alone.
 ///
 /// The range is read once, from the left to the right, and nothing is allocated. For many versions
-/// and one range, read a [`VersionRange`](crate::version_range::VersionRange). `docs/MEANING.md`
-/// says what each range means.
+/// and one range, read a [`VersionRange`](crate::version_range::VersionRange). The page
+/// `docs::meaning` defines which versions satisfy each range.
 ///
 /// # Errors
 ///

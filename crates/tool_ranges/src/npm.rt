@@ -26,9 +26,9 @@ use std::alloc::Global;
 // Answer: law answer_laws::ranges::one_npm_rewrite.
 /// Rewrites a range text, as npm reads it, into plain comparators with exact bounds.
 ///
-/// The text is one or more ranges separated by `||`. `docs/GRAMMAR.md` states the grammar, and
-/// `docs/MEANING.md` what each range means to npm. The answer has the ranges in the order of the
-/// text, in Npm mode. A range by which npm matches everything, as `*`, is `>=0.0.0`.
+/// The text is one or more ranges separated by `||`. The page `docs::grammar` has the grammar, and
+/// `docs::meaning` says which versions satisfy each range in npm. The answer has the ranges in the
+/// order of the text, in Npm mode. A range by which npm matches everything, as `*`, is `>=0.0.0`.
 ///
 /// `>1.2` gives `>=1.3.0`, `<2` gives `<2.0.0-0`, `v1.2.3` gives `=1.2.3`, and `^1.2 || 3.x` gives
 /// `>=1.2.0 <2.0.0-0 || >=3.0.0 <4.0.0-0`.
@@ -40,7 +40,7 @@ use std::alloc::Global;
 ///
 /// - `NotARange` exactly where npm's grammar has no such text, as `>=1, <2` or `1.2.3-01`, or where
 ///   something is too long for node-semver: the version of a comparator has at most 256 characters,
-///   and `docs/GRAMMAR.md` has the bounds of numbers and identifiers.
+///   and `docs::grammar` has the limits of numbers and identifiers.
 /// - `NumberTooLarge` exactly where it has, and a number that it states or a bound that is raised
 ///   by one is above 2^53 - 1, as `>1.9007199254740991`.
 /// - `OutOfMemory` if an allocation fails. The first two do not allocate.

@@ -115,7 +115,7 @@ pub fn here_set(text: &str) -> u64 {
 
 fn set_of(text: &str) -> Option<VersionSet> {
     let meaning = Meaning { dialect: Dialect::CrateCargo, pre_releases: PreReleases::Default };
-    sets::read(text, meaning).ok()
+    sets::parse(text, meaning).ok()
 }
 
 /// 1 where a text is a range set to the crate `semver-parser`, in Cargo mode.

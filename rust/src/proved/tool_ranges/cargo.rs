@@ -18,7 +18,8 @@ pub(crate) const MOST_COMPARATORS: usize = 32;
 /// Rewrites a requirement, as Cargo reads it, into plain comparators with exact bounds.
 ///
 /// A requirement is one to 32 comparators, separated by commas, or a wildcard alone.
-/// `docs/GRAMMAR.md` states the grammar, and `docs/MEANING.md` what each comparator means to Cargo.
+/// The page `docs::grammar` has the grammar, and `docs::meaning` says which versions satisfy each
+/// comparator in Cargo.
 /// The answer has one range, in Cargo mode.
 ///
 /// `1.2` gives `>=1.2.0 <2.0.0-0`, `>=1.2.3, <2` gives `>=1.2.3 <2.0.0`, `>1.2` gives `>=1.3.0`,

@@ -7,7 +7,7 @@ use crate::proved::tool_ranges::{cargo, npm};
 use crate::proved::semver_ranges::{Compat, RangeError, RangeSet};
 use crate::proved::semver_texts::grammar::Grammar;
 
-/// A dialect of range texts. `docs/RANGES.md` compares them.
+/// A dialect of range strings. The page `docs::ranges` compares them.
 ///
 /// ```
 /// use semver_parser::{satisfies, Dialect};

@@ -2,8 +2,8 @@
 //! The three rules by which pre-releases count, with their numbers and names.
 
 use crate::rattle_std::prelude::*;
-/// Which pre-releases a range text means: docs/RANGES.md, "Pre-releases". Releases
-/// count by each of them.
+/// Which pre-releases satisfy a range (page `docs::ranges`, "Pre-releases"). Releases count by each
+/// rule.
 ///
 /// ```
 /// use semver_parser::{satisfies, Dialect, Meaning, PreReleases};
