@@ -185,13 +185,17 @@ js:
 page:
 	tools/make-js.sh page "$(OUT)"
 
-# The files of rust/, of which the licences and what its tests read are links. `cargo package` makes
-# the same, of a clone; this needs no git, and runs no test.
+# What `cargo package` makes of a clone, and what the tests read of crates/. This needs no git, and
+# runs no test.
 crate:
 	$(begin)
 	may_write "$$OUT"
 	may_cargo
-	cp -RL rust "$$work/crate"
+	data=$$work/crate/tests/data
+	cp -R rust "$$work/crate"
+	mkdir -p "$$data/replayed_cases" "$$data/library_tests"
+	cp crates/replayed_cases/stdin crates/replayed_cases/stdout "$$data/replayed_cases"
+	cp crates/library_tests/stdout crates/library_tests/requests "$$data/library_tests"
 	cargo package --quiet --offline --allow-dirty --no-verify --target-dir "$$work/target" \
 		--manifest-path "$$work/crate/Cargo.toml" 2> "$$work/notes" ||
 		{ cat "$$work/notes" >&2; exit 2; }

@@ -1,7 +1,8 @@
 #!/bin/sh
 # Tests what cargo does with a clone by itself. Each command that builds or checks the whole workspace
 # passes and warns of nothing; rust-analyzer runs one of them. `cargo package` makes a package with the
-# licences, of the same files as `make crate`, whose package tests/rust-crate.sh tests. For a crate that
+# licences, of the same files as `make crate` except for the data of its tests, without which they pass
+# too; tests/rust-crate.sh tests the other package. For a crate that
 # depends on the clone by `git = URL`, cargo writes no error and no warning. It needs cargo and git, and
 # runs clippy if that is there.
 set -eu
@@ -59,8 +60,11 @@ OUT="$work/made" make -s -C "$top" crate > "$work/log" 2>&1 || fails 'make crate
 mkdir "$work/by-cargo" "$work/by-make"
 tar -C "$work/by-cargo" -xzf "$work"/target/package/*.crate
 tar -C "$work/by-make" -xzf "$work"/made/*.crate
-diff -r -x .cargo_vcs_info.json "$work/by-cargo" "$work/by-make" > "$work/log" ||
+diff -r -x .cargo_vcs_info.json -x data "$work/by-cargo" "$work/by-make" > "$work/log" ||
     fails 'cargo package and make crate pack other files'
+(cd "$work"/by-cargo/* && cargo test --offline --quiet --test proved --target-dir "$work/target") \
+    > "$work/log" 2>&1 || fails 'the package fails its tests'
+grep -q '^rows: .* not here$' "$work/log" || fails 'the package compares other rows'
 for name in LICENSE-APACHE LICENSE-MIT; do
     cmp "$name" "$work"/by-cargo/*/"$name" > "$work/log" 2>&1 || fails "the package has another $name"
 done

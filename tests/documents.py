@@ -544,10 +544,11 @@ def errors_of_lines_by_hand():
 
 
 def errors_of_licences():
-    """The Python package has copies, since its tools take no file from above it."""
-    for name in ('LICENSE-APACHE', 'LICENSE-MIT'):
-        if read(name) != read(f'python/{name}'):
-            yield f'python/{name} is another licence than {name}'
+    """The Python package and the Rust crate have copies, since their tools take no file from above them."""
+    for copy in ('python', 'rust'):
+        for name in ('LICENSE-APACHE', 'LICENSE-MIT'):
+            if read(name) != read(f'{copy}/{name}'):
+                yield f'{copy}/{name} is another licence than {name}'
 
 
 def errors():
@@ -589,6 +590,7 @@ EDITS = [
     ('docs/TESTED.md', 'C functions', 'calls for C'),
     ('docs/COMING_FROM.md', '`VersionSet::lowest`', '`VersionSet::least`'),
     ('python/LICENSE-MIT', 'WITHOUT WARRANTY', 'WITHOUT ANY WARRANTY'),
+    ('rust/LICENSE-MIT', 'WITHOUT WARRANTY', 'WITHOUT ANY WARRANTY'),
     ('docs/TESTED.md', 'temporary directory', 'temporary folder'),
     ('docs/MEANING.md', '## Terms\n', '## Terms\n\n| a | b | c | d |\n|---|---|---|---|\n| `crate-npm` | the crate, npm mode | `CrateNpm` | `CRATE_NPM` |\n'),
     ('docs/GRAMMAR.md', '# Grammars\n', '# Grammars\n\nA term is a partial and its operator. A hyphen range has the terms `>=` of its left side and `<=`\n'

@@ -65,6 +65,10 @@ fn main() {
 }
 
 fn compare_all() {
+    if !["/../crates", "/tests/data"].iter().any(|it| fs::metadata(format!("{ROOT}{it}")).is_ok()) {
+        println!("rows: in the repository and in the package of `make crate`, not here");
+        return;
+    }
     let rows = run("run-rows", data("replayed_cases/stdin"));
     compare("rows", &data("replayed_cases/stdout"), &rows);
     compare("library", &data("library_tests/stdout"), &run("run-library", Vec::new()));
@@ -74,13 +78,14 @@ fn compare_all() {
     }
 }
 
-/// A file of a program. In the repository it is next to its source, and `tests/data` links to it;
-/// in the package it is in `tests/data`.
+const ROOT: &str = env!("CARGO_MANIFEST_DIR");
+
+/// A file of a program. In the repository it is next to its source, and `make crate` packs it in
+/// `tests/data`. A package that cargo makes by itself has none.
 fn data(name: &str) -> Vec<u8> {
-    let root = env!("CARGO_MANIFEST_DIR");
-    let linked = fs::read(format!("{root}/../crates/{name}"));
-    linked
-        .or_else(|_| fs::read(format!("{root}/tests/data/{name}")))
+    let packed = fs::read(format!("{ROOT}/tests/data/{name}"));
+    packed
+        .or_else(|_| fs::read(format!("{ROOT}/../crates/{name}")))
         .unwrap_or_else(|error| panic!("{name}: {error}"))
 }
 
