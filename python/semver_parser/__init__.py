@@ -11,6 +11,9 @@
     >>> Version.parse("1.2.3-rc.1", dialect="cargo").pre
     ('rc', 1)
 
+These are the versions of SemVer 2.0.0. Python's own follow PEP 440 (`1.0rc1`, `~=1.2`): for those
+use `packaging`.
+
 The `dialect` says whose rules apply: "npm", "cargo", or those of the Rust crate `semver-parser`,
 "crate-npm" and "crate-cargo". docs/GRAMMAR.md of the repository says which strings are versions and
 ranges, and docs/MEANING.md which versions satisfy a range.
@@ -89,4 +92,4 @@ if not TYPE_CHECKING:
         return globals()[name]
 
     def __dir__():
-        return [*globals(), *__all__]
+        return ["__version__", *__all__]

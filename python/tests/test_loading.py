@@ -12,6 +12,8 @@ import tempfile
 import unittest
 from pathlib import Path
 
+import semver_parser
+
 PACKAGE = Path(__file__).resolve().parents[1] / "semver_parser"
 VARIABLE = "SEMVER_PARSER_LIBRARY"
 NAMES = {"win32": "semver_parser.dll", "darwin": "libsemver_parser.dylib"}
@@ -60,6 +62,13 @@ class Loading(unittest.TestCase):
             check=True,
         )
         return path
+
+    def test_names(self) -> None:
+        """`dir` shows the public names once, before and after the library is loaded."""
+        names = "before = dir(it); it.Range; print(before == dir(it), *dir(it))"
+        ended = self.run_python(f"import semver_parser as it; {names}", **{VARIABLE: self.library})
+        shown = ["True", *sorted(["__version__", *semver_parser.__all__])]
+        self.assertEqual((ended.stdout.split(), ended.stderr), (shown, ""))
 
     def test_variable(self) -> None:
         self.imports(SEMVER_PARSER_LIBRARY=self.library)
