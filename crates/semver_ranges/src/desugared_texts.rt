@@ -23,8 +23,8 @@ use crate::range_set::{RangeError, RangeSet};
 use semver_texts::grammar::Grammar;
 use std::alloc::{AllocError, Global};
 
-/// The range set of a text, in two runs over its events: the first surveys all of it, and the second
-/// builds.
+/// The range set of a text, in two runs over its events: the first surveys all of it, and the
+/// second builds.
 pub(crate) fn read_in_two_runs(
     alloc: Global,
     text: &[u8],

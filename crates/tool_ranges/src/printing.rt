@@ -1,7 +1,6 @@
 //! A range text as plain comparators with exact bounds: those of the intervals of its terms.
 
-ghost use Rattle.std.specs.Prelude.{◌≡◌, ◌++◌, ◌^◌, ◌-◌, ◌&&◌, Some, IfOk, map, not, option_map, true};
-ghost use Rattle.semver_texts.specs.Texts.{is_empty};
+ghost use Rattle.std.specs.Prelude.{◌≡◌, ◌++◌, ◌^◌, ◌-◌, Some, IfOk, map, true};
 ghost use Rattle.semver_texts.specs.Versions.{numbers};
 ghost use Rattle.semver_ranges.specs.ExactBounds.{exact_bound};
 ghost use Rattle.semver_ranges.specs.RangeTree.{Simple as SimpleTree};
@@ -116,7 +115,8 @@ pub(crate) fn push(
     Ok(())
 }
 
-/// Returns the comparator of a lower side.
+/// Returns the comparator of a lower side. `Below` and `At` give the same one: comparators are exact
+/// only for releases.
 #[inline(always)]
 fn lower_comparator(
     alloc: Global,

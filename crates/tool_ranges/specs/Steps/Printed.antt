@@ -10,7 +10,8 @@ use Rattle.semver_ranges.specs.declared.range.Op.TheVariants.{Lt, Lte, Gt, Gte, 
 use Rattle.semver_ranges.specs.RangeTree.{Simple}
 use Rattle.semver_ranges.specs.Partials.{stated, zero_filled}
 use Rattle.semver_ranges.specs.ExactBounds.{exact_bound}
-use Rattle.semver_ranges.specs.RewritingTable.{PlainComparator, PlainRange, PlainSet, comparator, up}
+use Rattle.semver_ranges.specs.RewritingTable.{PlainComparator, PlainRange, PlainSet}
+use Rattle.semver_ranges.specs.RewritingTable.{comparator, up}
 use Rattle.semver_ranges.specs.Steps.DesugaredViews.{range_of_simples}
 use Rattle.version_sets.specs.Steps.Cuts.{SideValue, below, at, past, above}
 use Rattle.tool_ranges.specs.declared.dialect.Dialect.{Dialect}

@@ -11,8 +11,8 @@ use crate::proved::semver_ranges::range_set::{RangeError, RangeSet};
 use crate::proved::semver_texts::grammar::Grammar;
 use crate::rattle_std::AllocError;
 
-/// The range set of a text, in two runs over its events: the first surveys all of it, and the second
-/// builds.
+/// The range set of a text, in two runs over its events: the first surveys all of it, and the
+/// second builds.
 pub(crate) fn read_in_two_runs(
     text: &[u8],
     compat: Compat,

@@ -86,7 +86,8 @@ pub(crate) fn push(
     Ok(())
 }
 
-/// Returns the comparator of a lower side.
+/// Returns the comparator of a lower side. `Below` and `At` give the same one: comparators are exact
+/// only for releases.
 #[inline(always)]
 fn lower_comparator(
     partial: &Partial<'_>,

@@ -57,14 +57,15 @@ pub(crate) fn counted<'t>(simple: &Simple<'t>, dialect: Dialect) -> Interval<'t>
     }
 }
 
-/// Returns that interval for Cargo. No pre-release is in the block of one or two numbers, except
-/// for `^`.
+/// Returns the interval for pre-releases by default in Cargo's dialect. No pre-release of the block
+/// of one or two numbers is in it, except for `^`.
 #[inline(always)]
 fn besides_block<'t>(simple: &Simple<'t>) -> Interval<'t> {
     between(&simple.partial, cargo_sides(simple))
 }
 
-/// Returns the sides of that interval.
+/// Returns the sides of the interval for pre-releases in Cargo's dialect. Between the same side
+/// twice there is no version.
 #[inline(always)]
 fn cargo_sides(simple: &Simple<'_>) -> (Option<Side>, Option<Side>) {
     match simple.partial.kind() {
@@ -74,7 +75,7 @@ fn cargo_sides(simple: &Simple<'_>) -> (Option<Side>, Option<Side>) {
     }
 }
 
-/// Returns the sides for a term of one or two numbers.
+/// Returns these sides for a term of one or two numbers.
 #[inline(always)]
 fn sides_beside(simple: &Simple<'_>) -> (Option<Side>, Option<Side>) {
     match simple.form {
@@ -91,8 +92,10 @@ fn sides_beside(simple: &Simple<'_>) -> (Option<Side>, Option<Side>) {
     }
 }
 
-/// Returns that interval for npm. It begins at the release at which the lower cut is. If that is
-/// 0.0.0, there is no lower bound, except for `=0.0.0`.
+/// Returns the interval for pre-releases by default in npm's dialect. It begins at the version of
+/// the term, or at the release that is raised above it, where the other interval may begin below
+/// all pre-releases of these numbers. If that version is 0.0.0, there is no lower bound, except for
+/// `=0.0.0`.
 #[inline(always)]
 fn from_release<'t>(simple: &Simple<'t>) -> Interval<'t> {
     let (lower, upper) = sides(simple, Dialect::Npm);
@@ -108,7 +111,9 @@ pub(crate) fn is_past(upper: Option<Side>) -> bool {
     matches!(upper, Some(Side::Past))
 }
 
-/// Returns the cut at the release of a lower side, if it excludes any version.
+/// Returns the lower cut of that interval, if it excludes any version. `is_one` says whether the
+/// interval ends directly above the same version, as that of `=0.0.0` does. The raised number
+/// saturates, since this is computed before it is known whether the term fits.
 #[inline(always)]
 fn release_of<'t>(partial: &Partial<'t>, lower: Option<Side>, is_one: bool) -> Option<Cut<'t>> {
     match lower {

@@ -62,8 +62,9 @@ impl VersionSet {
     /// [`VersionSet::release_ranges`] returns the releases. A pre-release satisfies them by
     /// precedence.
     ///
-    /// Each bound has a pre-release. The version right above 1.2.3-a is 1.2.3-a.0, so 1.2.3-a alone
-    /// is `=1.2.3-a`. The lowest is 0.0.0-0, and all pre-releases are `>=0.0.0-0`.
+    /// Each lower bound has a pre-release, and an upper one is a release if all pre-releases below
+    /// it are in the set, as in `>=1.2.3-b <1.2.3`. The version right above 1.2.3-a is 1.2.3-a.0,
+    /// so 1.2.3-a alone is `=1.2.3-a`. The lowest is 0.0.0-0, and all pre-releases are `>=0.0.0-0`.
     ///
     /// It takes time in the number of boundaries, and allocates only if the set has a pre-release.
     /// `Err` is out of memory.
