@@ -810,7 +810,7 @@ pub fn begun(all: &[Strings]) -> Strings {
     ///
     /// let range = VersionRange::parse("^1.2", Dialect::Npm)?;
     /// assert_eq!(range.lowest_of(&[b"1.1.0", b"1.10.0", b"v1.2.0"]), Some(2));
-    /// # Ok::<(), semver_parser::RangeError>(())
+    /// # Ok::<(), semver_parser::Error>(())
     /// ```
     pub fn lowest_of(&self, versions: &[&[u8]]) -> Option<usize> {
         best_index(self, versions, true)
@@ -828,7 +828,7 @@ pub fn begun(all: &[Strings]) -> Strings {
     ///
     /// let range = VersionRange::parse("^1.2", Dialect::Npm)?;
     /// assert_eq!(range.lowest_of(&[b"1.1.0", b"1.10.0", b"v1.2.0"]), Some(2));
-    /// # Ok::<(), semver_parser::RangeError>(())
+    /// # Ok::<(), semver_parser::Error>(())
     /// ```
 
     pub fn highest_of(&self, versions: &[&[u8]]) -> Option<usize> {
