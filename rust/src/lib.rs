@@ -32,7 +32,7 @@
 //! assert_eq!((&old - &new).to_string(), "=1.2.0 || >=1.9.0 <2.0.0");
 //! assert_eq!(new.is_subset(&old), Ok(true));
 //! assert!(old.contains("1.2.0")?);
-//! # Ok::<(), Box<dyn std::error::Error>>(())
+//! # Ok::<(), semver_parser::Error>(())
 //! ```
 //!
 //! An [`Error`] says where and why a string is invalid. [`sets`] has the sets of versions below a
