@@ -15,9 +15,9 @@ import tempfile
 TOP = pathlib.Path(__file__).resolve().parent.parent
 
 # These modules are hidden, and these methods are for other crates of the repository.
-HIDDEN = {'proved', 'rattle_std'}
-INTERNAL = {'sets::VersionSet::to_flat', 'version::Outline::compared_pre',
-            'version::Outline::pre_bytes'}
+HIDDEN = {'layers', 'proved', 'rattle_std'}
+INTERNAL = {f'{name}::{method}' for name in ('VersionRef', 'version::Outline')
+            for method in ('compared_pre', 'pre_bytes')}
 
 METHOD = re.compile(r'<section id="method\.(\w+)[-\d]*" class="method">')
 EXAMPLE = '<div class="example-wrap"><pre class="rust rust-example-rendered">'

@@ -8,6 +8,15 @@ use alloc::string::String;
 use core::fmt::{self, Display, Formatter};
 
 /// What is wrong with a string.
+///
+/// ```
+/// use semver_parser::{satisfies, Dialect, ErrorKind};
+///
+/// let kind = |version, range| satisfies(version, range, Dialect::Cargo).unwrap_err().kind();
+/// assert_eq!(kind("1.2", "^1"), ErrorKind::InvalidVersion);
+/// assert_eq!(kind("1.2.0", "1 || 2"), ErrorKind::InvalidRange);
+/// assert_eq!(kind("1.2.0", "^18446744073709551615"), ErrorKind::NumberTooLarge);
+/// ```
 #[derive(Clone, Copy, Debug, PartialEq, Eq, Hash)]
 #[non_exhaustive]
 pub enum ErrorKind {
