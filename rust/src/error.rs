@@ -140,7 +140,7 @@ impl Error {
         let kind = match error {
             RangeError::NotARange => ErrorKind::InvalidRange,
             RangeError::NumberTooLarge => ErrorKind::NumberTooLarge,
-            RangeError::OutOfMemory => ErrorKind::OutOfMemory,
+            RangeError::OutOfMemory => return Error::from(AllocError),
         };
         let found = explain_range(range, dialect);
         let found = found
