@@ -17,10 +17,10 @@ use Rattle.semver_ranges.proofs.ReadingSteps.{simples_end, simples_step, read_st
 use Rattle.semver_ranges.proofs.WrittenPieces.{apart, is_written, no_blank_byte, stops, partial_read, blanks_after, no_blank, simple_read}
 
 -- a simple begins with a byte of a word or a sign: no blank, no bar and no hyphen
-abbrev is_simple_byte : ℕ → Bool
+abbrev pub is_simple_byte : ℕ → Bool
 is_simple_byte b = is_word_byte b || ((b == 61) || ((b == 60) || ((b == 62) || ((b == 126) || (b == 94)))))
 
-word_simple : (t : Text) → starts is_word_byte t ≡ true → starts is_simple_byte t ≡ true
+pub word_simple : (t : Text) → starts is_word_byte t ≡ true → starts is_simple_byte t ≡ true
 word_simple [] e = cc
 word_simple (b ∷ t) e = or_left _ _ e
 
@@ -32,48 +32,48 @@ simple_no_end : (t : Text) → starts is_simple_byte t ≡ true → ends_range t
 simple_no_end [] e = cc
 simple_no_end (b ∷ t) e = apart is_simple_byte b 124 e refl
 
-simple_no_hyphen : (t : Text) → starts is_simple_byte t ≡ true → begins_with 45 t ≡ false
+pub simple_no_hyphen : (t : Text) → starts is_simple_byte t ≡ true → begins_with 45 t ≡ false
 simple_no_hyphen [] e = cc
 simple_no_hyphen (b ∷ t) e = apart is_simple_byte b 45 e refl
 
-end_no_hyphen : (t : Text) → ends_range t ≡ true → begins_with 45 t ≡ false
+pub end_no_hyphen : (t : Text) → ends_range t ≡ true → begins_with 45 t ≡ false
 end_no_hyphen [] e = refl
 end_no_hyphen (b ∷ t) e = grind (arith, nat_tests)
 
 module _ (d : Grammar) where
-  form_starts : (f : Form) (sign t : Text) → SpellsForm d f sign → starts is_word_byte t ≡ true
+  pub form_starts : (f : Form) (sign t : Text) → SpellsForm d f sign → starts is_word_byte t ≡ true
       → starts is_simple_byte (sign ++ t) ≡ true
   form_starts bare sign t h e = rw h (word_simple t e)
   form_starts tilde sign t h e = elim h [ inl (blanks, h, text) ↦ rw text | inr (blanks, h, text) ↦ rw text ]
   form_starts _ sign t (blanks, h, text) e = rw text
 
-  simple_starts : (s : Simple) (w u : Text) → SpellsSimple d s w → starts is_simple_byte (w ++ u) ≡ true
+  pub simple_starts : (s : Simple) (w u : Text) → SpellsSimple d s w → starts is_simple_byte (w ++ u) ≡ true
   simple_starts s w u (sign, text, form, spelled, whole) =
       rw whole (starts-append is_simple_byte (sign ++ text) u
       (form_starts s.form sign text form (word_starts d (after_form s.form) s.partial text spelled)))
 
-  simples_start : (first : Simple) (others : List Simple) (w u : Text) → SpellsSimples d first others w
+  pub simples_start : (first : Simple) (others : List Simple) (w u : Text) → SpellsSimples d first others w
       → starts is_simple_byte (w ++ u) ≡ true
   simples_start first [] w u h = simple_starts first w u h
   simples_start first (next ∷ others) w u (head, gap, tail, h, blanks, more, text) =
       rw text (simp append_assoc (simple_starts first head (gap ++ (tail ++ u)) h))
 
-  simple_stops : (t : Text) → starts is_simple_byte t ≡ true → stops (is_blank d) t ≡ true
+  pub simple_stops : (t : Text) → starts is_simple_byte t ≡ true → stops (is_blank d) t ≡ true
   simple_stops [] e = cc
   simple_stops (b ∷ t) e = not_from_false _ (no_blank_byte d b (simple_written b e))
 
   -- where a range ends
-  end_stops : (t : Text) → ends_range t ≡ true → stops (is_blank d) t ≡ true
+  pub end_stops : (t : Text) → ends_range t ≡ true → stops (is_blank d) t ≡ true
   end_stops [] e = refl
   end_stops (b ∷ t) e = rw (eqb-true b 124 e) (not_from_false _ (no_blank_byte d 124 refl))
 
   -- a word ends before blanks and the end of its range, and before a gap
-  blanks_end : (blanks t : Text) → AreBlanks d blanks → ends_range t ≡ true → ends_word d (blanks ++ t) ≡ true
+  pub blanks_end : (blanks t : Text) → AreBlanks d blanks → ends_range t ≡ true → ends_word d (blanks ++ t) ≡ true
   blanks_end [] [] h e = refl
   blanks_end [] (b ∷ t) h e = or_right _ _ e
   blanks_end (b ∷ blanks) t h e = grind arith
 
-  gap_ends : (gap t : Text) → AreSomeBlanks d gap → ends_word d (gap ++ t) ≡ true
+  pub gap_ends : (gap t : Text) → AreSomeBlanks d gap → ends_word d (gap ++ t) ≡ true
   gap_ends [] t (some, h) = cc
   gap_ends (b ∷ gap) t (some, h) = grind arith
 

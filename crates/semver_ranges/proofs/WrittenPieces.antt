@@ -68,7 +68,7 @@ no_blank_byte Cargo b e = grind (arith, nat_tests)
 no_blank_byte Npm b e = grind (arith, nat_tests)
 
 -- where a word ends, a partial does
-word_ends_partial : (d : Grammar) (t : Text) → ends_word d t ≡ true → ends_partial t ≡ true
+pub word_ends_partial : (d : Grammar) (t : Text) → ends_word d t ≡ true → ends_partial t ≡ true
 word_ends_partial d [] e = refl
 word_ends_partial d (b ∷ t) e = let h = no_blank_byte d b in grind (arith, nat_tests)
 

@@ -150,9 +150,10 @@ fn read_partial(text: &[u8], grammar: Grammar, role: Role) -> Option<(Partial<'_
     }
 }
 
+// Answer: equation.
 /// What follows one `v`, to npm.
 #[inline(always)]
-pub(crate) fn after_v(text: &[u8], grammar: Grammar) -> &[u8]
+pub fn after_v(text: &[u8], grammar: Grammar) -> &[u8]
     ensures { result.now ≡ after_v grammar text.now }
 {
     match (grammar, text) {
@@ -343,9 +344,10 @@ fn after_blank(text: &[u8], grammar: Grammar) -> Option<&[u8]>
     }
 }
 
+// Answer: equation.
 /// What follows two bars, where the text begins with them.
 #[inline(always)]
-pub(crate) fn after_bars(text: &[u8]) -> Option<&[u8]>
+pub fn after_bars(text: &[u8]) -> Option<&[u8]>
     ensures { MatchOption result (after_bars text.now ≡ None) (λ rest. after_bars text.now
         ≡ Some rest.now) }
 {

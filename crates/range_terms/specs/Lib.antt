@@ -1,0 +1,2 @@
+pub mod WrittenTerms
+pub mod Steps

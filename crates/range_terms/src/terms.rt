@@ -1,0 +1,217 @@
+//! The terms of a range text, one after the other. Nothing here allocates.
+
+ghost use Rattle.std.specs.Prelude.{◌≡◌, ◌≢◌, ◌≤◌, ◌<◌, ◌+◌, true, Err, IfOk, IfSome};
+ghost use Rattle.std.specs.Prelude.{length, option_map};
+ghost use Rattle.std.specs.List.{list_all};
+ghost use Rattle.semver_texts.specs.Texts.{Text, cut_at_dots, is_part};
+ghost use Rattle.semver_ranges.specs.RangeTree.{PartialTree};
+ghost use Rattle.semver_ranges.specs.Steps.CursorViews.{form_of};
+ghost use Rattle.semver_ranges.specs.Steps.PartialViews.{AreWritten, IsComponentOf};
+ghost use Rattle.tool_ranges.specs.Dialects.{RefusesAs, SpellsAs, TreeOf};
+ghost use Rattle.range_terms.specs.WrittenTerms.{component_of, major_of, minor_of, operator_of};
+ghost use Rattle.range_terms.specs.WrittenTerms.{patch_of, term_value, terms_in, version_value};
+ghost use Rattle.range_terms.specs.Steps.{after_ranges, term_of, terms_left, upper_in};
+ghost use Rattle.range_terms.specs.Steps.{version_in, IsFound, IsVersionOf};
+
+use crate::term::{Component, Operator, PartialVersion, Span, Term};
+use semver_ranges::RangeError;
+use semver_ranges::grammar::{
+    Form, after_bars, after_blanks, after_v, read_components, read_operator,
+};
+use semver_ranges::partial::{self, Components};
+use semver_texts::dotted::{strip_mark, text_of_parts};
+use semver_texts::grammar::Grammar;
+use std::marker::Model;
+use tool_ranges::dialect::Dialect;
+use tool_ranges::meaning::{Meaning, check};
+use version_sets::PreReleases;
+
+/// The terms of a range text that are left.
+#[derive(Debug, Drop)]
+pub struct Terms<'text> {
+    /// The length of the whole text.
+    len: usize,
+    grammar: Grammar,
+    /// How many `||` are before the rest.
+    range: usize,
+    rest: &'text [u8],
+}
+
+impl<'text> Model for Terms<'text> {
+    ghost use Rattle.std.specs.Prelude.{List, ◌≤◌, ◌<◌, ◌+◌, ◌^◌, length};
+    ghost use Rattle.range_terms.specs.WrittenTerms.{WrittenTerm};
+    ghost use Rattle.range_terms.specs.Steps.{terms_left};
+
+    ghost Value = { List WrittenTerm };
+
+    ghost view = { λ s. terms_left s.grammar s.len s.range s.rest.now };
+
+    ghost invariant = { λ s. s.range + length s.rest.now ≤ s.len };
+}
+
+impl<'text> Terms<'text> {
+    // Answer: equation.
+    /// Reads the terms of a range text.
+    pub fn try_parse(range: &'text str, dialect: Dialect) -> Result<Terms<'text>, RangeError>
+        // What isn't a range of the dialect, and what is too large, is refused, exactly.
+        ensures refusals { RefusesAs dialect range.now result }
+        ensures no_memory { result ≢ Err RangeError.OutOfMemory }
+        // The terms are those of each tree that spells the text, by each way in which it does.
+        ensures terms { IfOk result (λ terms. (tree : TreeOf dialect)
+            (spelled : SpellsAs dialect tree range.now)
+            → terms ≡ terms_in dialect tree range.now spelled) }
+    {
+        let meaning = Meaning {
+            dialect,
+            pre_releases: PreReleases::Default,
+        };
+        check(meaning, range)?;
+        Ok(Terms {
+            len: range.len(),
+            grammar: dialect.grammar(),
+            range: 0,
+            rest: range.as_bytes(),
+        })
+    }
+}
+
+// Answer: equation.
+impl<'text> Iterator for Terms<'text> {
+    ghost use Rattle.std.specs.Iterator.{YieldsFirstBy, item_count};
+    ghost use Rattle.range_terms.specs.WrittenTerms.{term_value};
+
+    type Item = Term<'text>;
+
+    ghost next_gives = { YieldsFirstBy term_value (λ terms. terms) };
+
+    ghost remaining = { item_count (λ terms. terms) };
+
+    fn next(&mut self) -> Option<Term<'text>> {
+        let (bars, text) = after_ranges(self.rest, self.grammar);
+        let (form, word) = read_operator(text, self.grammar);
+        let (version, after) = read_version(word, self.grammar, self.len)?;
+        let (upper, rest) = read_upper(after, self.grammar, self.len);
+        self.range += bars;
+        self.rest = rest;
+        Some(term(self.range, form, self.len - text.len(), version, upper))
+    }
+}
+
+/// The term of an operator and one version, or of the two versions of a hyphen range.
+fn term<'text>(
+    range: usize,
+    form: Form,
+    start: usize,
+    version: PartialVersion<'text>,
+    upper: Option<PartialVersion<'text>>,
+) -> Term<'text>
+    ensures { term_value result ≡ term_of range (form_of form) start
+        (version_value version.entry) (option_map version_value upper.entry) }
+{
+    let (operator, end) = match &upper {
+        Some(upper) => (Operator::Hyphen, upper.span.end),
+        None => (operator_of(form), version.span.end),
+    };
+    Term {
+        range,
+        operator,
+        span: Span { start, end },
+        version,
+        upper,
+    }
+}
+
+/// The operator of what is before a partial version.
+fn operator_of(form: Form) -> Operator
+    ensures { result ≡ operator_of (form_of form) }
+{
+    match form {
+        Form::Bare => Operator::Bare,
+        Form::Equal => Operator::Equal,
+        Form::Less => Operator::Less,
+        Form::AtMost => Operator::LessOrEqual,
+        Form::Greater => Operator::Greater,
+        Form::AtLeast => Operator::GreaterOrEqual,
+        Form::Tilde => Operator::Tilde,
+        Form::Caret => Operator::Caret,
+    }
+}
+
+/// What follows the blanks and the pairs of bars at the front of a text, and how many pairs these
+/// are.
+fn after_ranges(text: &[u8], grammar: Grammar) -> (usize, &[u8])
+    ensures value { (result.0, result.1.now) ≡ after_ranges grammar text.now }
+    ensures within { result.0 + length result.1.now ≤ length text.now }
+{
+    let mut bars = 0;
+    let mut rest = after_blanks(text, grammar);
+    loop {
+        let Some(after) = after_bars(rest) else {
+            return (bars, rest);
+        };
+        bars += 1;
+        rest = after_blanks(after, grammar);
+    }
+}
+
+/// The version at the front of what is left of a text of some length, and what follows it.
+fn read_version(text: &[u8], grammar: Grammar, len: usize) -> Option<(PartialVersion<'_>, &[u8])>
+    requires { length text.now ≤ len }
+    ensures found { IsFound (version_in grammar len text.now) result }
+    ensures fewer { IfSome result (λ found. length found.1.now < length text.now) }
+{
+    let (written, rest) = read_components(after_v(text, grammar))?;
+    let span = Span {
+        start: len - text.len(),
+        end: len - rest.len(),
+    };
+    Some((version(span, matches!(text, [b'v', ..]), &written), rest))
+}
+
+/// The version of some components.
+fn version<'text>(span: Span, has_v: bool, written: &Components<'text>) -> PartialVersion<'text>
+    requires { (p : PartialTree) × AreWritten p written.now
+        × (list_all is_part (cut_at_dots written.now.build.now) ≡ true) }
+    ensures { (p : PartialTree) → AreWritten p written.now → IsVersionOf span has_v p result }
+{
+    PartialVersion {
+        span,
+        has_v,
+        major: component(written.major),
+        minor: (written.count > 1).then_some(component(written.minor)),
+        patch: (written.count > 2).then_some(component(written.patch)),
+        pre: text_of_parts(written.pre),
+        build: text_of_parts(written.build),
+    }
+}
+
+/// The component that was read.
+fn component(read: partial::Component) -> Component
+    ensures { (t : Text) → IsComponentOf t read → result ≡ component_of t }
+{
+    match read {
+        partial::Component::Number(number) => Component::Number(number.unwrap_or(u64::MAX)),
+        partial::Component::Wildcard => Component::Wildcard,
+    }
+}
+
+/// The version after a hyphen, if what follows a version goes on with one; and what is left after
+/// it, after the blanks, or after a comma.
+fn read_upper(text: &[u8], grammar: Grammar, len: usize) -> (Option<PartialVersion<'_>>, &[u8])
+    requires { length text.now ≤ len }
+    ensures value { (option_map version_value result.0, result.1.now)
+        ≡ upper_in grammar len text.now }
+    ensures within { length result.1.now ≤ length text.now }
+{
+    let gap = after_blanks(text, grammar);
+    if let Some(others) = strip_mark(gap, b',') {
+        return (None, others);
+    }
+    let Some(right) = strip_mark(gap, b'-') else {
+        return (None, gap);
+    };
+    match read_version(after_blanks(right, grammar), grammar, len) {
+        Some((version, rest)) => (Some(version), rest),
+        None => (None, gap),
+    }
+}
