@@ -105,6 +105,7 @@ pub mod layers;
 mod names;
 mod range_strings;
 pub mod sets;
+mod terms;
 mod version_ref;
 
 pub use proved::invalid_strings::reasons::Reason;
@@ -122,6 +123,7 @@ pub use range_strings::{
     check_range, check_version, comparators, satisfies, satisfies_bytes, SatisfiesError,
 };
 pub use rattle_std::AllocError;
+pub use terms::{terms, Component, Operator, PartialVersion, Span, Term, Terms};
 pub use version_ref::VersionRef;
 
 #[cfg(all(doctest, feature = "std"))]

@@ -127,13 +127,17 @@ module _ (d : Grammar) where
         left_step d n k k (t ++ rest) rest _
         (ap (next_term d n k) text
         ∙ next_here (l ++ (gap ++ after)) (word_simple (l ++ (gap ++ after)) (starts-append is_word_byte l (gap ++ after) begins))
-        ∙ here ∙ rw upper (ap (λ e. Some (record {
-          range = k;
-          operator = operator.Hyphen;
-          span = record { start = o; end = e };
-          version = word_at o left l;
-          upper = Some (word_at (o + length (l ++ (gap ++ (45 ∷ gap')))) right r);
-        }, k, rest)) end))
+        ∙ here ∙ rw upper (ap (λ e. Some (
+          record {
+            range = k;
+            operator = operator.Hyphen;
+            span = record { start = o; end = e };
+            version = word_at o left l;
+            upper = Some (word_at (o + length (l ++ (gap ++ (45 ∷ gap')))) right r);
+          },
+          k,
+          rest,
+        )) end))
 
     -- a range, between blanks
     range_found : (o : ℕ) (r : RangeTree) (t blanks u : Text) (spelled : SpellsRange d r t) → AreBlanks d blanks → ends_range u ≡ true

@@ -1,2 +1,3 @@
+pub mod OperatorTable
 pub mod WrittenTerms
 pub mod Steps

@@ -1,5 +1,8 @@
 //! A term of a range text, as it is written.
 
+ghost use Rattle.std.specs.Prelude.{◌≡◌};
+ghost use Rattle.range_terms.specs.OperatorTable.{number_of, sign_of};
+
 /// What a term begins with, or that it is a hyphen range.
 ///
 /// ```
@@ -10,6 +13,7 @@
 /// # Ok::<(), semver_parser::Error>(())
 /// ```
 #[derive(Clone, Copy, PartialEq, Eq, Hash, Debug)]
+#[non_exhaustive]
 pub enum Operator {
     /// Nothing: `1.2`.
     Bare,
@@ -29,6 +33,57 @@ pub enum Operator {
     Caret,
     /// The hyphen between two versions: `1.2 - 2.3`.
     Hyphen,
+}
+
+impl Operator {
+    // Answer: equation.
+    /// Returns its number in C, Python and JavaScript.
+    ///
+    /// ```
+    /// use semver_parser::Operator;
+    ///
+    /// assert_eq!((Operator::Bare.number(), Operator::Hyphen.number()), (0, 8));
+    /// ```
+    pub fn number(self) -> i32
+        ensures { result ≡ number_of self }
+    {
+        match self {
+            Operator::Bare => 0,
+            Operator::Equal => 1,
+            Operator::Less => 2,
+            Operator::LessOrEqual => 3,
+            Operator::Greater => 4,
+            Operator::GreaterOrEqual => 5,
+            Operator::Tilde => 6,
+            Operator::Caret => 7,
+            Operator::Hyphen => 8,
+        }
+    }
+
+    // Answer: equation.
+    /// Returns how it is written: `~` for `~>` too, `-` for a hyphen range, and an empty string if
+    /// nothing is before the version.
+    ///
+    /// ```
+    /// use semver_parser::Operator;
+    ///
+    /// assert_eq!((Operator::GreaterOrEqual.sign(), Operator::Bare.sign()), (">=", ""));
+    /// ```
+    pub fn sign(self) -> &'static str
+        ensures { result.now ≡ sign_of self }
+    {
+        match self {
+            Operator::Bare => "",
+            Operator::Equal => "=",
+            Operator::Less => "<",
+            Operator::LessOrEqual => "<=",
+            Operator::Greater => ">",
+            Operator::GreaterOrEqual => ">=",
+            Operator::Tilde => "~",
+            Operator::Caret => "^",
+            Operator::Hyphen => "-",
+        }
+    }
 }
 
 /// A part of a partial version.
@@ -80,6 +135,17 @@ pub struct PartialVersion<'text> {
 }
 
 /// A term of a range, as it is written.
+///
+/// ```
+/// use semver_parser::{terms, Dialect, Operator, Span};
+///
+/// let term = terms("1 || 1.2 - 2.x", Dialect::Npm)?.nth(1).unwrap();
+/// assert_eq!((term.range, term.operator), (1, Operator::Hyphen));
+/// assert_eq!(term.span, Span { start: 5, end: 14 });
+/// assert_eq!(term.version.span, Span { start: 5, end: 8 });
+/// assert_eq!(term.upper.unwrap().span, Span { start: 11, end: 14 });
+/// # Ok::<(), semver_parser::Error>(())
+/// ```
 #[derive(Clone, Copy, PartialEq, Eq, Hash, Debug)]
 pub struct Term<'text> {
     /// How many `||` are before it: the index of its range.

@@ -26,7 +26,26 @@ use tool_ranges::dialect::Dialect;
 use tool_ranges::meaning::{Meaning, check};
 use version_sets::PreReleases;
 
-/// The terms of a range text that are left.
+/// The terms of a range, one after the other, as they are written. It borrows the string and
+/// allocates nothing. An empty range, such as the second of `1.2 ||`, has no term.
+///
+/// ```
+/// use semver_parser::{terms, Dialect, Operator};
+///
+/// let range = "^1.2 || >=3.0.0-rc.1 <4";
+/// let found: Vec<_> = terms(range, Dialect::Npm)?
+///     .map(|term| (term.range, term.operator, &range[term.version.span.range()]))
+///     .collect();
+/// assert_eq!(
+///     found,
+///     [
+///         (0, Operator::Caret, "1.2"),
+///         (1, Operator::GreaterOrEqual, "3.0.0-rc.1"),
+///         (1, Operator::Less, "4"),
+///     ]
+/// );
+/// # Ok::<(), semver_parser::Error>(())
+/// ```
 #[derive(Debug, Drop)]
 pub struct Terms<'text> {
     /// The length of the whole text.
@@ -50,8 +69,22 @@ impl<'text> Model for Terms<'text> {
 }
 
 impl<'text> Terms<'text> {
-    // Answer: equation.
-    /// Reads the terms of a range text.
+    // Answer: law answer_laws::ranges::one_terms.
+    /// Checks a range string of a dialect, and returns its terms.
+    ///
+    /// # Errors
+    ///
+    /// Those of [`check_range`](crate::check_range), without a string: `NotARange` if and only if
+    /// the string isn't a range of the dialect, and `NumberTooLarge` if and only if it is one, and a
+    /// number that it states or a bound that is raised by one is above the dialect's limit.
+    ///
+    /// ```
+    /// use semver_parser::{Dialect, RangeError, Terms};
+    ///
+    /// assert_eq!(Terms::try_parse(">=1.2, <2", Dialect::Cargo)?.count(), 2);
+    /// assert_eq!(Terms::try_parse("1 || 2", Dialect::Cargo).err(), Some(RangeError::NotARange));
+    /// # Ok::<(), RangeError>(())
+    /// ```
     pub fn try_parse(range: &'text str, dialect: Dialect) -> Result<Terms<'text>, RangeError>
         // What isn't a range of the dialect, and what is too large, is refused, exactly.
         ensures refusals { RefusesAs dialect range.now result }
@@ -94,6 +127,19 @@ impl<'text> Iterator for Terms<'text> {
         self.range += bars;
         self.rest = rest;
         Some(term(self.range, form, self.len - text.len(), version, upper))
+    }
+}
+
+// Answer: equation.
+/// Returns an iterator that has the same terms left.
+pub fn copy<'text>(terms: &Terms<'text>) -> Terms<'text>
+    ensures { result ≡ terms.now }
+{
+    Terms {
+        len: terms.len,
+        grammar: terms.grammar,
+        range: terms.range,
+        rest: terms.rest,
     }
 }
 

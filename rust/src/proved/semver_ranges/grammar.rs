@@ -121,7 +121,7 @@ fn read_partial(text: &[u8], grammar: Grammar, role: Role) -> Option<(Partial<'_
 
 /// What follows one `v`, to npm.
 #[inline(always)]
-pub(crate) fn after_v(text: &[u8], grammar: Grammar) -> &[u8] {
+pub fn after_v(text: &[u8], grammar: Grammar) -> &[u8] {
     match (grammar, text) {
         (Grammar::Npm, [b'v', rest @ ..]) => rest,
         _ => text,
@@ -276,7 +276,7 @@ fn after_blank(text: &[u8], grammar: Grammar) -> Option<&[u8]> {
 
 /// What follows two bars, where the text begins with them.
 #[inline(always)]
-pub(crate) fn after_bars(text: &[u8]) -> Option<&[u8]> {
+pub fn after_bars(text: &[u8]) -> Option<&[u8]> {
     match text {
         [b'|', b'|', rest @ ..] => Some(rest),
         _ => None,

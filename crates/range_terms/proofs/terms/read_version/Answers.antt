@@ -12,9 +12,12 @@ overflow_sub-span-2 c =
 
 pub version-requires : goal.version-requires
 version-requires c =
-    let found = c.in_ok-written.ensures in
-    (found.0, found.2, build_read c.args.grammar c.args.text.now found.0 c.in_ok-written.rest.now c.in_ok-written.written
-    (ap (λ x. with_first (component x)) (sym c.after_v.ensures) ∙ found.1) found.2)
+    let found = c.in_ok-written.ensures in (
+      found.0,
+      found.2,
+      build_read c.args.grammar c.args.text.now found.0 c.in_ok-written.rest.now c.in_ok-written.written
+          (ap (λ x. with_first (component x)) (sym c.after_v.ensures) ∙ found.1) found.2,
+    )
 
 pub returns-clause-fewer : goal.returns-clause-fewer
 returns-clause-fewer c =

@@ -1,0 +1,6 @@
+// Made by tools/erase.py from crates/range_terms/src/lib.rt; not edited by hand.
+//! The terms of a range text as plain data: what is written, and where.
+
+use crate::rattle_std::prelude::*;
+pub mod term;
+pub mod terms;

@@ -1,0 +1,78 @@
+//! The terms of a range, as they are written.
+
+use crate::proved::range_terms::terms::copy;
+use crate::{Dialect, Error};
+use core::fmt::{self, Display, Formatter};
+use core::iter::FusedIterator;
+use core::ops::Range;
+
+pub use crate::proved::range_terms::term::{Component, Operator, PartialVersion, Span, Term};
+pub use crate::proved::range_terms::terms::Terms;
+
+/// Returns the terms of a range string of a dialect, one after the other, as they are written: the
+/// operator, each version with its components, and where each part is in the string. It allocates
+/// only if it returns an error.
+///
+/// A tool that edits a requirement replaces the span of a version, and keeps everything else:
+///
+/// ```
+/// use semver_parser::{check_range, terms, Dialect};
+///
+/// let mut range = String::from("~1.2 || ^2.0.0");
+/// let span = terms(&range, Dialect::Npm)?.last().unwrap().version.span;
+/// range.replace_range(span.range(), "2.5.1");
+/// assert_eq!(range, "~1.2 || ^2.5.1");
+/// check_range(&range, Dialect::Npm)?;
+/// # Ok::<(), semver_parser::Error>(())
+/// ```
+///
+/// # Errors
+///
+/// An [`Error`], which says where and why the string isn't a range of the dialect.
+pub fn terms(range: &str, dialect: Dialect) -> Result<Terms<'_>, Error> {
+    Terms::try_parse(range, dialect).map_err(|error| Error::from_range(error, range, dialect))
+}
+
+impl Clone for Terms<'_> {
+    fn clone(&self) -> Self {
+        copy(self)
+    }
+}
+
+impl FusedIterator for Terms<'_> {}
+
+impl Span {
+    /// Returns the span as a range of indices: `&string[span.range()]` is what is there.
+    ///
+    /// ```
+    /// use semver_parser::Span;
+    ///
+    /// assert_eq!(&"^1.2"[Span { start: 1, end: 4 }.range()], "1.2");
+    /// ```
+    pub fn range(self) -> Range<usize> {
+        self.start..self.end
+    }
+}
+
+impl From<Span> for Range<usize> {
+    fn from(span: Span) -> Range<usize> {
+        span.range()
+    }
+}
+
+impl Display for Operator {
+    /// Writes [`Operator::sign`].
+    fn fmt(&self, f: &mut Formatter<'_>) -> fmt::Result {
+        f.pad(self.sign())
+    }
+}
+
+impl Display for Component {
+    /// Writes the number, or `x`.
+    fn fmt(&self, f: &mut Formatter<'_>) -> fmt::Result {
+        match self {
+            Component::Number(number) => number.fmt(f),
+            Component::Wildcard => f.pad("x"),
+        }
+    }
+}
