@@ -5,4 +5,7 @@ pub mod FoundTerms
 pub mod FoundComparators
 pub mod Bars
 pub mod MadeVersions
+pub mod LowBytes
+pub mod Places
+pub mod RangePlaces
 pub mod Whole

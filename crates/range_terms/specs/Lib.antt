@@ -1,3 +1,4 @@
 pub mod OperatorTable
 pub mod WrittenTerms
+pub mod Replacing
 pub mod Steps

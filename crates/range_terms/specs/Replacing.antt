@@ -1,0 +1,48 @@
+-- A version of a term may be replaced by another, and the string stays a range.
+use Rattle.std.specs.Prelude.{◌≡◌, ◌&&◌, not, Some, IsTrue, ◌++◌, drop, take}
+use Rattle.semver_texts.specs.Texts.{Text}
+use Rattle.semver_texts.specs.declared.grammar.Grammar.TheVariants as grammar
+use Rattle.semver_ranges.specs.Partials.{states_nothing}
+use Rattle.semver_ranges.specs.RangeTree.{PartialTree, Role, SpellsPartial, SpellsWord, after_form}
+use Rattle.semver_ranges.specs.RangeTree.{after_hyphen, at_least, at_most, bare, caret, equal}
+use Rattle.semver_ranges.specs.RangeTree.{greater, less, tilde}
+use Rattle.tool_ranges.specs.CargoGrammar.{is_partial_of_cargo}
+use Rattle.tool_ranges.specs.Dialects.{IsTextAs}
+use Rattle.tool_ranges.specs.declared.dialect.Dialect.{Dialect}
+use Rattle.tool_ranges.specs.declared.dialect.Dialect.TheVariants as dialect
+use Rattle.range_terms.specs.declared.term.Operator.{Operator}
+use Rattle.range_terms.specs.declared.term.Operator.TheVariants as operator
+use Rattle.range_terms.specs.declared.term.Span.{Span}
+use Rattle.range_terms.specs.WrittenTerms.{WrittenTerm, WrittenVersion}
+
+-- the text with other bytes at a span
+abbrev pub replaced : Text → Span → Text → Text
+replaced t span word = take span.start t ++ (word ++ drop span.end t)
+
+-- what the version of a term is after, or the one before the hyphen
+abbrev pub role_in : Operator → Role
+role_in operator.Bare = after_form bare
+role_in operator.Equal = after_form equal
+role_in operator.Less = after_form less
+role_in operator.LessOrEqual = after_form at_most
+role_in operator.Greater = after_form greater
+role_in operator.GreaterOrEqual = after_form at_least
+role_in operator.Tilde = after_form tilde
+role_in operator.Caret = after_form caret
+role_in operator.Hyphen = after_form bare
+
+-- a word of a dialect that may replace another: to Cargo it states a number, since a wildcard
+-- without one has to be alone
+abbrev pub MayReplace : Dialect → Role → PartialTree → Text → Type 0
+MayReplace dialect.Cargo role p word = SpellsPartial p word
+    × IsTrue (is_partial_of_cargo p && not (states_nothing p))
+MayReplace dialect.Npm role p word = SpellsWord grammar.Npm role p word
+MayReplace dialect.CrateCargo role p word = SpellsWord grammar.Crate role p word
+MayReplace dialect.CrateNpm role p word = SpellsWord grammar.Crate role p word
+
+-- each version of a term of a text may be replaced
+pub record IsReplaceable (d : Dialect) (t : Text) (x : WrittenTerm) : Type 0 where
+  pub version : (p : PartialTree) (word : Text) → MayReplace d (role_in x.operator) p word
+      → IsTextAs d (replaced t x.version.span word)
+  pub upper : (v : WrittenVersion) → x.upper ≡ Some v → (p : PartialTree) (word : Text)
+      → MayReplace d after_hyphen p word → IsTextAs d (replaced t v.span word)
