@@ -4,6 +4,7 @@ ghost use Rattle.std.specs.Prelude.{◌≡◌, alloc_error};
 ghost use Rattle.semver_parser.specs.RangeViews.{set_of};
 ghost use Rattle.answer_laws.specs.OneAnswer.{AreOne, itself};
 
+use range_terms::terms::Terms;
 use semver_parser::{Compat, RangeError, RangeSet};
 use std::alloc::{AllocError, Global};
 use tool_ranges::dialect::{self, Dialect};
@@ -102,4 +103,17 @@ pub fn one_refusal(
     one_limit_offset();
     one_reason();
     (refused(alloc, dialect, text), refused(alloc, dialect, text))
+}
+
+/// Two results of `Terms::try_parse` on the same inputs.
+type Read<'text> = Result<Terms<'text>, RangeError>;
+
+/// `Terms::try_parse` has one result.
+pub fn one_terms(range: &str, dialect: Dialect) -> (Read<'_>, Read<'_>)
+    ensures one { result.0 ≡ result.1 }
+{
+    (
+        Terms::try_parse(range, dialect),
+        Terms::try_parse(range, dialect),
+    )
 }

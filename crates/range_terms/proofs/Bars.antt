@@ -1,7 +1,7 @@
 -- serves: range_terms::terms::Terms::try_parse
 -- Pairs of bars and blanks, as a loop goes over them.
-use Rattle.std.proofs.Common.{◌≡◌, ℕ, suc, ◌+◌, ◌≤◌, Bool, true, false, [], ◌∷◌, length, refl, sym, ap, ◌∙◌, ◌==◌, ◌&&◌}
-use Rattle.std.proofs.Common.{Option, Some, None, arith}
+use Rattle.std.proofs.Common.{◌≡◌, ℕ, suc, ◌+◌, ◌≤◌, Bool, true, [], ◌∷◌, length, refl, ap, ◌∙◌, ◌&&◌}
+use Rattle.std.proofs.Common.{Some, None, arith}
 use Rattle.std.proofs.lemmas.Bool.{and_parts, eqb-true, not-true, not_from_false}
 use Rattle.semver_texts.specs.Texts.{Text}
 use Rattle.semver_texts.specs.declared.grammar.Grammar.{Grammar}
@@ -9,7 +9,7 @@ use Rattle.semver_texts.proofs.Lists.{by_test}
 use Rattle.semver_ranges.specs.RangeTree.{is_blank}
 use Rattle.semver_ranges.specs.Steps.Reading.{after_bars, after_blanks, back, front, is_bar}
 use Rattle.semver_ranges.proofs.ReadingPieces.{front-back, front_all}
-use Rattle.semver_ranges.proofs.WrittenPieces.{no_blank_byte, stops}
+use Rattle.semver_ranges.proofs.WrittenPieces.{stops}
 use Rattle.range_terms.specs.Steps.{after_ranges, one_more}
 use Rattle.range_terms.proofs.LeftTerms.{ranges_bars, ranges_blanks}
 use Rattle.range_terms.proofs.Shorter.{blanks_shorter}

@@ -1,7 +1,7 @@
 -- serves: range_terms::terms::terms
 -- The comparators that are left of a requirement are those that it is cut into.
-use Rattle.std.proofs.Common.{◌≡◌, ℕ, ◌+◌, Bool, true, false, List, [], ◌∷◌, ◌++◌, length, refl, sym, ap, ◌∙◌, inl, subst}
-use Rattle.std.proofs.Common.{Option, Some, None, arith, length-append, append_assoc, append-nil, codes}
+use Rattle.std.proofs.Common.{◌≡◌, ℕ, ◌+◌, true, false, List, [], ◌∷◌, ◌++◌, length, refl, sym, ap, ◌∙◌, inl}
+use Rattle.std.proofs.Common.{Some, None, arith, length-append, append_assoc, append-nil}
 use Rattle.std.proofs.lemmas.Bool.{and_from}
 use Rattle.std.proofs.lemmas.Bool.Decides.{nat_tests}
 use Rattle.std.proofs.lemmas.List.Folds.{list_all-append}
@@ -12,9 +12,9 @@ use Rattle.semver_ranges.specs.RangeTree.{AreBlanks, Form, PartialTree, Simple, 
 use Rattle.semver_ranges.specs.RangeTree.{bare, equal, less, at_most, greater, at_least, tilde, caret}
 use Rattle.semver_ranges.proofs.ReadingComplete.{form_starts}
 use Rattle.semver_ranges.proofs.ReadingPieces.{component_word, is_word_byte, partial_starts, starts-append}
-use Rattle.semver_ranges.proofs.WrittenPieces.{blanks_after, ends_partial, stops}
+use Rattle.semver_ranges.proofs.WrittenPieces.{blanks_after, ends_partial}
 use Rattle.tool_ranges.specs.CargoGrammar.{sign, SpellsComparator, SpellsComparators}
-use Rattle.range_terms.specs.Steps.{next_term, term_of, terms_left, upper_at, upper_in}
+use Rattle.range_terms.specs.Steps.{term_of, terms_left, upper_at, upper_in}
 use Rattle.range_terms.specs.WrittenTerms.{blanks_before, comparator_at, comparators_at, word_at}
 use Rattle.range_terms.proofs.FoundTerms.{next_here}
 use Rattle.range_terms.proofs.FoundWords.{form_found, placed, word_here}

@@ -1,22 +1,22 @@
 -- serves: range_terms::terms::terms
 -- The terms that are left of a whole text are those that it is cut into.
-use Rattle.std.proofs.Common.{◌≡◌, ℕ, suc, ◌+◌, ◌-◌, ◌≤◌, Bool, true, false, List, [], ◌∷◌, ◌++◌, length, refl, sym, ap, ◌∙◌, ◌==◌}
-use Rattle.std.proofs.Common.{Option, Some, None, arith, length-append, append_assoc, append-nil, codes}
+use Rattle.std.proofs.Common.{◌≡◌, ℕ, suc, ◌+◌, true, false, List, [], ◌∷◌, ◌++◌, length, refl, sym, ap, ◌∙◌, ◌==◌}
+use Rattle.std.proofs.Common.{Some, arith, length-append, append_assoc, append-nil, codes}
 use Rattle.std.proofs.lemmas.Bool.{not-true, not_from_false}
 use Rattle.std.proofs.lemmas.Bool.Decides.{nat_tests}
 use Rattle.semver_texts.specs.Texts.{Text, begins_with}
 use Rattle.semver_texts.specs.declared.grammar.Grammar.{Grammar}
-use Rattle.semver_ranges.specs.RangeTree.{AreBlanks, AreSomeBlanks, Form, PartialTree, after_form, after_hyphen, bare, is_blank}
+use Rattle.semver_ranges.specs.RangeTree.{AreBlanks, AreSomeBlanks, PartialTree, after_form, after_hyphen, bare, is_blank}
 use Rattle.semver_ranges.specs.RangeTree.{RangeTree, SetTree, Simple, empty, hyphen, simples}
 use Rattle.semver_ranges.specs.RangeTree.{SpellsWord, SpellsSimple, SpellsSimples, SpellsRange, SpellsPadded, SpellsRangeIn}
-use Rattle.semver_ranges.specs.Steps.Reading.{after_blanks, ends_range, ends_word}
+use Rattle.semver_ranges.specs.Steps.Reading.{ends_range, ends_word}
 use Rattle.semver_ranges.proofs.ReadingComplete.{blanks_end, end_no_hyphen, end_stops, gap_ends, is_simple_byte}
 use Rattle.semver_ranges.proofs.ReadingComplete.{simple_no_hyphen, simple_starts, simple_stops, simples_start, word_simple}
 use Rattle.semver_ranges.proofs.ReadingPieces.{is_word_byte, starts, starts-append, word_starts}
 use Rattle.semver_ranges.proofs.WrittenPieces.{apart, blanks_after, no_blank, no_blank_byte, stops}
 use Rattle.range_terms.specs.declared.term.Operator.TheVariants as operator
-use Rattle.range_terms.specs.Steps.{after_ranges, next_term, term_here, term_of, terms_left, upper_at, upper_in, version_in, with_upper}
-use Rattle.range_terms.specs.WrittenTerms.{WrittenTerm, WrittenVersion, padded_at, range_at, ranges_at, simple_at, simples_at, word_at}
+use Rattle.range_terms.specs.Steps.{after_ranges, next_term, term_here, terms_left, upper_in}
+use Rattle.range_terms.specs.WrittenTerms.{padded_at, range_at, ranges_at, simple_at, simples_at, word_at}
 use Rattle.range_terms.proofs.FoundWords.{form_found, no_upper_after, word_found}
 use Rattle.range_terms.proofs.LeftTerms.{left_bars, left_blanks, left_step}
 

@@ -1,16 +1,15 @@
 -- serves: range_terms::terms::terms
 -- The words of a text are found where they are written.
-use Rattle.std.proofs.Common.{◌≡◌, ℕ, ◌+◌, ◌-◌, ◌≤◌, Bool, true, false, List, [], ◌∷◌, ◌++◌, length, refl, sym, ap, ◌∙◌, ◌==◌}
-use Rattle.std.proofs.Common.{Option, Some, None, arith, length-append, append_assoc, codes}
-use Rattle.std.proofs.lemmas.Bool.{not_from_false}
+use Rattle.std.proofs.Common.{◌≡◌, ℕ, ◌+◌, ◌-◌, true, false, [], ◌∷◌, ◌++◌, length, refl, ap, ◌∙◌}
+use Rattle.std.proofs.Common.{Some, None, arith, length-append}
 use Rattle.semver_texts.specs.Texts.{Text, begins_with}
 use Rattle.semver_texts.specs.declared.grammar.Grammar.{Grammar}
-use Rattle.semver_ranges.specs.RangeTree.{AreBlanks, AreSomeBlanks, Form, PartialTree, Role, SpellsForm, SpellsPartial, SpellsWord, is_blank}
-use Rattle.semver_ranges.specs.Steps.Reading.{after_blanks, after_v, ends_word}
-use Rattle.semver_ranges.proofs.ReadingPieces.{is_word_byte, starts, starts-append, word_parts, word_starts}
-use Rattle.semver_ranges.proofs.WrittenPieces.{blanks_after, ends_partial, first_read, no_blank, no_blank_byte, operator_read, stops, word_ends_partial}
-use Rattle.range_terms.specs.Steps.{after_ranges, term_here, term_of, upper_at, upper_in, version_in, with_upper, word_between}
-use Rattle.range_terms.specs.WrittenTerms.{WrittenTerm, WrittenVersion, component_of, major_of, minor_of, operator_of, patch_of, word_at}
+use Rattle.semver_ranges.specs.RangeTree.{AreBlanks, Form, PartialTree, Role, SpellsForm, SpellsPartial, SpellsWord, is_blank}
+use Rattle.semver_ranges.specs.Steps.Reading.{after_v, ends_word}
+use Rattle.semver_ranges.proofs.ReadingPieces.{is_word_byte, starts, word_parts, word_starts}
+use Rattle.semver_ranges.proofs.WrittenPieces.{blanks_after, ends_partial, first_read, operator_read, stops, word_ends_partial}
+use Rattle.range_terms.specs.Steps.{term_here, term_of, upper_at, upper_in, version_in, word_between}
+use Rattle.range_terms.specs.WrittenTerms.{WrittenVersion, word_at}
 
 begins_same : (w u : Text) → starts is_word_byte w ≡ true → begins_with 118 (w ++ u) ≡ begins_with 118 w
 begins_same [] u e = cc

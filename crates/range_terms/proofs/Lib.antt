@@ -8,4 +8,6 @@ pub mod MadeVersions
 pub mod LowBytes
 pub mod Places
 pub mod RangePlaces
+pub mod ComparatorPlaces
+pub mod Replaceable
 pub mod Whole

@@ -1,7 +1,7 @@
 -- serves: range_terms::terms::Terms::try_parse
 -- The version that is made of components is that of their partial.
-use Rattle.std.proofs.Common.{◌≡◌, ℕ, Bool, true, false, List, [], ◌∷◌, length, refl, sym, ap, ◌∙◌}
-use Rattle.std.proofs.Common.{Option, Some, None, arith}
+use Rattle.std.proofs.Common.{◌≡◌, true, List, refl, sym, ap, ◌∙◌}
+use Rattle.std.proofs.Common.{Option, Some, None}
 use Rattle.std.specs.Prelude.{nat_lt}
 use Rattle.std.specs.Bool.{then_some}
 use Rattle.std.specs.List.{join_with_byte, list_all}
@@ -9,7 +9,7 @@ use Rattle.semver_texts.specs.Texts.{Text, cut_at_dots, is_part}
 use Rattle.semver_texts.specs.declared.grammar.Grammar.{Grammar}
 use Rattle.semver_texts.proofs.PartRuns.{joined_cut}
 use Rattle.semver_ranges.specs.declared.partial.Components.{Components}
-use Rattle.semver_ranges.specs.RangeTree.{PartialTree, SpellsPartial, build_parts, one, pre_parts, three, two}
+use Rattle.semver_ranges.specs.RangeTree.{PartialTree, SpellsPartial, build_parts, one, three, two}
 use Rattle.semver_ranges.specs.Steps.PartialViews.{AreWritten, IsComponentOf}
 use Rattle.semver_ranges.specs.Steps.Reading.{after_v, component, with_first}
 use Rattle.semver_ranges.proofs.ReadingPieces.{PartialAt, component_sound, first_sound}

@@ -1,7 +1,7 @@
 -- serves: range_terms::terms::Terms::try_parse
 -- Where the words of a text are, and that the text is one again with another word there.
-use Rattle.std.proofs.Common.{◌≡◌, ℕ, ◌+◌, ◌<◌, true, List, [], ◌∷◌, ◌++◌, length, refl, sym, ap, ◌∙◌, subst}
-use Rattle.std.proofs.Common.{Option, Some, None, arith, length-append, append_assoc, append-nil}
+use Rattle.std.proofs.Common.{◌≡◌, ℕ, ◌+◌, ◌<◌, true, List, [], ◌∷◌, ◌++◌, length, subst}
+use Rattle.std.proofs.Common.{Some, arith, length-append, append_assoc}
 use Rattle.std.specs.List.{AllByRecursion, list_all}
 use Rattle.semver_texts.specs.Texts.{Text}
 use Rattle.semver_texts.proofs.Lists.{all_more}

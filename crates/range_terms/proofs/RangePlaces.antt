@@ -1,8 +1,7 @@
 -- serves: range_terms::terms::Terms::try_parse
 -- The words of a text of ranges, each of which may be replaced.
 use Rattle.std.proofs.Common.{◌≡◌, ℕ, suc, ◌+◌, ◌<◌, true, List, [], ◌∷◌, ◌++◌, length, refl, sym, ap, ◌∙◌, subst, codes}
-use Rattle.std.proofs.Common.{Option, Some, None, arith, length-append, append_assoc, append-nil}
-use Rattle.std.specs.List.{AllByRecursion}
+use Rattle.std.proofs.Common.{arith, length-append, append_assoc, append-nil}
 use Rattle.semver_texts.specs.Texts.{Text}
 use Rattle.semver_texts.specs.declared.grammar.Grammar.{Grammar}
 use Rattle.semver_ranges.specs.RangeTree.{Form, PartialTree, RangeTree, Role, SetTree, Simple, after_form, after_hyphen, bare}
@@ -11,10 +10,10 @@ use Rattle.semver_ranges.specs.RangeTree.{SpellsWord, SpellsSimple, SpellsSimple
 use Rattle.semver_ranges.proofs.ReadingPieces.{is_word_byte, starts, word_starts}
 use Rattle.range_terms.specs.declared.term.Span.{Span}
 use Rattle.range_terms.specs.Replacing.{role_in}
-use Rattle.range_terms.specs.WrittenTerms.{WrittenTerm, WrittenVersion, operator_of, padded_at, range_at, ranges_at, simple_at, simples_at}
+use Rattle.range_terms.specs.WrittenTerms.{WrittenTerm, operator_of, padded_at, range_at, ranges_at, simple_at, simples_at}
 use Rattle.range_terms.specs.WrittenTerms.{word_at}
 use Rattle.range_terms.proofs.LowBytes.{word_low}
-use Rattle.range_terms.proofs.Places.{AllPlaces, ArePlaces, IsPlace, all_within, both, within}
+use Rattle.range_terms.proofs.Places.{AllPlaces, ArePlaces, IsPlace, all_within, both}
 
 pub some_bytes : (t : Text) → starts is_word_byte t ≡ true → 0 < length t
 some_bytes [] e = cc
@@ -74,10 +73,13 @@ module _ (d : Grammar) where
     simples_places : (o : ℕ) (first : Simple) (others : List Simple) (t : Text) (spelled : SpellsSimples d first others t)
         → AllPlaces AreSimples May t o (simples_at d k o first others t spelled)
     simples_places o first [] t spelled =
-        let place = simple_place k o first t spelled in (record {
-          version = one place.version;
-          upper = λ v is. one (place.upper v is);
-        }, tt)
+        let place = simple_place k o first t spelled in (
+          record {
+            version = one place.version;
+            upper = λ v is. one (place.upper v is);
+          },
+          tt,
+        )
       where
         one : {M : PartialTree → Text → Type 0} {span : Span} → IsPlace IsSimple M t o span → IsPlace AreSimples M t o span
         one place = record {
@@ -94,8 +96,7 @@ module _ (d : Grammar) where
     simples_places o first (next ∷ others) t (front, gap, back, spelled, blanks, more, whole) =
         let here = simple_place k o first front spelled in
         let text : t ≡ front ++ (gap ++ back) = whole ∙ append_assoc front gap back in
-        let others_text : t ≡ (front ++ gap) ++ (back ++ []) = whole ∙ ap (λ u. (front ++ gap) ++ u) (sym (append-nil back)) in
-        (
+        let others_text : t ≡ (front ++ gap) ++ (back ++ []) = whole ∙ ap (λ u. (front ++ gap) ++ u) (sym (append-nil back)) in (
           (moved AreSimples o (simple_at d k o first front spelled ∷ []) t _ text (all_within IsSimple AreSimples May [] front (gap ++ back) o o (omega arith)
               (λ t' is. (is.0, next ∷ others, (t', gap, back, is.1, blanks, more, sym (append_assoc t' gap back))))
               (simple_at d k o first front spelled ∷ []) (here, tt))).0,
@@ -110,16 +111,15 @@ module _ (d : Grammar) where
     range_places o empty t spelled = tt
     range_places o (simples first others) t spelled =
         let all = all_within AreSimples IsRange May [] t [] o o (omega arith)
-            (λ t' are. (simples are.0 are.1, subst (λ u. SpellsSimples d are.0 are.1 u) (sym (append-nil t')) are.2))
-            (simples_at d k o first others t spelled) (simples_places o first others t spelled) in
+        (λ t' are. (simples are.0 are.1, subst (λ u. SpellsSimples d are.0 are.1 u) (sym (append-nil t')) are.2))
+        (simples_at d k o first others t spelled) (simples_places o first others t spelled) in
         subst (λ u. AllPlaces IsRange May u o (simples_at d k o first others t spelled)) (append-nil t) all
     range_places o (hyphen left right) t (l, gap, gap', r, spelled, g, g', spelled', whole) =
         let middle = gap ++ (45 ∷ gap') in
         let text : t ≡ l ++ (middle ++ r) = whole ∙ simp append_assoc in
         let made : (p p' : PartialTree) (w w' : Text) → SpellsWord d (after_form bare) p w → SpellsWord d after_hyphen p' w'
-            → IsRange (w ++ (middle ++ w')) =
-            λ p p' w w' h h'. (hyphen p p', (w, gap, gap', w', h, g, g', h', simp append_assoc)) in
-        (
+        → IsRange (w ++ (middle ++ w')) =
+        λ p p' w w' h h'. (hyphen p p', (w, gap, gap', w', h, g, g', h', simp append_assoc)) in (
           record {
             version = record {
               before = [];
@@ -162,8 +162,8 @@ module _ (d : Grammar) where
   ranges_places k o [] t spelled = absurd spelled
   ranges_places k o (r ∷ []) t spelled =
       let all = all_within IsPadded AreRanges May [] t [] o o (omega arith)
-          (λ t' is. (is.0 ∷ [], subst (λ u. SpellsPadded d is.0 u) (sym (append-nil t')) is.1))
-          (padded_at d k o r t spelled) (padded_places k o r t spelled) in
+      (λ t' is. (is.0 ∷ [], subst (λ u. SpellsPadded d is.0 u) (sym (append-nil t')) is.1))
+      (padded_at d k o r t spelled) (padded_places k o r t spelled) in
       subst (λ u. AllPlaces AreRanges May u o (padded_at d k o r t spelled)) (append-nil t) all
   ranges_places k o (r ∷ next ∷ others) t (front, back, spelled, more, whole) =
       let bars = codes "||" in

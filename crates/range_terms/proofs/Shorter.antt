@@ -1,6 +1,6 @@
 -- serves: range_terms::terms::terms
 -- What is left of a text after its pieces is shorter.
-use Rattle.std.proofs.Common.{◌≡◌, ℕ, zero, suc, ◌+◌, ◌<◌, ◌≤◌, Bool, true, false, List, [], ◌∷◌, ◌++◌, length, refl, sym, ap, ◌∙◌}
+use Rattle.std.proofs.Common.{◌≡◌, ℕ, suc, ◌+◌, ◌<◌, ◌≤◌, Bool, true, [], ◌∷◌, length, sym, ap, ◌∙◌}
 use Rattle.std.proofs.Common.{Option, Some, None, arith, length-append, ◌==◌, ◌&&◌}
 use Rattle.std.specs.Prelude.{option_map}
 use Rattle.semver_texts.specs.Texts.{Text}

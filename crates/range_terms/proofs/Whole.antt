@@ -1,6 +1,6 @@
 -- serves: range_terms::terms::terms
 -- The terms of a whole text of each dialect.
-use Rattle.std.proofs.Common.{◌≡◌, length, refl, arith}
+use Rattle.std.proofs.Common.{◌≡◌, length, arith}
 use Rattle.semver_texts.specs.Texts.{Text}
 use Rattle.semver_texts.specs.declared.grammar.Grammar.TheVariants as grammar
 use Rattle.tool_ranges.specs.Dialects.{SpellsAs, TreeOf, grammar_of}

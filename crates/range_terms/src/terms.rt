@@ -2,7 +2,7 @@
 
 ghost use Rattle.std.specs.Prelude.{◌≡◌, ◌≢◌, ◌≤◌, ◌<◌, ◌+◌, true, Err, IfOk, IfSome};
 ghost use Rattle.std.specs.Prelude.{length, option_map};
-ghost use Rattle.std.specs.List.{list_all};
+ghost use Rattle.std.specs.List.{AllByRecursion, list_all};
 ghost use Rattle.semver_texts.specs.Texts.{Text, cut_at_dots, is_part};
 ghost use Rattle.semver_ranges.specs.RangeTree.{PartialTree};
 ghost use Rattle.semver_ranges.specs.Steps.CursorViews.{form_of};
@@ -10,6 +10,7 @@ ghost use Rattle.semver_ranges.specs.Steps.PartialViews.{AreWritten, IsComponent
 ghost use Rattle.tool_ranges.specs.Dialects.{RefusesAs, SpellsAs, TreeOf};
 ghost use Rattle.range_terms.specs.WrittenTerms.{component_of, major_of, minor_of, operator_of};
 ghost use Rattle.range_terms.specs.WrittenTerms.{patch_of, term_value, terms_in, version_value};
+ghost use Rattle.range_terms.specs.Replacing.{IsReplaceable};
 ghost use Rattle.range_terms.specs.Steps.{after_ranges, term_of, terms_left, upper_in};
 ghost use Rattle.range_terms.specs.Steps.{version_in, IsFound, IsVersionOf};
 
@@ -72,6 +73,9 @@ impl<'text> Terms<'text> {
     // Answer: law answer_laws::ranges::one_terms.
     /// Checks a range string of a dialect, and returns its terms.
     ///
+    /// Another version of the grammar may replace the one at the span of a version: the result is a
+    /// range of the dialect. To Cargo it has to state a number. Its numbers may be too large.
+    ///
     /// # Errors
     ///
     /// Those of [`check_range`](crate::check_range), without a string: `NotARange` if and only if
@@ -93,6 +97,9 @@ impl<'text> Terms<'text> {
         ensures terms { IfOk result (λ terms. (tree : TreeOf dialect)
             (spelled : SpellsAs dialect tree range.now)
             → terms ≡ terms_in dialect tree range.now spelled) }
+        // With another version of the grammar at the span of one the text is a range again.
+        ensures replaceable { IfOk result
+            (λ terms. AllByRecursion (IsReplaceable dialect range.now) terms) }
     {
         let meaning = Meaning {
             dialect,

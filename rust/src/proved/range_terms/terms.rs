@@ -47,6 +47,9 @@ pub struct Terms<'text> {
 impl<'text> Terms<'text> {
     /// Checks a range string of a dialect, and returns its terms.
     ///
+    /// Another version of the grammar may replace the one at the span of a version: the result is a
+    /// range of the dialect. To Cargo it has to state a number. Its numbers may be too large.
+    ///
     /// # Errors
     ///
     /// Those of [`check_range`](crate::proved::range_terms::check_range), without a string: `NotARange` if and only if

@@ -1,4 +1,4 @@
-use Rattle.std.proofs.Common.{◌≡◌, ◌≤◌, ◌+◌, ◌<◌, length, arith, ap, sym, ◌∙◌, refl}
+use Rattle.std.proofs.Common.{arith}
 use Rattle.range_terms.proofs.Bars.{blanks_stop, counted_more, none_counted, pair_shorter}
 use Rattle.range_terms.proofs.Shorter.{blanks_shorter}
 use Rattle.range_terms.proofs.terms.after_ranges.Goals as goal

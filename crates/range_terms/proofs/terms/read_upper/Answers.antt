@@ -1,4 +1,4 @@
-use Rattle.std.proofs.Common.{◌<◌, ◌≤◌, length, arith}
+use Rattle.std.proofs.Common.{arith}
 use Rattle.range_terms.proofs.Shorter.{gap_within, mark_within}
 use Rattle.range_terms.proofs.terms.read_upper.Goals as goal
 

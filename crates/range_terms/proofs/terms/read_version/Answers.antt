@@ -1,4 +1,4 @@
-use Rattle.std.proofs.Common.{◌<◌, ◌≤◌, length, arith, ap, sym, ◌∙◌}
+use Rattle.std.proofs.Common.{arith, ap, sym, ◌∙◌}
 use Rattle.semver_ranges.specs.Steps.Reading.{component, with_first}
 use Rattle.range_terms.proofs.MadeVersions.{build_read}
 use Rattle.range_terms.proofs.Shorter.{rest_shorter}

@@ -1,8 +1,18 @@
-use Rattle.std.proofs.Common.{◌∙◌, ap, length}
-use Rattle.range_terms.specs.Steps.{terms_left}
+use Rattle.std.proofs.Common.{sym, subst}
+use Rattle.std.specs.List.{AllByRecursion}
+use Rattle.range_terms.specs.Replacing.{IsReplaceable}
+use Rattle.range_terms.proofs.Replaceable.{replaceable}
 use Rattle.range_terms.proofs.Whole.{terms_found}
 use Rattle.range_terms.proofs.terms.Terms.try_parse.Goals as goal
 
 pub returns-clause-terms : goal.returns-clause-terms
 returns-clause-terms c = λ tree spelled.
     rw (c.grammar.ensures.grammar, c.as_bytes.ensures.value) (terms_found c.args.dialect tree c.args.range.now spelled)
+
+pub returns-clause-replaceable : goal.returns-clause-replaceable
+returns-clause-replaceable c =
+    let d = c.args.dialect in
+    let t = c.args.range.now in
+    let has = c.in_ok-check.ensures.refusals.accepted in
+    rw (c.grammar.ensures.grammar, c.as_bytes.ensures.value)
+    (subst (λ xs. AllByRecursion (IsReplaceable d t) xs) (sym (terms_found d has.0 t has.1)) (replaceable d has.0 t has.1 c.utf8.range))

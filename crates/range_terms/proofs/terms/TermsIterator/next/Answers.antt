@@ -1,4 +1,4 @@
-use Rattle.std.proofs.Common.{◌≡◌, ◌≤◌, ◌<◌, ◌+◌, arith, rules, length, ap, sym, ◌∙◌, refl}
+use Rattle.std.proofs.Common.{arith, rules, length, ap, sym, ◌∙◌, refl}
 use Rattle.std.specs.Prelude.{option_map}
 use Rattle.semver_ranges.specs.Steps.CursorViews.{form_of}
 use Rattle.range_terms.specs.WrittenTerms.{version_value}
