@@ -130,6 +130,7 @@ export type Reason =
   | 'empty' | 'not-three-numbers' | 'leading-zero' | 'empty-identifier' | 'unexpected-character' | 'too-large' | 'too-long'
   | 'text-after' | 'not-utf8' | 'number-expected' | 'unexpected-end' | 'cargo-commas' | 'cargo-wildcard' | 'cargo-bars'
   | 'cargo-v' | 'cargo-hyphen' | 'npm-comma' | 'crate-comma' | 'crate-v' | 'npm-too-large'
+  | 'too-many-comparators'
 
 /** Where and why a string is refused. */
 export interface Explanation {
@@ -222,6 +223,47 @@ export declare function validRange(range: unknown, options?: OptionsOrLoose<Dial
 export declare function toComparators(range: AnyRange, options?: OptionsOrLoose<Dialect>): string[][]
 /** Where and why a string is no range; null if it is one. */
 export declare function explainRange(range: AnyRange, options?: OptionsOrLoose<Dialect>): Explanation | null
+/** A component of a version as a term states it: `'x'` is a wildcard. */
+export type TermComponent<D extends Dialect = 'npm'> = NumberOf<D> | 'x'
+
+/** A version as a term of a range states it. Its indices are those of the range's string. */
+export interface TermVersion<D extends Dialect = 'npm'> {
+  /** The index of its first character, which may be a `v`. */
+  start: number
+  /** The index after its last character. */
+  end: number
+  /** Whether it begins with a `v`. */
+  hasV: boolean
+  major: TermComponent<D>
+  /** The second component, null if it isn't written. */
+  minor: TermComponent<D> | null
+  /** The third component, null if it isn't written. */
+  patch: TermComponent<D> | null
+  /** The pre-release, such as `rc.1`, or an empty string. */
+  prerelease: string
+  /** The build metadata, or an empty string. */
+  build: string
+}
+
+/** A term of a range, as it is written. */
+export interface Term<D extends Dialect = 'npm'> {
+  /** The index of its range: how many `||` are before it. */
+  range: number
+  /** `''`, `'='`, `'<'`, `'<='`, `'>'`, `'>='`, `'~'`, `'^'`, or `'-'` of a hyphen range. */
+  operator: string
+  /** The index of its first character. */
+  start: number
+  /** The index after its last character. */
+  end: number
+  /** Its version, or the one before the hyphen. */
+  version: TermVersion<D>
+  /** The version after the hyphen; null if it isn't a hyphen range. */
+  upper: TermVersion<D> | null
+}
+
+/** The terms of a range, as they are written and where. Throws a `SemverError` if the range is invalid. */
+export declare function terms(range: string, options?: WithoutDialect): Term[]
+export declare function terms<D extends Dialect = 'npm'>(range: string, options: OptionsOrLoose<D>): Term<D>[]
 /** The lowest version that satisfies a range; null if none does. */
 export declare function minVersion<D extends Dialect = 'npm'>(range: RangeOf<D>, options?: WithoutDialect): SemVer<D> | null
 export declare function minVersion<D extends Dialect = 'npm'>(range: AnyRange, options: OptionsOrLoose<D>): SemVer<D> | null

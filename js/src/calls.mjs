@@ -198,3 +198,27 @@ export function partOf(string, length, index) {
   if (string.length === length) return string.slice(begin, begin + partLength)
   return decoder.decode(bytes.subarray(buffer.begin + begin, buffer.begin + begin + partLength))
 }
+
+const NUMBERS_OF_TERM = 32
+
+/**
+ * Reads the terms of a range. Returns the numbers of each, and how many bytes the range has; null
+ * if it is invalid or memory ran out.
+ */
+export function readTerms(range, dialect) {
+  const { range_terms: call } = calls()
+  const length = hold(range)
+  const count = call(buffer.begin, length, dialect)
+  if (count < 0) return null
+  const begin = numberAt(0)
+  const terms = Array.from({ length: count }, (_, index) => {
+    const at = begin + 8 * NUMBERS_OF_TERM * index
+    return [...new BigUint64Array(bytes.buffer, at, NUMBERS_OF_TERM)]
+  })
+  return { terms, length }
+}
+
+/** A string of ASCII that is in the memory. */
+export function stringAt(begin, length) {
+  return decoder.decode(bytes.subarray(begin, begin + length))
+}

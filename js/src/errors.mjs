@@ -3,8 +3,8 @@ import { callWith, numberAt } from './calls.mjs'
 import { reasonOf, sentenceOf } from './names.mjs'
 import { field } from './options.mjs'
 
-// The index in a string of the character at an offset in bytes.
-function indexOf(string, offset) {
+/** The index in a string of the character at an offset in bytes. */
+export function indexOf(string, offset) {
   let count = 0
   let index = 0
   for (const character of string) {

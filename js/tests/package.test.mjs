@@ -174,6 +174,26 @@ test('the types name the reasons of the module', () => {
   assert.deepEqual([...union.matchAll(/'(.*?)'/g)].map(([, name]) => name), names)
 })
 
+test('the terms of a range are what is written, and where', () => {
+  const version = (start, end, [major, minor = null, patch = null], others = {}) =>
+    ({ start, end, hasV: false, major, minor, patch, prerelease: '', build: '', ...others })
+  assert.deepEqual(semver.terms('^1.2 || >=v3.0.0-rc.1+b5 <4 || 1.2 - 2.x'), [
+    { range: 0, operator: '^', start: 0, end: 4, version: version(1, 4, [1, 2]), upper: null },
+    { range: 1, operator: '>=', start: 8, end: 24, version: version(10, 24, [3, 0, 0], { hasV: true, prerelease: 'rc.1', build: 'b5' }), upper: null },
+    { range: 1, operator: '<', start: 25, end: 27, version: version(26, 27, [4]), upper: null },
+    { range: 2, operator: '-', start: 31, end: 40, version: version(31, 34, [1, 2]), upper: version(37, 40, [2, 'x']) },
+  ])
+  assert.deepEqual(semver.terms('>= 1.*, <2', cargo), [
+    { range: 0, operator: '>=', start: 0, end: 6, version: version(3, 6, [1n, 'x']), upper: null },
+    { range: 0, operator: '<', start: 8, end: 10, version: version(9, 10, [2n]), upper: null },
+  ])
+  // Indices count as JavaScript does, and an empty range has no term.
+  assert.deepEqual(semver.terms('|| \u00a0~> 1').map(({ range, operator, start, end }) => [range, operator, start, end]), [[1, '~', 4, 8]])
+  assert.deepEqual(semver.terms(''), [])
+  assert.throws(() => semver.terms('1 || 2', cargo), { name: 'SemverError', kind: 'range', argument: 0, offset: 2 })
+  assert.throws(() => semver.terms(5), /Invalid range\. Must be a string\. Got type "number"/)
+})
+
 test('filter keeps the versions that satisfy a range, in order', () => {
   const versions = ['2.0.0', '1.4.0', 'x', '', '1.2.0', '1.1.0']
   assert.deepEqual(semver.filter(versions, '^1.2'), ['1.4.0', '1.2.0'])

@@ -46,6 +46,8 @@ row_of reason.CrateComma =
 row_of reason.CrateV = (pos 19, codes "crate-v", codes "the crate takes no leading v; npm does")
 row_of reason.NpmTooLarge =
     (pos 20, codes "npm-too-large", codes "npm's numbers and raised bounds are at most 2^53 - 1")
+row_of reason.TooManyComparators =
+    (pos 21, codes "too-many-comparators", codes "Cargo takes at most 32 comparators")
 
 abbrev pub number_of : Reason → ℤ
 number_of r = (row_of r).0

@@ -70,6 +70,8 @@ pub enum Reason {
     CrateV,
     /// To npm, a number or a raised bound is above 2^53 - 1.
     NpmTooLarge,
+    /// Cargo takes at most 32 comparators.
+    TooManyComparators,
 }
 
 impl Reason {
@@ -140,6 +142,7 @@ impl Reason {
             18 => Some(Reason::CrateComma),
             19 => Some(Reason::CrateV),
             20 => Some(Reason::NpmTooLarge),
+            21 => Some(Reason::TooManyComparators),
             _ => None,
         }
     }
@@ -226,6 +229,11 @@ impl Reason {
                 20,
                 "npm-too-large",
                 "npm's numbers and raised bounds are at most 2^53 - 1",
+            ),
+            Reason::TooManyComparators => (
+                21,
+                "too-many-comparators",
+                "Cargo takes at most 32 comparators",
             ),
         }
     }

@@ -19,6 +19,7 @@ use Rattle.invalid_strings.specs.declared.reasons.Reason.TheVariants.{CargoBars,
 use Rattle.invalid_strings.specs.declared.reasons.Reason.TheVariants.{CargoHyphen, CargoV}
 use Rattle.invalid_strings.specs.declared.reasons.Reason.TheVariants.{CargoWildcard, NpmComma}
 use Rattle.invalid_strings.specs.declared.reasons.Reason.TheVariants.{CrateComma, CrateV}
+use Rattle.invalid_strings.specs.declared.reasons.Reason.TheVariants.{TooManyComparators}
 use Rattle.tool_ranges.specs.declared.dialect.Dialect.{Dialect}
 use Rattle.tool_ranges.specs.declared.dialect.Dialect.TheVariants.{Cargo, Npm, CrateCargo}
 use Rattle.tool_ranges.specs.declared.dialect.Dialect.TheVariants.{CrateNpm}
@@ -93,6 +94,10 @@ reason_at_end letter prefix = if is_spaces prefix then Empty
     else (if letter then (if ends_in_digit prefix then LeadingZero else EmptyIdentifier)
     else (if from_end prefix 0 == code "|" then UnexpectedEnd else NumberExpected))
 
+-- to Cargo a comma follows each requirement but a wildcard and one of 32 comparators
+abbrev pub reason_of_comma : Text → Reason
+reason_of_comma prefix = if has_no_digit prefix then CargoWildcard else TooManyComparators
+
 -- to Cargo, else another
 abbrev pub reason_of_cargo : Bool → Bool → Text → ℕ → Reason → Reason
 reason_of_cargo complete letter prefix b other = if b == code "|" then CargoBars
@@ -101,7 +106,7 @@ reason_of_cargo complete letter prefix b other = if b == code "|" then CargoBars
     else (if complete && (is_operator b || (begins_partial b && ends_in_space prefix))
     then CargoCommas
     else (if is_begun complete letter && is_wildcard b then CargoWildcard
-    else (if complete && ((b == code ",") && has_no_digit prefix) then CargoWildcard
+    else (if complete && (b == code ",") then reason_of_comma prefix
     else other)))))
 
 -- to npm

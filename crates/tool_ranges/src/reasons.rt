@@ -10,7 +10,8 @@ ghost use Rattle.tool_ranges.specs.RangeReasons.{ends_in_component, expects_numb
 ghost use Rattle.tool_ranges.specs.RangeReasons.{has_leading_zero, is_begun, is_long, is_open};
 ghost use Rattle.tool_ranges.specs.RangeReasons.{is_operator, is_spaces, is_wildcard, is_word};
 ghost use Rattle.tool_ranges.specs.RangeReasons.{reason_at_end, reason_by, reason_of};
-ghost use Rattle.tool_ranges.specs.RangeReasons.{reason_of_any, reason_of_cargo, reason_of_crate};
+ghost use Rattle.tool_ranges.specs.RangeReasons.{reason_of_any, reason_of_cargo, reason_of_comma};
+ghost use Rattle.tool_ranges.specs.RangeReasons.{reason_of_crate};
 ghost use Rattle.tool_ranges.specs.RangeReasons.{reason_of_npm};
 
 use crate::dialect::Dialect;
@@ -102,10 +103,22 @@ fn of_cargo(complete: bool, letter: bool, prefix: &[u8], byte: u8, other: Reason
         Reason::CargoCommas
     } else if is_begun(complete, letter) && is_wildcard(byte) {
         Reason::CargoWildcard
-    } else if complete && (byte == b',' && has_no_digit(prefix)) {
-        Reason::CargoWildcard
+    } else if complete && byte == b',' {
+        of_comma(prefix)
     } else {
         other
+    }
+}
+
+/// Why Cargo takes no comma after a requirement: it is a wildcard, or has all comparators that may
+/// come.
+fn of_comma(prefix: &[u8]) -> Reason
+    ensures { result ≡ reason_of_comma prefix.now }
+{
+    if has_no_digit(prefix) {
+        Reason::CargoWildcard
+    } else {
+        Reason::TooManyComparators
     }
 }
 

@@ -13,6 +13,7 @@ mod allocator;
 mod names;
 mod ranges;
 mod state;
+mod terms;
 mod versions;
 
 #[global_allocator]

@@ -11,6 +11,8 @@ pub struct State {
     pub text: String,
     /// The numbers that a call returns.
     pub numbers: [u64; 7],
+    /// The numbers of the terms that a call returns.
+    pub terms: Vec<u64>,
 }
 
 struct Shared(UnsafeCell<State>);
@@ -18,8 +20,12 @@ struct Shared(UnsafeCell<State>);
 // SAFETY: the module has one thread; each instance of it has a memory of its own.
 unsafe impl Sync for Shared {}
 
-static STATE: Shared =
-    Shared(UnsafeCell::new(State { strings: Vec::new(), text: String::new(), numbers: [0; 7] }));
+static STATE: Shared = Shared(UnsafeCell::new(State {
+    strings: Vec::new(),
+    text: String::new(),
+    numbers: [0; 7],
+    terms: Vec::new(),
+}));
 
 /// Runs a call with the state. No call makes another, so the reference is the only one.
 pub fn with<T>(call: impl FnOnce(&mut State) -> T) -> T {

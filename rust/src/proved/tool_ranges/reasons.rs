@@ -83,10 +83,20 @@ fn of_cargo(complete: bool, letter: bool, prefix: &[u8], byte: u8, other: Reason
         Reason::CargoCommas
     } else if is_begun(complete, letter) && is_wildcard(byte) {
         Reason::CargoWildcard
-    } else if complete && (byte == b',' && has_no_digit(prefix)) {
-        Reason::CargoWildcard
+    } else if complete && byte == b',' {
+        of_comma(prefix)
     } else {
         other
+    }
+}
+
+/// Why Cargo takes no comma after a requirement: it is a wildcard, or has all comparators that may
+/// come.
+fn of_comma(prefix: &[u8]) -> Reason {
+    if has_no_digit(prefix) {
+        Reason::CargoWildcard
+    } else {
+        Reason::TooManyComparators
     }
 }
 

@@ -1,0 +1,53 @@
+// The terms of a range, as they are written.
+import { readTerms, stringAt } from './calls.mjs'
+import { indexOf, invalidRange, noString } from './errors.mjs'
+import { meaningOf } from './options.mjs'
+
+// A component by its kind and its number: null if it isn't written.
+function componentOf(kind, number, meaning) {
+  if (kind === 0n) return null
+  if (kind === 2n) return 'x'
+  return meaning.isOfNpm ? Number(number) : number
+}
+
+// A version of its numbers, in a string in which an offset in bytes is an index.
+function versionOf(numbers, string, meaning, indexAt) {
+  const [start, end, hasV, ...parts] = numbers
+  const part = (at) => {
+    const begin = indexAt(parts[at])
+    return string.slice(begin, begin + Number(parts[at + 1]))
+  }
+  return {
+    start: indexAt(start),
+    end: indexAt(end),
+    hasV: hasV === 1n,
+    major: componentOf(parts[0], parts[1], meaning),
+    minor: componentOf(parts[2], parts[3], meaning),
+    patch: componentOf(parts[4], parts[5], meaning),
+    prerelease: part(6),
+    build: part(8),
+  }
+}
+
+function termOf(numbers, string, meaning, indexAt) {
+  const [range, sign, signLength, start, end, hasUpper] = numbers
+  return {
+    range: Number(range),
+    operator: stringAt(Number(sign), Number(signLength)),
+    start: indexAt(start),
+    end: indexAt(end),
+    version: versionOf(numbers.slice(6, 19), string, meaning, indexAt),
+    upper: hasUpper === 1n ? versionOf(numbers.slice(19), string, meaning, indexAt) : null,
+  }
+}
+
+/** The terms of a range, in order. */
+export function terms(range, options) {
+  const meaning = meaningOf(options)
+  if (typeof range !== 'string') throw noString('range', range)
+  const read = readTerms(range, meaning.dialect)
+  if (read === null) throw invalidRange(range, meaning)
+  const isAscii = read.length === range.length
+  const indexAt = (offset) => (isAscii ? Number(offset) : indexOf(range, Number(offset)))
+  return read.terms.map((numbers) => termOf(numbers, range, meaning, indexAt))
+}

@@ -1,0 +1,87 @@
+//! The terms of a range, as they are written.
+
+use crate::{bytes, state, status};
+use core::str::from_utf8;
+use semver_parser::{Component, Dialect, PartialVersion, Term, Terms};
+
+/// How many numbers a term consists of.
+const NUMBERS: usize = 32;
+
+/// Reads the terms of a range. Returns how many these are, or a status. The first number handed
+/// back is the address of what they consist of, 32 numbers each: the index of its range, the
+/// address of its operator and how long that is, its span, whether it has a second version, and of each version 13: its span, whether
+/// it begins with `v`, the kind and the number of each component, and where the pre-release begins
+/// and how long it is, and the same of the build metadata.
+///
+/// # Safety
+/// There are so many bytes at the address.
+#[no_mangle]
+pub unsafe extern "C" fn range_terms(at: *const u8, len: usize, dialect: i32) -> i32 {
+    let (Some(dialect), Ok(range)) =
+        (Dialect::from_number(dialect), from_utf8(unsafe { bytes(at, len) }))
+    else {
+        return status::INVALID_RANGE;
+    };
+    let Ok(terms) = Terms::try_parse(range, dialect) else { return status::INVALID_RANGE };
+    state::with(|state| {
+        state.terms.clear();
+        if state.terms.try_reserve(NUMBERS * terms.clone().count()).is_err() {
+            return status::OUT_OF_MEMORY;
+        }
+        let mut count = 0;
+        for term in terms {
+            state.terms.extend(numbers_of(&term, at as usize));
+            count += 1;
+        }
+        state.numbers[0] = state.terms.as_ptr() as u64;
+        count
+    })
+}
+
+/// What a term consists of, in a string at an address.
+fn numbers_of(term: &Term<'_>, begin: usize) -> impl Iterator<Item = u64> {
+    let Term { range, operator, span, version, upper, .. } = *term;
+    let head = [
+        range as u64,
+        operator.sign().as_ptr() as u64,
+        operator.sign().len() as u64,
+        span.start as u64,
+        span.end as u64,
+        upper.is_some().into(),
+    ];
+    head.into_iter()
+        .chain(numbers_of_version(&version, begin))
+        .chain(numbers_of_version(&upper.unwrap_or(version), begin))
+}
+
+/// What a version consists of, in a string at an address.
+fn numbers_of_version(version: &PartialVersion<'_>, begin: usize) -> [u64; 13] {
+    let [major, minor, patch] =
+        [Some(version.major), version.minor, version.patch].map(numbers_of_component);
+    let [pre, build] = [version.pre, version.build]
+        .map(|part| [(part.as_ptr() as usize).wrapping_sub(begin), part.len()].map(|it| it as u64));
+    [
+        version.span.start as u64,
+        version.span.end as u64,
+        version.has_v.into(),
+        major[0],
+        major[1],
+        minor[0],
+        minor[1],
+        patch[0],
+        patch[1],
+        pre[0],
+        pre[1],
+        build[0],
+        build[1],
+    ]
+}
+
+/// The kind of a component and its number: 0 if it isn't written, 1 of a number, 2 of a wildcard.
+fn numbers_of_component(component: Option<Component>) -> [u64; 2] {
+    match component {
+        None => [0, 0],
+        Some(Component::Number(number)) => [1, number],
+        Some(Component::Wildcard) => [2, 0],
+    }
+}
