@@ -13,6 +13,8 @@ import textwrap
 OVERVIEW = "semver_parser"
 ERRORS = {
     "INVALID_ARGUMENT": "",
+    "DIFFERENT_DIALECTS": "The second range has another dialect than the first.",
+    "DIFFERENT_PRE_RELEASES": "It has the same dialect, and another rule for pre-releases.",
     "INVALID_VERSION": "A string is an invalid version in the dialect.",
     "INVALID_RANGE": "The string is not a range of the dialect.",
     "NUMBER_TOO_LARGE": "It is, but a number or a raised bound is above the limit of the dialect.",
@@ -22,7 +24,6 @@ ERRORS = {
 ARGUMENTS = {
     "semver_parser_options ": "An option isn't one that there is, or a reserved field isn't zero.",
     "semver_parser_dialect ": "The dialect isn't one that there is.",
-    "range *other": "The ranges have different options.",
     "size_t index": "The index is too large.",
 }
 STATUS = "semver_parser_status"
@@ -73,14 +74,15 @@ def synopsis(kind, name, parameters):
 
 
 def errors_of(comment, prototypes):
-    """The statuses that a comment names, those of options, and of what is made or explained."""
+    """The statuses that a comment names, those of options, and of what is made or explained: an
+    error about a string is."""
     parameters = " ".join(it[2] for it in prototypes)
     named = set(re.findall(r"\b[A-Z_]{5,}\b", comment))
     if re.search(r"semver_parser_(options|dialect) ", parameters):
         named.add("INVALID_ARGUMENT")
     if "semver_parser_error *error" not in parameters:
         named &= {"INVALID_ARGUMENT"}
-    if "**" in parameters or "semver_parser_error *error" in parameters:
+    if "**" in parameters or named & {"INVALID_VERSION", "INVALID_RANGE"}:
         named.add("OUT_OF_MEMORY")
     return [it for it in ERRORS if it in named]
 

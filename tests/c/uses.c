@@ -110,13 +110,15 @@ static bool use_two_sets(const semver_parser_range *set) {
     bool equal = false;
     bool is_subset = false;
     bool is_disjoint = false;
-    bool are_made = semver_parser_range_union(set, set, &made[0]) == SEMVER_PARSER_OK
-                    && semver_parser_range_intersection(set, set, &made[1]) == SEMVER_PARSER_OK
-                    && semver_parser_range_difference(set, set, &made[2]) == SEMVER_PARSER_OK
-                    && semver_parser_range_equal(made[0], set, &equal) == SEMVER_PARSER_OK
-                    && semver_parser_range_is_disjoint(made[2], set, &is_disjoint)
+    bool are_made = semver_parser_range_union(set, set, &made[0], NULL) == SEMVER_PARSER_OK
+                    && semver_parser_range_intersection(set, set, &made[1], NULL)
                            == SEMVER_PARSER_OK
-                    && semver_parser_range_is_subset(made[1], set, &is_subset) == SEMVER_PARSER_OK
+                    && semver_parser_range_difference(set, set, &made[2], NULL) == SEMVER_PARSER_OK
+                    && semver_parser_range_equal(made[0], set, &equal, NULL) == SEMVER_PARSER_OK
+                    && semver_parser_range_is_disjoint(made[2], set, &is_disjoint, NULL)
+                           == SEMVER_PARSER_OK
+                    && semver_parser_range_is_subset(made[1], set, &is_subset, NULL)
+                           == SEMVER_PARSER_OK
                     && semver_parser_range_is_empty(made[2]);
     for (int at = 0; at < 3; at++) {
         semver_parser_range_free(made[at]);

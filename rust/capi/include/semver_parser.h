@@ -22,8 +22,8 @@
  * ERRORS. A function returns SEMVER_PARSER_OK or the status of an error. After an error its outputs
  * are as they were, and `error`, which may be null, says more; after OK it is as it was, too.
  * INVALID_ARGUMENT comes first, then the errors of the arguments from left to right. OUT_OF_MEMORY
- * comes only from a function that allocates: one that makes or prints something, combines ranges, or
- * fills `error` after another error, which it then replaces. The others don't allocate.
+ * comes only from a function that allocates: one that makes or prints something, combines ranges,
+ * or fills `error` for an invalid string, whose error it then replaces. The others don't allocate.
  *
  * THE CALLER MUST pass valid pointers, not null except where it is said, and not change what they
  * point to during a call. Threads may call concurrently, and read one range or list at once. In the
@@ -140,15 +140,19 @@ enum {
     /* The string is an invalid version in the dialect. */
     SEMVER_PARSER_INVALID_VERSION = 3,
     SEMVER_PARSER_OUT_OF_MEMORY = 4,
-    /* An option that isn't one of those above, a reserved field that isn't zero, two ranges of
-     * different options, or an index that is too large. */
-    SEMVER_PARSER_INVALID_ARGUMENT = 5
+    /* An option that isn't one of those above, a reserved field that isn't zero, or an index that
+     * is too large. */
+    SEMVER_PARSER_INVALID_ARGUMENT = 5,
+    /* The second of two ranges has another dialect than the first. */
+    SEMVER_PARSER_DIFFERENT_DIALECTS = 6,
+    /* It has the same dialect, and another rule for pre-releases. */
+    SEMVER_PARSER_DIFFERENT_PRE_RELEASES = 7
 };
 
 /* Why a string is refused, as a version or as a range. */
 typedef int32_t semver_parser_reason;
 enum {
-    /* No string is refused: the status is OK, OUT_OF_MEMORY or INVALID_ARGUMENT. */
+    /* No string is refused: the status is OK, or that of an error that isn't about a string. */
     SEMVER_PARSER_REASON_NONE = 0,
     /* It is empty, or white space that the dialect takes there. */
     SEMVER_PARSER_REASON_EMPTY = 1,
@@ -193,8 +197,8 @@ typedef struct {
      * of the string if something is missing at its end. After NUMBER_TOO_LARGE, the end of the
      * first term above the limit. */
     size_t offset;
-    /* Which string of the call it is about: 0 for the first, 1 for the second; of an array, its
-     * index there. */
+    /* Which string or range of the call it is about: 0 for the first, 1 for the second; of an
+     * array, its index there. */
     size_t index;
     /* Are zero. */
     uint64_t reserved[4];
@@ -204,7 +208,8 @@ typedef struct {
  * npm does`. `string` is the string of the call that `error->index` names. With `caret` it has
  * two lines more, indented by four spaces: the string, shortened if it is long and with U+FFFD
  * for control characters, and a caret under the character. An error that isn't about a string, such
- * as OUT_OF_MEMORY, is its semver_parser_status_text alone. semver_parser_free frees the sentence. */
+ * as DIFFERENT_DIALECTS, is its semver_parser_status_text alone, whatever `string` is.
+ * semver_parser_free frees the sentence. */
 SEMVER_PARSER_CHECKED(1, 4)
 semver_parser_status semver_parser_error_message(
     const semver_parser_error *error, semver_parser_string string, bool caret, char **message);
@@ -301,32 +306,35 @@ semver_parser_status semver_parser_range_lowest_of(
 
 /* Makes the range of the versions that are in one or the other, in both, or in the first alone: the
  * difference of `^1.2` and `>=1.4` contains 1.2.0 and not 1.4.0. semver_parser_range_free frees it.
- * Both ranges need the same options, or it is INVALID_ARGUMENT. */
+ * Both ranges must have the same options. DIFFERENT_DIALECTS, DIFFERENT_PRE_RELEASES. */
 SEMVER_PARSER_CHECKED(1, 2, 3)
 semver_parser_status semver_parser_range_union(
     const semver_parser_range *range, const semver_parser_range *other,
-    semver_parser_range **made);
+    semver_parser_range **made, semver_parser_error *error);
 SEMVER_PARSER_CHECKED(1, 2, 3)
 semver_parser_status semver_parser_range_intersection(
     const semver_parser_range *range, const semver_parser_range *other,
-    semver_parser_range **made);
+    semver_parser_range **made, semver_parser_error *error);
 SEMVER_PARSER_CHECKED(1, 2, 3)
 semver_parser_status semver_parser_range_difference(
     const semver_parser_range *range, const semver_parser_range *other,
-    semver_parser_range **made);
+    semver_parser_range **made, semver_parser_error *error);
 
 /* Whether two ranges have the same versions, whether each version of the first is in the other, and
- * whether no version is in both. Both need the same options, or it is INVALID_ARGUMENT. These don't
- * allocate. */
+ * whether no version is in both. Both ranges must have the same options. These don't allocate, with
+ * or without `error`. DIFFERENT_DIALECTS, DIFFERENT_PRE_RELEASES. */
 SEMVER_PARSER_CHECKED(1, 2, 3)
 semver_parser_status semver_parser_range_equal(
-    const semver_parser_range *range, const semver_parser_range *other, bool *equal);
+    const semver_parser_range *range, const semver_parser_range *other, bool *equal,
+    semver_parser_error *error);
 SEMVER_PARSER_CHECKED(1, 2, 3)
 semver_parser_status semver_parser_range_is_subset(
-    const semver_parser_range *range, const semver_parser_range *other, bool *is_subset);
+    const semver_parser_range *range, const semver_parser_range *other, bool *is_subset,
+    semver_parser_error *error);
 SEMVER_PARSER_CHECKED(1, 2, 3)
 semver_parser_status semver_parser_range_is_disjoint(
-    const semver_parser_range *range, const semver_parser_range *other, bool *is_disjoint);
+    const semver_parser_range *range, const semver_parser_range *other, bool *is_disjoint,
+    semver_parser_error *error);
 
 /* Returns whether a range has no version: `>2.0.0 <1.0.0` has none. */
 SEMVER_PARSER_NONNULL(1)
