@@ -232,6 +232,9 @@ static void texts(texts_of *text, int32_t count, const char *kind) {
 static void names(void) {
     static const char *const dialects[] = {"cargo", "npm", "crate-cargo", "crate-npm"};
     static const char *const of_rules[] = {"default", "included", "excluded"};
+    static const char *const statuses[STATUSES] = {
+        "ok", "invalid-range", "number-too-large", "invalid-version", "out-of-memory",
+        "invalid-argument", "different-dialects", "different-pre-releases"};
     for (int at = 0; at < DIALECTS; at++) {
         check(strcmp(semver_parser_dialect_name(at), dialects[at]) == 0, "another name",
               dialects[at]);
@@ -239,6 +242,10 @@ static void names(void) {
     for (int at = 0; at < RULES; at++) {
         check(strcmp(semver_parser_pre_releases_name(at), of_rules[at]) == 0, "another name",
               of_rules[at]);
+    }
+    for (int at = 0; at < STATUSES; at++) {
+        check(strcmp(semver_parser_status_name(at), statuses[at]) == 0, "another name",
+              statuses[at]);
     }
     check(strcmp(semver_parser_reason_name(REASON(LEADING_ZERO)), "leading-zero") == 0
               && strcmp(semver_parser_reason_name(REASON(NOT_UTF8)), "not-utf8") == 0
@@ -364,6 +371,7 @@ int main(void) {
     two_ranges();
     all_are_returned();
     texts(semver_parser_status_text, STATUSES, "a status");
+    texts(semver_parser_status_name, STATUSES, "the name of a status");
     texts(semver_parser_reason_text, REASONS, "a reason");
     texts(semver_parser_reason_name, REASONS, "the name of a reason");
     texts(semver_parser_dialect_name, DIALECTS, "a dialect");

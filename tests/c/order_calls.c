@@ -390,6 +390,7 @@ static void names(const call *it, text *to) {
     int number = (int)it->index;
     say_static(to, semver_parser_dialect_name(number));
     say_static(to, semver_parser_pre_releases_name(number));
+    say_static(to, semver_parser_status_name(number));
     say_static(to, semver_parser_status_text(number));
     say_static(to, semver_parser_reason_text(number));
     say_static(to, semver_parser_reason_name(number));

@@ -32,6 +32,7 @@ static bool use_error(const semver_parser_error *error) {
     return is_made(status, message,
                    "invalid version \"1.2.03\", at byte 5: numbers and identifiers of digits may "
                    "not have a leading zero")
+           && strcmp(semver_parser_status_name(error->status), "invalid-version") == 0
            && strcmp(semver_parser_status_text(error->status), "invalid version") == 0
            && strcmp(semver_parser_reason_name(error->reason), "leading-zero") == 0
            && strlen(semver_parser_reason_text(error->reason)) > 0

@@ -214,11 +214,13 @@ SEMVER_PARSER_CHECKED(1, 4)
 semver_parser_status semver_parser_error_message(
     const semver_parser_error *error, semver_parser_string string, bool caret, char **message);
 
-/* Returns an English phrase for a status or a reason, or the name of a reason ("leading-zero"), or
- * null if there is no such number. */
+/* Returns the name of a status or of a reason, or an English phrase for it; null if there is no such
+ * number. Names are for programs and logs, and never change: "invalid-range", "leading-zero".
+ * Phrases are for people, and may change. */
+const char *semver_parser_status_name(semver_parser_status status);
 const char *semver_parser_status_text(semver_parser_status status);
-const char *semver_parser_reason_text(semver_parser_reason reason);
 const char *semver_parser_reason_name(semver_parser_reason reason);
+const char *semver_parser_reason_text(semver_parser_reason reason);
 
 /* Returns the version of the loaded library: "1.0.0", and 1000000 for it. */
 const char *semver_parser_library_version(void);

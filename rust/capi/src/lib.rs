@@ -75,6 +75,8 @@ functions! {
         = |number| c_text(&message::PRE_RELEASES_NAMES, number);
     semver_parser_status_text(status: Status) => *const c_char
         = |number| c_text(&message::STATUS_TEXTS, number);
+    semver_parser_status_name(status: Status) => *const c_char
+        = |number| c_text(&message::STATUS_NAMES, number);
     semver_parser_reason_text(reason: i32) => *const c_char
         = |number| c_text(&message::REASON_TEXTS, number);
     semver_parser_reason_name(reason: i32) => *const c_char
