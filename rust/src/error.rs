@@ -78,6 +78,7 @@ impl Error {
     /// let error = check_range("^18446744073709551615", Dialect::Cargo).unwrap_err();
     /// assert_eq!(error.kind(), ErrorKind::NumberTooLarge);
     /// ```
+    #[must_use]
     pub fn kind(&self) -> ErrorKind {
         self.kind
     }
@@ -89,6 +90,7 @@ impl Error {
     ///
     /// assert_eq!(check_version("1.2", Dialect::Npm).unwrap_err().string(), "1.2");
     /// ```
+    #[must_use]
     pub fn string(&self) -> &str {
         &self.string
     }
@@ -103,6 +105,7 @@ impl Error {
     /// assert_eq!(check_version("1.2.03", Dialect::Npm).unwrap_err().offset(), Some(5));
     /// assert_eq!(check_version("1.2", Dialect::Npm).unwrap_err().offset(), Some(3));
     /// ```
+    #[must_use]
     pub fn offset(&self) -> Option<usize> {
         self.found.map(|(offset, _)| offset)
     }
@@ -115,6 +118,7 @@ impl Error {
     /// let error = check_version("1.2.03", Dialect::Npm).unwrap_err();
     /// assert_eq!(error.reason(), Some(Reason::LeadingZero));
     /// ```
+    #[must_use]
     pub fn reason(&self) -> Option<Reason> {
         self.found.map(|(_, reason)| reason)
     }

@@ -81,6 +81,7 @@ impl version::Identifier {
     /// let joined = Identifier::Numeric(7).concat("a");
     /// assert_eq!(joined, Identifier::AlphaNumeric("7a".to_string()));
     /// ```
+    #[must_use]
     pub fn concat(self, add_str: &str) -> version::Identifier {
         self.try_concat(add_str).unwrap_or_else(|_| out_of_memory())
     }
