@@ -77,3 +77,20 @@ fn values_are_cloned_and_hashed() -> Result<(), String> {
     assert_eq!(sets.len(), 1);
     Ok(())
 }
+
+#[cfg(feature = "std")]
+#[test]
+fn an_error_of_the_lexer_is_the_source_of_that_of_the_parser() {
+    use std::error::Error;
+    let error = version::parse("1.2.3-a/").unwrap_err();
+    assert_eq!(
+        error,
+        parser::Error::Lexer(lexer::Error::UnexpectedChar('/'))
+    );
+    let source = error.source().unwrap();
+    assert_eq!(source.to_string(), "unexpected character '/'");
+    let of_lexer = source.downcast_ref::<lexer::Error>();
+    assert_eq!(of_lexer, Some(&lexer::Error::UnexpectedChar('/')));
+    assert!(source.source().is_none());
+    assert!(version::parse("1.2").unwrap_err().source().is_none());
+}
