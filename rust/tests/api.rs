@@ -2,13 +2,15 @@
 //! this compiles as it did with the original. After it are the traits and the errors that are
 //! written by hand.
 
-use semver_parser::check_range;
 use semver_parser::lexer::{self, Lexer, Token};
 use semver_parser::parser::{self, Parser};
 use semver_parser::sets::{self, VersionSet};
 use semver_parser::version::{self, Version};
+use semver_parser::{check_range, check_version, satisfies};
 use semver_parser::{Comparator, Compat, Identifier, Op, Range, RangeSet};
-use semver_parser::{Dialect, Meaning, PreReleases, VersionRange, VersionRef};
+use semver_parser::{Dialect, Error, ErrorKind, Meaning, PreReleases, VersionRange, VersionRef};
+use std::alloc::{GlobalAlloc, Layout, System};
+use std::cell::Cell;
 use std::collections::HashSet;
 use std::fmt::{Debug, Display};
 use std::hash::Hash;
@@ -255,4 +257,151 @@ fn an_error_of_the_lexer_is_the_source_of_that_of_the_parser() {
     assert_eq!(of_lexer, Some(&lexer::Error::UnexpectedChar('/')));
     assert!(source.source().is_none());
     assert!(version::parse("1.2").unwrap_err().source().is_none());
+}
+
+// ---------------------------------------------------------------- out of memory
+
+/// Refuses requests of a thread, if that asks for it.
+struct Refusing;
+
+/// How many more requests of a thread are granted, and whether only the next one is refused or all.
+#[derive(Clone, Copy)]
+struct Granted {
+    left: usize,
+    refuses_all: bool,
+    was_refused: bool,
+}
+
+const ALL: Granted = Granted {
+    left: usize::MAX,
+    refuses_all: false,
+    was_refused: false,
+};
+
+thread_local! {
+    static GRANTED: Cell<Granted> = const { Cell::new(ALL) };
+}
+
+fn is_granted() -> bool {
+    let granted = GRANTED.with(Cell::get);
+    let is_granted = granted.left > 0;
+    let left = match is_granted {
+        true => granted.left - 1,
+        false if granted.refuses_all => 0,
+        false => usize::MAX,
+    };
+    let was_refused = granted.was_refused || !is_granted;
+    GRANTED.with(|it| {
+        it.set(Granted {
+            left,
+            was_refused,
+            ..granted
+        })
+    });
+    is_granted
+}
+
+#[global_allocator]
+static REFUSING: Refusing = Refusing;
+
+// SAFETY: each call is passed on to `System`, or returns null, as `alloc` may. `is_granted` doesn't
+// allocate: its variable is made by the compiler, and nothing is dropped when the thread ends.
+unsafe impl GlobalAlloc for Refusing {
+    unsafe fn alloc(&self, layout: Layout) -> *mut u8 {
+        if !is_granted() {
+            return std::ptr::null_mut();
+        }
+        System.alloc(layout)
+    }
+
+    unsafe fn dealloc(&self, at: *mut u8, layout: Layout) {
+        System.dealloc(at, layout)
+    }
+}
+
+/// Makes a call whose first requests are granted. Returns whether one was refused.
+fn with_granted<T>(left: usize, refuses_all: bool, call: impl FnOnce() -> T) -> (T, bool) {
+    GRANTED.with(|it| {
+        it.set(Granted {
+            left,
+            refuses_all,
+            was_refused: false,
+        })
+    });
+    let result = call();
+    let was_refused = GRANTED.with(Cell::get).was_refused;
+    GRANTED.with(|it| it.set(ALL));
+    (result, was_refused)
+}
+
+fn is_out_of_memory(error: &Error) -> bool {
+    error.kind() == ErrorKind::OutOfMemory
+        && (error.offset(), error.reason(), error.string()) == (None, None, "")
+        && error.to_string() == "out of memory"
+        && format!("{error:#}") == "out of memory"
+}
+
+/// A call that fails, and returns its error.
+type Failing = fn() -> Option<Error>;
+
+/// Makes a call with each of its requests refused, alone and with all after it.
+fn fails_as_it_should(what: &str, call: Failing) {
+    let wanted = call().unwrap();
+    assert_ne!(wanted.kind(), ErrorKind::OutOfMemory, "{what}");
+    assert!(
+        wanted.offset().is_some() && wanted.reason().is_some(),
+        "{what}"
+    );
+    for refuses_all in [false, true] {
+        let mut request = 0;
+        loop {
+            let (error, was_refused) = with_granted(request, refuses_all, call);
+            if !was_refused {
+                assert_eq!(error.as_ref(), Some(&wanted), "{what}");
+                break;
+            }
+            assert!(
+                is_out_of_memory(&error.unwrap()),
+                "{what}, request {request}"
+            );
+            request += 1;
+        }
+        assert!(request > 0, "{what}: it doesn't allocate");
+    }
+}
+
+#[test]
+fn an_error_for_out_of_memory_has_no_offset() {
+    const LARGE: &str = "^18446744073709551615";
+    let calls: [(&str, Failing); 10] = [
+        ("a range", || {
+            VersionRange::parse("^1.2 || 2", Dialect::Cargo).err()
+        }),
+        ("a number", || {
+            VersionRange::parse(LARGE, Dialect::Cargo).err()
+        }),
+        ("a set", || sets::parse("^1.2, <", Dialect::Cargo).err()),
+        ("a range that is checked", || {
+            check_range("1 2 |", Dialect::Npm).err()
+        }),
+        ("a version that is checked", || {
+            check_version("1.2.03", Dialect::Npm).err()
+        }),
+        ("a borrowed version", || {
+            VersionRef::parse("1.2.3-a..b", Dialect::Npm).err()
+        }),
+        ("bytes", || {
+            VersionRef::parse_bytes(b"1.2.\xff\xe2\x82", Dialect::Npm).err()
+        }),
+        ("a version", || "1.2.3-".parse::<Version>().err()),
+        ("the version of both", || {
+            satisfies("1.2", "^1", Dialect::Npm).err()
+        }),
+        ("the range of both", || {
+            satisfies("1.2.3", "^1 ^", Dialect::Npm).err()
+        }),
+    ];
+    for (what, call) in calls {
+        fails_as_it_should(what, call);
+    }
 }
