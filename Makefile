@@ -76,12 +76,13 @@ out/lib/$(shared) out/lib/libsemver_parser.a &: $(built)/libsemver_parser.a \
 		-Wl,-z,defs,-z,text,-z,noexecstack,-z,relro,-z,now semver_parser.o
 	mv $(shared) libsemver_parser.a "$$top/out/lib"
 
-# A page of the manual for each function of the header.
-out/man/made: $(capi)/include/semver_parser.h tools/make-manuals.py VERSION debian/changelog
+# A page of the manual for each function and each type of the header.
+types := $(wildcard docs/man/semver_parser_*.3)
+out/man/made: $(capi)/include/semver_parser.h $(types) tools/make-manuals.py VERSION debian/changelog
 	$(begin)
 	command -v python3 > /dev/null || refuse 'needs the command python3'
 	rm -rf out/man
-	python3 tools/make-manuals.py $(version) $(date) "$$work/man" < $<
+	python3 tools/make-manuals.py $(version) $(date) "$$work/man" $(types) < $<
 	mkdir -p out && mv "$$work/man" out/man
 	: > $@
 

@@ -58,10 +58,16 @@ cc -Wall -Wextra -Werror -I$include -o "$work/example" "$work/example.c" $librar
 cc -Wall -Wextra -Werror -I$include -o "$work/header" "$work/header.c" $library
 "$work/header"
 
-# The example of the manual.
-sed -n '/^\.EX/,/^\.EE/p' docs/man/semver_parser.3 | sed '/^\.E/d; s/\\e/\\/g; s/\\(ha/^/g; s/\\-/-/g' > "$work/manual.c"
-cc -Wall -Wextra -Werror -I$include -o "$work/manual" "$work/manual.c" $library
-[ "$("$work/manual" '^1.2' 1.9.0 2.0.0 1.2 1.10.0)" = "$(printf '1.9.0\n1.10.0\nhighest: 1.10.0')" ]
-[ "$("$work/manual" '^1,' 2>&1)" = "$(printf 'invalid range "^1,", at byte 2: %s\n    ^1,\n      ^' \
+# The examples of the manual.
+mkdir "$work/manual"
+tests/c-manuals.py --examples "$work/manual"
+for source in "$work"/manual/*.c; do
+    name=${source%.c}
+    cc -Wall -Wextra -Werror -I$include -o "$name" "$source" $library
+    [ ! -e "$name.wanted" ] || "$name" | diff "$name.wanted" -
+done
+manual=$work/manual/semver_parser
+[ "$("$manual" '^1.2' 1.9.0 2.0.0 1.2 1.10.0)" = "$(printf '1.9.0\n1.10.0\nhighest: 1.10.0')" ]
+[ "$("$manual" '^1,' 2>&1)" = "$(printf 'invalid range "^1,", at byte 2: %s\n    ^1,\n      ^' \
     'npm separates comparators by spaces; Cargo takes commas')" ]
 echo 'C functions: passed'

@@ -119,9 +119,10 @@ functions_of_header() {
         LC_ALL=C sort
 }
 
-# manuals FOLDER ENDING: the pages of the functions, one for each that the header has.
+# manuals FOLDER ENDING: the pages of the functions and types, one for each that the header has.
 manuals() {
-    sed -n 's/^[a-z].*\(semver_parser_[a-z0-9_]*\)(.*/\1/p' rust/capi/include/semver_parser.h | LC_ALL=C sort | sed "s:.*:$1/&.$2:"
+    sed -n 's/^[a-z].*\(semver_parser_[a-z0-9_]*\)(.*/\1/p; s/^\(} \|typedef .* \)\(semver_parser_[a-z_]*\);$/\2/p' \
+        rust/capi/include/semver_parser.h | LC_ALL=C sort | sed "s:.*:$1/&.$2:"
 }
 
 # same_calls NM-FLAGS..: the names that a library shows are those that the header declares.

@@ -107,8 +107,19 @@ cargo_tests() {
     RUSTDOCFLAGS='-D warnings' quietly 'its documentation' cargo doc --quiet --no-deps
     tests/examples.py "${CARGO_TARGET_DIR:-target}/doc/semver_parser"
     tests/doc-links.py "${CARGO_TARGET_DIR:-target}/doc/semver_parser"
-    ! cargo clippy --version > /dev/null 2>&1 ||
+    ! cargo clippy --version > /dev/null 2>&1 || {
         quietly clippy cargo clippy --quiet --all-targets -- -D warnings
+        says_what_must_be_used
+    }
+}
+
+# Each function by hand whose result it is a mistake to drop has #[must_use].
+says_what_must_be_used() {
+    cargo clippy --quiet -- -W clippy::must_use_candidate > "$work/log" 2>&1
+    ! grep -e '--> \(rust/\)\?src/[a-z_]*\.rs' "$work/log" | grep -v 'src/rattle_std\.rs' || {
+        echo 'the Rust crate: these functions lack #[must_use]'
+        exit 1
+    }
 }
 
 # What is packed builds and passes its tests where nothing else is.

@@ -1,9 +1,14 @@
 #!/usr/bin/env python3
-"""Writes a page of the manual for each function of the header in C, of its comment and prototype.
+"""Writes a page of the manual for each function and each type of the header in C.
 
-    tools/make-manuals.py VERSION DATE DIRECTORY < semver_parser.h
+    tools/make-manuals.py VERSION DATE DIRECTORY PAGE.. < semver_parser.h
 
-Functions that share a comment share a page: that of the first, to which the others are links."""
+The page of a function is made of its comment and prototype. Functions that share a comment share a
+page: that of the first, to which the others are links.
+
+The pages of the types are written by hand, and are the arguments. Each is that of the names in its
+NAME, the first of which is its file's. It has `.\\" DECLARATIONS` for those of the types, and
+`.\\" CONSTANTS type` for the constants of a type with their comments."""
 
 import pathlib
 import re
@@ -13,6 +18,8 @@ import textwrap
 OVERVIEW = "semver_parser"
 ERRORS = {
     "INVALID_ARGUMENT": "",
+    "DIFFERENT_DIALECTS": "The second range has another dialect than the first.",
+    "DIFFERENT_PRE_RELEASES": "It has the same dialect, and another rule for pre-releases.",
     "INVALID_VERSION": "A string is an invalid version in the dialect.",
     "INVALID_RANGE": "The string is not a range of the dialect.",
     "NUMBER_TOO_LARGE": "It is, but a number or a raised bound is above the limit of the dialect.",
@@ -22,11 +29,12 @@ ERRORS = {
 ARGUMENTS = {
     "semver_parser_options ": "An option isn't one that there is, or a reserved field isn't zero.",
     "semver_parser_dialect ": "The dialect isn't one that there is.",
-    "range *other": "The ranges have different options.",
     "size_t index": "The index is too large.",
 }
 STATUS = "semver_parser_status"
 COMMENT = re.compile(r"/\*(.*?)\*/", re.S)
+# The declaration of a structure, or of another name for a type.
+DECLARATION = r"^(typedef (?:struct \{\n((?:    .*\n)*)\}|.*) (semver_parser_\w+);)$"
 # The macros before a prototype say how a compiler checks calls.
 PROTOTYPE = re.compile(
     r"(?:SEMVER_PARSER_\w+(?:\([\d, ]*\))?\s+)?((?:const |static inline )*\w+ \*?)"
@@ -72,15 +80,55 @@ def synopsis(kind, name, parameters):
     return [f"{kind}{name}(", *(f"{it}," for it in given[:-1]), f"{given[-1]});"]
 
 
+def declarations(header):
+    """The declarations of the types by their names, without comments."""
+    text = re.sub(r"\n *(?=\n)", "", COMMENT.sub("", header))
+    return {it[2]: it[0] for it in re.findall(DECLARATION, text, re.M)}
+
+
+def constants(header, name):
+    """The constants of a type, each with its comment."""
+    [values] = re.findall(rf"^typedef int32_t {name};\nenum \{{\n(.*?)^\}};", header, re.M | re.S)
+    found = re.findall(r"/\*(.*?)\*/\s*(\w+) = (\d+)", values, re.S)
+    if len(found) != values.count(" = "):
+        sys.exit(f"make-manuals: a constant of {name} has no comment")
+    return found
+
+
+def names_of(page):
+    """The names that the section NAME of a page has."""
+    [names] = re.findall(r"^\.SH NAME\n(.*?) \\-", page, re.M | re.S)
+    return re.split(r",\s*", names)
+
+
+def type_page(version, date, header, page):
+    """The page of a type, with what it takes from the header."""
+    declared = declarations(header)
+    synopsis = [".nf", ".B #include <semver_parser.h>"]
+    for name in names_of(page):
+        synopsis += [".PP", *(f'.B "{escape(line)}"' for line in declared[name].split("\n"))]
+
+    def listed(match):
+        lines = []
+        for comment, constant, number in constants(header, match[1]):
+            lines += [".TP", f'.BR {constant} " ({number})"', *sentences(comment)]
+        return "\n".join(lines)
+
+    page = page.replace('.\\" DECLARATIONS', "\n".join([*synopsis, ".fi"]))
+    page = re.sub(r'\.\\" CONSTANTS (\w+)', listed, page)
+    return page.replace("@VERSION@", version).replace("@DATE@", date)
+
+
 def errors_of(comment, prototypes):
-    """The statuses that a comment names, those of options, and of what is made or explained."""
+    """The statuses that a comment names, those of options, and of what is made or explained: an
+    error about a string is."""
     parameters = " ".join(it[2] for it in prototypes)
     named = set(re.findall(r"\b[A-Z_]{5,}\b", comment))
     if re.search(r"semver_parser_(options|dialect) ", parameters):
         named.add("INVALID_ARGUMENT")
     if "semver_parser_error *error" not in parameters:
         named &= {"INVALID_ARGUMENT"}
-    if "**" in parameters or "semver_parser_error *error" in parameters:
+    if "**" in parameters or named & {"INVALID_VERSION", "INVALID_RANGE"}:
         named.add("OUT_OF_MEMORY")
     return [it for it in ERRORS if it in named]
 
@@ -102,7 +150,13 @@ def purpose(comment):
     return first[0].lower() + first[1:]
 
 
-def page(version, date, comment, prototypes):
+def types_of(prototypes, types):
+    """The pages of the types that prototypes have."""
+    words = set(re.findall(r"\w+", " ".join(f"{it[0]} {it[2]}" for it in prototypes)))
+    return sorted({types[name] for name in words & set(types)})
+
+
+def page(version, date, comment, prototypes, types):
     names = [name for _, name, _ in prototypes]
     lines = [f'.TH {names[0].upper()} 3 {date} "semver\\-parser {version}" "Library Functions"']
     lines += [".SH NAME", *(f"{name}," for name in names[:-1])]
@@ -122,21 +176,33 @@ def page(version, date, comment, prototypes):
     lines += [".SH ATTRIBUTES", "The terms are those of", ".BR attributes (7).", ".PP"]
     lines += [".TS", "l l l.", "Interface\tAttribute\tValue"]
     lines += [f"{name}()\tThread safety\tMT\\-Safe" for name in names]
-    lines += [".TE", ".SH SEE ALSO", f".BR {OVERVIEW} (3),", ".BR semver\\-ranges (7)"]
+    lines += [".TE", ".SH SEE ALSO", f".BR {OVERVIEW} (3),"]
+    lines += [f".BR {name} (3)," for name in types_of(prototypes, types)]
+    lines += [".BR semver\\-ranges (7)"]
     return "'\\\" t\n" + "\n".join(lines) + "\n"
 
 
+def write(directory, names, text):
+    """Writes a page by its first name, and links to it by the others."""
+    (directory / f"{names[0]}.3").write_text(text, encoding="utf-8")
+    for name in names[1:]:
+        (directory / f"{name}.3").symlink_to(f"{names[0]}.3")
+
+
 def main():
-    if len(sys.argv) != 4:
-        sys.exit("usage: tools/make-manuals.py VERSION DATE DIRECTORY < HEADER")
+    if len(sys.argv) < 5:
+        sys.exit("usage: tools/make-manuals.py VERSION DATE DIRECTORY PAGE.. < HEADER")
     version, date, directory = *sys.argv[1:3], pathlib.Path(sys.argv[3])
+    header, types = sys.stdin.read(), {}
     directory.mkdir()
-    for comment, prototypes in pages(sys.stdin.read()):
+    for path in sys.argv[4:]:
+        text = pathlib.Path(path).read_text(encoding="utf-8")
+        names = names_of(text)
+        types.update((name, names[0]) for name in names)
+        write(directory, names, type_page(version, date, header, text))
+    for comment, prototypes in pages(header):
         names = [name for _, name, _ in prototypes]
-        text = page(version, date, comment, prototypes)
-        (directory / f"{names[0]}.3").write_text(text, encoding="utf-8")
-        for name in names[1:]:
-            (directory / f"{name}.3").symlink_to(f"{names[0]}.3")
+        write(directory, names, page(version, date, comment, prototypes, types))
 
 
 main()

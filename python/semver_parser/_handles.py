@@ -4,7 +4,12 @@ import ctypes
 from typing import Any, Callable, Tuple
 
 from ._errors import RangeError
-from ._interface import INVALID_RANGE, NUMBER_TOO_LARGE
+from ._interface import (
+    DIFFERENT_DIALECTS,
+    DIFFERENT_PRE_RELEASES,
+    INVALID_RANGE,
+    NUMBER_TOO_LARGE,
+)
 from ._library import LIBRARY, check
 from ._options import Dialect, PreReleases, c_options
 from ._strings import String, c_string
@@ -41,14 +46,25 @@ def parsed(range: String, dialect: Dialect, pre_releases: PreReleases) -> Handle
 
 
 def combined(function: Callable[..., int], one: Handle, other: Handle) -> Handle:
-    """Returns the range that a function makes of two of the same options."""
+    """Returns the range that a function makes of two. Raises `DifferentOptions`."""
     made = ctypes.c_void_p()
-    check(function(one, other, made))
+    _check_both(function(one, other, made, None))
     return Handle(made.value or 0)
 
 
 def holds(function: Callable[..., int], one: Handle, other: Handle) -> bool:
-    """Returns what a function says of two ranges of the same options."""
+    """Returns what a function says of two ranges. Raises `DifferentOptions`."""
     said = ctypes.c_bool()
-    check(function(one, other, said))
+    _check_both(function(one, other, said, None))
     return said.value
+
+
+class DifferentOptions(Exception):
+    """Two ranges have different options. It says which, and isn't seen outside of the package."""
+
+
+def _check_both(status: int) -> None:
+    """Raises the failure of a status of two ranges, if it is none of success."""
+    if status in (DIFFERENT_DIALECTS, DIFFERENT_PRE_RELEASES):
+        raise DifferentOptions(LIBRARY.semver_parser_status_text(status).decode("utf-8"))
+    check(status)

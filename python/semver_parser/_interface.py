@@ -8,6 +8,8 @@ INVALID_RANGE = 1
 NUMBER_TOO_LARGE = 2
 INVALID_VERSION = 3
 OUT_OF_MEMORY = 4
+DIFFERENT_DIALECTS = 6
+DIFFERENT_PRE_RELEASES = 7
 
 
 class CString(ctypes.Structure):
@@ -68,12 +70,12 @@ def _status_functions() -> Dict[str, List[Any]]:
         "range_contains_each": [address, strings, size, to(flag), to(number)],
         "range_highest_of": [address, strings, size, flag, to(size), error],
         "range_lowest_of": [address, strings, size, flag, to(size), error],
-        "range_union": [address, address, made],
-        "range_intersection": [address, address, made],
-        "range_difference": [address, address, made],
-        "range_equal": [address, address, to(flag)],
-        "range_is_subset": [address, address, to(flag)],
-        "range_is_disjoint": [address, address, to(flag)],
+        "range_union": [address, address, made, error],
+        "range_intersection": [address, address, made, error],
+        "range_difference": [address, address, made, error],
+        "range_equal": [address, address, to(flag), error],
+        "range_is_subset": [address, address, to(flag), error],
+        "range_is_disjoint": [address, address, to(flag), error],
         "range_lowest_version": [address, printed],
         "range_to_string": [address, flag, printed],
         "comparators_of_range": [one, number, flag, made, error],

@@ -18,6 +18,7 @@ Invalid = Literal["raise", "skip"]
 them."""
 
 _Given = TypeVar("_Given", bound=AnyVersion)
+_Answer = TypeVar("_Answer")
 
 _NOTHING = "<0.0.0-0"
 
@@ -153,22 +154,20 @@ class Range(Printed):
 
     # ---- two ranges
 
-    def _has_options_of(self, other: "Range") -> bool:
-        return (self._dialect, self._pre_releases) == (other._dialect, other._pre_releases)
-
-    def _handle_beside(self, other: "Range") -> handles.Handle:
-        """The handle of another range of the same options."""
-        if not self._has_options_of(other):
-            raise ValueError(
-                f"two ranges of different options: {_options_text(self)}; {_options_text(other)}"
-            )
-        return other._handle
+    def _of_both(
+        self, what: Callable[..., _Answer], function: Callable[..., int], other: "Range"
+    ) -> _Answer:
+        """What a function makes or says of both. Raises `ValueError` if their options differ."""
+        try:
+            return what(function, self._handle, other._handle)
+        except handles.DifferentOptions as error:
+            options = f"{_options_text(self)}; {_options_text(other)}"
+            raise ValueError(f"{error}: {options}") from None
 
     def _combined(self, operator: str, other: "Range") -> "Range":
         if not isinstance(other, Range):
             return NotImplemented
-        beside = self._handle_beside(other)
-        handle = handles.combined(_COMBINING[operator], self._handle, beside)
+        handle = self._of_both(handles.combined, _COMBINING[operator], other)
         origin = Combination(operator, self._origin, other._origin)
         return _range_of(handle, self._dialect, self._pre_releases, origin)
 
@@ -188,8 +187,7 @@ class Range(Printed):
         """Returns whether each version of the range is in the other."""
         if not isinstance(other, Range):
             return NotImplemented
-        is_subset = LIBRARY.semver_parser_range_is_subset
-        return handles.holds(is_subset, self._handle, self._handle_beside(other))
+        return self._of_both(handles.holds, LIBRARY.semver_parser_range_is_subset, other)
 
     def __ge__(self, other: "Range") -> bool:
         """Returns whether each version of the other is in the range."""
@@ -213,8 +211,7 @@ class Range(Printed):
         """Returns whether no version is in both."""
         if not isinstance(other, Range):
             raise TypeError(f"expected a Range, not {type(other).__name__}")
-        is_disjoint = LIBRARY.semver_parser_range_is_disjoint
-        return handles.holds(is_disjoint, self._handle, self._handle_beside(other))
+        return self._of_both(handles.holds, LIBRARY.semver_parser_range_is_disjoint, other)
 
     def __bool__(self) -> bool:
         """Returns whether some version is in the range."""
@@ -224,9 +221,10 @@ class Range(Printed):
         """Returns whether both have the same options and the same versions."""
         if not isinstance(other, Range):
             return NotImplemented
-        if not self._has_options_of(other):
+        try:
+            return handles.holds(LIBRARY.semver_parser_range_equal, self._handle, other._handle)
+        except handles.DifferentOptions:
             return False
-        return handles.holds(LIBRARY.semver_parser_range_equal, self._handle, other._handle)
 
     def __hash__(self) -> int:
         options = (self._dialect, self._pre_releases)

@@ -106,7 +106,9 @@ class Combining(unittest.TestCase):
                     self.check_refusals(one, other)
 
     def check_refusals(self, one: Range, other: Range) -> None:
-        """Two ranges of different options aren't combined."""
+        """Two ranges of different options aren't combined, and the error says what differs."""
+        different = "dialects" if one.dialect != other.dialect else "rules for pre-releases"
+        message = f"^the ranges have different {different}: dialect='"
         for call in (
             lambda: one | other,
             lambda: one & other,
@@ -117,7 +119,7 @@ class Combining(unittest.TestCase):
             lambda: one > other,
             lambda: one.isdisjoint(other),
         ):
-            with self.assertRaisesRegex(ValueError, "^two ranges of different options: dialect='"):
+            with self.assertRaisesRegex(ValueError, message):
                 call()
 
     def test_other_types(self) -> None:

@@ -2,10 +2,11 @@
 
 use crate::layers::{explain_range, explain_version};
 use crate::original::printed;
-use crate::rattle_std::FallibleString;
+use crate::rattle_std::{FalliblePush, FallibleString};
 use crate::{AllocError, Dialect, RangeError, Reason};
 use alloc::string::String;
 use core::fmt::{self, Display, Formatter};
+use core::str;
 
 /// What is wrong with a string.
 ///
@@ -78,6 +79,7 @@ impl Error {
     /// let error = check_range("^18446744073709551615", Dialect::Cargo).unwrap_err();
     /// assert_eq!(error.kind(), ErrorKind::NumberTooLarge);
     /// ```
+    #[must_use]
     pub fn kind(&self) -> ErrorKind {
         self.kind
     }
@@ -89,6 +91,7 @@ impl Error {
     ///
     /// assert_eq!(check_version("1.2", Dialect::Npm).unwrap_err().string(), "1.2");
     /// ```
+    #[must_use]
     pub fn string(&self) -> &str {
         &self.string
     }
@@ -103,6 +106,7 @@ impl Error {
     /// assert_eq!(check_version("1.2.03", Dialect::Npm).unwrap_err().offset(), Some(5));
     /// assert_eq!(check_version("1.2", Dialect::Npm).unwrap_err().offset(), Some(3));
     /// ```
+    #[must_use]
     pub fn offset(&self) -> Option<usize> {
         self.found.map(|(offset, _)| offset)
     }
@@ -115,6 +119,7 @@ impl Error {
     /// let error = check_version("1.2.03", Dialect::Npm).unwrap_err();
     /// assert_eq!(error.reason(), Some(Reason::LeadingZero));
     /// ```
+    #[must_use]
     pub fn reason(&self) -> Option<Reason> {
         self.found.map(|(_, reason)| reason)
     }
@@ -127,11 +132,7 @@ impl Error {
             .ok()
             .flatten()
             .map(|refusal| (refusal.offset, refusal.reason));
-        Error::new(
-            ErrorKind::InvalidVersion,
-            &String::from_utf8_lossy(version),
-            found,
-        )
+        Error::new(ErrorKind::InvalidVersion, lossy(version), found)
     }
 
     /// Returns the error of an invalid range.
@@ -147,12 +148,16 @@ impl Error {
             .ok()
             .flatten()
             .map(|refusal| (refusal.offset, refusal.reason));
-        Error::new(kind, range, found)
+        Error::new(kind, String::fallible_from_str(range), found)
     }
 
     /// Returns the error of a string. If an allocation failed, that is the error.
-    fn new(kind: ErrorKind, string: &str, found: Option<(usize, Reason)>) -> Error {
-        match String::fallible_from_str(string) {
+    fn new(
+        kind: ErrorKind,
+        string: Result<String, AllocError>,
+        found: Option<(usize, Reason)>,
+    ) -> Error {
+        match string {
             Ok(string) if found.is_some() => Error {
                 kind,
                 string,
@@ -160,6 +165,21 @@ impl Error {
             },
             _ => Error::from(AllocError),
         }
+    }
+}
+
+/// Returns what `String::from_utf8_lossy` does, or an error if an allocation failed.
+fn lossy(mut bytes: &[u8]) -> Result<String, AllocError> {
+    let mut string = String::new();
+    loop {
+        let error = match str::from_utf8(bytes) {
+            Ok(rest) => return string.fallible_push_str(rest).map(|()| string),
+            Err(error) => error,
+        };
+        let (valid, rest) = bytes.split_at(error.valid_up_to());
+        string.fallible_push_str(str::from_utf8(valid).unwrap_or_default())?;
+        string.fallible_push(char::REPLACEMENT_CHARACTER)?;
+        bytes = &rest[error.error_len().unwrap_or(rest.len())..];
     }
 }
 

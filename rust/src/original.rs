@@ -1,13 +1,13 @@
 //! The signatures of the Rust crate `semver-parser` 0.10.3 that the proved calls don't have: they
 //! report a failed allocation, and these end the process, as all of Rust does.
 
-use crate::parser;
 use crate::rattle_std::FallibleToString;
 use crate::version;
+use crate::{lexer, parser};
 use crate::{Compat, RangeError, RangeSet};
 use alloc::alloc::{handle_alloc_error, Layout};
 use alloc::string::String;
-use core::fmt::Display;
+use core::fmt::{self, Display, Formatter};
 use core::str::FromStr;
 
 /// What Rust does if an allocation fails.
@@ -81,6 +81,7 @@ impl version::Identifier {
     /// let joined = Identifier::Numeric(7).concat("a");
     /// assert_eq!(joined, Identifier::AlphaNumeric("7a".to_string()));
     /// ```
+    #[must_use]
     pub fn concat(self, add_str: &str) -> version::Identifier {
         self.try_concat(add_str).unwrap_or_else(|_| out_of_memory())
     }
@@ -109,5 +110,24 @@ impl Clone for parser::Error<'_> {
     }
 }
 
+impl Display for lexer::Error {
+    /// Writes a sentence, such as `unexpected character '/'`.
+    fn fmt(&self, f: &mut Formatter<'_>) -> fmt::Result {
+        let lexer::Error::UnexpectedChar(character) = self;
+        write!(f, "unexpected character {character:?}")
+    }
+}
+
 #[cfg(feature = "std")]
-impl std::error::Error for parser::Error<'_> {}
+impl std::error::Error for lexer::Error {}
+
+#[cfg(feature = "std")]
+impl std::error::Error for parser::Error<'_> {
+    /// Returns the error of the lexer, if it is one.
+    fn source(&self) -> Option<&(dyn std::error::Error + 'static)> {
+        match self {
+            Self::Lexer(error) => Some(error),
+            _ => None,
+        }
+    }
+}

@@ -66,6 +66,7 @@ impl VersionRange {
     /// assert_eq!(range.highest(["2.0.0"]), None);
     /// # Ok::<(), semver_parser::Error>(())
     /// ```
+    #[must_use]
     pub fn highest<'v>(&self, versions: impl IntoIterator<Item = &'v str>) -> Option<&'v str> {
         self.highest_among(versions.into_iter())
     }
@@ -80,6 +81,7 @@ impl VersionRange {
     /// assert_eq!(range.lowest(["1.1.0", "1.10.0", "1.9.0"]), Some("1.9.0"));
     /// # Ok::<(), semver_parser::Error>(())
     /// ```
+    #[must_use]
     pub fn lowest<'v>(&self, versions: impl IntoIterator<Item = &'v str>) -> Option<&'v str> {
         self.lowest_among(versions.into_iter())
     }

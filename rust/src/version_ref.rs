@@ -57,6 +57,7 @@ impl<'t> VersionRef<'t> {
     /// assert_eq!(version.to_string(), "1.2.3-rc.4");
     /// # Ok::<(), semver_parser::Error>(())
     /// ```
+    #[must_use]
     pub fn to_version(&self) -> Version {
         self.version().unwrap_or_else(|_| out_of_memory())
     }

@@ -1,10 +1,16 @@
 //! The surface of the Rust crate `semver-parser` 0.10.3, under its paths and with its signatures:
-//! this compiles as it did with the original.
+//! this compiles as it did with the original. After it are the traits and the errors that are
+//! written by hand.
 
 use semver_parser::lexer::{self, Lexer, Token};
 use semver_parser::parser::{self, Parser};
+use semver_parser::sets::{self, VersionSet};
 use semver_parser::version::{self, Version};
+use semver_parser::{check_range, check_version, satisfies};
 use semver_parser::{Comparator, Compat, Identifier, Op, Range, RangeSet};
+use semver_parser::{Dialect, Error, ErrorKind, Meaning, PreReleases, VersionRange, VersionRef};
+use std::alloc::{GlobalAlloc, Layout, System};
+use std::cell::Cell;
 use std::collections::HashSet;
 use std::fmt::{Debug, Display};
 use std::hash::Hash;
@@ -76,4 +82,326 @@ fn values_are_cloned_and_hashed() -> Result<(), String> {
     let sets = HashSet::from([set.clone(), set]);
     assert_eq!(sets.len(), 1);
     Ok(())
+}
+
+// ---------------------------------------------------------------- traits that are written by hand
+
+fn npm_range(range: &str, pre_releases: PreReleases) -> VersionRange {
+    let dialect = Dialect::Npm;
+    VersionRange::parse(
+        range,
+        Meaning {
+            dialect,
+            pre_releases,
+        },
+    )
+    .unwrap()
+}
+
+#[test]
+fn ranges_are_cloned_and_hashed_by_their_versions_and_meaning() {
+    let range = npm_range("^1.2.3-rc.1", PreReleases::Default);
+    let ranges = [
+        range.clone(),
+        npm_range("^1.2.3-rc.1 || ^1.4", PreReleases::Default),
+        npm_range("^1.2.3-rc.1+b5", PreReleases::Default),
+        range.clone(),
+    ];
+    assert!(ranges.iter().all(|it| *it == range));
+    let others = [
+        npm_range("^1.2.3", PreReleases::Default),
+        npm_range("^1.2.3-rc.1", PreReleases::Included),
+        npm_range("^1.2.3-rc.1", PreReleases::Excluded),
+        VersionRange::parse("^1.2.3-rc.1", Dialect::Cargo).unwrap(),
+    ];
+    let all: HashSet<VersionRange> = ranges.into_iter().chain(others.clone()).collect();
+    assert_eq!(all.len(), 1 + others.len());
+    assert!(others.iter().all(|it| *it != range && all.contains(it)));
+}
+
+#[test]
+fn a_clone_of_a_range_has_a_memory_of_its_own() {
+    let range = npm_range("=1.2.3-rc.1 || ^2.0.0-a", PreReleases::Default);
+    let copy = range.clone();
+    drop(range);
+    assert_eq!(copy.contains("1.2.3-rc.1"), Ok(true));
+    assert_eq!(copy.contains("2.0.0-b"), Ok(true));
+    assert_eq!(copy.contains("1.2.3-rc.2"), Ok(false));
+}
+
+#[test]
+fn sets_are_cloned_and_hashed_by_their_versions() {
+    let set = |range: &str| sets::parse(range, Dialect::Cargo).unwrap();
+    let one = set(">=1.2.0, <1.5.0-rc.1");
+    let same = [
+        one.clone(),
+        set(">=1.2.0, >=1.0.0, <1.5.0-rc.1+b5"),
+        one.clone(),
+    ];
+    assert!(same.iter().all(|it| *it == one));
+    let others = [
+        set(">=1.2.0, <1.5.0-rc.2"),
+        set(">=1.2.0, <1.5.0"),
+        set("*"),
+        set(">1, <1"),
+    ];
+    let all: HashSet<VersionSet> = same.into_iter().chain(others.clone()).collect();
+    assert_eq!(all.len(), 1 + others.len());
+    assert!(others.iter().all(|it| *it != one && all.contains(it)));
+}
+
+/// To the crate an identifier of digits from 2^64 on is a text, so its sets are others.
+#[test]
+fn sets_of_other_digits_are_different() {
+    let of_crate = sets::parse("=1.2.3", Dialect::CrateNpm).unwrap();
+    let of_npm = sets::parse("=1.2.3", Dialect::Npm).unwrap();
+    assert!(of_crate == of_crate.clone() && of_npm == of_npm.clone());
+    assert!(of_crate != of_npm && of_crate.clone() != of_npm && of_crate != of_npm.clone());
+    assert_eq!(HashSet::from([of_crate, of_npm]).len(), 2);
+}
+
+#[test]
+fn rules_for_pre_releases_are_read_by_their_names() {
+    let read = |name: &str| name.parse::<PreReleases>();
+    assert_eq!(read("default"), Ok(PreReleases::Default));
+    assert_eq!(read("included"), Ok(PreReleases::Included));
+    assert_eq!(read("excluded"), Ok(PreReleases::Excluded));
+    for name in ["", "Included", "included ", "cargo"] {
+        let error = read(name).unwrap_err().to_string();
+        let expected = "expected default, included or excluded";
+        assert_eq!(error, format!("unknown name {name:?}: {expected}"));
+    }
+}
+
+#[test]
+fn borrowed_versions_are_equal_by_their_parts() {
+    let read = |version, dialect| VersionRef::parse(version, dialect).unwrap();
+    let one = read("1.2.3-rc.1+b5", Dialect::Cargo);
+    assert_eq!(one, read(" v1.2.3-rc.1+b5 ", Dialect::Npm));
+    let others = [
+        "2.2.3-rc.1+b5",
+        "1.3.3-rc.1+b5",
+        "1.2.4-rc.1+b5",
+        "1.2.3-rc.2+b5",
+    ];
+    for other in others
+        .iter()
+        .chain(&["1.2.3-rc.1+b6", "1.2.3-rc.1", "1.2.3+b5"])
+    {
+        assert_ne!(one, read(other, Dialect::Cargo), "{other}");
+    }
+    // Equal by precedence, and not by their bytes.
+    let build = read("1.2.3-rc.1+b6", Dialect::Cargo);
+    assert!(one.compare(&build).is_eq() && one != build);
+    let zero = read("1.2.3-01", Dialect::CrateNpm);
+    assert_ne!(zero, read("1.2.3-1", Dialect::CrateNpm));
+}
+
+// ---------------------------------------------------------------- errors
+
+/// The string is printed in one line with what is no letter escaped, and the caret is in the column
+/// of the character at the offset, which is at the end of the string here.
+#[test]
+fn a_caret_is_below_the_character_at_the_offset() {
+    let of_range = |range| check_range(range, Dialect::Npm).unwrap_err();
+    let rows = [
+        ("1 \u{e9}", 2, "1 \u{e9}", 2),
+        ("1\t\u{e9}", 2, "1\\t\u{e9}", 3),
+        ("1\t\t\u{e9}\u{4e2d}", 3, "1\\t\\t\u{e9}\u{4e2d}", 5),
+        ("\u{1b}[31m", 0, "\\u{1b}[31m", 0),
+        ("1\t\"", 2, "1\\t\\\"", 3),
+        ("1\t\\", 2, "1\\t\\\\", 3),
+        ("1\r\n\u{7f}", 3, "1\\r\\n\\u{7f}", 5),
+        ("\u{1f600}", 0, "\u{1f600}", 0),
+    ];
+    for (range, offset, shown, column) in rows {
+        let error = of_range(range);
+        assert_eq!(error.offset(), Some(offset), "{range:?}");
+        let caret = format!("{}^", " ".repeat(4 + column));
+        let wanted = format!("invalid range: unexpected character\n    {shown}\n{caret}");
+        assert_eq!(format!("{error:#}"), wanted, "{range:?}");
+    }
+}
+
+/// What isn't UTF-8 is replaced as std does.
+#[test]
+fn an_error_of_bytes_has_them_as_a_string() {
+    let rows: [&[u8]; 8] = [
+        b"1.2.\xff",
+        b"\xff\xfe1.2.3",
+        b"1.2.3-\xe2\x82",
+        b"1.2.3-\xe2\x82a\xe2\x82\xac\x80",
+        b"1.2.3-\xf0\x9f\x98",
+        b"1.2.3-\xf0\x9f\x98\x80 \xc0\x80",
+        b"1.2.3-\xed\xa0\x80.\xc3\xa9",
+        b"",
+    ];
+    for bytes in rows {
+        let error = VersionRef::parse_bytes(bytes, Dialect::Cargo).unwrap_err();
+        assert_eq!(error.string(), String::from_utf8_lossy(bytes), "{bytes:?}");
+    }
+}
+
+#[cfg(feature = "std")]
+#[test]
+fn an_error_of_the_lexer_is_the_source_of_that_of_the_parser() {
+    use std::error::Error;
+    let error = version::parse("1.2.3-a/").unwrap_err();
+    assert_eq!(
+        error,
+        parser::Error::Lexer(lexer::Error::UnexpectedChar('/'))
+    );
+    let source = error.source().unwrap();
+    assert_eq!(source.to_string(), "unexpected character '/'");
+    let of_lexer = source.downcast_ref::<lexer::Error>();
+    assert_eq!(of_lexer, Some(&lexer::Error::UnexpectedChar('/')));
+    assert!(source.source().is_none());
+    assert!(version::parse("1.2").unwrap_err().source().is_none());
+}
+
+// ---------------------------------------------------------------- out of memory
+
+/// Refuses requests of a thread, if that asks for it.
+struct Refusing;
+
+/// How many more requests of a thread are granted, and whether only the next one is refused or all.
+#[derive(Clone, Copy)]
+struct Granted {
+    left: usize,
+    refuses_all: bool,
+    was_refused: bool,
+}
+
+const ALL: Granted = Granted {
+    left: usize::MAX,
+    refuses_all: false,
+    was_refused: false,
+};
+
+thread_local! {
+    static GRANTED: Cell<Granted> = const { Cell::new(ALL) };
+}
+
+fn is_granted() -> bool {
+    let granted = GRANTED.with(Cell::get);
+    let is_granted = granted.left > 0;
+    let left = match is_granted {
+        true => granted.left - 1,
+        false if granted.refuses_all => 0,
+        false => usize::MAX,
+    };
+    let was_refused = granted.was_refused || !is_granted;
+    GRANTED.with(|it| {
+        it.set(Granted {
+            left,
+            was_refused,
+            ..granted
+        })
+    });
+    is_granted
+}
+
+#[global_allocator]
+static REFUSING: Refusing = Refusing;
+
+// SAFETY: each call is passed on to `System`, or returns null, as `alloc` may. `is_granted` doesn't
+// allocate: its variable is made by the compiler, and nothing is dropped when the thread ends.
+unsafe impl GlobalAlloc for Refusing {
+    unsafe fn alloc(&self, layout: Layout) -> *mut u8 {
+        if !is_granted() {
+            return std::ptr::null_mut();
+        }
+        System.alloc(layout)
+    }
+
+    unsafe fn dealloc(&self, at: *mut u8, layout: Layout) {
+        System.dealloc(at, layout)
+    }
+}
+
+/// Makes a call whose first requests are granted. Returns whether one was refused.
+fn with_granted<T>(left: usize, refuses_all: bool, call: impl FnOnce() -> T) -> (T, bool) {
+    GRANTED.with(|it| {
+        it.set(Granted {
+            left,
+            refuses_all,
+            was_refused: false,
+        })
+    });
+    let result = call();
+    let was_refused = GRANTED.with(Cell::get).was_refused;
+    GRANTED.with(|it| it.set(ALL));
+    (result, was_refused)
+}
+
+fn is_out_of_memory(error: &Error) -> bool {
+    error.kind() == ErrorKind::OutOfMemory
+        && (error.offset(), error.reason(), error.string()) == (None, None, "")
+        && error.to_string() == "out of memory"
+        && format!("{error:#}") == "out of memory"
+}
+
+/// A call that fails, and returns its error.
+type Failing = fn() -> Option<Error>;
+
+/// Makes a call with each of its requests refused, alone and with all after it.
+fn fails_as_it_should(what: &str, call: Failing) {
+    let wanted = call().unwrap();
+    assert_ne!(wanted.kind(), ErrorKind::OutOfMemory, "{what}");
+    assert!(
+        wanted.offset().is_some() && wanted.reason().is_some(),
+        "{what}"
+    );
+    for refuses_all in [false, true] {
+        let mut request = 0;
+        loop {
+            let (error, was_refused) = with_granted(request, refuses_all, call);
+            if !was_refused {
+                assert_eq!(error.as_ref(), Some(&wanted), "{what}");
+                break;
+            }
+            assert!(
+                is_out_of_memory(&error.unwrap()),
+                "{what}, request {request}"
+            );
+            request += 1;
+        }
+        assert!(request > 0, "{what}: it doesn't allocate");
+    }
+}
+
+#[test]
+fn an_error_for_out_of_memory_has_no_offset() {
+    const LARGE: &str = "^18446744073709551615";
+    let calls: [(&str, Failing); 10] = [
+        ("a range", || {
+            VersionRange::parse("^1.2 || 2", Dialect::Cargo).err()
+        }),
+        ("a number", || {
+            VersionRange::parse(LARGE, Dialect::Cargo).err()
+        }),
+        ("a set", || sets::parse("^1.2, <", Dialect::Cargo).err()),
+        ("a range that is checked", || {
+            check_range("1 2 |", Dialect::Npm).err()
+        }),
+        ("a version that is checked", || {
+            check_version("1.2.03", Dialect::Npm).err()
+        }),
+        ("a borrowed version", || {
+            VersionRef::parse("1.2.3-a..b", Dialect::Npm).err()
+        }),
+        ("bytes", || {
+            VersionRef::parse_bytes(b"1.2.\xff\xe2\x82", Dialect::Npm).err()
+        }),
+        ("a version", || "1.2.3-".parse::<Version>().err()),
+        ("the version of both", || {
+            satisfies("1.2", "^1", Dialect::Npm).err()
+        }),
+        ("the range of both", || {
+            satisfies("1.2.3", "^1 ^", Dialect::Npm).err()
+        }),
+    ];
+    for (what, call) in calls {
+        fails_as_it_should(what, call);
+    }
 }

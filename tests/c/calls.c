@@ -399,17 +399,76 @@ semver_parser_range *made_of(const char *range, int dialect, int rule) {
     return set;
 }
 
+static semver_parser_status call_two(
+    const semver_parser_range *set, char operation, const semver_parser_range *other, void *out,
+    semver_parser_error *error) {
+    semver_parser_range **made = (semver_parser_range **)out;
+    bool *answer = (bool *)out;
+    switch (operation) {
+    case '|': return semver_parser_range_union(set, other, made, error);
+    case '&': return semver_parser_range_intersection(set, other, made, error);
+    case '-': return semver_parser_range_difference(set, other, made, error);
+    case '=': return semver_parser_range_equal(set, other, answer, error);
+    case '<': return semver_parser_range_is_subset(set, other, answer, error);
+    default: return semver_parser_range_is_disjoint(set, other, answer, error);
+    }
+}
+
+/* Calls a function of two sets, with an error or without. What it says of different options has the
+ * index of the second, and neither a reason nor an offset. */
+static outcome of_two(const semver_parser_range *set, char operation,
+                      const semver_parser_range *other, size_t size, bool asks, void *to) {
+    text none = string("two sets");
+    void *out = output(size);
+    semver_parser_error *error = (semver_parser_error *)output(sizeof *error);
+    outcome told = no_error;
+    semver_parser_status status = call_two(set, operation, other, out, asks ? error : NULL);
+    bool is_ok = status == SEMVER_PARSER_OK;
+    take(out, size, is_ok, to, &none);
+    take(error, sizeof *error, asks && !is_ok, &told, &none);
+    if (asks && !is_ok) {
+        require(told.status == status && told.index == 1, "another error of two sets", &none);
+        require(told.reason == SEMVER_PARSER_REASON_NONE && told.offset == 0,
+                "a reason of two sets", &none);
+        for (int at = 0; at < 4; at++) {
+            require(told.reserved[at] == 0, "a reserved field that isn't zero", &none);
+        }
+    }
+    text_free(&none);
+    told.status = status;
+    return told;
+}
+
+outcome combine(const semver_parser_range *set, char operation, const semver_parser_range *other,
+                semver_parser_range **made) {
+    text none = string("two sets");
+    semver_parser_range *first = NULL;
+    outcome alone_told = of_two(set, operation, other, sizeof first, false, &first);
+    outcome told = of_two(set, operation, other, sizeof *made, true, made);
+    require(alone_told.status == told.status, "another status without an error", &none);
+    semver_parser_range_free(first);
+    text_free(&none);
+    return told;
+}
+
+outcome compare(const semver_parser_range *set, char operation, const semver_parser_range *other,
+                bool *answer) {
+    text none = string("two sets");
+    bool first = *answer;
+    outcome alone_told = of_two(set, operation, other, sizeof first, false, &first);
+    outcome told = of_two(set, operation, other, sizeof *answer, true, answer);
+    require(alone_told.status == told.status && first == *answer,
+            "another answer without an error", &none);
+    text_free(&none);
+    return told;
+}
+
 semver_parser_range *combined(
     const semver_parser_range *set, char operation, const semver_parser_range *other) {
     text none = string("two sets");
     semver_parser_range *made = NULL;
-    semver_parser_range **out = (semver_parser_range **)output(sizeof made);
-    semver_parser_status status =
-        operation == '|'   ? semver_parser_range_union(set, other, out)
-        : operation == '&' ? semver_parser_range_intersection(set, other, out)
-                           : semver_parser_range_difference(set, other, out);
-    take(out, sizeof made, status == SEMVER_PARSER_OK, &made, &none);
-    require((status == SEMVER_PARSER_OK) == (made != NULL), "no set of two", &none);
+    outcome told = combine(set, operation, other, &made);
+    require((told.status == SEMVER_PARSER_OK) == (made != NULL), "no set of two", &none);
     text_free(&none);
     return made;
 }

@@ -30,7 +30,9 @@ enum {
     INVALID_VERSION = SEMVER_PARSER_INVALID_VERSION,
     OUT_OF_MEMORY = SEMVER_PARSER_OUT_OF_MEMORY,
     INVALID_ARGUMENT = SEMVER_PARSER_INVALID_ARGUMENT,
-    STATUSES = INVALID_ARGUMENT + 1
+    DIFFERENT_DIALECTS = SEMVER_PARSER_DIFFERENT_DIALECTS,
+    DIFFERENT_PRE_RELEASES = SEMVER_PARSER_DIFFERENT_PRE_RELEASES,
+    STATUSES = DIFFERENT_PRE_RELEASES + 1
 };
 
 /* Counts and prints what isn't as it should be, in which case `finish` returns 1. */
@@ -63,10 +65,17 @@ outcome satisfies(const text *version, const text *range, int dialect, int rule,
 /* Appends a range, rewritten. What is printed has to be what the list has. */
 outcome rewrite(const text *range, int dialect, bool exact, text *printed);
 
-/* The set of a range that is one, and one made of two sets. */
+/* The set of a range that is one, and what is made of two sets by '|', '&' or '-': null after an
+ * error. */
 semver_parser_range *made_of(const char *range, int dialect, int rule);
 semver_parser_range *combined(const semver_parser_range *set, char operation,
                             const semver_parser_range *other);
+outcome combine(const semver_parser_range *set, char operation, const semver_parser_range *other,
+                semver_parser_range **made);
+
+/* Whether two sets are equal by '=', the first is a subset by '<', or they are disjoint by '#'. */
+outcome compare(const semver_parser_range *set, char operation, const semver_parser_range *other,
+                bool *answer);
 
 /* Appends what is printed of a set, and checks that the library ends it by a zero byte. */
 void say_releases(text *to, const semver_parser_range *set);

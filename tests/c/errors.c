@@ -176,6 +176,40 @@ static void arguments(void) {
     }
 }
 
+static void message_of(const semver_parser_error *error, const text *of, bool caret,
+                       const char *wanted);
+
+/* Two ranges of different options, whose error is about the second. */
+static void two_ranges(void) {
+    static const struct {
+        int dialect;
+        int rule;
+        int status;
+        const char *message;
+    } others[] = {
+        {CARGO, DEFAULT, DIFFERENT_DIALECTS, "the ranges have different dialects"},
+        {CARGO, INCLUDED, DIFFERENT_DIALECTS, "the ranges have different dialects"},
+        {NPM, INCLUDED, DIFFERENT_PRE_RELEASES,
+         "the ranges have different rules for pre-releases"},
+    };
+    text of = string("^1.2");
+    semver_parser_range *one = made_of("^1.2", NPM, DEFAULT);
+    for (size_t at = 0; at < sizeof others / sizeof *others; at++) {
+        semver_parser_range *other = made_of("^1.2", others[at].dialect, others[at].rule);
+        semver_parser_range *made = NULL;
+        bool answer = true;
+        outcome told = combine(one, '|', other, &made);
+        is_error(told, others[at].status, 1, 0, REASON(NONE), "two ranges");
+        message_of(&told, &of, true, others[at].message);
+        is_error(compare(one, '=', other, &answer), others[at].status, 1, 0, REASON(NONE),
+                 "two ranges");
+        check(made == NULL && answer, "an output of different options", "^1.2");
+        semver_parser_range_free(other);
+    }
+    semver_parser_range_free(one);
+    text_free(&of);
+}
+
 /* Texts and names: one for each number, each another, in one line; of other numbers null. */
 typedef const char *texts_of(int32_t number);
 
@@ -198,6 +232,9 @@ static void texts(texts_of *text, int32_t count, const char *kind) {
 static void names(void) {
     static const char *const dialects[] = {"cargo", "npm", "crate-cargo", "crate-npm"};
     static const char *const of_rules[] = {"default", "included", "excluded"};
+    static const char *const statuses[STATUSES] = {
+        "ok", "invalid-range", "number-too-large", "invalid-version", "out-of-memory",
+        "invalid-argument", "different-dialects", "different-pre-releases"};
     for (int at = 0; at < DIALECTS; at++) {
         check(strcmp(semver_parser_dialect_name(at), dialects[at]) == 0, "another name",
               dialects[at]);
@@ -205,6 +242,10 @@ static void names(void) {
     for (int at = 0; at < RULES; at++) {
         check(strcmp(semver_parser_pre_releases_name(at), of_rules[at]) == 0, "another name",
               of_rules[at]);
+    }
+    for (int at = 0; at < STATUSES; at++) {
+        check(strcmp(semver_parser_status_name(at), statuses[at]) == 0, "another name",
+              statuses[at]);
     }
     check(strcmp(semver_parser_reason_name(REASON(LEADING_ZERO)), "leading-zero") == 0
               && strcmp(semver_parser_reason_name(REASON(NOT_UTF8)), "not-utf8") == 0
@@ -327,8 +368,10 @@ static void library_version(void) {
 int main(void) {
     strings();
     arguments();
+    two_ranges();
     all_are_returned();
     texts(semver_parser_status_text, STATUSES, "a status");
+    texts(semver_parser_status_name, STATUSES, "the name of a status");
     texts(semver_parser_reason_text, REASONS, "a reason");
     texts(semver_parser_reason_name, REASONS, "the name of a reason");
     texts(semver_parser_dialect_name, DIALECTS, "a dialect");

@@ -142,14 +142,14 @@ static semver_parser_options options_by(int dialect, int rule) {
 
 static semver_parser_status combine(
     char operation, const semver_parser_range *one, const semver_parser_range *other,
-    semver_parser_range **made) {
+    semver_parser_range **made, semver_parser_error *error) {
     if (operation == '|') {
-        return semver_parser_range_union(one, other, made);
+        return semver_parser_range_union(one, other, made, error);
     }
     if (operation == '&') {
-        return semver_parser_range_intersection(one, other, made);
+        return semver_parser_range_intersection(one, other, made, error);
     }
-    return semver_parser_range_difference(one, other, made);
+    return semver_parser_range_difference(one, other, made, error);
 }
 
 /* The range of a recipe; that of `*` if it has none. */
@@ -162,7 +162,7 @@ static semver_parser_range *range_of(int recipe) {
     if (recipes[recipe].operation != ' ') {
         const semver_parser_range *one = range_of(recipes[recipe].one);
         const semver_parser_range *other = range_of(recipes[recipe].other);
-        status = combine(recipes[recipe].operation, one, other, &ranges[recipe]);
+        status = combine(recipes[recipe].operation, one, other, &ranges[recipe], NULL);
     } else {
         semver_parser_string string = placed(0, recipes[recipe].string);
         status = semver_parser_range_parse(string, options, &ranges[recipe], NULL);
@@ -390,6 +390,7 @@ static void names(const call *it, text *to) {
     int number = (int)it->index;
     say_static(to, semver_parser_dialect_name(number));
     say_static(to, semver_parser_pre_releases_name(number));
+    say_static(to, semver_parser_status_name(number));
     say_static(to, semver_parser_status_text(number));
     say_static(to, semver_parser_reason_text(number));
     say_static(to, semver_parser_reason_name(number));
@@ -457,8 +458,10 @@ static void outermost(const call *it, text *to) {
 static void combined(const call *it, text *to) {
     const semver_parser_range *one = range_of(it->ranges[0]);
     const semver_parser_range *other = range_of(it->ranges[1]);
+    semver_parser_error error = before;
     semver_parser_range *made = NULL;
-    semver_parser_status status = combine("|&-"[it->index % 3], one, other, &made);
+    semver_parser_status status = combine("|&-"[it->index % 3], one, other, &made, &error);
+    say_error(to, status, &error);
     say_range(to, status, made);
 }
 
@@ -466,12 +469,14 @@ static void compared(const call *it, text *to) {
     const semver_parser_range *one = range_of(it->ranges[0]);
     const semver_parser_range *other = range_of(it->ranges[1]);
     bool said[3] = {it->flag, it->flag, it->flag};
+    semver_parser_error errors[3] = {before, before, before};
     semver_parser_status statuses[3] = {
-        semver_parser_range_equal(one, other, &said[0]),
-        semver_parser_range_is_subset(one, other, &said[1]),
-        semver_parser_range_is_disjoint(one, other, &said[2])};
+        semver_parser_range_equal(one, other, &said[0], &errors[0]),
+        semver_parser_range_is_subset(one, other, &said[1], &errors[1]),
+        semver_parser_range_is_disjoint(one, other, &said[2], &errors[2])};
     for (int at = 0; at < 3; at++) {
-        text_say(to, "%d %d ", (int)statuses[at], said[at]);
+        say_error(to, statuses[at], &errors[at]);
+        text_say(to, " %d ", said[at]);
     }
     text_say(to, "%d", semver_parser_range_is_empty(one));
 }

@@ -126,23 +126,23 @@ static semver_parser_status lowest(const arguments *with, outputs *to) {
 }
 
 static semver_parser_status unite(const arguments *with, outputs *to) {
-    return semver_parser_range_union(with->sets[0], with->sets[1], &to->set);
+    return semver_parser_range_union(with->sets[0], with->sets[1], &to->set, with->error);
 }
 
 static semver_parser_status intersect(const arguments *with, outputs *to) {
-    return semver_parser_range_intersection(with->sets[0], with->sets[1], &to->set);
+    return semver_parser_range_intersection(with->sets[0], with->sets[1], &to->set, with->error);
 }
 
 static semver_parser_status differ(const arguments *with, outputs *to) {
-    return semver_parser_range_difference(with->sets[0], with->sets[1], &to->set);
+    return semver_parser_range_difference(with->sets[0], with->sets[1], &to->set, with->error);
 }
 
 static semver_parser_status equal(const arguments *with, outputs *to) {
-    return semver_parser_range_equal(with->sets[0], with->sets[1], to->answers);
+    return semver_parser_range_equal(with->sets[0], with->sets[1], to->answers, with->error);
 }
 
 static semver_parser_status is_subset(const arguments *with, outputs *to) {
-    return semver_parser_range_is_subset(with->sets[0], with->sets[1], to->answers);
+    return semver_parser_range_is_subset(with->sets[0], with->sets[1], to->answers, with->error);
 }
 
 static semver_parser_status is_empty(const arguments *with, outputs *to) {
@@ -159,7 +159,7 @@ static semver_parser_status print(const arguments *with, outputs *to) {
 }
 
 static semver_parser_status is_disjoint(const arguments *with, outputs *to) {
-    return semver_parser_range_is_disjoint(with->sets[0], with->sets[1], to->answers);
+    return semver_parser_range_is_disjoint(with->sets[0], with->sets[1], to->answers, with->error);
 }
 
 static semver_parser_status check_range(const arguments *with, outputs *to) {
@@ -203,12 +203,12 @@ static const struct {
     {contains_each, "range_contains_each", NOTHING, false, false},
     {highest, "range_highest_of", NOTHING, false, true},
     {lowest, "range_lowest_of", NOTHING, false, true},
-    {unite, "range_union", SET, true, false},
-    {intersect, "range_intersection", SET, true, false},
-    {differ, "range_difference", SET, true, false},
-    {equal, "range_equal", NOTHING, false, false},
-    {is_subset, "range_is_subset", NOTHING, false, false},
-    {is_disjoint, "range_is_disjoint", NOTHING, false, false},
+    {unite, "range_union", SET, true, true},
+    {intersect, "range_intersection", SET, true, true},
+    {differ, "range_difference", SET, true, true},
+    {equal, "range_equal", NOTHING, false, true},
+    {is_subset, "range_is_subset", NOTHING, false, true},
+    {is_disjoint, "range_is_disjoint", NOTHING, false, true},
     {check_range, "check_range", NOTHING, false, true},
     {message, "error_message", STRING, true, false},
     {is_empty, "range_is_empty", NOTHING, false, false},
@@ -258,9 +258,11 @@ static bool call_once(size_t which, const arguments *with, int request,
     return refused;
 }
 
-/* A call with each of its allocations refused, with an error and without. */
-static void call_all(size_t which, arguments *with, semver_parser_status wanted) {
+/* A call with each of its allocations refused, with an error and without. Returns whether it
+ * allocates. */
+static bool call_all(size_t which, arguments *with, semver_parser_status wanted) {
     semver_parser_error error;
+    bool any = false;
     for (int asks = 0; asks < 2; asks++) {
         int request = 0;
         with->error = asks != 0 ? &error : NULL;
@@ -268,6 +270,7 @@ static void call_all(size_t which, arguments *with, semver_parser_status wanted)
             request++;
         }
         bool allocates = request > 0;
+        any = any || allocates;
         if (wanted == SEMVER_PARSER_OK) {
             check(allocates == functions[which].allocates, "it allocates, or doesn't",
                   functions[which].name, request);
@@ -277,6 +280,7 @@ static void call_all(size_t which, arguments *with, semver_parser_status wanted)
         }
         check(request < MOST_REQUESTS, "too many allocations", functions[which].name, request);
     }
+    return any;
 }
 
 /* A string of an error, and the status of the functions of versions and of ranges then. */
@@ -309,6 +313,38 @@ static void errors_by(int dialect) {
             }
         }
         semver_parser_range_free(with.sets[0]);
+    }
+}
+
+/* Two sets of different options: no function of both allocates, with an error or without. */
+static void different_by(int dialect) {
+    static const struct {
+        int dialects;
+        int rule;
+        semver_parser_status status;
+    } rows[] = {{1, SEMVER_PARSER_PRE_RELEASES_INCLUDED, SEMVER_PARSER_DIFFERENT_DIALECTS},
+                {0, SEMVER_PARSER_PRE_RELEASES_EXCLUDED, SEMVER_PARSER_DIFFERENT_PRE_RELEASES}};
+    for (size_t at = 0; at < sizeof rows / sizeof *rows; at++) {
+        arguments with;
+        memset(&with, 0, sizeof with);
+        for (int set = 0; set < 2; set++) {
+            with.options.dialect = (dialect + set * rows[at].dialects) % 4;
+            with.options.pre_releases =
+                set == 0 ? SEMVER_PARSER_PRE_RELEASES_INCLUDED : rows[at].rule;
+            semver_parser_status made = semver_parser_range_parse(
+                semver_parser_str("^1.2.3-rc.1"), with.options, &with.sets[set], NULL);
+            check(made == SEMVER_PARSER_OK, "no set", "^1.2.3-rc.1", 0);
+        }
+        for (size_t which = 0; which < sizeof functions / sizeof *functions; which++) {
+            calling *call = functions[which].call;
+            if (call == unite || call == intersect || call == differ || call == equal
+                || call == is_subset || call == is_disjoint) {
+                check(!call_all(which, &with, rows[at].status), "different options allocate",
+                      functions[which].name, 0);
+            }
+        }
+        semver_parser_range_free(with.sets[0]);
+        semver_parser_range_free(with.sets[1]);
     }
 }
 
@@ -360,6 +396,7 @@ int main(void) {
             functions_by(dialect, many, others);
         }
         errors_by(dialect);
+        different_by(dialect);
     }
     check(blocks == 0, "blocks that aren't freed", "at the end", blocks);
     printf("refused: %s\n", failed == 0 ? "passed" : "failed");

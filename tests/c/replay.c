@@ -367,8 +367,8 @@ static bool say_pair(text *to, const row *of, int dialect, int rule) {
     }
     bool within = false;
     bool same = false;
-    check(semver_parser_range_is_subset(first, second, &within) == SEMVER_PARSER_OK
-              && semver_parser_range_equal(first, second, &same) == SEMVER_PARSER_OK,
+    check(compare(first, '<', second, &within).status == SEMVER_PARSER_OK
+              && compare(first, '=', second, &same).status == SEMVER_PARSER_OK,
           "not compared", of->of.bytes);
     text_say(to, ", within %s, overlaps %s, same %s", word_of(within),
              word_of(!semver_parser_range_is_empty(made.of[2])), word_of(same));

@@ -182,17 +182,16 @@ static void compared_is(const semver_parser_range *one, const semver_parser_rang
                         bool within, bool same, const char *of) {
     bool is_subset = !within;
     bool equal = !same;
-    check(semver_parser_range_is_subset(one, other, &is_subset) == SEMVER_PARSER_OK
-              && is_subset == within,
+    check(compare(one, '<', other, &is_subset).status == SEMVER_PARSER_OK && is_subset == within,
           "another subset", of);
-    check(semver_parser_range_equal(one, other, &equal) == SEMVER_PARSER_OK && equal == same,
+    check(compare(one, '=', other, &equal).status == SEMVER_PARSER_OK && equal == same,
           "another equality", of);
 }
 
 static void disjoint_is(const semver_parser_range *one, const semver_parser_range *other,
                         bool disjoint, const char *of) {
     bool is_disjoint = !disjoint;
-    check(semver_parser_range_is_disjoint(one, other, &is_disjoint) == SEMVER_PARSER_OK
+    check(compare(one, '#', other, &is_disjoint).status == SEMVER_PARSER_OK
               && is_disjoint == disjoint,
           "disjoint, or not", of);
 }
@@ -253,6 +252,14 @@ static void whole_sets(void) {
     semver_parser_range_free(other);
 }
 
+/* What a function says of two sets of these options: the dialects come first. */
+static int status_of_two(int one, int other) {
+    if (one / RULES != other / RULES) {
+        return DIFFERENT_DIALECTS;
+    }
+    return one == other ? OK : DIFFERENT_PRE_RELEASES;
+}
+
 /* Sets of other options are neither combined nor compared, also if they have the same versions. */
 static void other_options(void) {
     semver_parser_range *sets[DIALECTS * RULES];
@@ -262,20 +269,20 @@ static void other_options(void) {
     for (int at = 0; at < DIALECTS * RULES * DIALECTS * RULES; at++) {
         const semver_parser_range *one = sets[at / (DIALECTS * RULES)];
         const semver_parser_range *other = sets[at % (DIALECTS * RULES)];
-        semver_parser_status wanted =
-            one == other ? SEMVER_PARSER_OK : SEMVER_PARSER_INVALID_ARGUMENT;
+        int wanted = status_of_two(at / (DIALECTS * RULES), at % (DIALECTS * RULES));
         bool answers[3] = {false, false, true};
-        check(semver_parser_range_equal(one, other, &answers[0]) == wanted
-                  && semver_parser_range_is_subset(one, other, &answers[1]) == wanted
-                  && semver_parser_range_is_disjoint(one, other, &answers[2]) == wanted
-                  && answers[0] == (one == other) && answers[1] == (one == other)
-                  && answers[2] == (one != other),
-              "other options are compared", "=1.2.3");
         for (int operation = 0; operation < 3; operation++) {
-            semver_parser_range *made = combined(one, "|&-"[operation], other);
-            check((made != NULL) == (one == other), "other options are combined", "=1.2.3");
+            check(compare(one, "=<#"[operation], other, &answers[operation]).status == wanted,
+                  "other options are compared", "=1.2.3");
+            semver_parser_range *made = NULL;
+            check(combine(one, "|&-"[operation], other, &made).status == wanted
+                      && (made != NULL) == (one == other),
+                  "other options are combined", "=1.2.3");
             semver_parser_range_free(made);
         }
+        check(answers[0] == (one == other) && answers[1] == (one == other)
+                  && answers[2] == (one != other),
+              "another answer about other options", "=1.2.3");
     }
     for (int at = 0; at < DIALECTS * RULES; at++) {
         semver_parser_range_free(sets[at]);

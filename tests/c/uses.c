@@ -32,6 +32,7 @@ static bool use_error(const semver_parser_error *error) {
     return is_made(status, message,
                    "invalid version \"1.2.03\", at byte 5: numbers and identifiers of digits may "
                    "not have a leading zero")
+           && strcmp(semver_parser_status_name(error->status), "invalid-version") == 0
            && strcmp(semver_parser_status_text(error->status), "invalid version") == 0
            && strcmp(semver_parser_reason_name(error->reason), "leading-zero") == 0
            && strlen(semver_parser_reason_text(error->reason)) > 0
@@ -110,13 +111,15 @@ static bool use_two_sets(const semver_parser_range *set) {
     bool equal = false;
     bool is_subset = false;
     bool is_disjoint = false;
-    bool are_made = semver_parser_range_union(set, set, &made[0]) == SEMVER_PARSER_OK
-                    && semver_parser_range_intersection(set, set, &made[1]) == SEMVER_PARSER_OK
-                    && semver_parser_range_difference(set, set, &made[2]) == SEMVER_PARSER_OK
-                    && semver_parser_range_equal(made[0], set, &equal) == SEMVER_PARSER_OK
-                    && semver_parser_range_is_disjoint(made[2], set, &is_disjoint)
+    bool are_made = semver_parser_range_union(set, set, &made[0], NULL) == SEMVER_PARSER_OK
+                    && semver_parser_range_intersection(set, set, &made[1], NULL)
                            == SEMVER_PARSER_OK
-                    && semver_parser_range_is_subset(made[1], set, &is_subset) == SEMVER_PARSER_OK
+                    && semver_parser_range_difference(set, set, &made[2], NULL) == SEMVER_PARSER_OK
+                    && semver_parser_range_equal(made[0], set, &equal, NULL) == SEMVER_PARSER_OK
+                    && semver_parser_range_is_disjoint(made[2], set, &is_disjoint, NULL)
+                           == SEMVER_PARSER_OK
+                    && semver_parser_range_is_subset(made[1], set, &is_subset, NULL)
+                           == SEMVER_PARSER_OK
                     && semver_parser_range_is_empty(made[2]);
     for (int at = 0; at < 3; at++) {
         semver_parser_range_free(made[at]);

@@ -12,8 +12,9 @@
  *         semver_parser_free(message);
  *     }
  *
- * Compile with `pkg-config --cflags --libs semver_parser`. Each function has a page of the manual
- * (man semver_parser_satisfies); semver-ranges(7) says what a range means. C99 or later, or C++11.
+ * Compile with `pkg-config --cflags --libs semver_parser`. Each type and each function has a page
+ * of the manual (man semver_parser_range, man semver_parser_satisfies); semver-ranges(7) says what
+ * a range means. C99 or later, or C++11.
  *
  * STRINGS are UTF-8 with a length in bytes, and need no terminating zero; `data` may be null if
  * `length` is 0, and so may an array if `count` is. A `char *` that a function makes is
@@ -22,8 +23,8 @@
  * ERRORS. A function returns SEMVER_PARSER_OK or the status of an error. After an error its outputs
  * are as they were, and `error`, which may be null, says more; after OK it is as it was, too.
  * INVALID_ARGUMENT comes first, then the errors of the arguments from left to right. OUT_OF_MEMORY
- * comes only from a function that allocates: one that makes or prints something, combines ranges, or
- * fills `error` after another error, which it then replaces. The others don't allocate.
+ * comes only from a function that allocates: one that makes or prints something, combines ranges,
+ * or fills `error` for an invalid string, whose error it then replaces. The others don't allocate.
  *
  * THE CALLER MUST pass valid pointers, not null except where it is said, and not change what they
  * point to during a call. Threads may call concurrently, and read one range or list at once. In the
@@ -86,10 +87,10 @@ void semver_parser_free(void *string);
 /* Whose rules apply (semver-ranges(7)). */
 typedef int32_t semver_parser_dialect;
 enum {
-    /* `1.2` is `>=1.2.0 <2.0.0`. Versions are those of SemVer 2.0.0. */
+    /* Cargo: `1.2` is `>=1.2.0 <2.0.0`. Versions are those of SemVer 2.0.0. */
     SEMVER_PARSER_DIALECT_CARGO = 0,
-    /* `1.2` is `>=1.2.0 <1.3.0`. A version may have a `v` before it, and white space around it.
-     * Numbers go up to 2^53 - 1, and versions have at most 256 characters. */
+    /* npm: `1.2` is `>=1.2.0 <1.3.0`. A version may have a `v` before it, and white space around
+     * it. Numbers go up to 2^53 - 1, and versions have at most 256 characters. */
     SEMVER_PARSER_DIALECT_NPM = 1,
     /* The Rust crate in its Cargo mode, which isn't Cargo's dialect: `1.2` is `>=1.2.0 <1.3.0`. */
     SEMVER_PARSER_DIALECT_CRATE_CARGO = 2,
@@ -102,7 +103,7 @@ typedef int32_t semver_parser_pre_releases;
 enum {
     /* Those that Cargo and npm match by default: `^1.2.3-rc` contains 1.2.3-rc.1, not 1.3.0-rc. */
     SEMVER_PARSER_PRE_RELEASES_DEFAULT = 0,
-    /* Each within the bounds. */
+    /* Each within the bounds of the range. */
     SEMVER_PARSER_PRE_RELEASES_INCLUDED = 1,
     /* None. */
     SEMVER_PARSER_PRE_RELEASES_EXCLUDED = 2
@@ -132,54 +133,68 @@ const char *semver_parser_pre_releases_name(semver_parser_pre_releases pre_relea
 
 typedef int32_t semver_parser_status;
 enum {
+    /* There is no error. */
     SEMVER_PARSER_OK = 0,
     /* The string is not a range of the dialect. */
     SEMVER_PARSER_INVALID_RANGE = 1,
-    /* It is, but a number or a raised bound is above 2^64 - 1, to npm above 2^53 - 1. */
+    /* The string is a range of the dialect, but a number or a raised bound is above 2^64 - 1, to
+     * npm above 2^53 - 1. */
     SEMVER_PARSER_NUMBER_TOO_LARGE = 2,
     /* The string is an invalid version in the dialect. */
     SEMVER_PARSER_INVALID_VERSION = 3,
+    /* An allocation failed. */
     SEMVER_PARSER_OUT_OF_MEMORY = 4,
-    /* An option that isn't one of those above, a reserved field that isn't zero, two ranges of
-     * different options, or an index that is too large. */
-    SEMVER_PARSER_INVALID_ARGUMENT = 5
+    /* There is no such option, a reserved field isn't zero, or an index is too large. */
+    SEMVER_PARSER_INVALID_ARGUMENT = 5,
+    /* The second of two ranges has another dialect than the first. */
+    SEMVER_PARSER_DIFFERENT_DIALECTS = 6,
+    /* The second of two ranges has the same dialect, and another rule for pre-releases. */
+    SEMVER_PARSER_DIFFERENT_PRE_RELEASES = 7
 };
 
-/* Why a string is refused, as a version or as a range. */
+/* Why a string is refused, as a version or as a range. From CARGO_COMMAS to CRATE_V another dialect
+ * takes what is refused. */
 typedef int32_t semver_parser_reason;
 enum {
-    /* No string is refused: the status is OK, OUT_OF_MEMORY or INVALID_ARGUMENT. */
+    /* No string is refused: the status is OK, or that of an error that isn't about a string. */
     SEMVER_PARSER_REASON_NONE = 0,
-    /* It is empty, or white space that the dialect takes there. */
+    /* The string is empty, or white space that the dialect takes there. */
     SEMVER_PARSER_REASON_EMPTY = 1,
     /* There are fewer than three numbers: the version `1.2`, the range `1.2-rc`. */
     SEMVER_PARSER_REASON_NOT_THREE_NUMBERS = 2,
-    /* A number or a pre-release identifier of digits has one: `1.2.03`. */
+    /* A number or a pre-release identifier of digits has a leading zero: `1.2.03`. */
     SEMVER_PARSER_REASON_LEADING_ZERO = 3,
-    /* `1.2.3-`, `1.2.3-a..b`. */
+    /* An identifier is empty: `1.2.3-`, `1.2.3-a..b`. */
     SEMVER_PARSER_REASON_EMPTY_IDENTIFIER = 4,
     /* No version, or range, has this character there: `1.x` as a version, `1.2.3.4`. */
     SEMVER_PARSER_REASON_UNEXPECTED_CHARACTER = 5,
     /* A number, or a raised bound, is above 2^64 - 1. */
     SEMVER_PARSER_REASON_TOO_LARGE = 6,
-    /* It is longer than npm's 256 characters, or a build identifier than 250. */
+    /* A version is longer than npm's 256 characters, or a build identifier than 250. */
     SEMVER_PARSER_REASON_TOO_LONG = 7,
-    /* `1.2.3 x` as a version. */
+    /* Text follows a version: `1.2.3 x`. */
     SEMVER_PARSER_REASON_TEXT_AFTER = 8,
-    /* Of a range: `offset` is that of the first byte that isn't UTF-8. */
+    /* A range isn't UTF-8: `offset` is that of the first byte that isn't. */
     SEMVER_PARSER_REASON_NOT_UTF8 = 9,
-    /* `>=`, `^1..2`. */
+    /* A number is expected: `>=`, `^1..2`. */
     SEMVER_PARSER_REASON_NUMBER_EXPECTED = 10,
     /* A range needs more at its end. */
     SEMVER_PARSER_REASON_UNEXPECTED_END = 11,
-    /* Another dialect takes it: `1 || 2`; a version or a range with a `v`. */
+    /* Cargo separates comparators by commas: `>=1.2.3 <2`. */
     SEMVER_PARSER_REASON_CARGO_COMMAS = 12,
+    /* Cargo takes `*` without numbers before it only alone: `1, *`. */
     SEMVER_PARSER_REASON_CARGO_WILDCARD = 13,
+    /* Cargo takes no `||`: `1 || 2`. */
     SEMVER_PARSER_REASON_CARGO_BARS = 14,
+    /* Cargo takes no leading `v`, of a version or of a range: `v1.2.3`, `^v1`. */
     SEMVER_PARSER_REASON_CARGO_V = 15,
+    /* Cargo takes no hyphen ranges: `1.2.3 - 2`. */
     SEMVER_PARSER_REASON_CARGO_HYPHEN = 16,
+    /* npm separates comparators by spaces: `>=1.2.3, <2`. */
     SEMVER_PARSER_REASON_NPM_COMMA = 17,
+    /* The crate takes no commas: `1.2.3,`. */
     SEMVER_PARSER_REASON_CRATE_COMMA = 18,
+    /* The crate takes no leading `v`, of a version or of a range. */
     SEMVER_PARSER_REASON_CRATE_V = 19,
     /* To npm, a number or a raised bound is above 2^53 - 1. */
     SEMVER_PARSER_REASON_NPM_TOO_LARGE = 20
@@ -193,8 +208,8 @@ typedef struct {
      * of the string if something is missing at its end. After NUMBER_TOO_LARGE, the end of the
      * first term above the limit. */
     size_t offset;
-    /* Which string of the call it is about: 0 for the first, 1 for the second; of an array, its
-     * index there. */
+    /* Which string or range of the call it is about: 0 for the first, 1 for the second; of an
+     * array, its index there. */
     size_t index;
     /* Are zero. */
     uint64_t reserved[4];
@@ -204,16 +219,19 @@ typedef struct {
  * npm does`. `string` is the string of the call that `error->index` names. With `caret` it has
  * two lines more, indented by four spaces: the string, shortened if it is long and with U+FFFD
  * for control characters, and a caret under the character. An error that isn't about a string, such
- * as OUT_OF_MEMORY, is its semver_parser_status_text alone. semver_parser_free frees the sentence. */
+ * as DIFFERENT_DIALECTS, is its semver_parser_status_text alone, whatever `string` is.
+ * semver_parser_free frees the sentence. */
 SEMVER_PARSER_CHECKED(1, 4)
 semver_parser_status semver_parser_error_message(
     const semver_parser_error *error, semver_parser_string string, bool caret, char **message);
 
-/* Returns an English phrase for a status or a reason, or the name of a reason ("leading-zero"), or
- * null if there is no such number. */
+/* Returns the name of a status or of a reason, or an English phrase for it; null if there is no
+ * such number. Names are for programs and logs, and never change: "invalid-range", "leading-zero".
+ * Phrases are for people, and may change. */
+const char *semver_parser_status_name(semver_parser_status status);
 const char *semver_parser_status_text(semver_parser_status status);
-const char *semver_parser_reason_text(semver_parser_reason reason);
 const char *semver_parser_reason_name(semver_parser_reason reason);
+const char *semver_parser_reason_text(semver_parser_reason reason);
 
 /* Returns the version of the loaded library: "1.0.0", and 1000000 for it. */
 const char *semver_parser_library_version(void);
@@ -301,32 +319,35 @@ semver_parser_status semver_parser_range_lowest_of(
 
 /* Makes the range of the versions that are in one or the other, in both, or in the first alone: the
  * difference of `^1.2` and `>=1.4` contains 1.2.0 and not 1.4.0. semver_parser_range_free frees it.
- * Both ranges need the same options, or it is INVALID_ARGUMENT. */
+ * Both ranges must have the same options. DIFFERENT_DIALECTS, DIFFERENT_PRE_RELEASES. */
 SEMVER_PARSER_CHECKED(1, 2, 3)
 semver_parser_status semver_parser_range_union(
     const semver_parser_range *range, const semver_parser_range *other,
-    semver_parser_range **made);
+    semver_parser_range **made, semver_parser_error *error);
 SEMVER_PARSER_CHECKED(1, 2, 3)
 semver_parser_status semver_parser_range_intersection(
     const semver_parser_range *range, const semver_parser_range *other,
-    semver_parser_range **made);
+    semver_parser_range **made, semver_parser_error *error);
 SEMVER_PARSER_CHECKED(1, 2, 3)
 semver_parser_status semver_parser_range_difference(
     const semver_parser_range *range, const semver_parser_range *other,
-    semver_parser_range **made);
+    semver_parser_range **made, semver_parser_error *error);
 
 /* Whether two ranges have the same versions, whether each version of the first is in the other, and
- * whether no version is in both. Both need the same options, or it is INVALID_ARGUMENT. These don't
- * allocate. */
+ * whether no version is in both. Both ranges must have the same options. These don't allocate, with
+ * or without `error`. DIFFERENT_DIALECTS, DIFFERENT_PRE_RELEASES. */
 SEMVER_PARSER_CHECKED(1, 2, 3)
 semver_parser_status semver_parser_range_equal(
-    const semver_parser_range *range, const semver_parser_range *other, bool *equal);
+    const semver_parser_range *range, const semver_parser_range *other, bool *equal,
+    semver_parser_error *error);
 SEMVER_PARSER_CHECKED(1, 2, 3)
 semver_parser_status semver_parser_range_is_subset(
-    const semver_parser_range *range, const semver_parser_range *other, bool *is_subset);
+    const semver_parser_range *range, const semver_parser_range *other, bool *is_subset,
+    semver_parser_error *error);
 SEMVER_PARSER_CHECKED(1, 2, 3)
 semver_parser_status semver_parser_range_is_disjoint(
-    const semver_parser_range *range, const semver_parser_range *other, bool *is_disjoint);
+    const semver_parser_range *range, const semver_parser_range *other, bool *is_disjoint,
+    semver_parser_error *error);
 
 /* Returns whether a range has no version: `>2.0.0 <1.0.0` has none. */
 SEMVER_PARSER_NONNULL(1)
@@ -353,10 +374,15 @@ typedef struct semver_parser_comparators semver_parser_comparators;
 
 typedef int32_t semver_parser_op;
 enum {
+    /* `<` */
     SEMVER_PARSER_OP_LESS = 0,
+    /* `<=` */
     SEMVER_PARSER_OP_LESS_EQUAL = 1,
+    /* `>` */
     SEMVER_PARSER_OP_GREATER = 2,
+    /* `>=` */
     SEMVER_PARSER_OP_GREATER_EQUAL = 3,
+    /* `=` */
     SEMVER_PARSER_OP_EQUAL = 4
 };
 

@@ -117,16 +117,16 @@ pub fn outermost<'a>(
     Ok(index)
 }
 
-/// What is asked of two ranges of the same options.
+/// Compares two ranges of the same options.
 pub fn compare<'a>(
     range: &'a VersionRange,
     other: &'a VersionRange,
-    ask: impl Fn(&VersionRange, &VersionRange) -> Result<bool, OperationError>,
+    compared: impl Fn(&VersionRange, &VersionRange) -> Result<bool, OperationError>,
 ) -> Answer<'a, bool> {
     if range.meaning() != other.meaning() {
-        return Err(Problem::Argument);
+        return Err(different(range, other));
     }
-    ask(range, other).map_err(|_| Problem::Argument)
+    compared(range, other).map_err(|_| different(range, other))
 }
 
 pub fn combine<'a>(
@@ -137,8 +137,16 @@ pub fn combine<'a>(
     match combined(range, other) {
         Ok(made) => Ok(moved(made)?),
         Err(OperationError::OutOfMemory) => Err(Problem::Memory),
-        Err(_) => Err(Problem::Argument),
+        Err(_) => Err(different(range, other)),
     }
+}
+
+/// What differs between two ranges: their dialects, or else which pre-releases count.
+fn different<'a>(range: &VersionRange, other: &VersionRange) -> Problem<'a> {
+    if range.meaning().dialect != other.meaning().dialect {
+        return Problem::Dialects;
+    }
+    Problem::PreReleases
 }
 
 /// semver_parser_comparators: ranges, their comparators, and each as it is printed.

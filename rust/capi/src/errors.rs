@@ -11,6 +11,8 @@ const NUMBER_TOO_LARGE: Status = 2;
 const INVALID_VERSION: Status = 3;
 const OUT_OF_MEMORY: Status = 4;
 const INVALID_ARGUMENT: Status = 5;
+const DIFFERENT_DIALECTS: Status = 6;
+const DIFFERENT_PRE_RELEASES: Status = 7;
 
 /// semver_parser_error.
 #[repr(C)]
@@ -23,10 +25,13 @@ pub struct Error {
     reserved: [u64; 4],
 }
 
-/// What is wrong with a call; `index` says which of its strings it is about.
+/// What is wrong with a call; `index` says which of its strings it is about. Of two ranges of
+/// different options it is the second one.
 pub enum Problem<'a> {
     Argument,
     Memory,
+    Dialects,
+    PreReleases,
     Version { bytes: &'a [u8], dialect: Dialect, index: usize },
     NotUtf8 { offset: usize, index: usize },
     Range { error: RangeError, range: &'a str, dialect: Dialect, index: usize },
@@ -42,6 +47,8 @@ impl Problem<'_> {
     pub fn status(&self) -> Status {
         match self {
             Problem::Argument => INVALID_ARGUMENT,
+            Problem::Dialects => DIFFERENT_DIALECTS,
+            Problem::PreReleases => DIFFERENT_PRE_RELEASES,
             Problem::Memory | Problem::Range { error: RangeError::OutOfMemory, .. } => {
                 OUT_OF_MEMORY
             }
@@ -58,6 +65,7 @@ impl Problem<'_> {
                 let refusal = explain_version(bytes, dialect)?;
                 (refusal.map(|it| (it.reason, it.offset)), index)
             }
+            Problem::Dialects | Problem::PreReleases => (None, 1),
             Problem::NotUtf8 { offset, index } => (Some((Reason::NotUtf8, offset)), index),
             Problem::Range { range, dialect, index, .. } if self.status() != OUT_OF_MEMORY => {
                 let refusal = explain_range(range, dialect)?;

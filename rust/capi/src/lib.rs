@@ -75,6 +75,8 @@ functions! {
         = |number| c_text(&message::PRE_RELEASES_NAMES, number);
     semver_parser_status_text(status: Status) => *const c_char
         = |number| c_text(&message::STATUS_TEXTS, number);
+    semver_parser_status_name(status: Status) => *const c_char
+        = |number| c_text(&message::STATUS_NAMES, number);
     semver_parser_reason_text(reason: i32) => *const c_char
         = |number| c_text(&message::REASON_TEXTS, number);
     semver_parser_reason_name(reason: i32) => *const c_char
@@ -107,18 +109,18 @@ functions! {
         range: &Range, versions: &StringView[count], skip_invalid: bool)
         -> index: usize, error
         = |range, versions, skip| calls::outermost(range, versions, skip, Range::lowest_of);
-    semver_parser_range_union(range: &Range, other: &Range)
-        -> made: *mut Range = |range, other| calls::combine(range, other, Range::union);
-    semver_parser_range_intersection(range: &Range, other: &Range)
-        -> made: *mut Range = |range, other| calls::combine(range, other, Range::intersection);
-    semver_parser_range_difference(range: &Range, other: &Range)
-        -> made: *mut Range = |range, other| calls::combine(range, other, Range::difference);
-    semver_parser_range_equal(range: &Range, other: &Range)
-        -> equal: bool = |range, other| calls::compare(range, other, |range, other| Ok(range == other));
-    semver_parser_range_is_subset(range: &Range, other: &Range)
-        -> is_subset: bool = |range, other| calls::compare(range, other, Range::is_subset);
-    semver_parser_range_is_disjoint(range: &Range, other: &Range)
-        -> is_disjoint: bool = |range, other| calls::compare(range, other, Range::is_disjoint);
+    semver_parser_range_union(range: &Range, other: &Range) -> made: *mut Range, error
+        = |range, other| calls::combine(range, other, Range::union);
+    semver_parser_range_intersection(range: &Range, other: &Range) -> made: *mut Range, error
+        = |range, other| calls::combine(range, other, Range::intersection);
+    semver_parser_range_difference(range: &Range, other: &Range) -> made: *mut Range, error
+        = |range, other| calls::combine(range, other, Range::difference);
+    semver_parser_range_equal(range: &Range, other: &Range) -> equal: bool, error
+        = |range, other| calls::compare(range, other, |one, two| Ok(one == two));
+    semver_parser_range_is_subset(range: &Range, other: &Range) -> is_subset: bool, error
+        = |range, other| calls::compare(range, other, Range::is_subset);
+    semver_parser_range_is_disjoint(range: &Range, other: &Range) -> is_disjoint: bool, error
+        = |range, other| calls::compare(range, other, Range::is_disjoint);
     semver_parser_range_is_empty(range: &Range) => bool = Range::is_empty;
     semver_parser_range_lowest_version(range: &Range)
         -> version: *mut c_char = calls::lowest_version;

@@ -11,13 +11,26 @@ use proved::Reason;
 // The tables of build.rs, of the crate's texts.
 include!(concat!(env!("OUT_DIR"), "/texts.rs"));
 
-pub static STATUS_TEXTS: [&str; 6] = [
+pub static STATUS_TEXTS: [&str; 8] = [
     "no error\0",
     "invalid range\0",
     "number too large in range\0",
     "invalid version\0",
     "out of memory\0",
     "invalid argument\0",
+    "the ranges have different dialects\0",
+    "the ranges have different rules for pre-releases\0",
+];
+
+pub static STATUS_NAMES: [&str; 8] = [
+    "ok\0",
+    "invalid-range\0",
+    "number-too-large\0",
+    "invalid-version\0",
+    "out-of-memory\0",
+    "invalid-argument\0",
+    "different-dialects\0",
+    "different-pre-releases\0",
 ];
 
 fn text_of(texts: &[&'static str], number: i32) -> Option<&'static str> {

@@ -106,7 +106,7 @@ static bool unite(semver_parser_options options) {
     semver_parser_range *made = NULL;
     if (!make_set(options)) return false;
     begin();
-    bool is_ok = semver_parser_range_union(set, set, &made) == SEMVER_PARSER_OK;
+    bool is_ok = semver_parser_range_union(set, set, &made, NULL) == SEMVER_PARSER_OK;
     semver_parser_range_free(made);
     return is_ok;
 }

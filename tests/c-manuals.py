@@ -1,0 +1,188 @@
+#!/usr/bin/env python3
+"""The manual of the C library and its header agree. Each type of the header is in the NAME of one page docs/man/semver_parser_*.3,
+which has each section, takes the declarations and the constants of its types from the header, and has a program and what it
+prints. semver_parser.3 names each type and each function once. What tools/make-manuals.py makes has a page for each, and each
+page that another one names. What differs is written, and the status is then 1.
+
+    tests/c-manuals.py                   checks all this
+    tests/c-manuals.py --examples TO     writes each program as TO/PAGE.c, and what it prints as TO/PAGE.wanted
+    tests/c-manuals.py --must-fail       shows that an error of each kind is found"""
+import os
+import re
+import subprocess
+import sys
+import tempfile
+
+TOP = os.path.dirname(os.path.dirname(os.path.abspath(__file__)))
+OVERVIEW = 'semver_parser'
+SECTIONS = ['NAME', 'LIBRARY', 'SYNOPSIS', 'DESCRIPTION', 'RETURN VALUE', 'ERRORS', 'EXAMPLES', 'SEE ALSO']
+ESCAPES = (r'\(ha', '^'), (r'\(ti', '~'), (r'\(aq', "'"), (r'\-', '-'), (r'\e', '\\')
+
+
+def read(path):
+    with open(os.path.join(TOP, path), encoding='utf-8') as file:
+        return file.read()
+
+
+def by_hand():
+    """The pages that are written by hand, by their names."""
+    names = sorted(name[:-2] for name in os.listdir(os.path.join(TOP, 'docs/man')) if name.startswith('semver_parser'))
+    return {name: read(f'docs/man/{name}.3') for name in names}
+
+
+def types_of(header):
+    """The types of the header, each with whether it has constants."""
+    enumerations = re.findall(r'^typedef int32_t (\w+);\nenum \{', header, re.M)
+    names = re.findall(r'^(?:\} |typedef .* )(semver_parser_\w+);$', header, re.M)
+    return {name: name in enumerations for name in names}
+
+
+def functions_of(header):
+    return re.findall(r'^(?:static inline )?(?:const )?\w+ \*?(semver_parser_\w+)\(', header, re.M)
+
+
+def names_of(page):
+    """The names that the section NAME has."""
+    found = re.search(r'^\.SH NAME\n(.*?) \\-', page, re.M | re.S)
+    return re.split(r',\s*', found[1]) if found else []
+
+
+def named_in(page):
+    """The pages of section 3 that a page names."""
+    return re.findall(r'(\w+)(?: \(3\)|" \(3\))', page)
+
+
+def plain(text):
+    """What lines of an example say."""
+    for escape, sign in ESCAPES:
+        text = text.replace(escape, sign)
+    return text
+
+
+def examples_of(page):
+    """The blocks of the section EXAMPLES: a program, and what it prints."""
+    section = page.split('.SH EXAMPLES\n', 1)[-1].split('\n.SH ', 1)[0]
+    return [plain(block) for block in re.findall(r'^\.EX\n(.*?)^\.EE$', section, re.M | re.S)]
+
+
+def errors_of_page(name, page, types):
+    """What is wrong with the page of a type."""
+    if names_of(page)[:1] != [name]:
+        yield f'{name}.3 has another name'
+    if [it for it in re.findall(r'^\.SH (.*)$', page, re.M) if it in SECTIONS] != SECTIONS:
+        yield f'{name}.3 lacks a section, or has them in another order'
+    if page.count('\n.SH SYNOPSIS\n.\\" DECLARATIONS\n') != 1:
+        yield f"{name}.3 doesn't take its declarations from the header"
+    constants = [it for it in names_of(page) if types.get(it)]
+    if sorted(re.findall(r'^\.\\" CONSTANTS (\w+)$', page, re.M)) != sorted(constants):
+        yield f'{name}.3 has the constants of other types than its own'
+    if len(examples_of(page)) != 2:
+        yield f'{name}.3 has no program with what it prints'
+    if f'.BR {OVERVIEW} (3),' not in page.split('.SH SEE ALSO')[-1]:
+        yield f"{name}.3 doesn't name {OVERVIEW}(3)"
+
+
+def errors_of_made(header, pages):
+    """What is wrong with the pages that are made, over pages by hand."""
+    with tempfile.TemporaryDirectory() as work:
+        paths = []
+        for name, page in pages.items():
+            if name != OVERVIEW:
+                paths.append(os.path.join(work, f'{name}.3'))
+                with open(paths[-1], 'w', encoding='utf-8') as file:
+                    file.write(page)
+        made = subprocess.run(
+            [os.path.join(TOP, 'tools/make-manuals.py'), '1', '2026-01-01', os.path.join(work, 'made'), *paths],
+            input=header, capture_output=True, text=True)
+        if made.returncode != 0:
+            yield made.stderr.strip().split('\n')[-1]
+            return
+        there = {name[:-2] for name in os.listdir(os.path.join(work, 'made'))}
+        for name in sorted({*types_of(header), *functions_of(header)} ^ there):
+            yield f'{name} has no page, or its page is of nothing in the header'
+        for name in sorted(there):
+            with open(os.path.join(work, 'made', f'{name}.3'), encoding='utf-8') as file:
+                yield from errors_of_links(name, file.read(), there)
+        yield from errors_of_links(OVERVIEW, pages[OVERVIEW], there)
+
+
+def errors_of_links(name, page, there):
+    for other in named_in(page):
+        if other != OVERVIEW and other not in there and other != 'memset':
+            yield f'{name}.3 names {other}(3), which there is not'
+
+
+def errors_of_overview(header, page):
+    """Each type and each function is listed once, in the section DESCRIPTION."""
+    listed = named_in(page.split('.SS Types', 1)[-1].split('.SH RETURN VALUE', 1)[0])
+    for name in sorted({*listed, *types_of(header), *functions_of(header)}):
+        if listed.count(name) != 1:
+            yield f'{OVERVIEW}.3 lists {name} {listed.count(name)} times'
+
+
+def errors(header, pages):
+    types, of_types = types_of(header), {name: page for name, page in pages.items() if name != OVERVIEW}
+    if len(types) < 12 or len(functions_of(header)) < 36:
+        yield f'{len(types)} types and {len(functions_of(header))} functions were found, which are too few'
+    named = [name for page in of_types.values() for name in names_of(page)]
+    for name in sorted({*named, *types}):
+        if (named.count(name), name in types) != (1, True):
+            yield f'{name} is in the NAME of {named.count(name)} pages, and is {"a" if name in types else "no"} type'
+    for name, page in of_types.items():
+        yield from errors_of_page(name, page, types)
+    yield from errors_of_overview(header, pages[OVERVIEW])
+    if not any(name not in types for name in named):
+        yield from errors_of_made(header, pages)
+
+
+# An error of each kind: the page, or the header, what is changed, and by what.
+PLANTED = [
+    ('header', '} semver_parser_version;', '} semver_parser_parts;'),
+    ('header', 'semver_parser_check_range(', 'semver_parser_check_ranges('),
+    ('header', '    /* An allocation failed. */\n', ''),
+    ('semver_parser_error', 'semver_parser_reason \\-', 'semver_parser_reasons \\-'),
+    ('semver_parser_error', '.\\" CONSTANTS semver_parser_reason\n', ''),
+    ('semver_parser_error', '.BR semver_parser_status_name (3)\n', '.BR semver_parser_name_of_status (3)\n'),
+    ('semver_parser_range', '.SH ERRORS\n', '.SH STATUS\n'),
+    ('semver_parser_range', '.\\" DECLARATIONS', '.B "typedef struct semver_parser_range semver_parser_range;"'),
+    ('semver_parser_options', 'It prints:\n.PP\n.EX', 'It prints:\n.PP\n.nf'),
+    ('semver_parser_options', '.BR semver_parser (3),\n', ''),
+    ('semver_parser', '.BR semver_parser_free (3),\n', ''),
+    ('semver_parser', '.BR semver_parser_version (3)\n', '.BR semver_parser_version (3), " semver_parser_range" (3)\n'),
+]
+
+
+def must_fail(header, pages):
+    """Plants each error alone."""
+    missed = 0
+    for where, before, after in PLANTED:
+        texts = {'header': header, **pages}
+        assert before in texts[where], (where, before)
+        texts[where] = texts[where].replace(before, after, 1)
+        found = list(errors(texts.pop('header'), texts))
+        if not found:
+            print(f'not found in {where}: {before!r} is {after!r}')
+            missed += 1
+    return missed
+
+
+def main():
+    header, pages = read('rust/capi/include/semver_parser.h'), by_hand()
+    if sys.argv[1:2] == ['--examples']:
+        for name, page in pages.items():
+            for ending, text in zip(('c', 'wanted'), examples_of(page)):
+                with open(os.path.join(sys.argv[2], f'{name}.{ending}'), 'w', encoding='utf-8') as file:
+                    file.write(text)
+        return 0
+    if sys.argv[1:] == ['--must-fail']:
+        missed = must_fail(header, pages)
+        print(f'C manuals, {len(PLANTED)} errors: {"failed" if missed else "each found, passed"}')
+        return 1 if missed else 0
+    found = list(errors(header, pages))
+    for error in found:
+        print(error)
+    print('C manuals: failed' if found else 'C manuals: passed')
+    return 1 if found else 0
+
+
+sys.exit(main())
