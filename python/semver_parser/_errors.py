@@ -28,6 +28,7 @@ Reason = Literal[
     "crate-comma",
     "crate-v",
     "npm-too-large",
+    "too-many-comparators",
 ]
 """Why a string is refused. A later minor version of the library may have more reasons."""
 

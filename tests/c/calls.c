@@ -148,7 +148,8 @@ static void require_error(const call *it, const outcome *error) {
     require(error->index == 0 || (error->index == 1 && it->strings[1] != NULL), "no such string",
             of);
     require(error->offset <= it->strings[error->index]->length, "an offset outside", of);
-    require(reason >= SEMVER_PARSER_REASON_EMPTY && reason <= SEMVER_PARSER_REASON_NPM_TOO_LARGE,
+    require(reason >= SEMVER_PARSER_REASON_EMPTY
+                && reason <= SEMVER_PARSER_REASON_TOO_MANY_COMPARATORS,
             "no reason", of);
     switch (error->status) {
     case SEMVER_PARSER_INVALID_VERSION:

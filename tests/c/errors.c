@@ -7,7 +7,7 @@
 #include <string.h>
 
 #define REASON(name) SEMVER_PARSER_REASON_##name
-enum { REASONS = SEMVER_PARSER_REASON_NPM_TOO_LARGE + 1 };
+enum { REASONS = SEMVER_PARSER_REASON_TOO_MANY_COMPARATORS + 1 };
 
 static bool is_status_seen[STATUSES];
 static bool is_reason_seen[REASONS];
@@ -60,6 +60,8 @@ static const struct {
     {CARGO, ">=1.2.3 <2", 8, REASON(CARGO_COMMAS)},
     {CARGO, "1, *", 3, REASON(CARGO_WILDCARD)},
     {CARGO, "1 || 2", 2, REASON(CARGO_BARS)},
+    {CARGO, "1,1,1,1,1,1,1,1,1,1,1,1,1,1,1,1,1,1,1,1,1,1,1,1,1,1,1,1,1,1,1,1,1", 63,
+     REASON(TOO_MANY_COMPARATORS)},
     {CARGO, "^v1", 1, REASON(CARGO_V)},
     {CARGO, "1.2.3 - 2", 6, REASON(CARGO_HYPHEN)},
     {NPM, ">=1.2.3, <2", 7, REASON(NPM_COMMA)},

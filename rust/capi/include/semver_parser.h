@@ -197,7 +197,9 @@ enum {
     /* The crate takes no leading `v`, of a version or of a range. */
     SEMVER_PARSER_REASON_CRATE_V = 19,
     /* To npm, a number or a raised bound is above 2^53 - 1. */
-    SEMVER_PARSER_REASON_NPM_TOO_LARGE = 20
+    SEMVER_PARSER_REASON_NPM_TOO_LARGE = 20,
+    /* Cargo takes at most 32 comparators. */
+    SEMVER_PARSER_REASON_TOO_MANY_COMPARATORS = 21
 };
 
 /* Where and why a call was refused. */
