@@ -40,6 +40,7 @@ if TYPE_CHECKING:
     from ._ranges import Invalid, Range
     from ._satisfying import satisfies
     from ._strings import String
+    from ._terms import Component, PartialVersion, Term, terms
     from ._versions import AnyVersion, Identifier, Version, precedence
 
 __version__ = "1.0.0"
@@ -51,29 +52,33 @@ __all__ = [
     "Comparator",
     "Comparators",
     "Comparison",
+    "Component",
     "Dialect",
     "Identifier",
     "Invalid",
     "Op",
+    "PartialVersion",
     "PreReleases",
     "Range",
     "RangeError",
     "Reason",
     "SemverError",
     "String",
+    "Term",
     "Version",
     "VersionError",
     "compare_ranges",
     "crate_comparators",
     "precedence",
     "satisfies",
+    "terms",
 ]
 
 _UNPICKLE = "_unpickled_range"
 """The function that pickles name, beside the public classes."""
 
-_MODULES = ["strings", "options", "errors", "versions", "comparators", "ranges", "satisfying"]
-_MODULES += ["comparing"]
+_MODULES = ["strings", "options", "errors", "versions", "comparators", "terms", "ranges"]
+_MODULES += ["satisfying", "comparing"]
 
 if not TYPE_CHECKING:
 

@@ -54,6 +54,42 @@ class CVersion(ctypes.Structure):
     ]
 
 
+class CComponent(ctypes.Structure):
+    """A component of a version in a range."""
+
+    _fields_ = [("kind", ctypes.c_int32), ("number", ctypes.c_uint64)]
+
+
+class CPartialVersion(ctypes.Structure):
+    """A version in a range, whose `pre` and `build` are in the range's string."""
+
+    _fields_ = [
+        ("start", ctypes.c_size_t),
+        ("end", ctypes.c_size_t),
+        ("has_v", ctypes.c_bool),
+        ("major", CComponent),
+        ("minor", CComponent),
+        ("patch", CComponent),
+        ("pre", ctypes.c_void_p),
+        ("pre_length", ctypes.c_size_t),
+        ("build", ctypes.c_void_p),
+        ("build_length", ctypes.c_size_t),
+    ]
+
+
+class CTerm(ctypes.Structure):
+    """A term of a range."""
+
+    _fields_ = [
+        ("range", ctypes.c_size_t),
+        ("op", ctypes.c_int32),
+        ("start", ctypes.c_size_t),
+        ("end", ctypes.c_size_t),
+        ("version", CPartialVersion),
+        ("upper", CPartialVersion),
+    ]
+
+
 def _status_functions() -> Dict[str, List[Any]]:
     """The functions that return a status, and what they take. A range and a list of comparators are
     addresses."""
@@ -80,6 +116,7 @@ def _status_functions() -> Dict[str, List[Any]]:
         "range_to_string": [address, flag, printed],
         "comparators_of_range": [one, number, flag, made, error],
         "comparators_to_string": [address, printed],
+        "terms_of_range": [one, number, to(CTerm), size, to(size), error],
     }
 
 
@@ -92,6 +129,7 @@ def _other_functions() -> Dict[str, Tuple[List[Any], Any]]:
         "reason_text": ([number], zero_terminated),
         "dialect_name": ([number], zero_terminated),
         "pre_releases_name": ([number], zero_terminated),
+        "operator_sign": ([number], zero_terminated),
         "free": ([address], None),
         "range_free": ([address], None),
         "range_is_empty": ([address], ctypes.c_bool),

@@ -11,6 +11,7 @@ from ._library import LIBRARY, check
 from ._options import AnyDialect, AnyPreReleases, Dialect, PreReleases, dialect_of, pre_releases_of
 from ._origins import Combination, Origin, Step, steps_to
 from ._strings import Printed, String, c_string, c_strings, printed
+from ._terms import Term, terms_of
 from ._versions import AnyVersion, Version, fields_of_printed, string_of
 
 Invalid = Literal["raise", "skip"]
@@ -229,6 +230,21 @@ class Range(Printed):
     def __hash__(self) -> int:
         options = (self._dialect, self._pre_releases)
         return hash((*options, self.printed_releases, self.printed_pre_releases))
+
+    # ---- what it is written with
+
+    @property
+    def terms(self) -> List[Term]:
+        """The terms of the string that was read, as they are written.
+
+        >>> [term.operator for term in Range(">=1.2 <2", dialect="npm").terms]
+        ['>=', '<']
+
+        Raises `ValueError` if the range was combined of others, since it has no string then.
+        """
+        if not isinstance(self._origin, str):
+            raise ValueError("a range that was combined of others has no string")
+        return terms_of(self._origin, self._dialect)
 
     # ---- how it is printed, copied and pickled
 

@@ -1,8 +1,20 @@
 //! Writes the texts of the crate's numbers as C needs them: the table of an enumeration has the
 //! text of number N, with a zero at its end, at index N.
 
-use proved::{Dialect, PreReleases, Reason};
+use proved::{Dialect, Operator, PreReleases, Reason};
 use std::{env, fs};
+
+const OPERATORS: [Operator; 9] = [
+    Operator::Bare,
+    Operator::Equal,
+    Operator::Less,
+    Operator::LessOrEqual,
+    Operator::Greater,
+    Operator::GreaterOrEqual,
+    Operator::Tilde,
+    Operator::Caret,
+    Operator::Hyphen,
+];
 
 fn table(
     name: &str,
@@ -28,6 +40,9 @@ fn main() {
         table("DIALECT_NAMES", None, |number| Dialect::from_number(number).map(Dialect::name)),
         table("PRE_RELEASES_NAMES", None, |rule| {
             PreReleases::from_number(rule).map(PreReleases::name)
+        }),
+        table("OPERATOR_SIGNS", None, |number| {
+            OPERATORS.into_iter().find(|it| it.number() == number).map(Operator::sign)
         }),
         format!("pub const VERSION_NUMBER: u32 = {number};\n"),
     ];

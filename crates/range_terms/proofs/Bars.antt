@@ -27,13 +27,6 @@ module _ (d : Grammar) where
   pub blanks_stop : (t : Text) → stops (is_blank d) (after_blanks d t) ≡ true
   blanks_stop t = back_stops (is_blank d) t
 
-  pub no_bars : (t : Text) → stops (is_blank d) t ≡ true → after_bars t ≡ None → after_ranges d t ≡ (0, t)
-  no_bars [] s e = refl
-  no_bars (b ∷ []) s e = rw (not-true _ s) refl
-  no_bars (b ∷ c ∷ t) s e = by_test (is_bar b && is_bar c)
-      (λ y. absurd (let h = rw y at e in cc))
-      (λ n. rw (not-true _ s, n) refl)
-
   -- one pair of bars, and the blanks after it
   pub one_pair : (t u : Text) → after_bars t ≡ Some u → after_ranges d t ≡ one_more (after_ranges d (after_blanks d u))
   one_pair [] u e = cc

@@ -73,9 +73,6 @@ module _ (d : Grammar) (n : ℕ) where
       counted : (k m : ℕ) → k + suc m ≡ suc k + m
       counted k m = omega arith
 
-  pub none_at_end : (k : ℕ) → terms_left d n k [] ≡ []
-  none_at_end k = refl
-
   -- a term that is there
   pub left_step : (k k' : ℕ) (t u : Text) (x : WrittenTerm) → next_term d n k t ≡ Some (x, k', u)
       → terms_left d n k t ≡ x ∷ terms_left d n k' u

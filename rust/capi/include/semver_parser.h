@@ -427,6 +427,82 @@ SEMVER_PARSER_CHECKED(1, 2)
 semver_parser_status semver_parser_comparators_to_string(
     const semver_parser_comparators *comparators, char **string);
 
+/* ---- terms: what a range has, as it is written */
+
+typedef int32_t semver_parser_operator;
+enum {
+    /* Nothing: `1.2` */
+    SEMVER_PARSER_OPERATOR_BARE = 0,
+    /* `=` */
+    SEMVER_PARSER_OPERATOR_EQUAL = 1,
+    /* `<` */
+    SEMVER_PARSER_OPERATOR_LESS = 2,
+    /* `<=` */
+    SEMVER_PARSER_OPERATOR_LESS_OR_EQUAL = 3,
+    /* `>` */
+    SEMVER_PARSER_OPERATOR_GREATER = 4,
+    /* `>=` */
+    SEMVER_PARSER_OPERATOR_GREATER_OR_EQUAL = 5,
+    /* `~`, or `~>` */
+    SEMVER_PARSER_OPERATOR_TILDE = 6,
+    /* `^` */
+    SEMVER_PARSER_OPERATOR_CARET = 7,
+    /* The hyphen between two versions: `1.2 - 2.3` */
+    SEMVER_PARSER_OPERATOR_HYPHEN = 8
+};
+
+typedef int32_t semver_parser_component_kind;
+enum {
+    /* The component isn't written: the third one of `1.2`. */
+    SEMVER_PARSER_COMPONENT_NONE = 0,
+    SEMVER_PARSER_COMPONENT_NUMBER = 1,
+    /* `x`, `X` or `*` */
+    SEMVER_PARSER_COMPONENT_WILDCARD = 2
+};
+
+/* A component of a version. `number` is 0 unless the kind is NUMBER. One above 2^64 - 1, which can
+ * only be after a wildcard, is 2^64 - 1. */
+typedef struct {
+    semver_parser_component_kind kind;
+    uint64_t number;
+} semver_parser_component;
+
+/* A version as a term states it: the bytes from `start` to before `end`, with the `v` if it has one.
+ * `pre` and `build` are parts of the range's string, without `-` and `+`. */
+typedef struct {
+    size_t start;
+    size_t end;
+    bool has_v;
+    semver_parser_component major;
+    semver_parser_component minor;
+    semver_parser_component patch;
+    semver_parser_string pre;
+    semver_parser_string build;
+} semver_parser_partial_version;
+
+/* A term: the bytes from `start` to before `end`. `range` is the number of `||` before it. `upper`
+ * is the version after the hyphen of a hyphen range; other terms have none, and it is zero. */
+typedef struct {
+    size_t range;
+    semver_parser_operator op;
+    size_t start;
+    size_t end;
+    semver_parser_partial_version version;
+    semver_parser_partial_version upper;
+} semver_parser_term;
+
+/* Reads the terms of a range in their order: `^1.2 || 3.x` has two. `count` is how many there are;
+ * as many of them as `capacity` are written to `terms`, which may be null if `capacity` is 0.
+ * Another version of the dialect may replace the bytes of one, and the string is a range again.
+ * INVALID_RANGE, NUMBER_TOO_LARGE. */
+SEMVER_PARSER_CHECKED(5)
+semver_parser_status semver_parser_terms_of_range(
+    semver_parser_string range, semver_parser_dialect dialect, semver_parser_term *terms,
+    size_t capacity, size_t *count, semver_parser_error *error);
+
+/* Returns how an operator is written, an empty string for BARE; null if there is no such number. */
+const char *semver_parser_operator_sign(semver_parser_operator op);
+
 #ifdef __cplusplus
 }
 #endif

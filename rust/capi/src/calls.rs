@@ -10,7 +10,7 @@ use proved::layers;
 use proved::rattle_std::{FalliblePush, FallibleToString};
 use proved::version::{outline_in, Outline};
 use proved::{satisfies_bytes, OperationError, SatisfiesError, VersionRange};
-use proved::{Compat, Dialect, Op, RangeError, RangeSet};
+use proved::{Compat, Dialect, Op, RangeError, RangeSet, Terms};
 
 type Answer<'a, T> = Result<T, Problem<'a>>;
 
@@ -54,6 +54,13 @@ pub fn check_range(range: &[u8], number: i32) -> Answer<'_, ()> {
     let dialect = dialect(number)?;
     let range = text(range, 0)?;
     layers::check_range(range, dialect).map_err(refused(range, dialect, 0))
+}
+
+/// The terms of a range, of which each has been checked.
+pub fn terms(range: &[u8], number: i32) -> Answer<'_, Terms<'_>> {
+    let dialect = dialect(number)?;
+    let range = text(range, 0)?;
+    Terms::try_parse(range, dialect).map_err(refused(range, dialect, 0))
 }
 
 pub fn parse_version(bytes: &[u8], number: i32) -> Answer<'_, Version> {

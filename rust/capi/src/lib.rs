@@ -17,7 +17,7 @@ use core::ffi::c_char;
 use errors::{finish, Error, Problem, Status, OK};
 use message::c_text;
 use proved::VersionRange as Range;
-use types::{items, Comparator, Options, StringView, Version};
+use types::{items, Comparator, Options, StringView, Term, Version};
 
 /// Defines functions of the header: `name(arguments) -> output = call`, with `error` if it has one;
 /// `name(arguments) => type = call` if it returns what the call does; `name(made) = call` if it
@@ -81,6 +81,8 @@ functions! {
         = |number| c_text(&message::REASON_TEXTS, number);
     semver_parser_reason_name(reason: i32) => *const c_char
         = |number| c_text(&message::REASON_NAMES, number);
+    semver_parser_operator_sign(operator: i32) => *const c_char
+        = |number| c_text(&message::OPERATOR_SIGNS, number);
     semver_parser_library_version() => *const c_char
         = || concat!(env!("CARGO_PKG_VERSION"), "\0").as_ptr().cast();
     semver_parser_library_version_number() => u32 = || message::VERSION_NUMBER;
@@ -168,4 +170,28 @@ pub unsafe extern "C" fn semver_parser_range_contains_each(
         }
     }
     OK
+}
+
+#[no_mangle]
+pub unsafe extern "C" fn semver_parser_terms_of_range(
+    range: StringView,
+    dialect: i32,
+    terms: *mut Term,
+    capacity: usize,
+    count: *mut usize,
+    error: *mut Error,
+) -> Status {
+    let read = calls::terms(range.bytes(), dialect).map(|found| {
+        let mut read = 0;
+        for term in found {
+            if read < capacity {
+                // SAFETY: as in `functions`; the array has room for `capacity` terms.
+                unsafe { terms.add(read).write(Term::of(&term)) };
+            }
+            read += 1;
+        }
+        read
+    });
+    // SAFETY: as in `functions`.
+    unsafe { finish(read, count, error) }
 }

@@ -79,6 +79,91 @@ pub struct Comparator {
     pub pre: StringView,
 }
 
+/// semver_parser_component.
+#[repr(C)]
+#[derive(Clone, Copy, Default)]
+pub struct Component {
+    kind: i32,
+    number: u64,
+}
+
+impl Component {
+    fn of(component: Option<proved::Component>) -> Component {
+        match component {
+            None => Component::default(),
+            Some(proved::Component::Number(number)) => Component { kind: 1, number },
+            Some(proved::Component::Wildcard) => Component { kind: 2, number: 0 },
+        }
+    }
+}
+
+/// semver_parser_partial_version.
+#[repr(C)]
+pub struct PartialVersion {
+    start: usize,
+    end: usize,
+    has_v: bool,
+    major: Component,
+    minor: Component,
+    patch: Component,
+    pre: StringView,
+    build: StringView,
+}
+
+impl PartialVersion {
+    fn of(version: &proved::PartialVersion<'_>) -> PartialVersion {
+        PartialVersion {
+            start: version.span.start,
+            end: version.span.end,
+            has_v: version.has_v,
+            major: Component::of(Some(version.major)),
+            minor: Component::of(version.minor),
+            patch: Component::of(version.patch),
+            pre: StringView::of(version.pre.as_bytes()),
+            build: StringView::of(version.build.as_bytes()),
+        }
+    }
+
+    /// What a term has that has no second version.
+    fn none() -> PartialVersion {
+        let none = Component::default();
+        PartialVersion {
+            start: 0,
+            end: 0,
+            has_v: false,
+            major: none,
+            minor: none,
+            patch: none,
+            pre: StringView::of(b""),
+            build: StringView::of(b""),
+        }
+    }
+}
+
+/// semver_parser_term.
+#[repr(C)]
+pub struct Term {
+    range: usize,
+    operator: i32,
+    start: usize,
+    end: usize,
+    version: PartialVersion,
+    upper: PartialVersion,
+}
+
+impl Term {
+    pub fn of(term: &proved::Term<'_>) -> Term {
+        Term {
+            range: term.range,
+            operator: term.operator.number(),
+            start: term.span.start,
+            end: term.span.end,
+            version: PartialVersion::of(&term.version),
+            upper: term.upper.as_ref().map_or_else(PartialVersion::none, PartialVersion::of),
+        }
+    }
+}
+
 /// The items of an array. SAFETY: it is valid, as the header says. In place of null, which no slice
 /// has, is another address where nothing is: reading items in spite of null ends the program.
 pub unsafe fn items<'a, T>(pointer: *const T, count: usize) -> &'a [T] {
