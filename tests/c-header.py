@@ -11,13 +11,14 @@ import re
 import sys
 
 TOP = os.path.dirname(os.path.dirname(os.path.abspath(__file__)))
-NUMBERS = ('dialect', 'pre_releases', 'status', 'reason', 'op')
+NUMBERS = ('dialect', 'pre_releases', 'status', 'reason', 'op', 'operator', 'component_kind')
 # Types of the header by those of Rust; a number of an enumeration is as any other.
 TYPES = {
     'i32': 'int32_t', 'u32': 'uint32_t', 'u64': 'uint64_t', 'usize': 'size_t', 'bool': 'bool', 'c_char': 'char', '()': 'void', 'u8': 'char',
     'Status': 'int32_t', 'StringView': 'semver_parser_string', 'Options': 'semver_parser_options', 'Error': 'semver_parser_error',
     'Version': 'semver_parser_version', 'Comparator': 'semver_parser_comparator', 'Range': 'semver_parser_range',
-    'Comparators': 'semver_parser_comparators',
+    'Comparators': 'semver_parser_comparators', 'Component': 'semver_parser_component', 'Term': 'semver_parser_term',
+    'PartialVersion': 'semver_parser_partial_version',
 }
 
 
@@ -107,10 +108,14 @@ def constants_in_rust():
     operators = {'Lt': 'LESS', 'Lte': 'LESS_EQUAL', 'Gt': 'GREATER', 'Gte': 'GREATER_EQUAL', 'Eq': 'EQUAL'}
     for name, number in re.findall(r'Op::(\w+) => (\d)', rust()):
         yield 'OP_' + operators[name], number
+    kinds = re.search(r'impl Component \{.*?\n\}', read('rust/capi/src/types.rs'), re.S)[0]
+    yield 'COMPONENT_NONE', '0' if 'None => Component::default()' in kinds else '?'
+    for name, number in re.findall(r'Component::(\w+)(?:\(number\))?\) => Component \{ kind: (\d)', kinds):
+        yield f'COMPONENT_{name.upper()}', number
     yield 'REASON_NONE', '0'
     for path, kind, function, prefix in (
         ('invalid_strings/reasons', 'Reason', 'row', 'REASON'), ('tool_ranges/dialect', 'Dialect', 'number', 'DIALECT'),
-        ('version_sets/rules', 'PreReleases', 'number', 'PRE_RELEASES'),
+        ('version_sets/rules', 'PreReleases', 'number', 'PRE_RELEASES'), ('range_terms/term', 'Operator', 'number', 'OPERATOR'),
     ):
         body = re.search(rf'fn {function}\(.*?\n    \}}', read(f'rust/src/proved/{path}.rs'), re.S)[0]
         for name, number in re.findall(rf'{kind}::(\w+) => \(?\s*(\d+)', body):

@@ -39,5 +39,26 @@ int main(void) {
     AT(semver_parser_comparator, minor);
     AT(semver_parser_comparator, patch);
     AT(semver_parser_comparator, pre);
+    SIZE(semver_parser_operator);
+    SIZE(semver_parser_component_kind);
+    SIZE(semver_parser_component);
+    AT(semver_parser_component, kind);
+    AT(semver_parser_component, number);
+    SIZE(semver_parser_partial_version);
+    AT(semver_parser_partial_version, start);
+    AT(semver_parser_partial_version, end);
+    AT(semver_parser_partial_version, has_v);
+    AT(semver_parser_partial_version, major);
+    AT(semver_parser_partial_version, minor);
+    AT(semver_parser_partial_version, patch);
+    AT(semver_parser_partial_version, pre);
+    AT(semver_parser_partial_version, build);
+    SIZE(semver_parser_term);
+    AT(semver_parser_term, range);
+    AT(semver_parser_term, op);
+    AT(semver_parser_term, start);
+    AT(semver_parser_term, end);
+    AT(semver_parser_term, version);
+    AT(semver_parser_term, upper);
     return 0;
 }

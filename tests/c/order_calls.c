@@ -526,6 +526,41 @@ static void kept_comparators(const call *it, text *to) {
     say_list(to, list_of(it->list), it->index);
 }
 
+static void say_component(text *to, semver_parser_component of) {
+    text_say(to, " %d:%llu", (int)of.kind, (unsigned long long)of.number);
+}
+
+static void say_partial(text *to, const semver_parser_partial_version *of) {
+    text_say(to, " [%zu %zu %d", of->start, of->end, of->has_v);
+    say_component(to, of->major);
+    say_component(to, of->minor);
+    say_component(to, of->patch);
+    say_string(to, of->pre);
+    say_string(to, of->build);
+    text_say(to, "]");
+}
+
+/* The terms of a range, of which a random number fits into the array. */
+static void terms(const call *it, text *to) {
+    semver_parser_term found[8];
+    semver_parser_error error = before;
+    size_t capacity = it->index % 8;
+    size_t count = 77;
+    semver_parser_status status = semver_parser_terms_of_range(
+        second_of(it), it->dialect, found, capacity, &count, &error);
+    say_error(to, status, &error);
+    text_say(to, " %zu terms", count);
+    if (status != SEMVER_PARSER_OK) {
+        return;
+    }
+    for (size_t at = 0; at < count && at < capacity; at++) {
+        const char *sign = semver_parser_operator_sign(found[at].op);
+        text_say(to, "; %zu %s %zu %zu", found[at].range, sign, found[at].start, found[at].end);
+        say_partial(to, &found[at].version);
+        say_partial(to, &found[at].upper);
+    }
+}
+
 /* Some are there more than once, and are called more often. */
 static const struct {
     const char *name;
@@ -551,6 +586,7 @@ static const struct {
     {"free", freed},
     {"comparators_of_range", comparators},
     {"comparators_get and to_string", kept_comparators},
+    {"terms_of_range and operator_sign", terms},
 };
 
 size_t functions_count(void) {

@@ -447,6 +447,103 @@ static void comparators(void) {
     comparators_are(CARGO, true, "*", all, 1);
 }
 
+/* ---- terms */
+
+typedef struct {
+    size_t range;
+    semver_parser_operator op;
+    const char *term;
+    const char *version;
+    const char *upper;
+} wanted_term;
+
+/* Whether so many bytes from an offset on are a text; the text may be null for none. */
+static bool is_at(const char *bytes, size_t start, size_t end, const char *wanted) {
+    if (wanted == NULL) {
+        return start == 0 && end == 0;
+    }
+    return end - start == strlen(wanted) && memcmp(bytes + start, wanted, end - start) == 0;
+}
+
+static void terms_are(int dialect, const char *bytes, const wanted_term *wanted, size_t count) {
+    semver_parser_term found[5];
+    semver_parser_string of = semver_parser_str(bytes);
+    size_t read = 77;
+    check(semver_parser_terms_of_range(of, dialect, NULL, 0, &read, NULL) == SEMVER_PARSER_OK
+              && read == count,
+          "another number of terms", bytes);
+    memset(found, 1, sizeof found);
+    found[4].range = 88;
+    check(semver_parser_terms_of_range(of, dialect, found, 4, &read, NULL) == SEMVER_PARSER_OK
+              && read == count && found[4].range == 88,
+          "other terms", bytes);
+    for (size_t at = 0; at < count && at < 4; at++) {
+        const semver_parser_term *it = &found[at];
+        check(it->range == wanted[at].range && it->op == wanted[at].op, "another range", bytes);
+        check(is_at(bytes, it->start, it->end, wanted[at].term), "another term", bytes);
+        check(is_at(bytes, it->version.start, it->version.end, wanted[at].version),
+              "another version", bytes);
+        check(is_at(bytes, it->upper.start, it->upper.end, wanted[at].upper), "another upper version",
+              bytes);
+    }
+}
+
+/* The parts of the version of the first term. */
+static void parts_are(const char *bytes, bool has_v, const semver_parser_component *wanted,
+                      const char *pre, const char *build) {
+    semver_parser_term it;
+    size_t count = 0;
+    check(semver_parser_terms_of_range(
+              semver_parser_str(bytes), SEMVER_PARSER_DIALECT_NPM, &it, 1, &count, NULL)
+                  == SEMVER_PARSER_OK
+              && it.version.has_v == has_v,
+          "another v", bytes);
+    const semver_parser_component found[] = {it.version.major, it.version.minor, it.version.patch};
+    for (int at = 0; at < 3; at++) {
+        check(found[at].kind == wanted[at].kind && found[at].number == wanted[at].number,
+              "another component", bytes);
+    }
+    check(it.version.pre.length == strlen(pre)
+              && memcmp(it.version.pre.data, pre, strlen(pre)) == 0,
+          "another pre-release", bytes);
+    check(it.version.build.length == strlen(build)
+              && memcmp(it.version.build.data, build, strlen(build)) == 0,
+          "another build", bytes);
+}
+
+static void terms(void) {
+    static const wanted_term of_npm[] = {
+        {0, SEMVER_PARSER_OPERATOR_CARET, "^ v1.2", "v1.2", NULL},
+        {1, SEMVER_PARSER_OPERATOR_GREATER_OR_EQUAL, ">=3.0.0-rc.1", "3.0.0-rc.1", NULL},
+        {1, SEMVER_PARSER_OPERATOR_LESS, "<4", "4", NULL},
+        {2, SEMVER_PARSER_OPERATOR_HYPHEN, "1.2 - 2.x", "1.2", "2.x"},
+        {3, SEMVER_PARSER_OPERATOR_BARE, "x", "x", NULL}};
+    terms_are(NPM, "\t^ v1.2||>=3.0.0-rc.1 <4 || 1.2 - 2.x || x", of_npm, 5);
+    static const wanted_term of_cargo[] = {
+        {0, SEMVER_PARSER_OPERATOR_LESS_OR_EQUAL, "<= 2", "2", NULL},
+        {0, SEMVER_PARSER_OPERATOR_EQUAL, "=1.5.*", "1.5.*", NULL},
+        {0, SEMVER_PARSER_OPERATOR_GREATER, ">1", "1", NULL}};
+    terms_are(CARGO, " <= 2 ,=1.5.*,>1 ", of_cargo, 3);
+    static const wanted_term tilde[] = {{2, SEMVER_PARSER_OPERATOR_TILDE, "~> 1.X", "1.X", NULL}};
+    terms_are(CRATE_NPM, " || ||~> 1.X", tilde, 1);
+    terms_are(NPM, "", NULL, 0);
+    enum { NO = SEMVER_PARSER_COMPONENT_NONE, NUMBER = SEMVER_PARSER_COMPONENT_NUMBER };
+    static const semver_parser_component all[] = {{NUMBER, 1}, {NUMBER, 2}, {NUMBER, 3}};
+    parts_are("<v1.2.3-rc.1+b.5", true, all, "rc.1", "b.5");
+    static const semver_parser_component one[] = {{NUMBER, 10}, {NO, 0}, {NO, 0}};
+    parts_are("~10", false, one, "", "");
+    /* 2^64 after a wildcard, where a number doesn't count. */
+    static const semver_parser_component after[] = {
+        {NUMBER, 1}, {SEMVER_PARSER_COMPONENT_WILDCARD, 0}, {NUMBER, UINT64_MAX}};
+    parts_are("1.x.18446744073709551616", false, after, "", "");
+    static const char *const signs[] = {"", "=", "<", "<=", ">", ">=", "~", "^", "-"};
+    for (int at = 0; at < 9; at++) {
+        check(strcmp(semver_parser_operator_sign(at), signs[at]) == 0, "another sign", signs[at]);
+    }
+    check(semver_parser_operator_sign(9) == NULL && semver_parser_operator_sign(-1) == NULL,
+          "a sign", "of no operator");
+}
+
 int main(void) {
     versions();
     long_versions();
@@ -455,5 +552,6 @@ int main(void) {
     many_comparators();
     long_identifiers();
     comparators();
+    terms();
     return finish("readings");
 }

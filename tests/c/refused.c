@@ -180,6 +180,12 @@ static semver_parser_status make_list(const arguments *with, outputs *to) {
         with->strings[1], with->options.dialect, true, &to->list, with->error);
 }
 
+static semver_parser_status terms(const arguments *with, outputs *to) {
+    semver_parser_term found[4];
+    return semver_parser_terms_of_range(
+        with->strings[1], with->options.dialect, found, 4, &to->index, with->error);
+}
+
 static semver_parser_status print_list(const arguments *with, outputs *to) {
     return semver_parser_comparators_to_string(with->list, &to->string);
 }
@@ -198,6 +204,7 @@ static const struct {
     {satisfies, "satisfies", NOTHING, false, true},
     {parse, "parse_version", NOTHING, false, true},
     {order, "compare_versions", NOTHING, false, true},
+    {terms, "terms_of_range", NOTHING, false, true},
     {make_set, "range_parse", SET, true, true},
     {contains, "range_contains", NOTHING, false, true},
     {contains_each, "range_contains_each", NOTHING, false, false},

@@ -455,6 +455,7 @@ typedef int32_t semver_parser_component_kind;
 enum {
     /* The component isn't written: the third one of `1.2`. */
     SEMVER_PARSER_COMPONENT_NONE = 0,
+    /* A number */
     SEMVER_PARSER_COMPONENT_NUMBER = 1,
     /* `x`, `X` or `*` */
     SEMVER_PARSER_COMPONENT_WILDCARD = 2

@@ -81,7 +81,7 @@ functions! {
         = |number| c_text(&message::REASON_TEXTS, number);
     semver_parser_reason_name(reason: i32) => *const c_char
         = |number| c_text(&message::REASON_NAMES, number);
-    semver_parser_operator_sign(operator: i32) => *const c_char
+    semver_parser_operator_sign(op: i32) => *const c_char
         = |number| c_text(&message::OPERATOR_SIGNS, number);
     semver_parser_library_version() => *const c_char
         = || concat!(env!("CARGO_PKG_VERSION"), "\0").as_ptr().cast();

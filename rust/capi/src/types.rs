@@ -144,7 +144,7 @@ impl PartialVersion {
 #[repr(C)]
 pub struct Term {
     range: usize,
-    operator: i32,
+    op: i32,
     start: usize,
     end: usize,
     version: PartialVersion,
@@ -155,7 +155,7 @@ impl Term {
     pub fn of(term: &proved::Term<'_>) -> Term {
         Term {
             range: term.range,
-            operator: term.operator.number(),
+            op: term.operator.number(),
             start: term.span.start,
             end: term.span.end,
             version: PartialVersion::of(&term.version),
