@@ -78,7 +78,8 @@ out/lib/$(shared) out/lib/libsemver_parser.a &: $(built)/libsemver_parser.a \
 
 # A page of the manual for each function and each type of the header.
 types := $(wildcard docs/man/semver_parser_*.3)
-out/man/made: $(capi)/include/semver_parser.h $(types) tools/make-manuals.py VERSION debian/changelog
+out/man/made: $(capi)/include/semver_parser.h $(types) tools/make-manuals.py VERSION \
+		debian/changelog
 	$(begin)
 	command -v python3 > /dev/null || refuse 'needs the command python3'
 	rm -rf out/man

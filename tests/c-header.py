@@ -1,9 +1,9 @@
 #!/usr/bin/env python3
 """The header for C and rust/capi agree, which no compiler sees: each function has the same name and parameters, of the same
 types and in the same order, and so have the fields of each struct; statuses, operators, reasons, dialects and rules have the
-same numbers, which the Python package has too; a status has its constant's name; rust/capi/semver_parser.map and the file of
-symbols in debian/ have each function once; and all have the version of the library. What differs is written, and the status is
-then 1."""
+same numbers, which the Python package has too; a status has its constant's name;
+rust/capi/semver_parser.map and the file of symbols in debian/ have each function once; and all have
+the version of the library. What differs is written, and the status is then 1."""
 import difflib
 import glob
 import os
@@ -124,24 +124,28 @@ def constants_in_rust():
 
 def statuses_by_name():
     """What STATUS_NAMES has, each with the number that is its index."""
-    names = re.search(r'STATUS_NAMES: [^=]* = \[(.*?)\];', read('rust/capi/src/message.rs'), re.S)[1]
+    source = read('rust/capi/src/message.rs')
+    names = re.search(r'STATUS_NAMES: [^=]* = \[(.*?)\];', source, re.S)[1]
     for number, name in enumerate(re.findall(r'"([a-z-]+)\\0"', names)):
         yield f'{name.upper().replace("-", "_")} = {number}'
 
 
 def statuses_in_c():
     """The statuses of the header."""
-    statuses = re.search(r'semver_parser_status;\nenum \{(.*?)\n\};', read('rust/capi/include/semver_parser.h'), re.S)[1]
-    return [f'{name} = {number}' for name, number in re.findall(r'SEMVER_PARSER_(\w+) = (\d+)', statuses)]
+    text = read('rust/capi/include/semver_parser.h')
+    statuses = re.search(r'semver_parser_status;\nenum \{(.*?)\n\};', text, re.S)[1]
+    found = re.findall(r'SEMVER_PARSER_(\w+) = (\d+)', statuses)
+    return [f'{name} = {number}' for name, number in found]
 
 
 def errors_of_statuses():
     statuses = statuses_in_c()
     yield from differences(statuses, statuses_by_name())
-    in_python = re.findall(r'^[A-Z_]+ = \d+$', read('python/semver_parser/_interface.py'), re.M)
-    yield from (f'python/semver_parser/_interface.py: {it} is no status' for it in in_python if it not in statuses)
+    path = 'python/semver_parser/_interface.py'
+    in_python = re.findall(r'^[A-Z_]+ = \d+$', read(path), re.M)
+    yield from (f'{path}: {it} is no status' for it in in_python if it not in statuses)
     if len(statuses) < 8 or len(in_python) < 7:
-        yield f'{len(statuses)} statuses and {len(in_python)} of Python were found, which are too few'
+        yield f'{len(statuses)} statuses and {len(in_python)} of Python are too few'
 
 
 def versions():

@@ -1,12 +1,14 @@
 #!/usr/bin/env python3
-"""The manual of the C library and its header agree. Each type of the header is in the NAME of one page docs/man/semver_parser_*.3,
-which has each section, takes the declarations and the constants of its types from the header, and has a program and what it
-prints. semver_parser.3 names each type and each function once. What tools/make-manuals.py makes has a page for each, and each
-page that another one names. What differs is written, and the status is then 1.
+"""The manual of the C library and its header agree. Each type of the header is in the NAME of one
+page docs/man/semver_parser_*.3, which has each section, takes the declarations and the constants of
+its types from the header, and has a program and what it prints. semver_parser.3 names each type and
+each function once. What tools/make-manuals.py makes has a page for each, and each page that another
+one names. What differs is written, and the status is then 1.
 
-    tests/c-manuals.py                   checks all this
-    tests/c-manuals.py --examples TO     writes each program as TO/PAGE.c, and what it prints as TO/PAGE.wanted
-    tests/c-manuals.py --must-fail       shows that an error of each kind is found"""
+    tests/c-manuals.py                checks all this
+    tests/c-manuals.py --examples TO  writes each program as TO/PAGE.c, and what it prints as
+                                      TO/PAGE.wanted
+    tests/c-manuals.py --must-fail    shows that an error of each kind is found"""
 import os
 import re
 import subprocess
@@ -15,7 +17,8 @@ import tempfile
 
 TOP = os.path.dirname(os.path.dirname(os.path.abspath(__file__)))
 OVERVIEW = 'semver_parser'
-SECTIONS = ['NAME', 'LIBRARY', 'SYNOPSIS', 'DESCRIPTION', 'RETURN VALUE', 'ERRORS', 'EXAMPLES', 'SEE ALSO']
+SECTIONS = [
+    'NAME', 'LIBRARY', 'SYNOPSIS', 'DESCRIPTION', 'RETURN VALUE', 'ERRORS', 'EXAMPLES', 'SEE ALSO']
 ESCAPES = (r'\(ha', '^'), (r'\(ti', '~'), (r'\(aq', "'"), (r'\-', '-'), (r'\e', '\\')
 
 
@@ -26,7 +29,8 @@ def read(path):
 
 def by_hand():
     """The pages that are written by hand, by their names."""
-    names = sorted(name[:-2] for name in os.listdir(os.path.join(TOP, 'docs/man')) if name.startswith('semver_parser'))
+    files = os.listdir(os.path.join(TOP, 'docs/man'))
+    names = sorted(name[:-2] for name in files if name.startswith('semver_parser'))
     return {name: read(f'docs/man/{name}.3') for name in names}
 
 
@@ -91,9 +95,8 @@ def errors_of_made(header, pages):
                 paths.append(os.path.join(work, f'{name}.3'))
                 with open(paths[-1], 'w', encoding='utf-8') as file:
                     file.write(page)
-        made = subprocess.run(
-            [os.path.join(TOP, 'tools/make-manuals.py'), '1', '2026-01-01', os.path.join(work, 'made'), *paths],
-            input=header, capture_output=True, text=True)
+        command = [os.path.join(TOP, 'tools/make-manuals.py'), '1', '2026-01-01', f'{work}/made']
+        made = subprocess.run([*command, *paths], input=header, capture_output=True, text=True)
         if made.returncode != 0:
             yield made.stderr.strip().split('\n')[-1]
             return
@@ -121,13 +124,15 @@ def errors_of_overview(header, page):
 
 
 def errors(header, pages):
-    types, of_types = types_of(header), {name: page for name, page in pages.items() if name != OVERVIEW}
-    if len(types) < 12 or len(functions_of(header)) < 36:
-        yield f'{len(types)} types and {len(functions_of(header))} functions were found, which are too few'
+    types, functions = types_of(header), functions_of(header)
+    of_types = {name: page for name, page in pages.items() if name != OVERVIEW}
+    if len(types) < 12 or len(functions) < 36:
+        yield f'{len(types)} types and {len(functions)} functions are too few'
     named = [name for page in of_types.values() for name in names_of(page)]
     for name in sorted({*named, *types}):
         if (named.count(name), name in types) != (1, True):
-            yield f'{name} is in the NAME of {named.count(name)} pages, and is {"a" if name in types else "no"} type'
+            what = 'a type' if name in types else 'no type'
+            yield f'{name} is in the NAME of {named.count(name)} pages, and is {what}'
     for name, page in of_types.items():
         yield from errors_of_page(name, page, types)
     yield from errors_of_overview(header, pages[OVERVIEW])
@@ -142,13 +147,14 @@ PLANTED = [
     ('header', '    /* An allocation failed. */\n', ''),
     ('semver_parser_error', 'semver_parser_reason \\-', 'semver_parser_reasons \\-'),
     ('semver_parser_error', '.\\" CONSTANTS semver_parser_reason\n', ''),
-    ('semver_parser_error', '.BR semver_parser_status_name (3)\n', '.BR semver_parser_name_of_status (3)\n'),
+    ('semver_parser_error', '.BR semver_parser_status_name (3)\n', '.BR semver_parser_names (3)\n'),
     ('semver_parser_range', '.SH ERRORS\n', '.SH STATUS\n'),
-    ('semver_parser_range', '.\\" DECLARATIONS', '.B "typedef struct semver_parser_range semver_parser_range;"'),
+    ('semver_parser_range', '.\\" DECLARATIONS', '.B "typedef struct range semver_parser_range;"'),
     ('semver_parser_options', 'It prints:\n.PP\n.EX', 'It prints:\n.PP\n.nf'),
     ('semver_parser_options', '.BR semver_parser (3),\n', ''),
     ('semver_parser', '.BR semver_parser_free (3),\n', ''),
-    ('semver_parser', '.BR semver_parser_version (3)\n', '.BR semver_parser_version (3), " semver_parser_range" (3)\n'),
+    ('semver_parser', '.BR semver_parser_version (3)\n',
+     '.BR semver_parser_version (3), " semver_parser_range" (3)\n'),
 ]
 
 
@@ -166,13 +172,17 @@ def must_fail(header, pages):
     return missed
 
 
+def write_examples(pages, to):
+    for name, page in pages.items():
+        for ending, text in zip(('c', 'wanted'), examples_of(page)):
+            with open(os.path.join(to, f'{name}.{ending}'), 'w', encoding='utf-8') as file:
+                file.write(text)
+
+
 def main():
     header, pages = read('rust/capi/include/semver_parser.h'), by_hand()
     if sys.argv[1:2] == ['--examples']:
-        for name, page in pages.items():
-            for ending, text in zip(('c', 'wanted'), examples_of(page)):
-                with open(os.path.join(sys.argv[2], f'{name}.{ending}'), 'w', encoding='utf-8') as file:
-                    file.write(text)
+        write_examples(pages, sys.argv[2])
         return 0
     if sys.argv[1:] == ['--must-fail']:
         missed = must_fail(header, pages)

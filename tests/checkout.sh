@@ -121,7 +121,8 @@ functions_of_header() {
 
 # manuals FOLDER ENDING: the pages of the functions and types, one for each that the header has.
 manuals() {
-    sed -n 's/^[a-z].*\(semver_parser_[a-z0-9_]*\)(.*/\1/p; s/^\(} \|typedef .* \)\(semver_parser_[a-z_]*\);$/\2/p' \
+    sed -n 's/^[a-z].*\(semver_parser_[a-z0-9_]*\)(.*/\1/p
+        s/^\(} \|typedef .* \)\(semver_parser_[a-z_]*\);$/\2/p' \
         rust/capi/include/semver_parser.h | LC_ALL=C sort | sed "s:.*:$1/&.$2:"
 }
 

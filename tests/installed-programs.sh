@@ -133,8 +133,10 @@ try_manuals() {
     for part in NAME SYNOPSIS DESCRIPTION 'RETURN VALUE' ERRORS ATTRIBUTES 'SEE ALSO'; do grep -qx "\.SH $part" "$page" || fail "a page lacks $part"; done
     grep -q 'semver_parser_satisfies().*MT\\-Safe' "$page" && grep -q 'SEMVER_PARSER_INVALID_VERSION' "$page" || fail 'a page lacks something'
     [ "$(readlink "$prefix/share/man/man3/semver_parser_range_lowest_of.3")" = semver_parser_range_highest_of.3 ] || fail 'a page is no link'
-    [ "$(readlink "$prefix/share/man/man3/semver_parser_status.3")" = semver_parser_error.3 ] || fail 'the page of a type is no link'
-    grep -q 'SEMVER_PARSER_DIFFERENT_DIALECTS " (6)"' "$prefix/share/man/man3/semver_parser_error.3" || fail 'a page lacks the constants of its type'
+    of_type=$prefix/share/man/man3/semver_parser_status.3
+    [ "$(readlink "$of_type")" = semver_parser_error.3 ] || fail 'the page of a type is no link'
+    grep -q 'SEMVER_PARSER_DIFFERENT_DIALECTS " (6)"' "$of_type" ||
+        fail 'a page lacks the constants of its type'
 }
 
 # same_options PROGRAM: its page tells the options that its help names, and no others.
