@@ -1,4 +1,4 @@
--- serves: range_terms::terms::Terms::try_parse
+-- serves: range_terms::terms::TermsIterator::next
 -- Pairs of bars and blanks, as a loop goes over them.
 use Rattle.std.proofs.Common.{◌≡◌, ℕ, suc, ◌+◌, ◌≤◌, Bool, true, [], ◌∷◌, length, refl, ap, ◌∙◌, ◌&&◌}
 use Rattle.std.proofs.Common.{Some, None, arith}

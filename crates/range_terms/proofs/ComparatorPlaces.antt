@@ -1,4 +1,4 @@
--- serves: range_terms::terms::Terms::try_parse
+-- serves: range_terms::terms::Terms::try_parse, replaceable
 -- The words of a requirement, each of which may be replaced.
 use Rattle.std.proofs.Common.{◌≡◌, ℕ, suc, ◌+◌, Bool, true, false, not, ◌||◌, ◌&&◌, List, [], ◌∷◌, ◌++◌, length, refl, sym, ap, ◌∙◌, subst, codes}
 use Rattle.std.proofs.Common.{arith, length-append, append_assoc, append-nil}

@@ -1,4 +1,4 @@
--- serves: range_terms::terms::terms
+-- serves: range_terms::terms::Terms::try_parse, terms
 -- The comparators that are left of a requirement are those that it is cut into.
 use Rattle.std.proofs.Common.{◌≡◌, ℕ, ◌+◌, true, false, List, [], ◌∷◌, ◌++◌, length, refl, sym, ap, ◌∙◌, inl}
 use Rattle.std.proofs.Common.{Some, None, arith, length-append, append_assoc, append-nil}

@@ -1,4 +1,4 @@
--- serves: range_terms::terms::terms
+-- serves: range_terms::terms::Terms::try_parse, terms
 -- The terms that are left of a whole text are those that it is cut into.
 use Rattle.std.proofs.Common.{◌≡◌, ℕ, suc, ◌+◌, true, false, List, [], ◌∷◌, ◌++◌, length, refl, sym, ap, ◌∙◌, ◌==◌}
 use Rattle.std.proofs.Common.{Some, arith, length-append, append_assoc, append-nil, codes}

@@ -1,4 +1,4 @@
--- serves: range_terms::terms::terms
+-- serves: range_terms::terms::Terms::try_parse, terms
 -- The words of a text are found where they are written.
 use Rattle.std.proofs.Common.{◌≡◌, ℕ, ◌+◌, ◌-◌, true, false, [], ◌∷◌, ◌++◌, length, refl, ap, ◌∙◌}
 use Rattle.std.proofs.Common.{Some, None, arith, length-append}

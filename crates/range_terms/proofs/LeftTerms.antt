@@ -1,4 +1,4 @@
--- serves: range_terms::terms::terms
+-- serves: range_terms::terms::TermsIterator::next, steps
 -- The terms that are left of a text, without the count that bounds them.
 use Rattle.std.proofs.Common.{◌≡◌, ℕ, zero, suc, ◌+◌, ◌-◌, ◌<◌, ◌≤◌, true, List, [], ◌∷◌, ◌++◌, length, refl, sym, ap, ◌∙◌}
 use Rattle.std.proofs.Common.{Option, Some, None, arith}

@@ -1,4 +1,4 @@
--- serves: range_terms::terms::Terms::try_parse
+-- serves: range_terms::terms::TermsIterator::next
 -- The version that is made of components is that of their partial.
 use Rattle.std.proofs.Common.{◌≡◌, true, List, refl, sym, ap, ◌∙◌}
 use Rattle.std.proofs.Common.{Option, Some, None}

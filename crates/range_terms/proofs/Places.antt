@@ -1,4 +1,4 @@
--- serves: range_terms::terms::Terms::try_parse
+-- serves: range_terms::terms::Terms::try_parse, replaceable
 -- Where the words of a text are, and that the text is one again with another word there.
 use Rattle.std.proofs.Common.{◌≡◌, ℕ, ◌+◌, ◌<◌, true, List, [], ◌∷◌, ◌++◌, length, subst}
 use Rattle.std.proofs.Common.{Some, arith, length-append, append_assoc}

@@ -1,4 +1,4 @@
--- serves: range_terms::terms::Terms::try_parse
+-- serves: range_terms::terms::Terms::try_parse, replaceable
 -- A text of a dialect is one again with another word at the place of one.
 use Rattle.std.proofs.Common.{◌≡◌, ◌+◌, ◌<◌, true, ◌&&◌, List, [], ◌∷◌, ◌++◌, length, take, drop, get_or, refl, sym, ap, ◌∙◌, subst}
 use Rattle.std.proofs.Common.{arith, length-append, append_assoc}

@@ -1,4 +1,4 @@
--- serves: range_terms::terms::terms
+-- serves: range_terms::terms::Terms::try_parse, terms
 -- The terms of a whole text of each dialect.
 use Rattle.std.proofs.Common.{◌≡◌, length, arith}
 use Rattle.semver_texts.specs.Texts.{Text}

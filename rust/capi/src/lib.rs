@@ -185,7 +185,7 @@ pub unsafe extern "C" fn semver_parser_terms_of_range(
         let mut read = 0;
         for term in found {
             if read < capacity {
-                // SAFETY: as in `functions`; the array has room for `capacity` terms.
+                // SAFETY: as in `functions`; the array holds `capacity` terms.
                 unsafe { terms.add(read).write(Term::of(&term)) };
             }
             read += 1;
