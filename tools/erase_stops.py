@@ -21,7 +21,7 @@ SAME_CALLS = set('''
     take take_while then then_some transpose trim_start trim_start_matches truncate unwrap_or
     unwrap_or_default valid_up_to wrapping_add write write_all write_str zip'''.split())
 MODULES = set('alloc as cmp env fmt fs io iter marker mem process rt self str'.split())
-SAME_MACROS, SAME_ATTRIBUTES = {'matches', 'unreachable', 'write'}, {'derive', 'inline', 'non_exhaustive'}
+SAME_MACROS, SAME_ATTRIBUTES = {'matches', 'unreachable', 'write'}, {'derive', 'inline', 'must_use', 'non_exhaustive'}
 SAME_VALUES = {'u8::is_ascii_alphanumeric'}
 DERIVES = set('Clone Copy Debug Drop Eq Error Hash Ord PartialEq PartialOrd'.split())
 TRAITS = set('Display Eq From Iterator PartialEq Write'.split())

@@ -85,6 +85,7 @@ impl Reason {
     /// assert_eq!(Reason::too_large_in(Grammar::Cargo), Reason::TooLarge);
     /// assert_eq!(Reason::too_large_in(Grammar::Npm), Reason::NpmTooLarge);
     /// ```
+    #[must_use]
     pub fn too_large_in(grammar: Grammar) -> Reason
         ensures { result ≡ too_large_in grammar }
     {
@@ -102,6 +103,7 @@ impl Reason {
     ///
     /// assert_eq!(Reason::LeadingZero.number(), 3);
     /// ```
+    #[must_use]
     pub fn number(self) -> i32
         ensures { result ≡ number_of self }
     {
@@ -117,6 +119,7 @@ impl Reason {
     /// assert_eq!(Reason::from_number(3), Some(Reason::LeadingZero));
     /// assert_eq!(Reason::from_number(0), None);
     /// ```
+    #[must_use]
     pub fn from_number(number: i32) -> Option<Reason>
         ensures { MatchOption result (¬ ((reason : SomeReason) × (number ≡ number_of reason)))
             (λ reason. number ≡ number_of reason) }
@@ -155,6 +158,7 @@ impl Reason {
     ///
     /// assert_eq!(Reason::LeadingZero.name(), "leading-zero");
     /// ```
+    #[must_use]
     pub fn name(self) -> &'static str
         ensures { result.now ≡ name_of self }
     {
@@ -169,6 +173,7 @@ impl Reason {
     ///
     /// assert_eq!(Reason::CargoBars.sentence(), "Cargo takes no ||; npm does");
     /// ```
+    #[must_use]
     pub fn sentence(self) -> &'static str
         ensures { result.now ≡ sentence_of self }
     {

@@ -44,6 +44,7 @@ impl Operator {
     ///
     /// assert_eq!((Operator::Bare.number(), Operator::Hyphen.number()), (0, 8));
     /// ```
+    #[must_use]
     pub fn number(self) -> i32
         ensures { result ≡ number_of self }
     {
@@ -69,6 +70,7 @@ impl Operator {
     ///
     /// assert_eq!((Operator::GreaterOrEqual.sign(), Operator::Bare.sign()), (">=", ""));
     /// ```
+    #[must_use]
     pub fn sign(self) -> &'static str
         ensures { result.now ≡ sign_of self }
     {

@@ -139,6 +139,7 @@ impl<'text> Iterator for Terms<'text> {
 
 // Answer: equation.
 /// Returns an iterator that has the same terms left.
+#[must_use]
 pub fn copy<'text>(terms: &Terms<'text>) -> Terms<'text>
     ensures { result ≡ terms.now }
 {

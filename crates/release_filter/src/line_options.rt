@@ -50,6 +50,7 @@ impl LineOptions {
     /// assert!(options.selection == Selection::Each && options.ending == LineEnd::LineFeed);
     /// assert!(!options.strips_prefix && !options.is_strict);
     /// ```
+    #[must_use]
     pub fn new() -> LineOptions
         ensures { result ≡ record {
           selection = Each;

@@ -132,6 +132,7 @@ impl Lines {
     /// assert_eq!(kept, b"v1.4.0\nv1.9.2\n");
     /// # Ok::<(), semver_parser::Error>(())
     /// ```
+    #[must_use]
     pub fn new(
         alloc: Global,
         filter: VersionRange,
@@ -311,6 +312,7 @@ impl Lines {
     /// assert_eq!(lines.counts().first_invalid.as_ref().unwrap().front, b"v1.2.0");
     /// # Ok::<(), semver_parser::Error>(())
     /// ```
+    #[must_use]
     pub fn counts(&self) -> &Counts
         ensures { counts_value result.now ≡ self.now.fold.counts }
     {

@@ -49,6 +49,7 @@ impl Grammar {
     /// assert_eq!(Grammar::Npm.digits(), Grammar::Cargo.digits());
     /// assert_ne!(Grammar::Crate.digits(), Grammar::Cargo.digits());
     /// ```
+    #[must_use]
     #[inline(always)]
     pub fn digits(self) -> Digits
         ensures { result ≡ digits_in self }

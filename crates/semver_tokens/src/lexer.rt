@@ -72,6 +72,7 @@ impl<'input> Token<'input> {
     /// assert!(Token::Whitespace(0, 2).is_whitespace());
     /// assert!(!Token::Dot.is_whitespace());
     /// ```
+    #[must_use]
     #[inline(always)]
     pub fn is_whitespace(&self) -> bool
         ensures white_space { result ≡ is_whitespace (token_value self.now) }
@@ -88,6 +89,7 @@ impl<'input> Token<'input> {
     /// assert!(Token::Star.is_wildcard() && Token::AlphaNumeric("x").is_wildcard());
     /// assert!(!Token::AlphaNumeric("xx").is_wildcard());
     /// ```
+    #[must_use]
     #[inline(always)]
     pub fn is_wildcard(&self) -> bool
         ensures wildcard { result ≡ is_wildcard (token_value self.now) }
@@ -212,6 +214,7 @@ impl<'input> Lexer<'input> {
     /// assert_eq!(Lexer::new("^1").next(), Some(Ok(Token::Caret)));
     /// assert_eq!(Lexer::new("").next(), None);
     /// ```
+    #[must_use]
     #[inline(always)]
     pub fn new(input: &'input str) -> Lexer<'input>
         ensures state { IsStateOf input.now result }
@@ -257,6 +260,7 @@ impl<'input> Iterator for Lexer<'input> {
 
 // Answer: equation.
 /// A lexer that has the same items left.
+#[must_use]
 #[inline(always)]
 pub fn copy<'input>(lexer: &Lexer<'input>) -> Lexer<'input>
     ensures same { result ≡ lexer.now }
@@ -272,6 +276,7 @@ pub fn copy<'input>(lexer: &Lexer<'input>) -> Lexer<'input>
 // Answer: free, which text: must-fail/rest_begins_at_the_start_of_the_text.edit.
 /// Returns the text from the first remaining token on, up to the end of the input; empty once the
 /// error was returned. On `1.2`, after the first token, it is `.2`.
+#[must_use]
 #[inline(always)]
 pub fn rest<'input>(lexer: &Lexer<'input>) -> &'input str
     ensures { IsStateFrom result.now lexer.now }
@@ -285,6 +290,7 @@ pub fn rest<'input>(lexer: &Lexer<'input>) -> &'input str
 // Answer: equation.
 /// How many tokens are left, and a lexer after the last of them: on `1.2/` these are 3, and a
 /// lexer whose next item is the error.
+#[must_use]
 pub fn count_tokens<'input>(lexer: &Lexer<'input>) -> (usize, Lexer<'input>)
     ensures count { result.0 ≡ length lexer.now.remaining }
     ensures small { result.0 < 2 ^ 63 }

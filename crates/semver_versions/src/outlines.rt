@@ -75,6 +75,7 @@ impl<'t> Outline<'t> {
     /// let zero = version::outline("0.0.0").unwrap();
     /// assert!(Outline::zero().compare(&zero).is_eq());
     /// ```
+    #[must_use]
     pub fn zero() -> Outline<'t>
         ensures { result ≡ record {
           major = 0;
@@ -107,6 +108,7 @@ impl<'t> Outline<'t> {
     ///
     /// assert_eq!(version::outline("1.2.3-rc.4+5aedf").unwrap().major(), 1);
     /// ```
+    #[must_use]
     #[inline(always)]
     pub fn major(&self) -> u64
         ensures { result ≡ self.now.major }
@@ -122,6 +124,7 @@ impl<'t> Outline<'t> {
     ///
     /// assert_eq!(version::outline("1.2.3-rc.4+5aedf").unwrap().minor(), 2);
     /// ```
+    #[must_use]
     #[inline(always)]
     pub fn minor(&self) -> u64
         ensures { result ≡ self.now.minor }
@@ -137,6 +140,7 @@ impl<'t> Outline<'t> {
     ///
     /// assert_eq!(version::outline("1.2.3-rc.4+5aedf").unwrap().patch(), 3);
     /// ```
+    #[must_use]
     #[inline(always)]
     pub fn patch(&self) -> u64
         ensures { result ≡ self.now.patch }
@@ -154,6 +158,7 @@ impl<'t> Outline<'t> {
     /// assert_eq!(version::outline("1.2.3-rc.4+5aedf").unwrap().pre(), "rc.4");
     /// assert_eq!(version::outline("1.2.3+5aedf").unwrap().pre(), "");
     /// ```
+    #[must_use]
     #[tactic(auto, using(semver_texts::proofs::PartRuns::parts_pass))]
     pub fn pre(&self) -> &'t str
         ensures { result.now ≡ self.now.pre }
@@ -163,6 +168,7 @@ impl<'t> Outline<'t> {
 
     // Answer: equation.
     /// The bytes of [`Outline::pre`]. For speed, they are not made a text.
+    #[must_use]
     #[inline(always)]
     pub fn pre_bytes(&self) -> &'t [u8]
         ensures { result.now ≡ self.now.pre }
@@ -180,6 +186,7 @@ impl<'t> Outline<'t> {
     /// assert_eq!(version::outline("1.2.3-rc.4+5aedf").unwrap().build(), "5aedf");
     /// assert_eq!(version::outline("1.2.3-rc.4").unwrap().build(), "");
     /// ```
+    #[must_use]
     #[tactic(auto, using(semver_texts::proofs::PartRuns::parts_pass))]
     pub fn build(&self) -> &'t str
         ensures { result.now ≡ self.now.build }
@@ -196,6 +203,7 @@ impl<'t> Outline<'t> {
     /// assert!(version::outline("1.2.3-rc.4+5aedf").unwrap().is_pre_release());
     /// assert!(!version::outline("1.2.3+5aedf").unwrap().is_pre_release());
     /// ```
+    #[must_use]
     #[inline(always)]
     pub fn is_pre_release(&self) -> bool
         // It is so of the version of each text that has this outline.
@@ -217,6 +225,7 @@ impl<'t> Outline<'t> {
     /// assert_eq!(version::outline(" 1.2.3-rc.4").unwrap().pre_offset(), 7);
     /// assert_eq!(version::outline(" 1.2.3").unwrap().pre_offset(), 0);
     /// ```
+    #[must_use]
     #[inline(always)]
     pub fn pre_offset(&self) -> usize
         ensures { result ≡ self.now.pre_offset }
@@ -234,6 +243,7 @@ impl<'t> Outline<'t> {
     /// assert_eq!(version::outline("1.2.3-rc.4+5aedf").unwrap().build_offset(), 11);
     /// assert_eq!(version::outline("1.2.3-rc.4").unwrap().build_offset(), 0);
     /// ```
+    #[must_use]
     #[inline(always)]
     pub fn build_offset(&self) -> usize
         ensures { result ≡ self.now.build_offset }
@@ -251,6 +261,7 @@ impl<'t> Outline<'t> {
     /// let outline = version::outline_in(b"1.2.3", Grammar::Npm).unwrap();
     /// assert_eq!(outline.digits(), Grammar::Npm.digits());
     /// ```
+    #[must_use]
     #[inline(always)]
     pub fn digits(&self) -> Digits
         ensures { result ≡ self.now.digits }
@@ -261,6 +272,7 @@ impl<'t> Outline<'t> {
     // Answer: equation.
     /// The identifiers of the pre-release, as they are compared: they are read while they are
     /// taken. It does not allocate.
+    #[must_use]
     #[inline(always)]
     pub fn compared_pre(&self) -> ByDigits<Joined<'t, InVersions>>
         ensures { ⟦<ByDigits<Joined<'t, InVersions>> as Identifiers<'t>>⟧.left result
@@ -405,6 +417,7 @@ impl<'t> Outline<'t> {
     /// assert!(outline.cmp_precedence(&version::parse("1.2.3-rc.4")?).is_eq());
     /// # Ok::<(), semver_parser::parser::Error>(())
     /// ```
+    #[must_use]
     #[inline(always)]
     pub fn cmp_precedence(&self, version: &Version) -> Ordering
         // It is that of the version of each text that has this outline.
@@ -435,6 +448,7 @@ impl<'t> Outline<'t> {
     /// assert!(outline.compare(&version::outline("1.2.3-rc.11").unwrap()).is_lt());
     /// assert!(outline.compare(&version::outline("1.2.3-rc.4").unwrap()).is_eq());
     /// ```
+    #[must_use]
     #[inline(always)]
     pub fn compare(&self, other: &Outline<'_>) -> Ordering
         ensures { result ≡ precedence (version_of self.now).plain (version_of other.now).plain }

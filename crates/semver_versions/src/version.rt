@@ -103,6 +103,7 @@ pub fn read_bytes(alloc: Global, input: &[u8]) -> Result<Option<Version>, AllocE
 /// assert_eq!((outline.build(), outline.build_offset()), ("b5", 12));
 /// assert!(version::outline("1.2").is_none() && version::outline("1.2.3 a").is_none());
 /// ```
+#[must_use]
 #[inline(always)]
 pub fn outline(input: &str) -> Option<Outline<'_>>
     // An outline is answered exactly where it is that of a version that the text spells.
@@ -133,6 +134,7 @@ pub fn outline(input: &str) -> Option<Outline<'_>>
 /// assert_eq!(version::outline_bytes(b"1.2.3-rc.4").unwrap().pre(), "rc.4");
 /// assert!(version::outline_bytes(b"1.2.3\xff").is_none());
 /// ```
+#[must_use]
 #[inline(always)]
 pub fn outline_bytes(input: &[u8]) -> Option<Outline<'_>>
     // An outline is answered exactly where it is that of a version that the bytes spell.
@@ -169,6 +171,7 @@ pub fn outline_bytes(input: &[u8]) -> Option<Outline<'_>>
 /// assert!(version::outline_in(b" v1.2.3", Grammar::Npm).is_some());
 /// assert!(version::outline_in(b" v1.2.3", Grammar::Cargo).is_none());
 /// ```
+#[must_use]
 #[inline(always)]
 pub fn outline_in(input: &[u8], grammar: Grammar) -> Option<Outline<'_>>
     // An outline is returned exactly if it is that of a version that the bytes spell.
@@ -190,6 +193,7 @@ pub fn outline_in(input: &[u8], grammar: Grammar) -> Option<Outline<'_>>
 /// returns `None`.
 ///
 /// The bytes need not be UTF-8, and it does not allocate.
+#[must_use]
 pub fn is_version_at_any_length(input: &[u8], grammar: Grammar) -> bool
     ensures { IsTrue result ↔ IsVersionAtAnyLength grammar input.now }
 {

@@ -52,6 +52,7 @@ impl Dialect {
     /// assert!(Dialect::Npm.grammar() == Grammar::Npm);
     /// assert!(Dialect::CrateNpm.grammar() == Grammar::Crate);
     /// ```
+    #[must_use]
     pub fn grammar(self) -> Grammar
         ensures grammar { result ≡ grammar_of self }
     {
@@ -70,6 +71,7 @@ impl Dialect {
     ///
     /// assert_eq!(Dialect::Npm.number(), 1);
     /// ```
+    #[must_use]
     pub fn number(self) -> i32
         ensures { result ≡ number_of self }
     {
@@ -90,6 +92,7 @@ impl Dialect {
     /// assert_eq!(Dialect::from_number(1), Some(Dialect::Npm));
     /// assert_eq!(Dialect::from_number(9), None);
     /// ```
+    #[must_use]
     pub fn from_number(number: i32) -> Option<Dialect>
         ensures { MatchOption result (¬ ((it : SomeDialect) × (number ≡ number_of it)))
             (λ it. number ≡ number_of it) }
@@ -111,6 +114,7 @@ impl Dialect {
     ///
     /// assert_eq!(Dialect::Npm.name(), "npm");
     /// ```
+    #[must_use]
     pub fn name(self) -> &'static str
         ensures { result.now ≡ name_of self }
     {

@@ -134,6 +134,7 @@ impl VersionRange {
     /// assert_eq!((meaning.dialect, meaning.pre_releases), (Dialect::Npm, PreReleases::Default));
     /// # Ok::<(), semver_parser::Error>(())
     /// ```
+    #[must_use]
     #[inline(always)]
     pub fn meaning(&self) -> Meaning
         ensures { result ≡ self.now.meaning }
@@ -151,6 +152,7 @@ impl VersionRange {
     /// assert_eq!(range.versions().release_ranges()?.to_string(), ">=1.3.0");
     /// # Ok::<(), semver_parser::Error>(())
     /// ```
+    #[must_use]
     #[inline(always)]
     pub fn versions(&self) -> &VersionSet
         ensures { result.now ≡ self.now.versions }
@@ -196,6 +198,7 @@ impl VersionRange {
     /// assert!(range.contains_outline(&outline));
     /// # Ok::<(), semver_parser::Error>(())
     /// ```
+    #[must_use]
     #[inline(always)]
     pub fn contains_outline(&self, version: &Outline<'_>) -> bool
         ensures contains { result
@@ -221,6 +224,7 @@ impl VersionRange {
     /// assert!(range.contains_version(&large)); // a number is below `10a`
     /// # Ok::<(), String>(())
     /// ```
+    #[must_use]
     pub fn contains_version(&self, version: &Version) -> bool
         ensures { result ≡ contains_kept self.now.versions (version_value version.now).plain }
     {
@@ -236,6 +240,7 @@ impl VersionRange {
     /// assert!(VersionRange::parse(">2.0.0 <1.0.0", Dialect::Npm)?.is_empty());
     /// # Ok::<(), semver_parser::Error>(())
     /// ```
+    #[must_use]
     pub fn is_empty(&self) -> bool
         ensures { (result ≡ true) ↔ ((v : PlainVersion) → ¬ IsIn v self.now.versions) }
     {

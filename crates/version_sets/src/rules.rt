@@ -39,6 +39,7 @@ impl PreReleases {
     ///
     /// assert_eq!(PreReleases::Included.number(), 1);
     /// ```
+    #[must_use]
     pub fn number(self) -> i32
         ensures { result ≡ number_of self }
     {
@@ -58,6 +59,7 @@ impl PreReleases {
     /// assert_eq!(PreReleases::from_number(1), Some(PreReleases::Included));
     /// assert_eq!(PreReleases::from_number(9), None);
     /// ```
+    #[must_use]
     pub fn from_number(number: i32) -> Option<PreReleases>
         ensures { MatchOption result (¬ ((it : SomePreReleases) × (number ≡ number_of it)))
             (λ it. number ≡ number_of it) }
@@ -78,6 +80,7 @@ impl PreReleases {
     ///
     /// assert_eq!(PreReleases::Included.name(), "included");
     /// ```
+    #[must_use]
     pub fn name(self) -> &'static str
         ensures { result.now ≡ name_of self }
     {

@@ -71,6 +71,7 @@ impl VersionSet {
     ///
     /// assert!(VersionSet::empty(Digits::AnySize).is_empty());
     /// ```
+    #[must_use]
     pub fn empty(alloc: Global, digits: Digits) -> VersionSet
         ensures empty { (v : PlainVersion) → contains result v ≡ false }
         ensures printable { IsPrintable result }
@@ -105,6 +106,7 @@ impl VersionSet {
     /// assert_eq!(sets::parse("^1.2.0", Dialect::CrateCargo)?.digits(), Digits::Kept);
     /// # Ok::<(), semver_parser::Error>(())
     /// ```
+    #[must_use]
     pub fn digits(&self) -> Digits
         ensures { result ≡ self.now.digits }
     {
@@ -123,6 +125,7 @@ impl VersionSet {
     /// assert!(!releases.contains(&version::parse("1.2.0-rc.2")?));
     /// # Ok::<(), String>(())
     /// ```
+    #[must_use]
     pub fn only_releases(self, alloc: Global) -> VersionSet
         ensures releases { (v : PlainVersion) → contains result v
             ≡ (is_empty v.pre && contains self v) }
@@ -143,6 +146,7 @@ impl VersionSet {
     /// assert!(!pre_releases.contains(&version::parse("1.2.0")?));
     /// # Ok::<(), String>(())
     /// ```
+    #[must_use]
     pub fn only_pre_releases(self, alloc: Global) -> VersionSet
         ensures pre_releases { (v : PlainVersion) → contains result v
             ≡ (not (is_empty v.pre) && contains self v) }
@@ -172,6 +176,7 @@ impl VersionSet {
     /// assert!(set.contains(&large)); // to Cargo it is a number, and a number is below `10a`
     /// # Ok::<(), String>(())
     /// ```
+    #[must_use]
     pub fn contains(&self, version: &Version) -> bool
         ensures contains { result ≡ contains_kept self.now (version_value version.now).plain }
         // The numbers of a version fit 64 bits.
@@ -228,6 +233,7 @@ impl VersionSet {
     /// assert!(set.contains_release(Release { major: 1, minor: 9, patch: 0 }));
     /// # Ok::<(), semver_parser::Error>(())
     /// ```
+    #[must_use]
     #[inline(always)]
     pub fn contains_release(&self, release: Release) -> bool
         ensures contains { result ≡ contains self.now (release_value release) }
@@ -249,6 +255,7 @@ impl VersionSet {
     /// assert!(set.contains_outline(&outline));
     /// # Ok::<(), semver_parser::Error>(())
     /// ```
+    #[must_use]
     #[inline(always)]
     pub fn contains_outline(&self, outline: &Outline<'_>) -> bool
         // It is that of the version of each text that has this outline.

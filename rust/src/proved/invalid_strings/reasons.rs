@@ -81,6 +81,7 @@ impl Reason {
     /// assert_eq!(Reason::too_large_in(Grammar::Cargo), Reason::TooLarge);
     /// assert_eq!(Reason::too_large_in(Grammar::Npm), Reason::NpmTooLarge);
     /// ```
+    #[must_use]
     pub fn too_large_in(grammar: Grammar) -> Reason {
         match grammar {
             Grammar::Npm => Reason::NpmTooLarge,
@@ -95,6 +96,7 @@ impl Reason {
     ///
     /// assert_eq!(Reason::LeadingZero.number(), 3);
     /// ```
+    #[must_use]
     pub fn number(self) -> i32 {
         self.row().0
     }
@@ -107,6 +109,7 @@ impl Reason {
     /// assert_eq!(Reason::from_number(3), Some(Reason::LeadingZero));
     /// assert_eq!(Reason::from_number(0), None);
     /// ```
+    #[must_use]
     pub fn from_number(number: i32) -> Option<Reason> {
         match number {
             1 => Some(Reason::Empty),
@@ -141,6 +144,7 @@ impl Reason {
     ///
     /// assert_eq!(Reason::LeadingZero.name(), "leading-zero");
     /// ```
+    #[must_use]
     pub fn name(self) -> &'static str {
         self.row().1
     }
@@ -152,6 +156,7 @@ impl Reason {
     ///
     /// assert_eq!(Reason::CargoBars.sentence(), "Cargo takes no ||; npm does");
     /// ```
+    #[must_use]
     pub fn sentence(self) -> &'static str {
         self.row().2
     }

@@ -42,6 +42,7 @@ impl Operator {
     ///
     /// assert_eq!((Operator::Bare.number(), Operator::Hyphen.number()), (0, 8));
     /// ```
+    #[must_use]
     pub fn number(self) -> i32 {
         match self {
             Operator::Bare => 0,
@@ -64,6 +65,7 @@ impl Operator {
     ///
     /// assert_eq!((Operator::GreaterOrEqual.sign(), Operator::Bare.sign()), (">=", ""));
     /// ```
+    #[must_use]
     pub fn sign(self) -> &'static str {
         match self {
             Operator::Bare => "",

@@ -93,6 +93,7 @@ impl<'text> Iterator for Terms<'text> {
 }
 
 /// Returns an iterator that has the same terms left.
+#[must_use]
 pub fn copy<'text>(terms: &Terms<'text>) -> Terms<'text> {
     Terms {
         len: terms.len,

@@ -110,6 +110,7 @@ impl Lines {
     /// assert_eq!(kept, b"v1.4.0\nv1.9.2\n");
     /// # Ok::<(), semver_parser::Error>(())
     /// ```
+    #[must_use]
     pub fn new(
         filter: VersionRange,
         prefixes: Vec<String>,
@@ -250,6 +251,7 @@ impl Lines {
     /// assert_eq!(lines.counts().first_invalid.as_ref().unwrap().front, b"v1.2.0");
     /// # Ok::<(), semver_parser::Error>(())
     /// ```
+    #[must_use]
     pub fn counts(&self) -> &Counts {
         &self.fold.counts
     }

@@ -45,6 +45,7 @@ pub trait Identifiers<'a>: Copy {
 /// assert!(compare("1.0.0-beta.11", "1.0.0").is_lt() && compare("1.0.0", "1.0.1").is_lt());
 /// assert!(compare("1.0.0+a", "1.0.0+b").is_eq());
 /// ```
+#[must_use]
 pub fn cmp_precedence(version: &Version, other: &Version) -> Ordering {
     compare(
         (version.major, version.minor, version.patch),

@@ -64,6 +64,7 @@ impl<'input> Token<'input> {
     /// assert!(Token::Whitespace(0, 2).is_whitespace());
     /// assert!(!Token::Dot.is_whitespace());
     /// ```
+    #[must_use]
     #[inline(always)]
     pub fn is_whitespace(&self) -> bool {
         matches!(self, Token::Whitespace(_, _))
@@ -77,6 +78,7 @@ impl<'input> Token<'input> {
     /// assert!(Token::Star.is_wildcard() && Token::AlphaNumeric("x").is_wildcard());
     /// assert!(!Token::AlphaNumeric("xx").is_wildcard());
     /// ```
+    #[must_use]
     #[inline(always)]
     pub fn is_wildcard(&self) -> bool {
         matches!(self, Token::Star | Token::AlphaNumeric("x" | "X"))
@@ -174,6 +176,7 @@ impl<'input> Lexer<'input> {
     /// assert_eq!(Lexer::new("^1").next(), Some(Ok(Token::Caret)));
     /// assert_eq!(Lexer::new("").next(), None);
     /// ```
+    #[must_use]
     #[inline(always)]
     pub fn new(input: &'input str) -> Lexer<'input> {
         Lexer {
@@ -208,6 +211,7 @@ impl<'input> Iterator for Lexer<'input> {
 }
 
 /// A lexer that has the same items left.
+#[must_use]
 #[inline(always)]
 pub fn copy<'input>(lexer: &Lexer<'input>) -> Lexer<'input> {
     Lexer {
@@ -219,6 +223,7 @@ pub fn copy<'input>(lexer: &Lexer<'input>) -> Lexer<'input> {
 
 /// Returns the text from the first remaining token on, up to the end of the input; empty once the
 /// error was returned. On `1.2`, after the first token, it is `.2`.
+#[must_use]
 #[inline(always)]
 pub fn rest<'input>(lexer: &Lexer<'input>) -> &'input str {
     if lexer.failed {
@@ -229,6 +234,7 @@ pub fn rest<'input>(lexer: &Lexer<'input>) -> &'input str {
 
 /// How many tokens are left, and a lexer after the last of them: on `1.2/` these are 3, and a
 /// lexer whose next item is the error.
+#[must_use]
 pub fn count_tokens<'input>(lexer: &Lexer<'input>) -> (usize, Lexer<'input>) {
     let mut end = copy(lexer);
     let mut count = 0;

@@ -43,6 +43,7 @@ impl<'t> Outline<'t> {
     /// let zero = version::outline("0.0.0").unwrap();
     /// assert!(Outline::zero().compare(&zero).is_eq());
     /// ```
+    #[must_use]
     pub fn zero() -> Outline<'t> {
         Outline {
             major: 0,
@@ -63,6 +64,7 @@ impl<'t> Outline<'t> {
     ///
     /// assert_eq!(version::outline("1.2.3-rc.4+5aedf").unwrap().major(), 1);
     /// ```
+    #[must_use]
     #[inline(always)]
     pub fn major(&self) -> u64 {
         self.major
@@ -75,6 +77,7 @@ impl<'t> Outline<'t> {
     ///
     /// assert_eq!(version::outline("1.2.3-rc.4+5aedf").unwrap().minor(), 2);
     /// ```
+    #[must_use]
     #[inline(always)]
     pub fn minor(&self) -> u64 {
         self.minor
@@ -87,6 +90,7 @@ impl<'t> Outline<'t> {
     ///
     /// assert_eq!(version::outline("1.2.3-rc.4+5aedf").unwrap().patch(), 3);
     /// ```
+    #[must_use]
     #[inline(always)]
     pub fn patch(&self) -> u64 {
         self.patch
@@ -101,11 +105,13 @@ impl<'t> Outline<'t> {
     /// assert_eq!(version::outline("1.2.3-rc.4+5aedf").unwrap().pre(), "rc.4");
     /// assert_eq!(version::outline("1.2.3+5aedf").unwrap().pre(), "");
     /// ```
+    #[must_use]
     pub fn pre(&self) -> &'t str {
         text_of_parts(self.pre)
     }
 
     /// The bytes of [`Outline::pre`]. For speed, they are not made a text.
+    #[must_use]
     #[inline(always)]
     pub fn pre_bytes(&self) -> &'t [u8] {
         self.pre
@@ -120,6 +126,7 @@ impl<'t> Outline<'t> {
     /// assert_eq!(version::outline("1.2.3-rc.4+5aedf").unwrap().build(), "5aedf");
     /// assert_eq!(version::outline("1.2.3-rc.4").unwrap().build(), "");
     /// ```
+    #[must_use]
     pub fn build(&self) -> &'t str {
         text_of_parts(self.build)
     }
@@ -132,6 +139,7 @@ impl<'t> Outline<'t> {
     /// assert!(version::outline("1.2.3-rc.4+5aedf").unwrap().is_pre_release());
     /// assert!(!version::outline("1.2.3+5aedf").unwrap().is_pre_release());
     /// ```
+    #[must_use]
     #[inline(always)]
     pub fn is_pre_release(&self) -> bool {
         !self.pre.is_empty()
@@ -146,6 +154,7 @@ impl<'t> Outline<'t> {
     /// assert_eq!(version::outline(" 1.2.3-rc.4").unwrap().pre_offset(), 7);
     /// assert_eq!(version::outline(" 1.2.3").unwrap().pre_offset(), 0);
     /// ```
+    #[must_use]
     #[inline(always)]
     pub fn pre_offset(&self) -> usize {
         self.before_pre
@@ -160,6 +169,7 @@ impl<'t> Outline<'t> {
     /// assert_eq!(version::outline("1.2.3-rc.4+5aedf").unwrap().build_offset(), 11);
     /// assert_eq!(version::outline("1.2.3-rc.4").unwrap().build_offset(), 0);
     /// ```
+    #[must_use]
     #[inline(always)]
     pub fn build_offset(&self) -> usize {
         self.before_build
@@ -174,6 +184,7 @@ impl<'t> Outline<'t> {
     /// let outline = version::outline_in(b"1.2.3", Grammar::Npm).unwrap();
     /// assert_eq!(outline.digits(), Grammar::Npm.digits());
     /// ```
+    #[must_use]
     #[inline(always)]
     pub fn digits(&self) -> Digits {
         self.digits
@@ -181,6 +192,7 @@ impl<'t> Outline<'t> {
 
     /// The identifiers of the pre-release, as they are compared: they are read while they are
     /// taken. It does not allocate.
+    #[must_use]
     #[inline(always)]
     pub fn compared_pre(&self) -> ByDigits<Joined<'t, InVersions>> {
         self.pre_by(self.digits)
@@ -273,6 +285,7 @@ impl<'t> Outline<'t> {
     /// assert!(outline.cmp_precedence(&version::parse("1.2.3-rc.4")?).is_eq());
     /// # Ok::<(), semver_parser::parser::Error>(())
     /// ```
+    #[must_use]
     #[inline(always)]
     pub fn cmp_precedence(&self, version: &Version) -> Ordering {
         compare(
@@ -294,6 +307,7 @@ impl<'t> Outline<'t> {
     /// assert!(outline.compare(&version::outline("1.2.3-rc.11").unwrap()).is_lt());
     /// assert!(outline.compare(&version::outline("1.2.3-rc.4").unwrap()).is_eq());
     /// ```
+    #[must_use]
     #[inline(always)]
     pub fn compare(&self, other: &Outline<'_>) -> Ordering {
         compare(

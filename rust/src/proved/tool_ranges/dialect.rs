@@ -40,6 +40,7 @@ impl Dialect {
     /// assert!(Dialect::Npm.grammar() == Grammar::Npm);
     /// assert!(Dialect::CrateNpm.grammar() == Grammar::Crate);
     /// ```
+    #[must_use]
     pub fn grammar(self) -> Grammar {
         match self {
             Dialect::Cargo => Grammar::Cargo,
@@ -55,6 +56,7 @@ impl Dialect {
     ///
     /// assert_eq!(Dialect::Npm.number(), 1);
     /// ```
+    #[must_use]
     pub fn number(self) -> i32 {
         match self {
             Dialect::Cargo => 0,
@@ -72,6 +74,7 @@ impl Dialect {
     /// assert_eq!(Dialect::from_number(1), Some(Dialect::Npm));
     /// assert_eq!(Dialect::from_number(9), None);
     /// ```
+    #[must_use]
     pub fn from_number(number: i32) -> Option<Dialect> {
         match number {
             0 => Some(Dialect::Cargo),
@@ -89,6 +92,7 @@ impl Dialect {
     ///
     /// assert_eq!(Dialect::Npm.name(), "npm");
     /// ```
+    #[must_use]
     pub fn name(self) -> &'static str {
         match self {
             Dialect::Cargo => "cargo",

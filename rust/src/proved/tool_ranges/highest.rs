@@ -19,6 +19,7 @@ impl VersionRange {
     /// assert_eq!(range.highest_of(&[b"2.0.0"]), None);
     /// # Ok::<(), semver_parser::Error>(())
     /// ```
+    #[must_use]
     pub fn highest_of(&self, versions: &[&[u8]]) -> Option<usize> {
         best_index(self, versions, false)
     }
@@ -33,6 +34,7 @@ impl VersionRange {
     /// assert_eq!(range.lowest_of(&[b"1.1.0", b"1.10.0", b"v1.2.0"]), Some(2));
     /// # Ok::<(), semver_parser::Error>(())
     /// ```
+    #[must_use]
     pub fn lowest_of(&self, versions: &[&[u8]]) -> Option<usize> {
         best_index(self, versions, true)
     }

@@ -90,6 +90,7 @@ impl VersionRange {
     /// assert_eq!((meaning.dialect, meaning.pre_releases), (Dialect::Npm, PreReleases::Default));
     /// # Ok::<(), semver_parser::Error>(())
     /// ```
+    #[must_use]
     #[inline(always)]
     pub fn meaning(&self) -> Meaning {
         self.meaning
@@ -104,6 +105,7 @@ impl VersionRange {
     /// assert_eq!(range.versions().release_ranges()?.to_string(), ">=1.3.0");
     /// # Ok::<(), semver_parser::Error>(())
     /// ```
+    #[must_use]
     #[inline(always)]
     pub fn versions(&self) -> &VersionSet {
         &self.versions
@@ -143,6 +145,7 @@ impl VersionRange {
     /// assert!(range.contains_outline(&outline));
     /// # Ok::<(), semver_parser::Error>(())
     /// ```
+    #[must_use]
     #[inline(always)]
     pub fn contains_outline(&self, version: &Outline<'_>) -> bool {
         self.versions.contains_outline(version)
@@ -161,6 +164,7 @@ impl VersionRange {
     /// assert!(range.contains_version(&large)); // a number is below `10a`
     /// # Ok::<(), String>(())
     /// ```
+    #[must_use]
     pub fn contains_version(&self, version: &Version) -> bool {
         self.versions.contains(version)
     }
@@ -173,6 +177,7 @@ impl VersionRange {
     /// assert!(VersionRange::parse(">2.0.0 <1.0.0", Dialect::Npm)?.is_empty());
     /// # Ok::<(), semver_parser::Error>(())
     /// ```
+    #[must_use]
     pub fn is_empty(&self) -> bool {
         self.versions.is_empty()
     }

@@ -36,6 +36,7 @@ impl PreReleases {
     ///
     /// assert_eq!(PreReleases::Included.number(), 1);
     /// ```
+    #[must_use]
     pub fn number(self) -> i32 {
         match self {
             PreReleases::Default => 0,
@@ -52,6 +53,7 @@ impl PreReleases {
     /// assert_eq!(PreReleases::from_number(1), Some(PreReleases::Included));
     /// assert_eq!(PreReleases::from_number(9), None);
     /// ```
+    #[must_use]
     pub fn from_number(number: i32) -> Option<PreReleases> {
         match number {
             0 => Some(PreReleases::Default),
@@ -68,6 +70,7 @@ impl PreReleases {
     ///
     /// assert_eq!(PreReleases::Included.name(), "included");
     /// ```
+    #[must_use]
     pub fn name(self) -> &'static str {
         match self {
             PreReleases::Default => "default",

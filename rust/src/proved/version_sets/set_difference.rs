@@ -97,6 +97,7 @@ impl VersionSet {
     /// assert!(sets::parse(">2.0.0 <1.0.0", Dialect::Npm)?.is_empty());
     /// # Ok::<(), semver_parser::Error>(())
     /// ```
+    #[must_use]
     pub fn is_empty(&self) -> bool {
         self.releases.is_empty() && self.pre_releases.is_empty()
     }

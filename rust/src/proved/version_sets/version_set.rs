@@ -45,6 +45,7 @@ impl VersionSet {
     ///
     /// assert!(VersionSet::empty(Digits::AnySize).is_empty());
     /// ```
+    #[must_use]
     pub fn empty(digits: Digits) -> VersionSet {
         VersionSet::of_boundaries(digits, Vec::new(), Vec::new())
     }
@@ -71,6 +72,7 @@ impl VersionSet {
     /// assert_eq!(sets::parse("^1.2.0", Dialect::CrateCargo)?.digits(), Digits::Kept);
     /// # Ok::<(), semver_parser::Error>(())
     /// ```
+    #[must_use]
     pub fn digits(&self) -> Digits {
         self.digits
     }
@@ -86,6 +88,7 @@ impl VersionSet {
     /// assert!(!releases.contains(&version::parse("1.2.0-rc.2")?));
     /// # Ok::<(), String>(())
     /// ```
+    #[must_use]
     pub fn only_releases(self) -> VersionSet {
         VersionSet::of_boundaries(self.digits, self.releases, Vec::new())
     }
@@ -100,6 +103,7 @@ impl VersionSet {
     /// assert!(!pre_releases.contains(&version::parse("1.2.0")?));
     /// # Ok::<(), String>(())
     /// ```
+    #[must_use]
     pub fn only_pre_releases(self) -> VersionSet {
         VersionSet::of_boundaries(self.digits, Vec::new(), self.pre_releases)
     }
@@ -122,6 +126,7 @@ impl VersionSet {
     /// assert!(set.contains(&large)); // to Cargo it is a number, and a number is below `10a`
     /// # Ok::<(), String>(())
     /// ```
+    #[must_use]
     pub fn contains(&self, version: &Version) -> bool {
         let release = Release::from_version(version);
         let is_release = version.pre.is_empty();
@@ -166,6 +171,7 @@ impl VersionSet {
     /// assert!(set.contains_release(Release { major: 1, minor: 9, patch: 0 }));
     /// # Ok::<(), semver_parser::Error>(())
     /// ```
+    #[must_use]
     #[inline(always)]
     pub fn contains_release(&self, release: Release) -> bool {
         boundaries::contains_release(&self.releases, &release)
@@ -184,6 +190,7 @@ impl VersionSet {
     /// assert!(set.contains_outline(&outline));
     /// # Ok::<(), semver_parser::Error>(())
     /// ```
+    #[must_use]
     #[inline(always)]
     pub fn contains_outline(&self, outline: &Outline<'_>) -> bool {
         if outline.is_pre_release() {
