@@ -1,11 +1,13 @@
--- Where a number is too large: the end of the first term, from the left, that states a number, or
--- has a raised bound, above the limit of the dialect.
+-- Where a number is too large: the first number that is above the limit of the dialect, or can't be
+-- raised, in the first term that states such a number or has such a bound.
 use Prim.Native.Char.{code}
-use Rattle.std.specs.Prelude.{◌≡◌, ℕ, zero, suc, ◌+◌, Bool, false, ◌&&◌, ◌||◌, ◌==◌, not}
-use Rattle.std.specs.Prelude.{if◌then◌else◌, List, [], ◌∷◌, length}
-use Rattle.std.specs.Char.{is_ascii_digit}
+use Rattle.std.specs.Prelude.{◌≡◌, ℕ, zero, suc, ◌+◌, ◌-◌, ◌^◌, Bool, false, ◌&&◌, ◌||◌, ◌==◌, not}
+use Rattle.std.specs.Prelude.{if◌then◌else◌, List, [], ◌∷◌, drop, length, nat_lt, take}
+use Rattle.std.specs.Char.{is_ascii_alphanumeric, is_ascii_digit}
 use Rattle.std.specs.List.{filter, flat_map, prefix_len, slice_split}
-use Rattle.semver_texts.specs.Texts.{Text, is_dotted_byte}
+use Rattle.std.specs.Str.{all_ascii_digits}
+use Rattle.std.specs.Str.Parse.{digits_value}
+use Rattle.semver_texts.specs.Texts.{Text, is_dot, is_dotted_byte}
 use Rattle.semver_ranges.specs.declared.range.Compat.TheVariants as compat
 use Rattle.semver_ranges.specs.RangeTree.{RangeTree, Simple, empty, hyphen, simples}
 use Rattle.semver_ranges.specs.Partials.{states_nothing}
@@ -55,20 +57,52 @@ states_number [] = false
 states_number (b ∷ []) = is_ascii_digit b
 states_number (b ∷ c ∷ t) = is_ascii_digit b || ((b == code "v") && is_ascii_digit c)
 
--- the end, in the text of some words, of the one that states a number after n others that do; of
--- the last word if there is none
-abbrev pub end_of_word : ℕ → List Text → ℕ
-end_of_word n [] = 0
-end_of_word n (w ∷ []) = length w
-end_of_word zero (w ∷ next ∷ others) =
-    if states_number w then length w else suc (length w) + end_of_word zero (next ∷ others)
-end_of_word (suc n) (w ∷ next ∷ others) =
-    suc (length w) + end_of_word (if states_number w then n else suc n) (next ∷ others)
+-- where, in the text of some words, the one begins that states a number after n others that do; the
+-- last word if there is none
+abbrev pub begin_of_word : ℕ → List Text → ℕ
+begin_of_word n [] = 0
+begin_of_word n (w ∷ []) = 0
+begin_of_word zero (w ∷ next ∷ others) =
+    if states_number w then 0 else suc (length w) + begin_of_word zero (next ∷ others)
+begin_of_word (suc n) (w ∷ next ∷ others) =
+    suc (length w) + begin_of_word (if states_number w then n else suc n) (next ∷ others)
 
--- the end of the first term that does not fit: of the word that states its first number
+-- whether a component begins with a number below a limit, and with no letter after it
+abbrev pub run_of : Text → Text
+run_of c = take (prefix_len is_ascii_alphanumeric c) c
+
+abbrev pub is_below : ℕ → Text → Bool
+is_below limit c = all_ascii_digits (run_of c) && nat_lt (digits_value 10 (run_of c)) limit
+
+-- where, in the text of some components, the first begins that isn't below a limit; the last if
+-- each is
+abbrev pub component_at : ℕ → List Text → ℕ
+component_at limit [] = 0
+component_at limit (c ∷ []) = 0
+component_at limit (c ∷ next ∷ others) =
+    if is_below limit c then suc (length c) + component_at limit (next ∷ others) else 0
+
+-- the same in a text that begins with a version, to npm after a `v`
+abbrev pub number_at : ℕ → Text → ℕ
+number_at limit [] = 0
+number_at limit (b ∷ t) =
+    if b == code "v" then suc (component_at limit (slice_split is_dot t))
+    else component_at limit (slice_split is_dot (b ∷ t))
+
+-- the highest number of a dialect
+abbrev pub limit_of : Dialect → ℕ
+limit_of Npm = 2 ^ 53 - 1
+limit_of dialect = 2 ^ 64 - 1
+
+-- where the number is that is too large: in the word of the first term that does not fit, the first
+-- number that isn't below the limit. It is above that, or can't be raised
+abbrev pub number_offset : Dialect → ℕ → Text → ℕ
+number_offset dialect begin t = begin + number_at (limit_of dialect) (drop begin t)
+
 abbrev pub limit_offset : (dialect : Dialect) → TreeOf dialect → Text → ℕ
-limit_offset dialect tree t =
-    end_of_word (prefix_len (term_fits_as dialect) (stating (terms_as dialect tree))) (words t)
+limit_offset dialect tree t = number_offset dialect
+    (begin_of_word (prefix_len (term_fits_as dialect) (stating (terms_as dialect tree))) (words t))
+    t
 
 -- the offset is that of a tree of the text
 pub record IsLimitOffset (dialect : Dialect) (t : Text) (offset : ℕ) : Type 0 where

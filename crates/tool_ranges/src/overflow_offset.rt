@@ -1,44 +1,93 @@
-//! Where a number of a range text is too large: the end of the first term that does not fit.
+//! Where a number of a range text is too large.
 
-ghost use Rattle.std.specs.Prelude.{◌≡◌, ◌+◌, ◌∷◌, [], length, MatchOption};
+ghost use Rattle.std.specs.Prelude.{◌≡◌, ◌≤◌, ◌+◌, ◌∷◌, [], length, MatchOption};
 ghost use Rattle.std.specs.List.{prefix_len, slice_split};
 ghost use Rattle.tool_ranges.specs.Dialects.{SpellsAs, TreeOf};
-ghost use Rattle.tool_ranges.specs.TooLarge.{end_of_word, is_separator, limit_offset};
+ghost use Rattle.semver_texts.specs.Texts.{is_dot};
+ghost use Rattle.tool_ranges.specs.TooLarge.{begin_of_word, component_at, is_below, is_separator};
+ghost use Rattle.tool_ranges.specs.TooLarge.{limit_offset, number_at};
 ghost use Rattle.tool_ranges.specs.TooLarge.{states_number, stating, term_fits_as, terms_as, words};
 
 use crate::dialect::Dialect;
 use crate::matching::fitting;
+use crate::table::limit;
+use semver_texts::bytes::run_len;
+use semver_texts::decimals::number_of_digits;
+use semver_texts::dotted::split_at_dot;
 
-/// The end of the first term of a range text that states a number, or has a raised bound, above the
-/// limit of the dialect: 21 in `=18446744073709551616 || 1`. It does not allocate.
+/// Returns where the number is, in the first term that does not fit, that is above the limit of the
+/// dialect or can't be raised: 1 in `=18446744073709551616 || 1`. It does not allocate.
 pub(crate) fn limit_offset(dialect: Dialect, text: &str) -> usize
     ensures { (tree : TreeOf dialect) → SpellsAs dialect tree text.now
         → result ≡ limit_offset dialect tree text.now }
 {
-    end_of_word(text.as_bytes(), fitting(text, dialect))
+    let begin = begin_of_word(text.as_bytes(), fitting(text, dialect));
+    begin + number_at(&text.as_bytes()[begin..], limit(dialect))
 }
 
-/// The end of the word that states a number after so many others, or of the last word.
-fn end_of_word(text: &[u8], others: u128) -> usize
-    ensures { result ≡ end_of_word others (words text.now) }
+/// Returns where the word begins that states a number after so many others, or the last word.
+fn begin_of_word(text: &[u8], others: u128) -> usize
+    ensures value { result ≡ begin_of_word others (words text.now) }
+    ensures within { result ≤ length text.now }
 {
     let mut begin = 0;
     let mut left = others;
     let mut rest = text;
     loop {
         let (word, after) = split_word(rest);
-        let end = begin + word.len();
         let Some(after) = after else {
-            return end;
+            return begin;
         };
         if states_number(word) {
             if left == 0 {
-                return end;
+                return begin;
             }
             left -= 1;
         }
-        begin = end + 1;
+        begin += word.len() + 1;
         rest = after;
+    }
+}
+
+/// Returns where the first number is, of a version at the beginning of a text, that isn't below a
+/// limit.
+fn number_at(text: &[u8], limit: u64) -> usize
+    ensures value { result ≡ number_at limit text.now }
+    ensures within { result ≤ length text.now }
+{
+    match text {
+        [b'v', components @ ..] => 1 + component_at(components, limit),
+        _ => component_at(text, limit),
+    }
+}
+
+/// Returns where the first component begins that isn't below a limit, or the last one.
+fn component_at(components: &[u8], limit: u64) -> usize
+    ensures value { result ≡ component_at limit (slice_split is_dot components.now) }
+    ensures within { result ≤ length components.now }
+{
+    let mut begin = 0;
+    let mut rest = components;
+    loop {
+        let (component, after) = split_at_dot(rest);
+        let Some(after) = after else {
+            return begin;
+        };
+        if !is_below(component, limit) {
+            return begin;
+        }
+        begin += component.len() + 1;
+        rest = after;
+    }
+}
+
+/// Returns whether a component begins with a number below a limit.
+fn is_below(component: &[u8], limit: u64) -> bool
+    ensures { result ≡ is_below limit component.now }
+{
+    match number_of_digits(&component[..run_len(component)]) {
+        Some(number) => number < limit,
+        None => false,
     }
 }
 

@@ -253,7 +253,7 @@ pub(crate) fn fits(simple: &Simple<'_>, dialect: Dialect) -> bool
 
 /// Returns the highest number of a dialect.
 #[inline(always)]
-fn limit(dialect: Dialect) -> u64
+pub(crate) fn limit(dialect: Dialect) -> u64
     ensures { result ≡ limit dialect }
 {
     match dialect {

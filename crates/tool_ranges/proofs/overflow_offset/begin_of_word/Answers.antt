@@ -1,8 +1,8 @@
 use Rattle.std.proofs.Common.{◌≡◌, ◌+◌, ◌∷◌, length, arith, ap, ◌∙◌, sym}
-use Rattle.tool_ranges.specs.TooLarge.{end_of_word, words}
+use Rattle.tool_ranges.specs.TooLarge.{begin_of_word, words}
 use Rattle.tool_ranges.proofs.TooLargeTerms.{next_word, other_word, some_words}
-use Rattle.tool_ranges.proofs.overflow_offset.end_of_word.Goals as goal
-use Rattle.tool_ranges.proofs.overflow_offset.end_of_word.Goals.{then-states_number+else-left-eq0, else-states_number}
+use Rattle.tool_ranges.proofs.overflow_offset.begin_of_word.Goals as goal
+use Rattle.tool_ranges.proofs.overflow_offset.begin_of_word.Goals.{then-states_number+else-left-eq0, else-states_number}
 
 pub loop-after-preserved : goal.loop-after-preserved
 loop-after-preserved c =
@@ -10,15 +10,15 @@ loop-after-preserved c =
     let word = c.split_word.result.0.now in
     let more = c.in-Some.after.now in
     let split = rw c.in-Some.is at c.split_word.ensures in
-    let step : end_of_word c.loop-after.left (words c.loop-after.rest.now) ≡ length word + 1 + end_of_word c.if-states_number.left
+    let step : begin_of_word c.loop-after.left (words c.loop-after.rest.now) ≡ length word + 1 + begin_of_word c.if-states_number.left
     (words more) =
-    ap (end_of_word c.loop-after.left) split.0 ∙ elim c.if-states_number.branch [
+    ap (begin_of_word c.loop-after.left) split.0 ∙ elim c.if-states_number.branch [
       | then-states_number+else-left-eq0 w ↦ (
           let less : c.loop-after.left ≡ c.if-states_number.left + 1 = omega (arith, w.left-is, w.if-left-eq0.false) in
-          ap (λ n. end_of_word n (word ∷ words more)) less ∙ next_word word (words more) (some_words more) c.if-states_number.left
+          ap (λ n. begin_of_word n (word ∷ words more)) less ∙ next_word word (words more) (some_words more) c.if-states_number.left
           (sym c.states_number.ensures ∙ w.if-states_number.true))
       | else-states_number w ↦ (
-          ap (λ n. end_of_word n (word ∷ words more)) (sym w.left-is)
+          ap (λ n. begin_of_word n (word ∷ words more)) (sym w.left-is)
           ∙ other_word word (words more) (some_words more) c.if-states_number.left
           (sym c.states_number.ensures ∙ w.if-states_number.false))
     ] in
