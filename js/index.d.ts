@@ -130,13 +130,13 @@ export type Reason =
   | 'empty' | 'not-three-numbers' | 'leading-zero' | 'empty-identifier' | 'unexpected-character' | 'too-large' | 'too-long'
   | 'text-after' | 'not-utf8' | 'number-expected' | 'unexpected-end' | 'cargo-commas' | 'cargo-wildcard' | 'cargo-bars'
   | 'cargo-v' | 'cargo-hyphen' | 'npm-comma' | 'crate-comma' | 'crate-v' | 'npm-too-large'
-  | 'too-many-comparators'
+  | 'too-many-comparators' | 'bound-too-large' | 'npm-bound-too-large'
 
 /** Where and why a string is refused. */
 export interface Explanation {
   /**
    * An index of the string: of the first character that no version, or range, has there. It is the string's length if
-   * something is missing, and of a number of a range that is too large the end of the term that has it.
+   * something is missing. If a number of a range is too large, it is that of the number.
    */
   readonly offset: number
   readonly reason: Reason

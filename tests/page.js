@@ -97,7 +97,7 @@ async function main() {
     expect('the address', new URLSearchParams(new URL(await value('location.href')).hash.slice(1)).get('range'), '1 || 2');
     await type('range', '>=18446744073709551616');
     expect('a number too large', (await errors())[0],
-        'Cargo refuses the range: numbers and raised bounds are at most 2^64 - 1\n>=18446744073709551616\n                      ^');
+        'Cargo refuses the range: numbers are at most 2^64 - 1\n>=18446744073709551616\n  ^');
 
     await type('range', '^1.2');
     await type('other', '>=1.2.1');

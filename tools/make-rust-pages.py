@@ -56,8 +56,8 @@ PASSAGES = {
         ("`tool_ranges::refusals::refused` returns the error of a string, a reason",
          "An [`Error`](crate::Error) of a range has a kind, a reason"),
         ("([the list](../crates/invalid_strings/specs/ReasonTable.antt))", "([`Reason`](crate::Reason))"),
-        (" The definition counts the terms before it that state a number, and then as many such words of the"
-         " string; that these are the same terms is tested.", ""),
+        (" The definition counts the terms before that one that state a number, and then as many such words of"
+         " the string. That these are the same terms is tested.", ""),
         ("`tools/compare.sh` found no other ([PROVED](PROVED.md#what-was-set-beside-it));",
          "Comparisons of many strings found no other;"),
     ],

@@ -86,21 +86,22 @@ TEXTS = (
 N, S = 2**64, 2**53
 OF_64 = ("cargo", "crate-cargo", "crate-npm")
 OF_SETS = ("npm", "crate-cargo", "crate-npm")
-# Of each text what is up to the end of the first term that is too large, and the rest.
-LIMITS = (
-    # A number that is too large by itself.
-    (f"={N}", "", OF_64), (f"={N}.1", "", OF_64), (f"=1.{N - 1}0", "", OF_64), (f"=1.2.{N}", "", OF_64), (f"={S}", "", ("npm",)),
-    (f"1 || =1.2.{S}", "", ("npm",)), (f"={N}", " || 1", OF_SETS), (f"=1.{N}.x", f"  ={N}0", OF_SETS), (f"> {N}.1.2-a.b+c", " ", OF_64),
-    (f"v{S}.x", "\u00a0|| 1", ("npm",)), (f"<1, ={N}.1", f" , ={N}", ("cargo",)), (f"* || x.1 - {N}", "|| 1", OF_SETS),
-    # A bound that can't be raised, where a smaller number after it would do.
-    (f">{N - 1}", "", ("cargo",)), (f">1, >{N - 1}", ", <3", ("cargo",)), (f"<={N - 1}", "", OF_64), (f">{S - 1}", "", ("npm",)), (f"1 - {S - 1}", "", ("npm",)),
-    (f">{N - 1}.*", "", ("cargo",)), (f">{S - 1}.x", "", ("npm",)), (f"<={S - 1}.*.3", " || 1", ("npm",)),
-    (f"{N - 1}", "", OF_64), (f"{N - 1}.1", "", ("cargo",)), (f"{N - 1}.1.2", "", ("cargo",)), (f"^{N - 1}.1.*", "", ("cargo",)), (f"{S - 1}", "", ("npm",)),
-    # The left side of a hyphen range, and a wildcard, have no such bound.
-    (f"{N - 1}.0.0 - {N}", "", ("crate-cargo",)), (f"{N - 1}.x.3 - {N}", "", ("crate-cargo",)), (f"{S - 1}.x - {S}", "", ("npm",)),
-    (f"{N - 1}.5.*, ={N}", "", ("cargo",)), (f"{N}", f" - {N}", OF_SETS), (f"{N - 1} - {N}", " || 1", ("crate-npm",)),
-    # A bound that can't be raised, whatever follows.
-    (f"^{N - 1}", "", OF_64), (f"^{N - 1}.2.3", "", OF_64), (f"~1.{N - 1}.3", "", OF_64), (f"^{S - 1}.2", "", ("npm",)),
+# Texts with @ before the number that is too large, or can't be raised, in the first term that does not fit.
+TOO_LARGE = (
+    (f"=@{N}", OF_64), (f"=@{N}.1", OF_64), (f"=1.@{N - 1}0", OF_64), (f"=1.2.@{N}", OF_64), (f"=@{S}", ("npm",)),
+    (f"1 || =1.2.@{S}", ("npm",)), (f"=@{N} || 1", OF_SETS), (f"=1.@{N}.x  ={N}0", OF_SETS), (f"> @{N}.1.2-a.b+c ", OF_64),
+    (f"v@{S}.x\u00a0|| 1", ("npm",)), (f"<1, =@{N}.1 , ={N}", ("cargo",)), (f"* || x.1 - @{N}|| 1", OF_SETS),
+    # The left side of a hyphen range, and a wildcard, have no bound that is raised.
+    (f"{N - 1}.0.0 - @{N}", ("crate-cargo",)), (f"{N - 1}.x.3 - @{N}", ("crate-cargo",)), (f"{S - 1}.x - @{S}", ("npm",)),
+    (f"{N - 1}.5.*, =@{N}", ("cargo",)), (f"@{N} - {N}", OF_SETS), (f"{N - 1} - @{N} || 1", ("crate-npm",)),
+)
+BOUND_TOO_LARGE = (
+    # Where a smaller number after it would do.
+    (f">@{N - 1}", ("cargo",)), (f">1, >@{N - 1}, <3", ("cargo",)), (f"<=@{N - 1}", OF_64), (f">@{S - 1}", ("npm",)), (f"1 - @{S - 1}", ("npm",)),
+    (f">@{N - 1}.*", ("cargo",)), (f">@{S - 1}.x", ("npm",)), (f"<=@{S - 1}.*.3 || 1", ("npm",)),
+    (f"@{N - 1}", OF_64), (f"@{N - 1}.1", ("cargo",)), (f"@{N - 1}.1.2", ("cargo",)), (f"^@{N - 1}.1.*", ("cargo",)), (f"@{S - 1}", ("npm",)),
+    # Whatever follows.
+    (f"^@{N - 1}", OF_64), (f"^@{N - 1}.2.3", OF_64), (f"~1.@{N - 1}.3", OF_64), (f"^@{S - 1}.2", ("npm",)),
 )
 # Texts as a row has them that are too long to npm.
 LONG = (
@@ -118,9 +119,11 @@ def main():
             at = place(dialect, text)
             answer = "a range" if at is None else f"{at}: not a range, {reason}"
             row(dialect, text.replace("\t", "\\t").replace("\n", "\\n"), answer)
-    for term, rest, dialects in LIMITS:
-        for dialect in dialects:
-            row(dialect, term + rest, f"{len(term.encode())}: number too large, " + ("npm-too-large" if dialect == "npm" else "too-large"))
+    for texts, reason in (TOO_LARGE, "too-large"), (BOUND_TOO_LARGE, "bound-too-large"):
+        for text, dialects in texts:
+            at = len(text[: text.index("@")].encode())
+            for dialect in dialects:
+                row(dialect, text.replace("@", ""), f"{at}: number too large, {'npm-' if dialect == 'npm' else ''}{reason}")
     for text, at in LONG:
         row("npm", text, f"{at}: not a range, too-long")
 

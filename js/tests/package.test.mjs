@@ -116,7 +116,10 @@ test('where and why a string is refused', () => {
   assert.equal(semver.explainRange('1 |').offset, 3)
   // The offset counts as JavaScript does: a no-break space has two bytes.
   assert.equal(semver.explainVersion('\u00a0\u00a01.2.x').offset, 6)
-  assert.equal(semver.explainRange('>=9007199254740992').reason, 'npm-too-large')
+  assert.deepEqual(semver.explainRange('1 || >=9007199254740992'),
+    { offset: 7, reason: 'npm-too-large', sentence: "npm's numbers are at most 2^53 - 1" })
+  assert.deepEqual(semver.explainRange('>1.9007199254740991'),
+    { offset: 3, reason: 'npm-bound-too-large', sentence: "the bound above this number is above npm's limit of 2^53 - 1" })
   assert.throws(() => semver.explainRange(5), /Invalid range\. Must be a string\. Got type "number"/)
 })
 

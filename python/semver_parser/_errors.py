@@ -29,6 +29,8 @@ Reason = Literal[
     "crate-v",
     "npm-too-large",
     "too-many-comparators",
+    "bound-too-large",
+    "npm-bound-too-large",
 ]
 """Why a string is refused. A later minor version of the library may have more reasons."""
 
@@ -53,7 +55,7 @@ class SemverError(ValueError):
       one; else None.
     - `offset`: the index in `string` of the first character that no version or range has there, or
       the length of `string` if something is missing at its end. If a number of a range is too
-      large, the end of the first term above the limit.
+      large, the index of that number.
     - `reason`: why, as a word for programs.
     - `sentence`: why, as an English sentence.
 

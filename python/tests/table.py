@@ -141,7 +141,7 @@ def _fields_of_comparators(comparators: Comparators) -> str:
 
 def is_too_large(error: RangeError) -> bool:
     """Whether a number of a range is too large."""
-    return error.reason in ("too-large", "npm-too-large")
+    return "too-large" in error.reason
 
 
 def _of_version(text: str, show: Callable[[Version], str], no_version: str) -> str:

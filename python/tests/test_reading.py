@@ -273,7 +273,7 @@ class Ranges(unittest.TestCase):
                     if set_text is None:
                         with self.assertRaises(RangeError) as caught:
                             Range(text, dialect=dialect)
-                        self.assertNotIn(caught.exception.reason, ("too-large", "npm-too-large"))
+                        self.assertNotIn("too-large", caught.exception.reason)
                     else:
                         answered = Range(text, dialect=dialect).comparators
                         self.assertEqual(str(answered), set_text)
@@ -405,8 +405,9 @@ class Errors(unittest.TestCase):
             for dialect in CRATE:
                 with self.assertRaises(RangeError):
                     Range(text, dialect=dialect)
-        for text in (f"{MOST + 1}", f"<={MOST}"):
-            self.refuses_range(text, "too-large", "npm-too-large")
+        self.refuses_range(f"{MOST + 1}", "too-large", "npm-too-large")
+        self.refuses_range(f"<={MOST}", "bound-too-large", "npm-too-large")
+        self.refuses_range(f"<={MOST + 1}", "too-large", "npm-too-large")
 
     def test_offsets_of_ranges(self) -> None:
         """The offset counts characters of a `str`, and bytes of `bytes`."""
@@ -460,7 +461,7 @@ class Errors(unittest.TestCase):
             (
                 RangeError(f"={MOST + 1}", "cargo", 1),
                 f"number too large in range, index 1: '={MOST + 1}' "
-                "(offset 21: numbers and raised bounds are at most 2^64 - 1)",
+                "(offset 1: numbers are at most 2^64 - 1)",
             ),
             (VersionError("1.2.3", "cargo"), "invalid version: '1.2.3'"),
             (RangeError("1.2.3", "cargo"), "invalid range: '1.2.3'"),

@@ -149,7 +149,7 @@ static void require_error(const call *it, const outcome *error) {
             of);
     require(error->offset <= it->strings[error->index]->length, "an offset outside", of);
     require(reason >= SEMVER_PARSER_REASON_EMPTY
-                && reason <= SEMVER_PARSER_REASON_TOO_MANY_COMPARATORS,
+                && reason <= SEMVER_PARSER_REASON_NPM_BOUND_TOO_LARGE,
             "no reason", of);
     switch (error->status) {
     case SEMVER_PARSER_INVALID_VERSION:
@@ -162,13 +162,17 @@ static void require_error(const call *it, const outcome *error) {
         break;
     case SEMVER_PARSER_NUMBER_TOO_LARGE:
         require(reason == SEMVER_PARSER_REASON_TOO_LARGE
-                    || reason == SEMVER_PARSER_REASON_NPM_TOO_LARGE,
+                    || reason == SEMVER_PARSER_REASON_NPM_TOO_LARGE
+                    || reason == SEMVER_PARSER_REASON_BOUND_TOO_LARGE
+                    || reason == SEMVER_PARSER_REASON_NPM_BOUND_TOO_LARGE,
                 "no reason of a number", of);
         break;
     default:
         require(error->status == SEMVER_PARSER_INVALID_RANGE
                     && reason != SEMVER_PARSER_REASON_TEXT_AFTER
-                    && reason != SEMVER_PARSER_REASON_NPM_TOO_LARGE,
+                    && reason != SEMVER_PARSER_REASON_NPM_TOO_LARGE
+                    && reason != SEMVER_PARSER_REASON_BOUND_TOO_LARGE
+                    && reason != SEMVER_PARSER_REASON_NPM_BOUND_TOO_LARGE,
                 "no reason of a range", of);
     }
 }

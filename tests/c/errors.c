@@ -7,7 +7,7 @@
 #include <string.h>
 
 #define REASON(name) SEMVER_PARSER_REASON_##name
-enum { REASONS = SEMVER_PARSER_REASON_TOO_MANY_COMPARATORS + 1 };
+enum { REASONS = SEMVER_PARSER_REASON_NPM_BOUND_TOO_LARGE + 1 };
 
 static bool is_status_seen[STATUSES];
 static bool is_reason_seen[REASONS];
@@ -67,9 +67,11 @@ static const struct {
     {NPM, ">=1.2.3, <2", 7, REASON(NPM_COMMA)},
     {CRATE_CARGO, "1.2.3,", 5, REASON(CRATE_COMMA)},
     {CRATE_NPM, "v1.2.3", 0, REASON(CRATE_V)},
-    {CARGO, "=18446744073709551616", 21, REASON(TOO_LARGE)},
-    {CRATE_NPM, "=18446744073709551616", 21, REASON(TOO_LARGE)},
-    {NPM, "1 || =1.2.9007199254740992", 26, REASON(NPM_TOO_LARGE)},
+    {CARGO, "=18446744073709551616", 1, REASON(TOO_LARGE)},
+    {CRATE_NPM, "=18446744073709551616", 1, REASON(TOO_LARGE)},
+    {NPM, "1 || =1.2.9007199254740992", 10, REASON(NPM_TOO_LARGE)},
+    {CARGO, ">1.18446744073709551615", 3, REASON(BOUND_TOO_LARGE)},
+    {NPM, "1 - 9007199254740991", 4, REASON(NPM_BOUND_TOO_LARGE)},
 };
 
 static void is_error(outcome told, int status, size_t index, size_t offset,
@@ -106,7 +108,8 @@ static void range_error_is(int dialect, const char *bytes, size_t offset,
                            semver_parser_reason reason) {
     text range = string(bytes);
     text version = string("1.0.0");
-    bool is_large = reason == REASON(TOO_LARGE) || reason == REASON(NPM_TOO_LARGE);
+    bool is_large = reason == REASON(TOO_LARGE) || reason == REASON(NPM_TOO_LARGE)
+                    || reason == REASON(BOUND_TOO_LARGE) || reason == REASON(NPM_BOUND_TOO_LARGE);
     int status = is_large ? NUMBER_TOO_LARGE : INVALID_RANGE;
     semver_parser_comparators *list = NULL;
     semver_parser_range *set = NULL;
@@ -311,10 +314,14 @@ static const struct {
      "    1.2.\xEF\xBF\xBD\n"
      "        ^"},
     {CARGO, "^18446744073709551616",
-     "number too large in range \"^18446744073709551616\", at byte 21: numbers and raised bounds "
-     "are at most 2^64 - 1\n"
+     "number too large in range \"^18446744073709551616\", at byte 1: numbers are at most 2^64 - 1\n"
      "    ^18446744073709551616\n"
-     "                         ^"},
+     "     ^"},
+    {CARGO, "~1.18446744073709551615",
+     "number too large in range \"~1.18446744073709551615\", at byte 3: the bound above this number "
+     "is above 2^64 - 1\n"
+     "    ~1.18446744073709551615\n"
+     "       ^"},
     /* Of a long string 32 bytes before the offset and after it. */
     {NPM, "1.0.0 || 2.0.0 || 3.0.0 || 4.0.0 || 5.0.0, 6 || 7.0.0 || 8.0.0 || 9.0.0 || 10.0.0",
      "invalid range ...\"2.0.0 || 3.0.0 || 4.0.0 || 5.0.0, 6 || 7.0.0 || 8.0.0 || 9.0.0 |\"..., at "

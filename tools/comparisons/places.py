@@ -49,16 +49,16 @@ def refusals(cases, dialect, of):
 
 
 def pairs(dialect):
-    """Two terms each: the text, where each of them ends, and how each is written by itself."""
-    most = LIMITS[dialect]
-    words = [word for n in (1, most, most + 1) for word in (f"{n}", f"{n}.2", f"1.{n}", f"1.2.{n}", f"{n}.x", f"{n}.0.0-a.1+b")] + ["x", "*"]
-    terms = [sign + word for sign in ("", "=", "<= ", ">", "~", "^ ") for word in words]
+    """Two terms each: the text, where the number of each is that may be too large, and how each is written by itself."""
+    words = [("x", 0), ("*", 0)]
+    for n in (1, LIMITS[dialect], LIMITS[dialect] + 1):
+        words += [(f"{n}", 0), (f"{n}.2", 0), (f"1.{n}", 2), (f"1.2.{n}", 4), (f"{n}.x", 0), (f"{n}.0.0-a.1+b", 0)]
+    terms = [(sign + word, len(sign) + at) for sign in ("", "=", "<= ", ">", "~", "^ ") for word, at in words]
     for between in BETWEEN[dialect]:
         of = words if between == HYPHEN else terms
-        for first, second in product(of, of):
-            text = first + between + second
+        for (first, of_first), (second, of_second) in product(of, of):
             alone = (f">={first}", f"<={second}") if between == HYPHEN else (first, second)
-            yield text, (len(first), len(text)), alone
+            yield first + between + second, (of_first, len(first + between) + of_second), alone
 
 
 def too_large(cases, program, pool):
@@ -67,12 +67,12 @@ def too_large(cases, program, pool):
         made = list(pairs(dialect))
         alone = refusals(cases, dialect, sorted({term for _, _, both in made for term in both}))
         whole = refusals(cases, dialect, [text for text, _, _ in made])
-        asked = [(text, ends, both) for text, ends, both in made if "too" in whole[text]]
+        asked = [(text, numbers, both) for text, numbers, both in made if "too" in whole[text]]
         places = pool.starmap(named, [(program, dialect, text) for text, _, _ in asked], chunksize=100)
-        for (text, ends, both), place in zip(asked, places):
-            end = next(end for end, term in zip(ends, both) if "too" in alone[term])
-            if place != end:
-                sys.exit(f"differ: {text!r} as {dialect}: {end}, the program names {place}")
+        for (text, numbers, both), place in zip(asked, places):
+            at = next(at for at, term in zip(numbers, both) if "too" in alone[term])
+            if place != at:
+                sys.exit(f"differ: {text!r} as {dialect}: {at}, the program names {place}")
         print(f"{len(asked)} texts as {dialect} with a number that is too large: no difference")
 
 

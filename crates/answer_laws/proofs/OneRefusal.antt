@@ -1,6 +1,6 @@
 -- serves: answer_laws::ranges::one_refusal
 -- A range text has one error, at one offset, for one reason.
-use Rattle.std.proofs.Common.{◌≡◌, ◌∙◌, ℕ, Option, Some, None, refl, subst, sym, ap, take}
+use Rattle.std.proofs.Common.{◌≡◌, ◌∙◌, ℕ, Option, Some, None, refl, subst, sym, ap, drop, take}
 use Rattle.semver_texts.specs.Texts.{Text}
 use Rattle.semver_parser.specs.declared.RangeError.{RangeError}
 use Rattle.semver_parser.specs.declared.RangeError.TheVariants.{NotARange, NumberTooLarge, OutOfMemory}
@@ -9,7 +9,7 @@ use Rattle.invalid_strings.specs.Reasons.{byte_at}
 use Rattle.invalid_strings.specs.declared.reasons.Reason.{Reason}
 use Rattle.tool_ranges.specs.Prefixes.{BeginsAs}
 use Rattle.tool_ranges.specs.RangeReasons.{IsReasonAs}
-use Rattle.tool_ranges.specs.TooLarge.{IsLimitOffset}
+use Rattle.tool_ranges.specs.TooLarge.{IsLimitOffset, limit_reason}
 use Rattle.tool_ranges.specs.Refusals.{IsRefusalAs}
 use Rattle.tool_ranges.specs.declared.dialect.Dialect.{Dialect}
 use Rattle.tool_ranges.specs.declared.refusals.Refusal.{Refusal}
@@ -32,8 +32,9 @@ module _ (dialect : Dialect) (t : Text)
       (subst (λ n. IsReasonAs dialect (take n t) (byte_at t n) r.reason) offset (a.reason is)) (b.reason also))
   by_error NumberTooLarge r s is a b =
       let also = b.too_large.1 (a.too_large.0 is) in
-      same r s (is ∙ sym also) (one_limit r.offset s.offset (a.limit is) (b.limit also))
-      (a.limit_reason is ∙ sym (b.limit_reason also))
+      let offset : r.offset ≡ s.offset = one_limit r.offset s.offset (a.limit is) (b.limit also) in
+      same r s (is ∙ sym also) offset
+      (a.limit_reason is ∙ ap (λ n. limit_reason dialect (drop n t)) offset ∙ sym (b.limit_reason also))
   by_error OutOfMemory r s is a b = absurd (a.no_memory is)
 
   pub one_refused : (x y : Option Refusal) → IsRefusalAs dialect t x → IsRefusalAs dialect t y → x ≡ y

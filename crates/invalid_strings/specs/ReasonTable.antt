@@ -18,8 +18,7 @@ row_of reason.LeadingZero = (
 row_of reason.EmptyIdentifier = (pos 4, codes "empty-identifier", codes "an identifier is empty")
 row_of reason.UnexpectedCharacter =
     (pos 5, codes "unexpected-character", codes "unexpected character")
-row_of reason.TooLarge =
-    (pos 6, codes "too-large", codes "numbers and raised bounds are at most 2^64 - 1")
+row_of reason.TooLarge = (pos 6, codes "too-large", codes "numbers are at most 2^64 - 1")
 row_of reason.TooLong = (
   pos 7,
   codes "too-long",
@@ -45,9 +44,16 @@ row_of reason.CrateComma =
     (pos 18, codes "crate-comma", codes "the crate takes no commas; Cargo does")
 row_of reason.CrateV = (pos 19, codes "crate-v", codes "the crate takes no leading v; npm does")
 row_of reason.NpmTooLarge =
-    (pos 20, codes "npm-too-large", codes "npm's numbers and raised bounds are at most 2^53 - 1")
+    (pos 20, codes "npm-too-large", codes "npm's numbers are at most 2^53 - 1")
 row_of reason.TooManyComparators =
     (pos 21, codes "too-many-comparators", codes "Cargo takes at most 32 comparators")
+row_of reason.BoundTooLarge =
+    (pos 22, codes "bound-too-large", codes "the bound above this number is above 2^64 - 1")
+row_of reason.NpmBoundTooLarge = (
+  pos 23,
+  codes "npm-bound-too-large",
+  codes "the bound above this number is above npm's limit of 2^53 - 1",
+)
 
 abbrev pub number_of : Reason → ℤ
 number_of r = (row_of r).0

@@ -16,6 +16,8 @@ use Rattle.invalid_strings.specs.declared.reasons.Reason.{Reason}
 use Rattle.invalid_strings.specs.declared.reasons.Reason.TheVariants.{Empty, NotThreeNumbers}
 use Rattle.invalid_strings.specs.declared.reasons.Reason.TheVariants.{LeadingZero, EmptyIdentifier}
 use Rattle.invalid_strings.specs.declared.reasons.Reason.TheVariants.{UnexpectedCharacter, TooLarge}
+use Rattle.invalid_strings.specs.declared.reasons.Reason.TheVariants.{BoundTooLarge}
+use Rattle.invalid_strings.specs.declared.reasons.Reason.TheVariants.{NpmBoundTooLarge}
 use Rattle.invalid_strings.specs.declared.reasons.Reason.TheVariants.{NpmTooLarge, TooLong}
 use Rattle.invalid_strings.specs.declared.reasons.Reason.TheVariants.{NumberExpected, TextAfter}
 use Rattle.invalid_strings.specs.declared.reasons.Reason.TheVariants.{CargoV, CrateV}
@@ -76,6 +78,12 @@ abbrev pub too_large_in : Grammar → Reason
 too_large_in grammar.Crate = TooLarge
 too_large_in grammar.Cargo = TooLarge
 too_large_in grammar.Npm = NpmTooLarge
+
+-- the same of a bound that is above it
+abbrev pub bound_too_large_in : Grammar → Reason
+bound_too_large_in grammar.Crate = BoundTooLarge
+bound_too_large_in grammar.Cargo = BoundTooLarge
+bound_too_large_in grammar.Npm = NpmBoundTooLarge
 
 -- what a byte is that no version has there: a `v` before the numbers, or any other
 abbrev pub unexpected_in : Grammar → Text → ℕ → Reason

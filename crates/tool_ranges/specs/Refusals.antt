@@ -1,15 +1,15 @@
 -- Where a text stops being a range, and why.
-use Rattle.std.specs.Prelude.{◌≡◌, ◌≢◌, ◌↔◌, Option, None, IfSome, take}
+use Rattle.std.specs.Prelude.{◌≡◌, ◌≢◌, ◌↔◌, Option, None, IfSome, drop, take}
 use Rattle.semver_texts.specs.Texts.{Text}
 use Rattle.semver_ranges.specs.declared.range_set.RangeError.TheVariants.{NotARange}
 use Rattle.semver_ranges.specs.declared.range_set.RangeError.TheVariants.{NumberTooLarge}
 use Rattle.semver_ranges.specs.declared.range_set.RangeError.TheVariants.{OutOfMemory}
 use Rattle.invalid_strings.specs.Prefixes.{IsLongestPrefix}
-use Rattle.invalid_strings.specs.Reasons.{byte_at, too_large_in}
-use Rattle.tool_ranges.specs.Dialects.{HasSetAs, IsTextAs, IsTooLargeAs, grammar_of}
+use Rattle.invalid_strings.specs.Reasons.{byte_at}
+use Rattle.tool_ranges.specs.Dialects.{HasSetAs, IsTextAs, IsTooLargeAs}
 use Rattle.tool_ranges.specs.Prefixes.{BeginsAs}
 use Rattle.tool_ranges.specs.RangeReasons.{IsReasonAs}
-use Rattle.tool_ranges.specs.TooLarge.{IsLimitOffset}
+use Rattle.tool_ranges.specs.TooLarge.{IsLimitOffset, limit_reason}
 use Rattle.tool_ranges.specs.declared.dialect.Dialect.{Dialect}
 use Rattle.tool_ranges.specs.declared.refusals.Refusal.{Refusal}
 
@@ -26,8 +26,8 @@ pub record IsRefusalAs (d : Dialect) (text : Text) (found : Option Refusal) : Ty
   -- the reason is that of what is before the offset, and of the byte there
   pub reason : IfSome found (λ r. r.error ≡ NotARange
       → IsReasonAs d (take r.offset text) (byte_at text r.offset) r.reason)
-  -- it is the end of the first term that does not fit
+  -- it is that of the number that is too large, in the first term that does not fit
   pub limit : IfSome found (λ r. r.error ≡ NumberTooLarge → IsLimitOffset d text r.offset)
-  -- the reason of a number that is too large is the limit of the dialect
+  -- that number is above the limit of the dialect, or can't be raised
   pub limit_reason : IfSome found (λ r.
-      r.error ≡ NumberTooLarge → r.reason ≡ too_large_in (grammar_of d))
+      r.error ≡ NumberTooLarge → r.reason ≡ limit_reason d (drop r.offset text))

@@ -19,7 +19,9 @@ use Rattle.tool_ranges.specs.declared.dialect.Dialect.TheVariants.{CrateNpm}
 use Rattle.tool_ranges.specs.CargoMeaning.{as_read}
 use Rattle.tool_ranges.specs.NpmTable.{is_safe_simple}
 use Rattle.tool_ranges.specs.ToolTable.{fits_in}
-use Rattle.tool_ranges.specs.Dialects.{SpellsAs, TreeOf}
+use Rattle.invalid_strings.specs.Reasons.{bound_too_large_in, too_large_in}
+use Rattle.invalid_strings.specs.declared.reasons.Reason.{Reason}
+use Rattle.tool_ranges.specs.Dialects.{SpellsAs, TreeOf, grammar_of}
 
 -- the terms of a range in the order of its text: the sides of a hyphen range are `>=` and `<=`
 abbrev pub terms_of : RangeTree → List Simple
@@ -103,6 +105,15 @@ abbrev pub limit_offset : (dialect : Dialect) → TreeOf dialect → Text → �
 limit_offset dialect tree t = number_offset dialect
     (begin_of_word (prefix_len (term_fits_as dialect) (stating (terms_as dialect tree))) (words t))
     t
+
+-- why, by the text from that number on: it is above the limit, or it is the limit and can't be raised
+abbrev pub is_limit : ℕ → Text → Bool
+is_limit limit t = all_ascii_digits (run_of t) && (digits_value 10 (run_of t) == limit)
+
+abbrev pub limit_reason : Dialect → Text → Reason
+limit_reason dialect t =
+    if is_limit (limit_of dialect) t then bound_too_large_in (grammar_of dialect)
+    else too_large_in (grammar_of dialect)
 
 -- the offset is that of a tree of the text
 pub record IsLimitOffset (dialect : Dialect) (t : Text) (offset : ℕ) : Type 0 where

@@ -39,7 +39,7 @@ pub fn one_offset()
         → m ≡ n }
 {}
 
-/// And one end of the first term that does not fit.
+/// And one number that is too large.
 pub fn one_limit_offset()
     ensures same_offset { (dialect : SomeDialect) (t : Text) (m n : ℕ)
         → IsLimitOffset dialect t m → IsLimitOffset dialect t n → m ≡ n }

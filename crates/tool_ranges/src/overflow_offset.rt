@@ -5,12 +5,13 @@ ghost use Rattle.std.specs.List.{prefix_len, slice_split};
 ghost use Rattle.tool_ranges.specs.Dialects.{SpellsAs, TreeOf};
 ghost use Rattle.semver_texts.specs.Texts.{is_dot};
 ghost use Rattle.tool_ranges.specs.TooLarge.{begin_of_word, component_at, is_below, is_separator};
-ghost use Rattle.tool_ranges.specs.TooLarge.{limit_offset, number_at};
+ghost use Rattle.tool_ranges.specs.TooLarge.{limit_offset, limit_reason, number_at};
 ghost use Rattle.tool_ranges.specs.TooLarge.{states_number, stating, term_fits_as, terms_as, words};
 
 use crate::dialect::Dialect;
 use crate::matching::fitting;
 use crate::table::limit;
+use invalid_strings::reasons::Reason;
 use semver_texts::bytes::run_len;
 use semver_texts::decimals::number_of_digits;
 use semver_texts::dotted::split_at_dot;
@@ -18,11 +19,23 @@ use semver_texts::dotted::split_at_dot;
 /// Returns where the number is, in the first term that does not fit, that is above the limit of the
 /// dialect or can't be raised: 1 in `=18446744073709551616 || 1`. It does not allocate.
 pub(crate) fn limit_offset(dialect: Dialect, text: &str) -> usize
-    ensures { (tree : TreeOf dialect) → SpellsAs dialect tree text.now
+    ensures value { (tree : TreeOf dialect) → SpellsAs dialect tree text.now
         → result ≡ limit_offset dialect tree text.now }
+    ensures within { result ≤ length text.now }
 {
     let begin = begin_of_word(text.as_bytes(), fitting(text, dialect));
     begin + number_at(&text.as_bytes()[begin..], limit(dialect))
+}
+
+/// Returns why the number at an offset is too large: it is above the limit of the dialect, or it is
+/// the limit and can't be raised.
+pub(crate) fn limit_reason(dialect: Dialect, text: &[u8]) -> Reason
+    ensures { result ≡ limit_reason dialect text.now }
+{
+    match number_of_digits(&text[..run_len(text)]) {
+        Some(number) if number == limit(dialect) => Reason::bound_too_large_in(dialect.grammar()),
+        _ => Reason::too_large_in(dialect.grammar()),
+    }
 }
 
 /// Returns where the word begins that states a number after so many others, or the last word.

@@ -1,19 +1,19 @@
 //! Where a text stops being a range, and why.
 
-ghost use Rattle.std.specs.Prelude.{◌≡◌, ◌≢◌, IfErr, IfOk, take};
+ghost use Rattle.std.specs.Prelude.{◌≡◌, ◌≢◌, IfErr, IfOk, drop, take};
 ghost use Rattle.semver_ranges.specs.declared.range_set.RangeError.TheVariants.{NotARange};
 ghost use Rattle.semver_ranges.specs.declared.range_set.RangeError.TheVariants.{NumberTooLarge};
 ghost use Rattle.invalid_strings.specs.Prefixes.{IsLongestPrefix};
 ghost use Rattle.tool_ranges.specs.Prefixes.{BeginsAs};
-ghost use Rattle.invalid_strings.specs.Reasons.{byte_at, too_large_in};
-ghost use Rattle.tool_ranges.specs.Dialects.{IsTextAs, SpellsAs, TreeOf, grammar_of};
+ghost use Rattle.invalid_strings.specs.Reasons.{byte_at};
+ghost use Rattle.tool_ranges.specs.Dialects.{IsTextAs, SpellsAs, TreeOf};
 ghost use Rattle.tool_ranges.specs.RangeReasons.{IsReasonAs};
 ghost use Rattle.tool_ranges.specs.Refusals.{IsRefusalAs};
-ghost use Rattle.tool_ranges.specs.TooLarge.{limit_offset};
+ghost use Rattle.tool_ranges.specs.TooLarge.{limit_offset, limit_reason};
 
 use crate::dialect::Dialect;
 use crate::offset::{check, prefix_end};
-use crate::overflow_offset::limit_offset;
+use crate::overflow_offset::{limit_offset, limit_reason};
 use crate::reasons::reason_at;
 use invalid_strings::reasons::Reason;
 use semver_ranges::RangeError;
@@ -35,9 +35,9 @@ pub struct Refusal {
     /// `NotARange` or `NumberTooLarge`.
     pub error: RangeError,
     /// The byte offset of the first character that no range of the dialect has there, or the
-    /// length of the text if something is missing at its end. Of a number that is too large it is
-    /// the end of the first term that states a number, or has a raised bound, above the limit of
-    /// the dialect: 21 in `=18446744073709551616 || 1`.
+    /// length of the text if something is missing at its end. If a number is too large, it is that
+    /// of the first number, in the first term that doesn't fit, that is above the limit of the
+    /// dialect or can't be raised: 1 in `=18446744073709551616 || 1`.
     pub offset: usize,
     /// Why, which may say what another dialect takes there.
     pub reason: Reason,
@@ -82,13 +82,14 @@ fn explained(
     ensures limit { IfOk result (λ r. error.now ≡ NumberTooLarge → (tree : TreeOf dialect)
         → SpellsAs dialect tree text.now → r.0 ≡ limit_offset dialect tree text.now) }
     ensures limit_reason { IfOk result (λ r. error.now ≡ NumberTooLarge
-        → r.1 ≡ too_large_in (grammar_of dialect)) }
+        → r.1 ≡ limit_reason dialect (drop r.0 text.now)) }
     ensures out_of_memory { IfErr result (λ _. error.now ≢ NumberTooLarge) }
 {
     match error {
         RangeError::NumberTooLarge => {
             let offset = limit_offset(dialect, text);
-            Ok((offset, Reason::too_large_in(dialect.grammar())))
+            let reason = limit_reason(dialect, &text.as_bytes()[offset..]);
+            Ok((offset, reason))
         }
         _ => {
             let offset = prefix_end(alloc, dialect, text)?;

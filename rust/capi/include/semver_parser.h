@@ -168,7 +168,7 @@ enum {
     SEMVER_PARSER_REASON_EMPTY_IDENTIFIER = 4,
     /* No version, or range, has this character there: `1.x` as a version, `1.2.3.4`. */
     SEMVER_PARSER_REASON_UNEXPECTED_CHARACTER = 5,
-    /* A number, or a raised bound, is above 2^64 - 1. */
+    /* A number is above 2^64 - 1. */
     SEMVER_PARSER_REASON_TOO_LARGE = 6,
     /* A version is longer than npm's 256 characters, or a build identifier than 250. */
     SEMVER_PARSER_REASON_TOO_LONG = 7,
@@ -196,10 +196,14 @@ enum {
     SEMVER_PARSER_REASON_CRATE_COMMA = 18,
     /* The crate takes no leading `v`, of a version or of a range. */
     SEMVER_PARSER_REASON_CRATE_V = 19,
-    /* To npm, a number or a raised bound is above 2^53 - 1. */
+    /* To npm, a number is above 2^53 - 1. */
     SEMVER_PARSER_REASON_NPM_TOO_LARGE = 20,
     /* Cargo takes at most 32 comparators. */
-    SEMVER_PARSER_REASON_TOO_MANY_COMPARATORS = 21
+    SEMVER_PARSER_REASON_TOO_MANY_COMPARATORS = 21,
+    /* The bound of a range above a number is above 2^64 - 1: `>1.18446744073709551615`. */
+    SEMVER_PARSER_REASON_BOUND_TOO_LARGE = 22,
+    /* To npm, the bound of a range above a number is above 2^53 - 1. */
+    SEMVER_PARSER_REASON_NPM_BOUND_TOO_LARGE = 23
 };
 
 /* Where and why a call was refused. */
@@ -207,8 +211,8 @@ typedef struct {
     semver_parser_status status;
     semver_parser_reason reason;
     /* The offset in bytes of the first character that no version or range has there, or the length
-     * of the string if something is missing at its end. After NUMBER_TOO_LARGE, the end of the
-     * first term above the limit. */
+     * of the string if something is missing at its end. After NUMBER_TOO_LARGE, that of the number
+     * that is too large. */
     size_t offset;
     /* Which string or range of the call it is about: 0 for the first, 1 for the second; of an
      * array, its index there. */

@@ -35,7 +35,7 @@ pub enum Reason {
     EmptyIdentifier,
     /// No version, or range, has this character there: the version `1.x`, the range `1.2.3.4`.
     UnexpectedCharacter,
-    /// A number or a raised bound is above 2^64 - 1.
+    /// A number is above 2^64 - 1.
     TooLarge,
     /// Each version that begins so is longer than npm's 256 characters, or a build identifier
     /// than 250.
@@ -65,10 +65,14 @@ pub enum Reason {
     CrateComma,
     /// The crate takes no leading `v`, of a version or of a range; npm does.
     CrateV,
-    /// To npm, a number or a raised bound is above 2^53 - 1.
+    /// To npm, a number is above 2^53 - 1.
     NpmTooLarge,
     /// Cargo takes at most 32 comparators.
     TooManyComparators,
+    /// The bound of a range above a number is above 2^64 - 1: `>1.18446744073709551615`.
+    BoundTooLarge,
+    /// To npm, the bound of a range above a number is above 2^53 - 1.
+    NpmBoundTooLarge,
 }
 
 impl Reason {
@@ -86,6 +90,24 @@ impl Reason {
         match grammar {
             Grammar::Npm => Reason::NpmTooLarge,
             Grammar::Crate | Grammar::Cargo => Reason::TooLarge,
+        }
+    }
+
+    /// Returns the reason of a number of a range that can't be raised: the bound above it would be
+    /// above the limit of a dialect.
+    ///
+    /// ```
+    /// use semver_parser::Reason;
+    /// use semver_parser::version::Grammar;
+    ///
+    /// assert_eq!(Reason::bound_too_large_in(Grammar::Cargo), Reason::BoundTooLarge);
+    /// assert_eq!(Reason::bound_too_large_in(Grammar::Npm), Reason::NpmBoundTooLarge);
+    /// ```
+    #[must_use]
+    pub fn bound_too_large_in(grammar: Grammar) -> Reason {
+        match grammar {
+            Grammar::Npm => Reason::NpmBoundTooLarge,
+            Grammar::Crate | Grammar::Cargo => Reason::BoundTooLarge,
         }
     }
 
@@ -133,6 +155,8 @@ impl Reason {
             19 => Some(Reason::CrateV),
             20 => Some(Reason::NpmTooLarge),
             21 => Some(Reason::TooManyComparators),
+            22 => Some(Reason::BoundTooLarge),
+            23 => Some(Reason::NpmBoundTooLarge),
             _ => None,
         }
     }
@@ -177,11 +201,7 @@ impl Reason {
             ),
             Reason::EmptyIdentifier => (4, "empty-identifier", "an identifier is empty"),
             Reason::UnexpectedCharacter => (5, "unexpected-character", "unexpected character"),
-            Reason::TooLarge => (
-                6,
-                "too-large",
-                "numbers and raised bounds are at most 2^64 - 1",
-            ),
+            Reason::TooLarge => (6, "too-large", "numbers are at most 2^64 - 1"),
             Reason::TooLong => (
                 7,
                 "too-long",
@@ -207,15 +227,21 @@ impl Reason {
             ),
             Reason::CrateComma => (18, "crate-comma", "the crate takes no commas; Cargo does"),
             Reason::CrateV => (19, "crate-v", "the crate takes no leading v; npm does"),
-            Reason::NpmTooLarge => (
-                20,
-                "npm-too-large",
-                "npm's numbers and raised bounds are at most 2^53 - 1",
-            ),
+            Reason::NpmTooLarge => (20, "npm-too-large", "npm's numbers are at most 2^53 - 1"),
             Reason::TooManyComparators => (
                 21,
                 "too-many-comparators",
                 "Cargo takes at most 32 comparators",
+            ),
+            Reason::BoundTooLarge => (
+                22,
+                "bound-too-large",
+                "the bound above this number is above 2^64 - 1",
+            ),
+            Reason::NpmBoundTooLarge => (
+                23,
+                "npm-bound-too-large",
+                "the bound above this number is above npm's limit of 2^53 - 1",
             ),
         }
     }

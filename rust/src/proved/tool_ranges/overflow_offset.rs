@@ -1,35 +1,83 @@
 // Made by tools/erase.py from crates/tool_ranges/src/overflow_offset.rt; not edited by hand.
-//! Where a number of a range text is too large: the end of the first term that does not fit.
+//! Where a number of a range text is too large.
 
 use crate::rattle_std::prelude::*;
 use crate::proved::tool_ranges::dialect::Dialect;
 use crate::proved::tool_ranges::matching::fitting;
+use crate::proved::tool_ranges::table::limit;
+use crate::proved::invalid_strings::reasons::Reason;
+use crate::proved::semver_texts::bytes::run_len;
+use crate::proved::semver_texts::decimals::number_of_digits;
+use crate::proved::semver_texts::dotted::split_at_dot;
 
-/// The end of the first term of a range text that states a number, or has a raised bound, above the
-/// limit of the dialect: 21 in `=18446744073709551616 || 1`. It does not allocate.
+/// Returns where the number is, in the first term that does not fit, that is above the limit of the
+/// dialect or can't be raised: 1 in `=18446744073709551616 || 1`. It does not allocate.
 pub(crate) fn limit_offset(dialect: Dialect, text: &str) -> usize {
-    end_of_word(text.as_bytes(), fitting(text, dialect))
+    let begin = begin_of_word(text.as_bytes(), fitting(text, dialect));
+    begin + number_at(&text.as_bytes()[begin..], limit(dialect))
 }
 
-/// The end of the word that states a number after so many others, or of the last word.
-fn end_of_word(text: &[u8], others: u128) -> usize {
+/// Returns why the number at an offset is too large: it is above the limit of the dialect, or it is
+/// the limit and can't be raised.
+pub(crate) fn limit_reason(dialect: Dialect, text: &[u8]) -> Reason {
+    match number_of_digits(&text[..run_len(text)]) {
+        Some(number) if number == limit(dialect) => Reason::bound_too_large_in(dialect.grammar()),
+        _ => Reason::too_large_in(dialect.grammar()),
+    }
+}
+
+/// Returns where the word begins that states a number after so many others, or the last word.
+fn begin_of_word(text: &[u8], others: u128) -> usize {
     let mut begin = 0;
     let mut left = others;
     let mut rest = text;
     loop {
         let (word, after) = split_word(rest);
-        let end = begin + word.len();
         let Some(after) = after else {
-            return end;
+            return begin;
         };
         if states_number(word) {
             if left == 0 {
-                return end;
+                return begin;
             }
             left -= 1;
         }
-        begin = end + 1;
+        begin += word.len() + 1;
         rest = after;
+    }
+}
+
+/// Returns where the first number is, of a version at the beginning of a text, that isn't below a
+/// limit.
+fn number_at(text: &[u8], limit: u64) -> usize {
+    match text {
+        [b'v', components @ ..] => 1 + component_at(components, limit),
+        _ => component_at(text, limit),
+    }
+}
+
+/// Returns where the first component begins that isn't below a limit, or the last one.
+fn component_at(components: &[u8], limit: u64) -> usize {
+    let mut begin = 0;
+    let mut rest = components;
+    loop {
+        let (component, after) = split_at_dot(rest);
+        let Some(after) = after else {
+            return begin;
+        };
+        if !is_below(component, limit) {
+            return begin;
+        }
+        begin += component.len() + 1;
+        rest = after;
+    }
+}
+
+/// Returns whether a component begins with a number below a limit.
+fn is_below(component: &[u8], limit: u64) -> bool {
+    match number_of_digits(&component[..run_len(component)]) {
+        Some(number) => number < limit,
+        None => false,
     }
 }
 

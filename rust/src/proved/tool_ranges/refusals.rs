@@ -4,7 +4,7 @@
 use crate::rattle_std::prelude::*;
 use crate::proved::tool_ranges::dialect::Dialect;
 use crate::proved::tool_ranges::offset::{check, prefix_end};
-use crate::proved::tool_ranges::overflow_offset::limit_offset;
+use crate::proved::tool_ranges::overflow_offset::{limit_offset, limit_reason};
 use crate::proved::tool_ranges::reasons::reason_at;
 use crate::proved::invalid_strings::reasons::Reason;
 use crate::proved::semver_ranges::RangeError;
@@ -26,9 +26,9 @@ pub struct Refusal {
     /// `NotARange` or `NumberTooLarge`.
     pub error: RangeError,
     /// The byte offset of the first character that no range of the dialect has there, or the
-    /// length of the text if something is missing at its end. Of a number that is too large it is
-    /// the end of the first term that states a number, or has a raised bound, above the limit of
-    /// the dialect: 21 in `=18446744073709551616 || 1`.
+    /// length of the text if something is missing at its end. If a number is too large, it is that
+    /// of the first number, in the first term that doesn't fit, that is above the limit of the
+    /// dialect or can't be raised: 1 in `=18446744073709551616 || 1`.
     pub offset: usize,
     /// Why, which may say what another dialect takes there.
     pub reason: Reason,
@@ -63,7 +63,8 @@ fn explained(
     match error {
         RangeError::NumberTooLarge => {
             let offset = limit_offset(dialect, text);
-            Ok((offset, Reason::too_large_in(dialect.grammar())))
+            let reason = limit_reason(dialect, &text.as_bytes()[offset..]);
+            Ok((offset, reason))
         }
         _ => {
             let offset = prefix_end(dialect, text)?;

@@ -166,7 +166,7 @@ pub(crate) fn fits(simple: &Simple<'_>, dialect: Dialect) -> bool {
 
 /// Returns the highest number of a dialect.
 #[inline(always)]
-fn limit(dialect: Dialect) -> u64 {
+pub(crate) fn limit(dialect: Dialect) -> u64 {
     match dialect {
         Dialect::Npm => MAX_SAFE_INTEGER,
         Dialect::Cargo | Dialect::CrateCargo | Dialect::CrateNpm => u64::MAX,

@@ -14,8 +14,8 @@ loop-after-preserved c =
     let split = rw c.in-Some.is at c.split_at_dot.ensures in
     let below = sym c.is_below.ensures ∙ c.if-not-is_below.false in
     let step : component_at c.args.limit (slice_split is_dot c.loop-after.rest.now)
-        ≡ length component + 1 + component_at c.args.limit (slice_split is_dot more) =
-        ap (component_at c.args.limit) split.0
-        ∙ next_component c.args.limit component (slice_split is_dot more) (some_components more) below in
+    ≡ length component + 1 + component_at c.args.limit (slice_split is_dot more) =
+    ap (component_at c.args.limit) split.0
+    ∙ next_component c.args.limit component (slice_split is_dot more) (some_components more) below in
     let long = ap length split.1 in
     (omega (arith, so_far.0, step), omega (arith, so_far.1, long, length-append component (46 ∷ more)))
