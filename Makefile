@@ -169,12 +169,13 @@ archive:
 	mkdir -p "$$OUT" && to=$$OUT put "$$work" ./$(archive).tar.gz
 	echo "made $$OUT/$(archive).tar.gz"
 
-# The wheel is the same to the byte if the files that it has are.
-wheel: out/lib/$(shared)
+# The wheel by the build backend that pip has, too. It is the same to the byte if its files are.
+wheel:
 	$(begin)
 	may_write "$$OUT"
-	strip --strip-unneeded --remove-section=.comment -o "$$work/library" out/lib/$(shared)
-	name=$$(python3 tools/make-wheel.py "$$work/library" "$$work")
+	may_cargo
+	command -v python3 > /dev/null || refuse 'needs the command python3'
+	name=$$(TMPDIR=$$work python3 tools/make-wheel.py "$$work")
 	mkdir -p "$$OUT" && to=$$OUT put "$$work" "./$$name"
 	echo "made $$OUT/$$name"
 

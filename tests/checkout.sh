@@ -11,7 +11,7 @@ checkout="$work/a checkout"
 
 copy_checkout() {
     mkdir -p "$checkout" "$work/bin"
-    cp -R Cargo.toml crates.txt VERSION LICENSE-APACHE LICENSE-MIT Makefile debian semver-parser python \
+    cp -R Cargo.toml crates.txt VERSION LICENSE-APACHE LICENSE-MIT Makefile debian pyproject.toml semver-parser python \
         rust tests tools "$checkout"
     mkdir "$checkout/docs"
     cp -R docs/man "$checkout/docs"

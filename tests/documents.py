@@ -3,7 +3,7 @@
 promises of docs/PROOFS.md name is there; each public call says by a comment what fixes its answer, and the law, edit or
 file that the comment names is there; the example in Rattle of docs/COMING_FROM.md is crates/library_tests/src/example.rt;
 docs/PROOFS.md is made of the sources, docs/CRATES.md of crates.txt, and rust/src/docs of docs/; each file of lemmas begins with the call that it
-serves, and each lemma is cited; pages have the field's terms; the Python package has the licences; docs/ERASURE.md counts the lines by hand; and no paragraph or row of a table is in two of them.
+serves, and each lemma is cited; pages have the field's terms; the Rust crate has the licences; docs/ERASURE.md counts the lines by hand; and no paragraph or row of a table is in two of them.
 
 tests/documents.py --must-fail  shows that it fails where one of these is changed.
 tests/documents.py --proofs     prints docs/PROOFS.md.
@@ -544,11 +544,10 @@ def errors_of_lines_by_hand():
 
 
 def errors_of_licences():
-    """The Python package and the Rust crate have copies, since their tools take no file from above them."""
-    for copy in ('python', 'rust'):
-        for name in ('LICENSE-APACHE', 'LICENSE-MIT'):
-            if read(name) != read(f'{copy}/{name}'):
-                yield f'{copy}/{name} is another licence than {name}'
+    """The Rust crate has copies, since cargo takes no file from above it."""
+    for name in ('LICENSE-APACHE', 'LICENSE-MIT'):
+        if read(name) != read(f'rust/{name}'):
+            yield f'rust/{name} is another licence than {name}'
 
 
 def errors():
@@ -589,7 +588,6 @@ EDITS = [
     ('docs/PROOFS.md', '`one_parse`', 'equation'),
     ('docs/TESTED.md', 'C functions', 'calls for C'),
     ('docs/COMING_FROM.md', '`VersionSet::lowest`', '`VersionSet::least`'),
-    ('python/LICENSE-MIT', 'WITHOUT WARRANTY', 'WITHOUT ANY WARRANTY'),
     ('rust/LICENSE-MIT', 'WITHOUT WARRANTY', 'WITHOUT ANY WARRANTY'),
     ('docs/TESTED.md', 'temporary directory', 'temporary folder'),
     ('docs/MEANING.md', '## Terms\n', '## Terms\n\n| a | b | c | d |\n|---|---|---|---|\n| `crate-npm` | the crate, npm mode | `CrateNpm` | `CRATE_NPM` |\n'),
