@@ -139,9 +139,7 @@ install install-python:
 	again stage$(@:install%=%)
 	put_all "$$work/tree$$PREFIX"
 	case $$to in /usr | /usr/local) ldconfig 2> /dev/null || : ;; esac
-	where=$$PREFIX/$${PACKAGES-}
-	[ $@ = install ] || python3 -c 'import sys; exit(sys.argv[1] not in sys.path)' "$$where" ||
-		echo "python3 finds the package where PYTHONPATH has $$where"
+	[ "$$to" != "$$PREFIX" ] || say_what_to_set $(LIBDIR) "$${PACKAGES-}"
 
 uninstall:
 	$(begin)

@@ -14,7 +14,7 @@ copy_checkout() {
     cp -R Cargo.toml crates.txt VERSION LICENSE-APACHE LICENSE-MIT Makefile debian pyproject.toml semver-parser python \
         rust tests tools "$checkout"
     mkdir "$checkout/docs"
-    cp -R docs/man "$checkout/docs"
+    cp -R docs/man docs/examples "$checkout/docs"
 }
 
 # stub COMMAND BODY: what runs as the command from now on.
