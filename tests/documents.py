@@ -64,9 +64,6 @@ MADE = ('docs/PROOFS.md', 'docs/CRATES.md', *RUST_PAGES)
 # How many words a paragraph has that may be in one page only.
 TELLING = 12
 
-# How many words README may have.
-MOST_WORDS = 1000
-
 
 def read(path):
     with open(os.path.join(TOP, path), encoding='utf-8') as file:
@@ -495,13 +492,6 @@ def errors_of_telling():
                 yield f'{page} tells what {first[telling]} does: {" ".join(telling)[:60]}'
 
 
-def errors_of_length():
-    """README has few words."""
-    count = len(read('README.md').split())
-    if count > MOST_WORDS:
-        yield f'README.md has {count} words, and at most {MOST_WORDS} may be'
-
-
 def errors_of_the_readme():
     """The example in Rust of README.md is of that in rust/README.md, which cargo runs."""
     [example], whole = re.findall(r'^```rust\n(.*?)^```', read('README.md'), re.M | re.S), read('rust/README.md')
@@ -553,7 +543,7 @@ def errors_of_licences():
 def errors():
     for check in (
         errors_of_links, errors_of_files, errors_of_promises, errors_of_proofs, errors_of_answers, errors_of_clauses,
-        errors_of_the_example, errors_of_words, errors_of_words_in_prose, errors_of_paths, errors_of_telling, errors_of_length, errors_of_the_readme, errors_of_ranges, errors_of_rust_pages, errors_of_crates,
+        errors_of_the_example, errors_of_words, errors_of_words_in_prose, errors_of_paths, errors_of_telling, errors_of_the_readme, errors_of_ranges, errors_of_rust_pages, errors_of_crates,
         errors_of_lemmas, errors_of_citations, errors_of_licences, errors_of_lines_by_hand,
     ):
         yield from check()
@@ -564,7 +554,6 @@ EDITS = [
     ('crates/tool_ranges/src/meaning.rt', 'ensures refusals {', 'ensures refused {'),
     ('crates/release_filter/src/lines.rt', 'ensures stops {', 'ensures stopped {'),
     ('README.md', '(docs/GRAMMAR.md)', '(docs/GRAMMARS.md)'),
-    ('README.md', 'Licence: ', 'Licence: ' + 'or ' * 400),
     ('README.md', '("1.9.0", "^1.2"', '("1.9.0", "^1.3"'),
     ('docs/MEANING.md', '## Terms', '## Words'),
     ('docs/ERASURE.md', 'tests/erased.py', 'tests/erases.py'),
