@@ -313,6 +313,41 @@ mkdir -p out && printf '#!/bin/sh\necho \"<\$1>\"\nexit 7\n' > out/semver_parser
     proves 3
 }
 
+# While the kit proves, standard error has the crates that the program is made of, each as it begins: a
+# line for each, and at a terminal one line that is rewritten.
+what_it_proves() {
+    printf '# what\na: thiserror\nb: a\nsemver_parser_main: a\n' > "$small/crates.txt"
+    mkdir -p "$small/crates/a"
+    stub rt "shows() {
+    for turn in \$(seq 300); do ! grep -q \"\$1\" '$work/stdout' '$work/stderr' || return 0; sleep 0.1; done
+}
+mkdir -p ../a/out && : > ../a/out/begun && shows 'crate 1 of 2: a'
+echo 'so far: 2 of 3 functions checked'
+[ -z \"\$AT_TERMINAL\" ] || shows '2 of 3'
+mkdir -p out && : > out/begun && shows 'crate 2 of 2'
+echo 'so far: 4 of 9 functions checked; the verdict comes last'
+[ -z \"\$AT_TERMINAL\" ] || shows '4 of 9'
+$proving"
+    export AT_TERMINAL=''
+    : > "$work/proofs"
+    proves 1
+    has 'proving semver-parser, which takes several minutes
+crate 1 of 2: a
+crate 2 of 2: semver_parser_main' stderr
+    command -v script > /dev/null || { echo 'installed programs: no script, so no terminal is tried' && return; }
+    touch "$small/crates.txt"
+    rm -r "$small"/crates/*/out
+    AT_TERMINAL=yes
+    ends 7 script -qec "'$small/semver-parser' 'a b' 2>&1" /dev/null
+    tr '\r' '\n' < "$work/stdout" | sed 's/\x1b\[K//' | grep -v '^$' | uniq > "$work/lines"
+    has 'proving semver-parser, which takes several minutes
+crate 1 of 2: a
+crate 1 of 2: a, 2 of 3 functions checked
+crate 2 of 2: semver_parser_main
+crate 2 of 2: semver_parser_main, 4 of 9 functions checked
+<a b>' lines
+}
+
 # A failed proof says why, and runs nothing; and so does a stopped one, which ends by the signal.
 when_a_proof_fails() {
     touch "$small/crates.txt"
@@ -392,6 +427,7 @@ sonames
 installed_for_python
 refused_arguments
 when_it_proves
+what_it_proves
 when_a_proof_fails
 where_nothing_may_be_written
 where_root_may_not_build
