@@ -1,8 +1,8 @@
 #!/usr/bin/env python3
 """Writes the steps of an action for a shell, as GitHub's runner does.
 
-    tests/action-steps.py ACTION DIRECTORY            a file for each step, to be run by bash in turn
-    tests/action-steps.py --workflow ACTION WORKFLOW  checks that a workflow has no input that the action lacks
+    tests/action-steps.py ACTION DIRECTORY            a file for each step, for bash in turn
+    tests/action-steps.py --workflow ACTION WORKFLOW  checks that the inputs of a workflow are known
 
 The inputs are taken from the variables INPUT_NAME. It needs PyYAML."""
 
@@ -28,8 +28,14 @@ def filled(text, inputs):
     return re.sub(r'\$\{\{ inputs\.(\w+) \}\}', lambda found: inputs[found[1]], str(text))
 
 
+def given(action):
+    """The inputs, as the environment or the action has them."""
+    return {name: os.environ.get(f'INPUT_{name.upper()}', it.get('default', ''))
+            for name, it in action['inputs'].items()}
+
+
 def write_steps(action, directory):
-    inputs = {name: os.environ.get(f'INPUT_{name.upper()}', it.get('default', '')) for name, it in action['inputs'].items()}
+    inputs = given(action)
     shutil.rmtree(directory, ignore_errors=True)
     os.mkdir(directory)
     assert action['runs']['using'] == 'composite'
@@ -37,7 +43,8 @@ def write_steps(action, directory):
         assert step['shell'] == 'bash', step
         # A text of a step in which an input was put could be any command.
         assert '${{' not in step['run'], step
-        variables = ''.join(f'export {name}={shlex.quote(filled(value, inputs))}\n' for name, value in step.get('env', {}).items())
+        env = {name: filled(value, inputs) for name, value in step.get('env', {}).items()}
+        variables = ''.join(f'export {name}={shlex.quote(it)}\n' for name, it in env.items())
         assert '${{' not in variables, variables
         with open(os.path.join(directory, f'{number:02}.sh'), 'w', encoding='utf-8') as file:
             file.write(HEAD + variables + step['run'])

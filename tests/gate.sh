@@ -1,8 +1,8 @@
 #!/bin/sh
-# Tests that ./test says first what it runs and then how each part ended, runs each step also after a
-# failed one, names what was skipped and what failed at its end, and has status 1 if something failed;
-# and that without the kit it runs what needs none, and has status 2. A copy of it runs in a directory
-# that has stubs in place of all that it runs.
+# Tests that ./test says first what it runs and then how each part ended, runs each step also after
+# a failed one, names what was skipped and what failed at its end, and has status 1 if something
+# failed; and that without the kit it runs what needs none, and has status 2. A copy of it runs in a
+# directory that has stubs in place of all that it runs.
 set -eu
 unset CDPATH
 cd "$(dirname "$0")/.."
@@ -17,8 +17,8 @@ fail() {
     exit 1
 }
 
-# stub FILE BODY: a script that writes its name, fails if the variable FAILING has it, and says that it
-# tries nothing if SKIPPING has it.
+# stub FILE BODY: a script that writes its name, fails if the variable FAILING has it, and says that
+# it tries nothing if SKIPPING has it.
 stub() {
     mkdir -p "$(dirname "$1")"
     cat > "$1" << END
@@ -73,11 +73,13 @@ ends() {
 
 # says_how_each_ended: what runs comes first, then a line for each part, and the parts are counted.
 says_how_each_ended() {
-    grep -n '^This runs, side by side:$' "$work/said" | grep -q '^[12]:' || fail 'it does not say first what it runs'
+    grep -n '^This runs, side by side:$' "$work/said" | grep -q '^[12]:' ||
+        fail 'it does not say first what it runs'
     grep -q 'rt ci: proofs of 2 crates' "$work/said" || fail 'it counts other crates'
     for ended in passed failed; do
         count=$(grep -c "^$ended: .* ([0-9]* s)$" "$work/said") || :
-        grep -q "^parts: .*\<$count $ended\>" "$work/said" || fail "$count lines say that a part $ended"
+        grep -q "^parts: .*\<$count $ended\>" "$work/said" ||
+            fail "$count lines say that a part $ended"
     done
 }
 
@@ -97,15 +99,15 @@ runs() {
 # skips LINE..: these are named as skipped.
 skips() {
     printf '    %s\n' "$@" | LC_ALL=C sort > "$work/wanted"
-    sed -n '/^skipped:$/,/^[^ s]/s/^    /    /p' "$work/said" | LC_ALL=C sort | cmp -s - "$work/wanted" ||
-        fail "it should name as skipped: $*"
+    sed -n '/^skipped:$/,/^[^ s]/s/^    /    /p' "$work/said" | LC_ALL=C sort |
+        cmp -s - "$work/wanted" || fail "it should name as skipped: $*"
 }
 
 make_copy
 tools=$work/bin:$PATH
 export FAILING='' SKIPPING='' BUILDS_NOTHING=''
 ends 0
-! grep -q '^failed:\|^skipped:' "$work/said" || fail 'it names a step, and none failed or was skipped'
+! grep -q '^failed:\|^skipped:' "$work/said" || fail 'it names a step that did not fail'
 all=$(grep -c '^ran ' "$work/said")
 SKIPPING='serde.sh documents.py'
 ends 0
@@ -140,7 +142,7 @@ else
     ends 2
     runs $((all - 8))
     ! grep -q '^ran .*\(rt\|runs.sh\)' "$work/said" || fail 'something of the kit runs'
-    tail -n 1 "$work/said" | grep -q '^test: there is no command rt, so these were not run: the proofs,' ||
+    tail -n 1 "$work/said" | grep -q '^test: there is no command rt, so these were not run: the ' ||
         fail 'it does not say what was not run'
     ends 2 all
     skips 'audit: no rt, so it is not run'

@@ -1,9 +1,9 @@
 #!/bin/sh
-# Tests that each command of README by which people take this works for somebody who has cargo, Python
-# and the system, and nothing else: no kit, nothing installed, no variable set, and no network if the
-# system allows that. `URL` in the commands is a clone of the files that git lists, as they are now, and
-# `REV` its commit. It needs cargo, git and python3, and tries what needs pre-commit, PyYAML or
-# ensurepip if these are there.
+# Tests that each command of README by which people take this works for somebody who has cargo,
+# Python and the system, and nothing else: no kit, nothing installed, no variable set, and no
+# network if the system allows that. `URL` in the commands is a clone of the files that git lists,
+# as they are now, and `REV` its commit. It needs cargo, git and python3, and tries what needs
+# pre-commit, PyYAML or ensurepip if these are there.
 set -eu
 unset CDPATH
 cd "$(dirname "$0")/.."
@@ -43,7 +43,14 @@ ends() {
     wanted=$1 status=0
     shift
     alone "$@" > "$work/output" 2> "$work/log" || status=$?
-    [ "$status" = "$wanted" ] || { cat "$work/output" && fails "$*: status $status instead of $wanted"; }
+    has_ended "$*"
+}
+
+# has_ended WHAT: the status has to be the wanted one.
+has_ended() {
+    [ "$status" = "$wanted" ] && return
+    cat "$work/output"
+    fails "$1: status $status instead of $wanted"
 }
 
 # lists FILE WANTED: the file has to hold the lines.
@@ -75,7 +82,8 @@ make_clone() {
 
 # block_after COMMAND: what README shows as the output of a command.
 block_after() {
-    awk -v command="    \$ $1" '$0 == command { here = 1; next } here && (!/^    / || /^    \$ /) { exit }
+    awk -v command="    \$ $1" '$0 == command { here = 1; next }
+        here && (!/^    / || /^    \$ /) { exit }
         here { print substr($0, 5) }' "$top/README.md"
 }
 
@@ -111,14 +119,16 @@ for_python_by_a_sum() {
 
 # The programs, and a crate that depends on this one, each by the URL.
 for_cargo() {
-    ends 0 sh -c "$(as_written 'cargo install --git URL semver-parser-proved') --root '$work/programs'"
+    command=$(as_written 'cargo install --git URL semver-parser-proved')
+    ends 0 sh -c "$command --root '$work/programs'"
     ends 0 "$work/programs/bin/compare-ranges" 1.2
     block_after 'compare-ranges 1.2' > "$work/wanted"
     lists output wanted
     ends 0 cargo init --quiet --name user "$work/user"
-    (cd "$work/user" && ends 0 sh -c "$(as_written 'cargo add --git URL semver-parser-proved --rename semver-parser')")
-    echo 'fn main() { println!("{}", semver_parser::satisfies("1.9.0", "^1.2", semver_parser::Dialect::Npm).unwrap()) }' \
-        > "$work/user/src/main.rs"
+    command=$(as_written 'cargo add --git URL semver-parser-proved --rename semver-parser')
+    (cd "$work/user" && ends 0 sh -c "$command")
+    echo 'use semver_parser::{satisfies, Dialect::Npm};
+fn main() { println!("{}", satisfies("1.9.0", "^1.2", Npm).unwrap()) }' > "$work/user/src/main.rs"
     (cd "$work/user" && ends 0 cargo run --quiet --offline)
     echo true > "$work/wanted"
     lists output wanted
@@ -126,11 +136,15 @@ for_cargo() {
 
 # yaml_of_readme TEXT: the block of YAML in README that has the text.
 yaml_of_readme() {
-    awk -v text="$1" '/^```/ { if (has) printf "%s", block; here = /^```yaml/; block = ""; has = 0; next }
+    awk -v text="$1" '/^```/ {
+            if (has) printf "%s", block
+            here = /^```yaml/; block = ""; has = 0
+            next
+        }
         here { block = block $0 "\n"; if (index($0, text)) has = 1 }' "$top/README.md"
 }
 
-# hook ID STATUS ARGUMENT..: pre-commit runs the hook of README, under this name, and has this status.
+# hook ID STATUS ARGUMENT..: pre-commit runs the hook of README, under this name, with this status.
 hook() {
     id=$1 wanted_status=$2
     shift 2
@@ -140,11 +154,11 @@ hook() {
     (cd "$work/hooked" && ends "$wanted_status" pre-commit run "$@")
 }
 
-# pre-commit installs the hook by itself, and runs it if a lock file, a manifest or a setting changed;
-# the other hook also if one is deleted.
+# pre-commit installs the hook by itself, and runs it if a lock file, a manifest or a setting
+# changed; the other hook also if one is deleted.
 for_pre_commit() {
-    command -v pre-commit > /dev/null ||
-        { echo 'installs: no pre-commit (Debian: apt-get install pre-commit), so it is not tried' && return; }
+    alone sh -c 'command -v pre-commit' > /dev/null ||
+        { echo 'installs: no pre-commit (Debian: pre-commit), so it is not tried' && return; }
     cp -R "$work/monorepo" "$work/hooked"
     git -C "$work/hooked" init -q
     git -C "$work/hooked" add -f .
@@ -153,8 +167,10 @@ for_pre_commit() {
     sed -n '/^[^ ]*\(lock.json\|\.lock\): /p' "$work/output" > "$work/listed"
     lists listed found
     hook check-lock-file 0
-    grep -q 'no files to check' "$work/output" || fails 'the hook runs for a file that it has nothing to do with'
-    git -C "$work/hooked" reset -q --hard && : > "$work/hooked/.npmrc" && git -C "$work/hooked" add -f .npmrc
+    grep -q 'no files to check' "$work/output" || fails 'the hook runs for any other file'
+    git -C "$work/hooked" reset -q --hard
+    : > "$work/hooked/.npmrc"
+    git -C "$work/hooked" add -f .npmrc
     hook check-lock-file 1
     ! grep -q 'no files to check' "$work/output" || fails "the hook doesn't run for .npmrc"
     git -C "$work/hooked" reset -q --hard
@@ -166,7 +182,7 @@ for_pre_commit() {
 # The hook runs for each file that check-lock-file knows by its name, and for settings of the tools.
 for_each_name() {
     has_yaml 'which files the hook is for' || return 0
-    "$python" - "$clone" << 'END' > "$work/log" || fails 'the hook runs for other files than it should'
+    "$python" - "$clone" << 'END' > "$work/log" || fails 'the hook runs for other files'
 import re, sys, yaml
 sys.dont_write_bytecode = True
 sys.path.insert(0, sys.argv[1] + "/python")
@@ -175,8 +191,9 @@ from semver_parser.checks import discovery
 with open(sys.argv[1] + "/.pre-commit-hooks.yaml") as file:
     hook = yaml.safe_load(file)[0]
 names = [*discovery.NAMES, *discovery.FOR, ".yarnrc", ".yarnrc.yml", ".pnpmfile.cjs", "bunfig.toml"]
-lacks = [it for it in names if not (re.search(hook["files"], it) and re.search(hook["files"], f"a/{it}"))]
-has = [it for it in ("a.lock", "xpackage.json", "package.json.md", "Cargo.lock/a") if re.search(hook["files"], it)]
+others = ["a.lock", "xpackage.json", "package.json.md", "Cargo.lock/a"]
+lacks = [it for name in names for it in (name, f"a/{name}") if not re.search(hook["files"], it)]
+has = [it for it in others if re.search(hook["files"], it)]
 print(lacks, has)
 sys.exit(bool(lacks or has))
 END
@@ -192,16 +209,17 @@ has_yaml() {
 # action ARGS FORMAT STATUS: runs the steps of action.yml, but for the first one if that has run, as
 # GitHub does: each by bash, with the inputs in its environment, until one fails.
 action() {
-    INPUT_ARGS=$1 INPUT_FORMAT=$2 "$python" "$top/tests/action-steps.py" "$clone/action.yml" "$work/steps"
+    INPUT_ARGS=$1 INPUT_FORMAT=$2 "$python" "$top/tests/action-steps.py" \
+        "$clone/action.yml" "$work/steps"
     [ ! -e "$work/runner/check-lock-file" ] || rm "$work/steps/00.sh"
     wanted=$3 status=0
     for step in "$work"/steps/*; do
         status=0
-        (cd "$work/monorepo" && alone GITHUB_ACTION_PATH="$clone" RUNNER_TEMP="$work/runner" GITHUB_ACTIONS=true \
-            bash "$step") > "$work/output" 2> "$work/log" || status=$?
+        (cd "$work/monorepo" && alone GITHUB_ACTION_PATH="$clone" RUNNER_TEMP="$work/runner" \
+            GITHUB_ACTIONS=true bash "$step") > "$work/output" 2> "$work/log" || status=$?
         [ "$status" = 0 ] || break
     done
-    [ "$status" = "$wanted" ] || { cat "$work/output" && fails "the action ends with $status instead of $wanted"; }
+    has_ended 'the action'
 }
 
 # GitHub: the action, without inputs and with those of README.
@@ -211,7 +229,8 @@ for_github() {
     "$python" "$top/tests/action-steps.py" --workflow "$clone/action.yml" "$work/workflow"
     git -C "$work/monorepo" init -q && git -C "$work/monorepo" add -f .
     action '' github 1
-    [ "$(grep -c '^::error file=' "$work/output")" = "$(wc -l < "$work/found")" ] || fails 'other annotations are written'
+    [ "$(grep -c '^::error file=' "$work/output")" = "$(wc -l < "$work/found")" ] ||
+        fails 'other annotations are written'
     mkdir -p "$work/monorepo/ci"
     sed 's/$/ # known/' "$work/found" > "$work/monorepo/ci/known.txt"
     action '--allow ci/known.txt' text 0

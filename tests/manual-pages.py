@@ -1,6 +1,6 @@
 #!/usr/bin/env python3
-"""Compares the pages of docs/manual with what mandoc lays out of the manuals of docs/man: they have the same words in the
-same order. It needs mandoc."""
+"""Compares the pages of docs/manual with what mandoc lays out of the manuals of docs/man: they have
+the same words in the same order. It needs mandoc."""
 
 import os
 import re
@@ -18,10 +18,12 @@ def read(path):
 
 def words_of_manual(path):
     """The words that mandoc shows of a manual, but for its first and last line."""
-    shown = subprocess.run(['mandoc', '-T', 'utf8', '-O', 'width=1000', os.path.join(TOP, path)], capture_output=True, text=True, check=True)
-    lines = re.sub('.\b', '', shown.stdout).strip().splitlines()[1:-1]
-    # A long word is divided at the end of a line with a hyphen of its own.
-    return '\n'.join(lines).replace('\u2010\n', '').replace('\u2010', '-').replace('\u2019', "'").replace('\u00a0', ' ').lower().split()
+    command = ['mandoc', '-T', 'utf8', '-O', 'width=1000', os.path.join(TOP, path)]
+    shown = subprocess.run(command, capture_output=True, text=True, check=True).stdout
+    text = '\n'.join(re.sub('.\b', '', shown).strip().splitlines()[1:-1])
+    for sign, plain_sign in (('\u2010', '-'), ('\u2019', "'"), ('\u00a0', ' ')):
+        text = text.replace(sign, plain_sign)
+    return text.lower().split()
 
 
 def words_of_page(path):
@@ -47,20 +49,27 @@ def plain(text):
     return ''.join(pieces)
 
 
+def differs(page):
+    """Whether a page has other words than its manual, of which it prints the first ones."""
+    manual = words_of_manual(f'docs/man/{page[:-3]}')
+    shown = words_of_page(f'docs/manual/{page}')
+    if manual == shown:
+        return False
+    at = len(os.path.commonprefix([manual, shown]))
+    print(f'{page}: {" ".join(shown[at:][:8])}\ninstead of\n{" ".join(manual[at:][:8])}')
+    return True
+
+
 def main():
     if not shutil.which('mandoc'):
-        print('manual pages: no mandoc (Debian: apt-get install mandoc), so they are not compared')
+        print('manual pages: no mandoc (Debian: mandoc), so they are not compared')
         return 0
-    failed = False
     pages = sorted(os.listdir(os.path.join(TOP, 'docs/manual')))
-    for page in pages:
-        manual, shown = words_of_manual(f'docs/man/{page[:-3]}'), words_of_page(f'docs/manual/{page}')
-        if manual != shown:
-            failed = True
-            at = next((at for at, (one, other) in enumerate(zip(manual, shown)) if one != other), min(len(manual), len(shown)))
-            print(f'{page}: {" ".join(shown[at:][:8])}\nin place of\n{" ".join(manual[at:][:8])}')
-    print('manual pages: failed' if failed else f'manual pages: all {len(pages)} have the words that mandoc shows, passed')
-    return 1 if failed else 0
+    if any([differs(page) for page in pages]):
+        print('manual pages: failed')
+        return 1
+    print(f'manual pages: all {len(pages)} have the words that mandoc shows, passed')
+    return 0
 
 
 sys.exit(main())

@@ -137,14 +137,15 @@ remove_all() {
     done
 }
 
-# say_what_to_set LIBRARIES PACKAGES: if the system doesn't look below PREFIX, writes the commands after
-# which a shell finds the programs, a compiler the header and the library, and python3 the package.
+# say_what_to_set LIBRARIES PACKAGES: if the system doesn't look below PREFIX, writes the commands
+# after which a shell finds the programs, a compiler the header and the library, and python3 the
+# package.
 say_what_to_set() {
     libraries=$PREFIX/$1 packages=$PREFIX/$2
     {
         case :$PATH: in *":$PREFIX/bin:"*) ;; *) sets PATH "$PREFIX/bin" ;; esac
-        [ "$(pkg-config --variable=pcfiledir semver_parser 2> /dev/null)" = "$libraries/pkgconfig" ] ||
-            sets PKG_CONFIG_PATH "$libraries/pkgconfig"
+        found=$(pkg-config --variable=pcfiledir semver_parser 2> /dev/null) || :
+        [ "$found" = "$libraries/pkgconfig" ] || sets PKG_CONFIG_PATH "$libraries/pkgconfig"
         loads_from "$libraries" || sets LD_LIBRARY_PATH "$libraries"
         [ -z "$2" ] || python3 -c 'import sys; exit(sys.argv[1] not in sys.path)' "$packages" ||
             sets PYTHONPATH "$packages"

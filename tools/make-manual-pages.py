@@ -16,12 +16,13 @@ MANUALS = sorted(it for it in (TOP / "docs/man").iterdir() if it.name != "semver
 
 ROMAN, BOLD, ITALIC, BREAK = "R", "B", "I", "break"
 IGNORED = ("na", "ad")
-ESCAPES = {"-": "-", "e": "\\", "~": "\u00a0", "&": "", "(aq": "'", "(lq": "“", "(rq": "”", "(ti": "~", "(ha": "^"}
+ESCAPES = {"-": "-", "e": "\\", "~": "\u00a0", "&": "", "(aq": "'", "(lq": "“", "(rq": "”"}
+ESCAPES |= {"(ti": "~", "(ha": "^"}
 ESCAPE = re.compile(r"\\(f[BIRP]|\(..|.)")
 
 # What Markdown would take for a mark in a text, and at the start of a line.
 MARKS = re.compile(r"([\\`*\[\]<>]|(?<![A-Za-z0-9])_|_(?![A-Za-z0-9]))")
-MARK_AT_START = re.compile(r"([-+#]|\d+[.)])(?= |$)")
+MARK_AT_START = re.compile(r"^(\d+(?=[.)])|(?=[-+#]))(?=\S(?: |$))")
 
 WIDTH = 98
 
@@ -62,8 +63,8 @@ def fonts(macro, given):
 
 
 class Reader:
-    """Reads the lines of a manual into blocks: a heading, a paragraph of runs, an example, or an item
-    with a tag and blocks of its own."""
+    """Reads the lines of a manual into blocks: a heading, a paragraph of runs, an example, or an
+    item with a tag and blocks of its own."""
 
     def __init__(self):
         self.blocks = []
@@ -153,7 +154,8 @@ def inline(runs):
     written, runs = [], merged(runs)
     for at, (font, text) in enumerate(runs):
         # Blanks beside a mark of Markdown have to be outside of it.
-        before, text, after = re.fullmatch(r"(\s*)(.*?)(\s*)", text.replace("\u00a0", " "), re.S).groups()
+        text = text.replace("\u00a0", " ")
+        before, text, after = re.fullmatch(r"(\s*)(.*?)(\s*)", text, re.S).groups()
         section = re.match(r"\((\d)\)", runs[at + 1][1]) if runs[at + 1 :] else None
         if font == BREAK:
             text = "\\\n"
@@ -181,9 +183,9 @@ def wrapped(runs, indent):
     """Returns the lines of a paragraph."""
     parts = []
     for part in inline(runs).split("\\\n"):
-        lines = textwrap.wrap(part, WIDTH - len(indent), break_on_hyphens=False, break_long_words=False)
-        lines = [MARK_AT_START.sub(r"\\\1", it, count=1) if MARK_AT_START.match(it) else it for it in lines]
-        parts.append("\n".join(lines))
+        wrapper = textwrap.TextWrapper(WIDTH - len(indent))
+        wrapper.break_on_hyphens = wrapper.break_long_words = False
+        parts.append("\n".join(re.sub(MARK_AT_START, r"\1\\", it) for it in wrapper.wrap(part)))
     return textwrap.indent("\\\n".join(parts), indent)
 
 
@@ -203,7 +205,8 @@ def block(it, indent=""):
 def page(manual):
     """Returns the page of a manual."""
     name, section, blocks = read_manual(manual.read_text(encoding="utf-8"))
-    said = f"Made of [docs/man/{manual.name}](../man/{manual.name}), which is what `man {name}` shows."
+    source = f"[docs/man/{manual.name}](../man/{manual.name})"
+    said = f"Made of {source}, which is what `man {name}` shows."
     return "\n\n".join([f"# {name}({section})", said, *map(block, blocks)]) + "\n"
 
 

@@ -1,9 +1,9 @@
 #!/usr/bin/env python3
 """Makes a wheel of the Python package with the shared library inside.
 
-    tools/make-wheel.py DIRECTORY            has cargo build the library
-    tools/make-wheel.py LIBRARY DIRECTORY    takes a library that was built, also for another platform
-    tools/make-wheel.py --sdist DIRECTORY    makes an archive of the sources, from which pip builds it
+    tools/make-wheel.py DIRECTORY          has cargo build the library
+    tools/make-wheel.py LIBRARY DIRECTORY  takes a library that was built, also for another system
+    tools/make-wheel.py --sdist DIRECTORY  makes an archive of the sources, of which pip builds it
 
 This is what pip does with the repository, too, by the build backend tools/python_backend. It needs
 Python 3.9 or later. Prints the name of the file."""

@@ -1,9 +1,10 @@
 #!/bin/sh
 # Tests the Python package: its unit tests, over the table of cases too, with the shared library
-# that `make install` puts; its types, if mypy is there; and what the build backend makes: the wheel,
-# the archive of sources, and what `pip install -e .` installs, each in a virtual environment of its
-# own without a network. It installs nothing, is beside the gate, and needs cargo, python3 and a C
-# compiler (Debian: apt-get install cargo gcc python3 python3-venv). PYTHON names another python3.
+# that `make install` puts, and with that of the wheel; its types, if mypy is there; and what the
+# build backend makes: the wheel, the archive of sources, and what `pip install -e .` installs, each
+# in a virtual environment of its own without a network. It installs nothing, is beside the gate, and
+# needs cargo, python3 and a C compiler (Debian: apt-get install cargo gcc python3 python3-venv).
+# PYTHON names another python3.
 set -eu
 top=$(dirname -- "$(dirname -- "$(dirname -- "$(readlink -f -- "$0")")")")
 . "$top/tools/built.sh"
@@ -17,8 +18,13 @@ again "$library" || refuse 'cannot build the C library'
 cd "$top/python"
 unset PYTHONPATH
 export PYTHONDONTWRITEBYTECODE=1
-SEMVER_PARSER_LIBRARY=$top/$library "$python" -W error -m unittest discover --start-directory tests --top-level-directory . ||
-    refuse 'the Python package failed'
+
+# passes_with LIBRARY: the unit tests pass with a library.
+passes_with() {
+    SEMVER_PARSER_LIBRARY=$1 "$python" -W error -m unittest discover --start-directory tests \
+        --top-level-directory . || refuse "the Python package failed with $1"
+}
+passes_with "$top/$library"
 
 # ---- its types
 
@@ -91,7 +97,8 @@ tags() {
     has_tag "$work/other.dylib" macosx-14.2-arm64 macosx_14_2_arm64 'libsemver_parser\.dylib'
     printf '\317\372\355\376\007\0\0\001' > "$work/other.dylib"
     has_tag "$work/other.dylib" macosx-10.9-universal2 macosx_10_12_x86_64 'libsemver_parser\.dylib'
-    readelf -dW "$work/other.so" | grep -q 'NEEDED.*\[libc\.so\.6\]' || refuse 'the library needs no C library'
+    readelf -dW "$work/other.so" | grep -q 'NEEDED.*\[libc\.so\.6\]' ||
+        refuse 'the library needs no C library'
     sed 's/libc\.so\.6/libd.so.6/' "$work/other.so" > "$work/unusual.so"
     has_tag "$work/unusual.so" '' linux_aarch64 'libsemver_parser\.so\.1'
     printf 'MZ' > "$work/other.dll"
@@ -132,10 +139,11 @@ assert tables_of(text) == tomllib.loads(text)')
 described_by_setuptools() {
     mkdir "$work/source"
     cp -RL "$top/python" "$top"/LICENSE-* "$work/source"
-    sed 's/^requires = .*/requires = ["setuptools"]/; s/^build-backend = .*/build-backend = "setuptools.build_meta"/
-        /^backend-path/d' "$top/pyproject.toml" > "$work/source/pyproject.toml"
-    printf '%s\n' '[tool.setuptools]' 'license-files = ["LICENSE-*"]' 'packages = ["semver_parser"]' \
-        'package-dir = { "" = "python" }' '[tool.setuptools.dynamic]' \
+    sed 's/^requires = .*/requires = ["setuptools"]/; /^backend-path/d
+        s/^build-backend = .*/build-backend = "setuptools.build_meta"/' \
+        "$top/pyproject.toml" > "$work/source/pyproject.toml"
+    printf '%s\n' '[tool.setuptools]' 'license-files = ["LICENSE-*"]' \
+        'packages = ["semver_parser"]' 'package-dir = { "" = "python" }' '[tool.setuptools.dynamic]' \
         'version = { attr = "semver_parser.__version__" }' >> "$work/source/pyproject.toml"
     "$python" -m pip --isolated --disable-pip-version-check wheel --quiet --no-index --no-deps \
         --no-build-isolation --no-cache-dir --wheel-dir "$work/by-setuptools" "$work/source"
@@ -145,9 +153,11 @@ described_by_setuptools() {
 # ends_without_cargo: pip says in one sentence that there is no cargo.
 ends_without_cargo() {
     status=0
-    env PATH=/nowhere "$work/environment/bin/python" -m pip --isolated --disable-pip-version-check wheel \
-        --no-index --no-cache-dir --wheel-dir "$work/none" "$top" > "$work/told" 2>&1 || status=$?
-    [ "$status" = 1 ] && grep -q "^ *semver-parser-proved: the library is built by the command cargo, 1\.79 or later, which isn't there" "$work/told" &&
+    env PATH=/nowhere "$work/environment/bin/python" -m pip --isolated --disable-pip-version-check \
+        wheel --no-index --no-cache-dir --wheel-dir "$work/none" "$top" > "$work/told" 2>&1 ||
+        status=$?
+    why="the library is built by the command cargo, 1\.79 or later, which isn't there"
+    [ "$status" = 1 ] && grep -q "^ *semver-parser-proved: $why" "$work/told" &&
         grep -q '\[1 lines of output\]' "$work/told" || refuse "without cargo: $(cat "$work/told")"
 }
 
@@ -170,6 +180,7 @@ works "$work/environment"
 grep -q "^ *semver_parser/libsemver_parser\.so\.[0-9.]*$" "$work/lines" || refuse 'the wheel has no library'
 "$work/environment/bin/python" -c 'from importlib.metadata import requires
 assert requires("semver-parser-proved") == ["PyYAML; extra == \"pnpm\""], requires("semver-parser-proved")'
+passes_with "$(find "$work/environment" -name 'libsemver_parser.so.*')"
 ends_without_cargo
 
 # The archive of sources, made twice, and the wheel that is built of it.
@@ -178,7 +189,8 @@ for directory in sources sources-again; do
     "$python" "$top/tools/make-wheel.py" --sdist "$work/$directory" > "$work/told"
 done
 sources=$(echo "$work"/sources/*.tar.gz)
-[ "${sources##*/}" = "semver_parser_proved-$(cat "$top/VERSION").tar.gz" ] || refuse "the archive has the name ${sources##*/}"
+[ "${sources##*/}" = "semver_parser_proved-$(cat "$top/VERSION").tar.gz" ] ||
+    refuse "the archive has the name ${sources##*/}"
 cmp "$sources" "$work"/sources-again/*.tar.gz
 "$python" -m pip --isolated --disable-pip-version-check wheel --quiet --no-index --no-cache-dir \
     --wheel-dir "$work/of-sources" "$sources" || refuse 'pip builds no wheel of the archive of sources'

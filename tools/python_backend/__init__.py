@@ -7,11 +7,11 @@ from pathlib import Path
 
 from . import archives
 from .library import CannotBuild, build, require_cargo
-from .project import info_files, read_project
+from .project import info_directory, info_files, read_project
 
 
 def needs_cargo(config_settings=None):
-    """Returns what has to be installed for a build: nothing. Without cargo it ends here."""
+    """Returns what pip has to install for a build, which is nothing. Ends if there is no cargo."""
     try:
         require_cargo()
     except CannotBuild as error:
@@ -23,17 +23,19 @@ get_requires_for_build_wheel = get_requires_for_build_editable = needs_cargo
 
 
 def get_requires_for_build_sdist(config_settings=None):
-    """Returns what has to be installed for an sdist: nothing."""
+    """Returns what pip has to install for an archive of the sources, which is nothing."""
     return []
 
 
 def prepare_metadata_for_build_wheel(metadata_directory, config_settings=None):
-    """Writes what installers read of the package, which needs no library."""
-    directory = Path(metadata_directory)
-    for path, data in info_files(read_project()):
-        (directory / path).parent.mkdir(exist_ok=True)
-        (directory / path).write_bytes(data)
-    return path.split("/")[0]
+    """Writes what installers read of the package, which needs no library. Returns the name of its
+    directory."""
+    project = read_project()
+    for path, data in info_files(project):
+        file = Path(metadata_directory) / path
+        file.parent.mkdir(exist_ok=True)
+        file.write_bytes(data)
+    return info_directory(project)
 
 
 prepare_metadata_for_build_editable = prepare_metadata_for_build_wheel

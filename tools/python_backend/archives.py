@@ -9,7 +9,16 @@ import tarfile
 import zipfile
 
 from .library import LEFT_OUT, SOURCES, platform_and_name
-from .project import LICENSES, PYTHON, TOP, file_name, info_files, metadata, module_files
+from .project import (
+    LICENSES,
+    PYTHON,
+    TOP,
+    file_name,
+    info_directory,
+    info_files,
+    metadata,
+    module_files,
+)
 
 # What an sdist has besides the package and the sources in Rust.
 OF_SDIST = ("pyproject.toml", "tools/python_backend", "python/README.md", "python/semver_parser")
@@ -23,7 +32,7 @@ def write_wheel(project, library, directory, modules):
     if its files are. Returns its name."""
     of_platform, name_of_library = platform_and_name(library)
     tag = f"py3-none-{of_platform}"
-    info = f"{file_name(project)}.dist-info"
+    info = info_directory(project)
     about = ["Wheel-Version: 1.0", "Generator: python_backend", "Root-Is-Purelib: false"]
     contents = [*modules(library, name_of_library), *info_files(project)]
     contents.append((f"{info}/WHEEL", "\n".join([*about, f"Tag: {tag}", ""]).encode()))

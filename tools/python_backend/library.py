@@ -52,26 +52,30 @@ class CannotBuild(Exception):
 
 
 def require_cargo():
-    """Returns the path of cargo. It is an error if there is none."""
-    cargo = shutil.which(os.environ.get("CARGO") or "cargo")
-    if cargo is None:
-        raise CannotBuild(
-            "the library is built by the command cargo, 1.79 or later, which isn't there "
-            "(get it by rustup, or from Debian 13 on: apt-get install cargo)"
-        )
-    return cargo
+    """Raises an error if cargo or rustc isn't there."""
+    for name in ("cargo", "rustc"):
+        if shutil.which(command_of(name)) is None:
+            raise CannotBuild(
+                f"the library is built by the command {name}, 1.79 or later, which isn't there "
+                "(get it by rustup, or from Debian 13 on: apt-get install cargo)"
+            )
+
+
+def command_of(name):
+    """Returns the command for cargo or rustc, which a variable of cargo's can name."""
+    return os.environ.get(name.upper()) or name
 
 
 def build(directory):
     """Has cargo build the library from a copy of its sources in an empty directory, so that nothing
     is written to the repository. Returns the path of the library."""
-    cargo = require_cargo()
+    require_cargo()
     for name in SOURCES:
         if (TOP / name).is_dir():
             shutil.copytree(TOP / name, directory / name, ignore=shutil.ignore_patterns(*LEFT_OUT))
         else:
             shutil.copy(TOP / name, directory)
-    command = [cargo, "rustc", "--quiet", "--release", "--offline", "--lib"]
+    command = [command_of("cargo"), "rustc", "--quiet", "--release", "--offline", "--lib"]
     command += ["--crate-type", "cdylib", "--package", "semver-parser-capi"]
     command += ["--manifest-path", str(directory / "Cargo.toml")]
     command += ["--target-dir", str(directory / "target")]
@@ -91,7 +95,7 @@ def variables(directory):
     flags = inherited.pop("RUSTFLAGS", "").split()
     if inherited.get("CARGO_ENCODED_RUSTFLAGS"):
         flags = inherited["CARGO_ENCODED_RUSTFLAGS"].split("\x1f")
-    rustc = [inherited.get("RUSTC") or "rustc", "--print", "sysroot"]
+    rustc = [command_of("rustc"), "--print", "sysroot"]
     found = subprocess.run(rustc, stdout=subprocess.PIPE, text=True, check=False)
     flags += [f"--remap-path-prefix={directory}=."]
     flags += [f"--remap-path-prefix={Path(found.stdout.strip())}/lib/rustlib/src/rust=/rust"]

@@ -56,6 +56,11 @@ def file_name(project):
     return f"{project['name'].replace('-', '_')}-{version()}"
 
 
+def info_directory(project):
+    """Returns the name of the directory of a wheel that installers read."""
+    return f"{file_name(project)}.dist-info"
+
+
 def metadata(project):
     """Returns the text of the file METADATA of a wheel, and PKG-INFO of an sdist."""
     extras = project.get("optional-dependencies", {})
@@ -83,7 +88,7 @@ def metadata(project):
 
 def info_files(project):
     """Yields the files for installers that don't depend on the platform: paths and bytes."""
-    info = f"{file_name(project)}.dist-info"
+    info = info_directory(project)
     scripts = [f"{script} = {call}" for script, call in project["scripts"].items()]
     yield f"{info}/METADATA", metadata(project).encode()
     yield f"{info}/entry_points.txt", "\n".join(["[console_scripts]", *scripts, ""]).encode()
