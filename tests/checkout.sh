@@ -105,7 +105,9 @@ stopped_while_compiling() {
     mkdir "$work/temporary"
     printf '#!/bin/sh\necho $$ > "%s/half"\nexec sleep 60\n' "$work" > "$work/bin/slow-compiler"
     chmod +x "$work/bin/slow-compiler"
-    TMPDIR=$work/temporary CC=slow-compiler "$@" > "$work/stdout" 2> "$work/stderr" &
+    # In the locale C: in another one GNU make 4.3 may wait for ever, for a lock that it has, when it
+    # translates a message after the signal.
+    LC_ALL=C TMPDIR=$work/temporary CC=slow-compiler "$@" > "$work/stdout" 2> "$work/stderr" &
     script=$! status=0
     until [ -s "$work/half" ]; do sleep 0.05; done
     kill -s TERM "$script" "$(cat "$work/half")"
