@@ -5,6 +5,7 @@
 #   make uninstall            removes what was installed under PREFIX
 #   make archive              makes OUT/semver-parser-VERSION-linux-PROCESSOR.tar.gz
 #   make wheel                makes a wheel in OUT, for pip: the Python package with the library
+#   make sdist                makes an archive of its sources in OUT, of which pip builds the wheel
 #   make js                   makes the JavaScript package in OUT, for npm
 #   make crate                makes the Rust crate in OUT, for cargo
 #   make page                 makes OUT/semver-ranges.html, the page of js/web in one file
@@ -21,8 +22,8 @@ unexport MAKEFLAGS MFLAGS
 MAKEFLAGS += -r -j$(shell nproc) --no-print-directory
 .ONESHELL .SILENT .DELETE_ON_ERROR:
 .SHELLFLAGS := -euc
-.PHONY: all stage stage-python install install-python uninstall archive wheel js page crate \
-	release clean FORCE
+.PHONY: all stage stage-python install install-python uninstall archive wheel sdist js page \
+	crate release clean FORCE
 
 programs := semver-parser release-filter compare-ranges
 checkers := check-lock-file compare-requirements
@@ -141,9 +142,7 @@ install install-python:
 	again stage$(@:install%=%)
 	put_all "$$work/tree$$PREFIX"
 	case $$to in /usr | /usr/local) ldconfig 2> /dev/null || : ;; esac
-	where=$$PREFIX/$${PACKAGES-}
-	[ $@ = install ] || python3 -c 'import sys; exit(sys.argv[1] not in sys.path)' "$$where" ||
-		echo "python3 finds the package where PYTHONPATH has $$where"
+	[ "$$to" != "$$PREFIX" ] || say_what_to_set $(LIBDIR) "$${PACKAGES-}"
 
 uninstall:
 	$(begin)
@@ -171,12 +170,13 @@ archive:
 	mkdir -p "$$OUT" && to=$$OUT put "$$work" ./$(archive).tar.gz
 	echo "made $$OUT/$(archive).tar.gz"
 
-# The wheel is the same to the byte if the files that it has are.
-wheel: out/lib/$(shared)
+# The wheel by the build backend that pip has, too. It is the same to the byte if its files are.
+wheel sdist:
 	$(begin)
 	may_write "$$OUT"
-	strip --strip-unneeded --remove-section=.comment -o "$$work/library" out/lib/$(shared)
-	name=$$(python3 tools/make-wheel.py "$$work/library" "$$work")
+	[ $@ = sdist ] || may_cargo
+	command -v python3 > /dev/null || refuse 'needs the command python3'
+	name=$$(TMPDIR=$$work python3 tools/make-wheel.py $(if $(filter sdist,$@),--sdist) "$$work")
 	mkdir -p "$$OUT" && to=$$OUT put "$$work" "./$$name"
 	echo "made $$OUT/$$name"
 
@@ -218,7 +218,7 @@ release:
 	out=$$OUT made=$$work/made
 	export OUT="$$made"
 	mkdir "$$made" "$$work/source"
-	for goal in crate wheel js archive; do again $$goal > "$$work/said"; done
+	for goal in crate wheel sdist js archive; do again $$goal > "$$work/said"; done
 	git ls-files -z | tar --null -T - --mtime="@$$SOURCE_DATE_EPOCH" -cf - |
 		tar -C "$$work/source" -xf -
 	cd "$$work/source"

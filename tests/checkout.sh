@@ -11,10 +11,10 @@ checkout="$work/a checkout"
 
 copy_checkout() {
     mkdir -p "$checkout" "$work/bin"
-    cp -R Cargo.toml crates.txt VERSION LICENSE-APACHE LICENSE-MIT Makefile debian semver-parser python \
+    cp -R Cargo.toml crates.txt VERSION LICENSE-APACHE LICENSE-MIT Makefile debian pyproject.toml semver-parser python \
         rust tests tools "$checkout"
     mkdir "$checkout/docs"
-    cp -R docs/man "$checkout/docs"
+    cp -R docs/man docs/examples "$checkout/docs"
 }
 
 # stub COMMAND BODY: what runs as the command from now on.
@@ -105,7 +105,9 @@ stopped_while_compiling() {
     mkdir "$work/temporary"
     printf '#!/bin/sh\necho $$ > "%s/half"\nexec sleep 60\n' "$work" > "$work/bin/slow-compiler"
     chmod +x "$work/bin/slow-compiler"
-    TMPDIR=$work/temporary CC=slow-compiler "$@" > "$work/stdout" 2> "$work/stderr" &
+    # In the locale C: in another one GNU make 4.3 may wait for ever, for a lock that it has, when it
+    # translates a message after the signal.
+    LC_ALL=C TMPDIR=$work/temporary CC=slow-compiler "$@" > "$work/stdout" 2> "$work/stderr" &
     script=$! status=0
     until [ -s "$work/half" ]; do sleep 0.05; done
     kill -s TERM "$script" "$(cat "$work/half")"

@@ -2,8 +2,8 @@
 """Holds README.md and docs/ against the tree: each link leads somewhere; each call, clause and definition that the
 promises of docs/PROOFS.md name is there; each public call says by a comment what fixes its answer, and the law, edit or
 file that the comment names is there; the example in Rattle of docs/COMING_FROM.md is crates/library_tests/src/example.rt;
-docs/PROOFS.md is made of the sources, docs/CRATES.md of crates.txt, and rust/src/docs of docs/; each file of lemmas begins with the call that it
-serves, and each lemma is cited; pages have the field's terms; the Python package has the licences; docs/ERASURE.md counts the lines by hand; and no paragraph or row of a table is in two of them.
+docs/PROOFS.md is made of the sources, docs/CRATES.md of crates.txt, docs/manual of docs/man, and rust/src/docs of docs/; each file of lemmas begins with the call that it
+serves, and each lemma is cited; pages have the field's terms; the Rust crate has the licences; docs/ERASURE.md counts the lines by hand; and no paragraph or row of a table is in two of them.
 
 tests/documents.py --must-fail  shows that it fails where one of these is changed.
 tests/documents.py --proofs     prints docs/PROOFS.md.
@@ -58,14 +58,15 @@ AVOIDED_IN_PAGES = {
 # The pages of the Rust crate's documentation, which are made of others.
 RUST_PAGES = tuple(f'rust/src/docs/{name}.md' for name in ('ranges', 'meaning', 'grammar', 'original_crate'))
 
+# The pages of the manuals, which are made of these.
+MANUAL_PAGES = tuple(
+    f'docs/manual/{name}.md' for name in sorted(os.listdir(os.path.join(TOP, 'docs/man'))) if name != 'semver-ranges.7')
+
 # The pages that are made of others, and that the glossary of the pages is not for.
-MADE = ('docs/PROOFS.md', 'docs/CRATES.md', *RUST_PAGES)
+MADE = ('docs/PROOFS.md', 'docs/CRATES.md', *RUST_PAGES, *MANUAL_PAGES)
 
 # How many words a paragraph has that may be in one page only.
 TELLING = 12
-
-# How many words README may have.
-MOST_WORDS = 1000
 
 
 def read(path):
@@ -495,13 +496,6 @@ def errors_of_telling():
                 yield f'{page} tells what {first[telling]} does: {" ".join(telling)[:60]}'
 
 
-def errors_of_length():
-    """README has few words."""
-    count = len(read('README.md').split())
-    if count > MOST_WORDS:
-        yield f'README.md has {count} words, and at most {MOST_WORDS} may be'
-
-
 def errors_of_the_readme():
     """The example in Rust of README.md is of that in rust/README.md, which cargo runs."""
     [example], whole = re.findall(r'^```rust\n(.*?)^```', read('README.md'), re.M | re.S), read('rust/README.md')
@@ -518,18 +512,24 @@ def errors_of_ranges():
         yield 'docs/man/semver-ranges.7 is another than tools/make-ranges-manual.py makes of docs/RANGES.md'
 
 
-def errors_of_rust_pages():
-    """The pages of the Rust crate's documentation are made of those of docs/."""
+def errors_of_made_pages():
+    """The pages of the Rust crate's documentation are made of those of docs/, and those of the manuals of docs/man."""
+    yield from errors_of_made('tools/make-rust-pages.py', 'rust/src/docs', RUST_PAGES)
+    yield from errors_of_made('tools/make-manual-pages.py', 'docs/manual', MANUAL_PAGES)
+
+
+def errors_of_made(tool, directory, made_pages):
+    """The pages of a directory are those that a tool writes into another one."""
     with tempfile.TemporaryDirectory() as folder:
-        made = subprocess.run([os.path.join(TOP, 'tools/make-rust-pages.py'), folder], capture_output=True, text=True, check=False)
+        made = subprocess.run([os.path.join(TOP, tool), folder], capture_output=True, text=True, check=False)
         if made.returncode:
             yield made.stderr.strip()
             return
-        if sorted(os.listdir(folder)) != sorted(os.listdir(os.path.join(TOP, 'rust/src/docs'))):
-            yield 'rust/src/docs has other files than tools/make-rust-pages.py makes'
-        for page in RUST_PAGES:
+        if sorted(os.listdir(folder)) != sorted(os.listdir(os.path.join(TOP, directory))):
+            yield f'{directory} has other files than {tool} makes'
+        for page in made_pages:
             if read(page) != read(os.path.join(folder, os.path.basename(page))):
-                yield f'{page} is another than tools/make-rust-pages.py makes'
+                yield f'{page} is another than {tool} makes'
 
 
 def errors_of_lines_by_hand():
@@ -544,17 +544,16 @@ def errors_of_lines_by_hand():
 
 
 def errors_of_licences():
-    """The Python package and the Rust crate have copies, since their tools take no file from above them."""
-    for copy in ('python', 'rust'):
-        for name in ('LICENSE-APACHE', 'LICENSE-MIT'):
-            if read(name) != read(f'{copy}/{name}'):
-                yield f'{copy}/{name} is another licence than {name}'
+    """The Rust crate has copies, since cargo takes no file from above it."""
+    for name in ('LICENSE-APACHE', 'LICENSE-MIT'):
+        if read(name) != read(f'rust/{name}'):
+            yield f'rust/{name} is another licence than {name}'
 
 
 def errors():
     for check in (
         errors_of_links, errors_of_files, errors_of_promises, errors_of_proofs, errors_of_answers, errors_of_clauses,
-        errors_of_the_example, errors_of_words, errors_of_words_in_prose, errors_of_paths, errors_of_telling, errors_of_length, errors_of_the_readme, errors_of_ranges, errors_of_rust_pages, errors_of_crates,
+        errors_of_the_example, errors_of_words, errors_of_words_in_prose, errors_of_paths, errors_of_telling, errors_of_the_readme, errors_of_ranges, errors_of_made_pages, errors_of_crates,
         errors_of_lemmas, errors_of_citations, errors_of_licences, errors_of_lines_by_hand,
     ):
         yield from check()
@@ -565,13 +564,15 @@ EDITS = [
     ('crates/tool_ranges/src/meaning.rt', 'ensures refusals {', 'ensures refused {'),
     ('crates/release_filter/src/lines.rt', 'ensures stops {', 'ensures stopped {'),
     ('README.md', '(docs/GRAMMAR.md)', '(docs/GRAMMARS.md)'),
-    ('README.md', 'Licence: ', 'Licence: ' + 'or ' * 400),
     ('README.md', '("1.9.0", "^1.2"', '("1.9.0", "^1.3"'),
     ('docs/MEANING.md', '## Terms', '## Words'),
     ('docs/ERASURE.md', 'tests/erased.py', 'tests/erases.py'),
     ('rust/src/sets.rs', 'use crate::', 'use core::fmt;\nuse crate::'),
     ('docs/RANGES.md', '| =1.2 |', '| =1.3 |'),
     ('rust/src/docs/grammar.md', '| `1.2.3-01` |', '| `1.2.3-02` |'),
+    ('docs/manual/compare-ranges.1.md', '## Exit status', '## Status'),
+    ('docs/man/release-filter.1', '.B \\-\\-lowest\n', '.B \\-\\-least\n'),
+    ('docs/man/semver_parser.3', '.SH LIBRARY', '.Sh LIBRARY'),
     ('docs/GRAMMAR.md', '## Requirements of Cargo\n', '## Requirements of Cargo\n\nTheir definition is in `specs/CargoGrammar.antt`.\n'),
     ('docs/COMING_FROM.md', '3.x', '4.x'),
     ('crates/semver_texts/proofs/Joins.antt', '-- serves: ', '-- helps: '),
@@ -589,7 +590,6 @@ EDITS = [
     ('docs/PROOFS.md', '`one_parse`', 'equation'),
     ('docs/TESTED.md', 'C functions', 'calls for C'),
     ('docs/COMING_FROM.md', '`VersionSet::lowest`', '`VersionSet::least`'),
-    ('python/LICENSE-MIT', 'WITHOUT WARRANTY', 'WITHOUT ANY WARRANTY'),
     ('rust/LICENSE-MIT', 'WITHOUT WARRANTY', 'WITHOUT ANY WARRANTY'),
     ('docs/TESTED.md', 'temporary directory', 'temporary folder'),
     ('docs/MEANING.md', '## Terms\n', '## Terms\n\n| a | b | c | d |\n|---|---|---|---|\n| `crate-npm` | the crate, npm mode | `CrateNpm` | `CRATE_NPM` |\n'),

@@ -59,6 +59,8 @@ install_into() {
     folder=$1
     shift
     (umask 077 && ends 0 "$@")
+    sed -n 's/^    //p' "$work/stdout" > "$work/to-set"
+    sed -i "/^installed /!d" "$work/stdout"
     has "$(echo "$files" | sed "s:^:installed $folder/:")" stdout
     holds "$folder" | grep -vx share/semver-parser/installed > "$work/list"
     has "$files" list
@@ -71,6 +73,7 @@ installed() {
     for name in semver-parser release-filter compare-ranges; do cmp out/cargo/release/$name "$prefix/bin/$name"; done
     cmp rust/capi/include/semver_parser.h "$prefix/include/semver_parser.h"
     try_programs "$prefix/bin"
+    try_example
     try_installed_library
     try_pages
     try_manuals
@@ -113,6 +116,33 @@ try_installed_library() {
     grep -q "define SEMVER_PARSER_VERSION \"$(cat VERSION)\"" $header || fail 'the header has another version'
 }
 
+# are_to_set FILE: what to set for a prefix are these variables.
+are_to_set() {
+    sed 's/=.*//' "$1" > "$work/stdout"
+    has 'export PATH
+export PKG_CONFIG_PATH
+export LD_LIBRARY_PATH' stdout
+}
+
+# After the commands that are printed last, and nothing else, a shell finds the programs, and the
+# example in C is compiled and run.
+try_example() {
+    are_to_set "$work/to-set"
+    printf '%s\n' "$(cat "$work/to-set")" 'command -v release-filter' > "$work/example"
+    ends 0 env -i PATH=/usr/bin:/bin sh "$work/example"
+    has "$prefix/bin/release-filter" stdout
+    install_into "$work/plain" make install PREFIX="$work/plain"
+    command -v pkg-config > /dev/null || { echo 'installed programs: no pkg-config, so the example is not tried' && return; }
+    are_to_set "$work/to-set"
+    printf '%s\n' "$(cat "$work/to-set")" 'make -s -C docs/examples/c clean out/check-ranges CC=cc' \
+        'docs/examples/c/out/check-ranges < docs/examples/lines' > "$work/example"
+    ends 1 env -i PATH=/usr/bin:/bin sh "$work/example"
+    has "$(cat docs/examples/lines.npm)" stdout
+    (eval "$(cat "$work/to-set")" && ends 0 make install PREFIX="$work/plain")
+    ! grep -v '^installed ' "$work/stdout" || fail 'it says what to set though that is set'
+    rm -rf "$work/plain"
+}
+
 # Each page is laid out without a warning, and names the version.
 try_pages() {
     grep -qF "$(cat VERSION)" "$prefix/share/man/man3/semver_parser.3" || fail 'a page has another version'
@@ -151,6 +181,7 @@ same_options() {
 installed_elsewhere() {
     staged="$work/staged"
     install_into "$staged/usr" make install DESTDIR="$staged" PREFIX=/usr
+    [ ! -s "$work/to-set" ] || fail 'it says what to set for a directory that nobody uses'
     told_prefix /usr "$staged/usr"
     DESTDIR=$staged uninstalled "$staged/usr" make uninstall PREFIX=/usr/
     (CDPATH=$work && export CDPATH && install_into "$checkout/here" make install PREFIX=here)
@@ -190,7 +221,7 @@ sonames() {
 installed_for_python() {
     command -v python3 > /dev/null || { echo 'installed programs: no python3, so its package is not tried' && return; }
     ends 0 make install-python PREFIX="$work/python"
-    tail -n 1 "$work/stdout" | grep -qx "python3 finds the package where PYTHONPATH has $work/python/.*"
+    tail -n 1 "$work/stdout" | grep -q "^    export PYTHONPATH=$work/python/" || fail "it doesn't say where the package is"
     package=$(dirname "$(find "$work/python" -name py.typed)")
     cmp python/semver_parser/__init__.py "$package/__init__.py"
     cmp "$work/python/lib/libsemver_parser.so.1.0.0" "$package/libsemver_parser.so.1"
@@ -286,6 +317,41 @@ mkdir -p out && printf '#!/bin/sh\necho \"<\$1>\"\nexit 7\n' > out/semver_parser
     proves 3
 }
 
+# While the kit proves, standard error has the crates that the program is made of, each as it begins: a
+# line for each, and at a terminal one line that is rewritten.
+what_it_proves() {
+    printf '# what\na: thiserror\nb: a\nsemver_parser_main: a\n' > "$small/crates.txt"
+    mkdir -p "$small/crates/a"
+    stub rt "shows() {
+    for turn in \$(seq 300); do ! grep -q \"\$1\" '$work/stdout' '$work/stderr' || return 0; sleep 0.1; done
+}
+mkdir -p ../a/out && : > ../a/out/begun && shows 'crate 1 of 2: a'
+echo 'so far: 2 of 3 functions checked'
+[ -z \"\$AT_TERMINAL\" ] || shows '2 of 3'
+mkdir -p out && : > out/begun && shows 'crate 2 of 2'
+echo 'so far: 4 of 9 functions checked; the verdict comes last'
+[ -z \"\$AT_TERMINAL\" ] || shows '4 of 9'
+$proving"
+    export AT_TERMINAL=''
+    : > "$work/proofs"
+    proves 1
+    has 'proving semver-parser, which takes several minutes
+crate 1 of 2: a
+crate 2 of 2: semver_parser_main' stderr
+    command -v script > /dev/null || { echo 'installed programs: no script, so no terminal is tried' && return; }
+    touch "$small/crates.txt"
+    rm -r "$small"/crates/*/out
+    AT_TERMINAL=yes
+    ends 7 script -qec "'$small/semver-parser' 'a b' 2>&1" /dev/null
+    tr '\r' '\n' < "$work/stdout" | sed 's/\x1b\[K//' | grep -v '^$' | uniq > "$work/lines"
+    has 'proving semver-parser, which takes several minutes
+crate 1 of 2: a
+crate 1 of 2: a, 2 of 3 functions checked
+crate 2 of 2: semver_parser_main
+crate 2 of 2: semver_parser_main, 4 of 9 functions checked
+<a b>' lines
+}
+
 # A failed proof says why, and runs nothing; and so does a stopped one, which ends by the signal.
 when_a_proof_fails() {
     touch "$small/crates.txt"
@@ -365,6 +431,7 @@ sonames
 installed_for_python
 refused_arguments
 when_it_proves
+what_it_proves
 when_a_proof_fails
 where_nothing_may_be_written
 where_root_may_not_build

@@ -136,3 +136,33 @@ remove_all() {
         rmdir -- "$to/${folder#./}" 2> /dev/null || :
     done
 }
+
+# say_what_to_set LIBRARIES PACKAGES: if the system doesn't look below PREFIX, writes the commands
+# after which a shell finds the programs, a compiler the header and the library, and python3 the
+# package.
+say_what_to_set() {
+    libraries=$PREFIX/$1 packages=$PREFIX/$2
+    {
+        case :$PATH: in *":$PREFIX/bin:"*) ;; *) sets PATH "$PREFIX/bin" ;; esac
+        found=$(pkg-config --variable=pcfiledir semver_parser 2> /dev/null) || :
+        [ "$found" = "$libraries/pkgconfig" ] || sets PKG_CONFIG_PATH "$libraries/pkgconfig"
+        loads_from "$libraries" || sets LD_LIBRARY_PATH "$libraries"
+        [ -z "$2" ] || python3 -c 'import sys; exit(sys.argv[1] not in sys.path)' "$packages" ||
+            sets PYTHONPATH "$packages"
+    } > "$work/to-set"
+    [ -s "$work/to-set" ] || return 0
+    echo "The system doesn't look below $PREFIX. In a shell, and in ~/.profile, enter:"
+    cat "$work/to-set"
+}
+
+# sets VARIABLE DIRECTORY: writes the command that puts a directory first in a variable.
+sets() {
+    directory=$(printf '%s\n' "$2" | sed "/[^A-Za-z0-9/._-]/{ s/'/'\\\\''/g; s/.*/'&'/; }")
+    printf '    export %s=%s"${%s:+:$%s}"\n' "$1" "$directory" "$1" "$1"
+}
+
+# loads_from DIRECTORY: whether a program that starts now gets the shared library from there.
+loads_from() {
+    case :${LD_LIBRARY_PATH-}: in *":$1:"*) return ;; esac
+    PATH=$PATH:/usr/sbin:/sbin ldconfig -p 2> /dev/null | grep -qF " => $1/libsemver_parser.so."
+}

@@ -485,33 +485,3 @@ $lodash"; do
         $check --allow "$work/known.txt" cases/monorepo/package-lock.json
 done
 refused "check-lock-file: nowhere: it can't be read: No such file or directory" /dev/null $check --allow nowhere $good
-
-# ---- pre-commit
-
-if command -v pre-commit > /dev/null; then
-    mkdir "$work/hooks" && cp ../.pre-commit-hooks.yaml "$work/hooks"
-    git init -q "$work/hooks" && git -C "$work/hooks" add .
-    git -C "$work/hooks" -c user.name=a -c user.email=a@b commit -qm hooks
-    mkdir "$work/hooked" && cp -R cases/monorepo/. "$work/hooked"
-    printf 'repos:\n- repo: %s\n  rev: %s\n  hooks:\n  - id: check-lock-file\n    args: [--quiet]\n' "$work/hooks" \
-        "$(git -C "$work/hooks" rev-parse HEAD)" > "$work/hooked/.pre-commit-config.yaml"
-    git init -q "$work/hooked" && git -C "$work/hooked" add -f .
-    status=0
-    (cd "$work/hooked" && PATH="$here/bin:$PATH" PRE_COMMIT_HOME="$work/pre-commit" pre-commit run --all-files) \
-        > "$work/output" 2> "$work/errors" || status=$?
-    sed -n 's/^\(package-lock.json\|rust\/Cargo.lock\|web\/yarn.lock\): //p' "$work/output" > "$work/lines"
-    $check --quiet cases/monorepo | sed 's/[^:]*: //' | diff -u - "$work/lines"
-    [ "$status" = 1 ] || exit 1
-    echo 'pre-commit: passed'
-    git -C "$work/hooked" rm -qr --cached . && git -C "$work/hooked" add .pre-commit-config.yaml packages
-    status=0
-    (cd "$work/hooked" && PATH="$here/bin:$PATH" PRE_COMMIT_HOME="$work/pre-commit" pre-commit run --all-files) \
-        > "$work/output" 2> "$work/errors" || status=$?
-    [ "$status" = 1 ] && grep -q '^\(package-lock.json: \)\?a 2.0.0 does not satisfy' "$work/output"
-    git -C "$work/hooked" rm -qr --cached packages
-    (cd "$work/hooked" && PATH=/usr/bin:/bin PRE_COMMIT_HOME="$work/pre-commit" pre-commit run --all-files) > "$work/output" 2>&1
-    grep -q 'no files to check' "$work/output"
-    echo 'pre-commit without lock files: passed'
-else
-    echo 'pre-commit: skipped, since it is not there'
-fi

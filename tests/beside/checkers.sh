@@ -287,7 +287,7 @@ same 'an interrupt' 0 /dev/null /dev/null /dev/null python3 "$work/interrupt.py"
 # without_library PROGRAM ARGUMENT..: ends as after any error without the library, also as pip installs
 # it.
 without_library() {
-    entry=$(sed -n "s/^${1##*/} = \"\(.*\):\(.*\)\"$/from \1 import \2 as main/p" pyproject.toml)
+    entry=$(sed -n "s/^${1##*/} = \"\(.*\):\(.*\)\"$/from \1 import \2 as main/p" ../pyproject.toml)
     echo "${1##*/}: semver_parser needs its shared library, and found none that can be loaded. It looked for\
  /nowhere, which SEMVER_PARSER_LIBRARY names: cannot open shared object file: No such file or directory;\
  If the library is elsewhere, set SEMVER_PARSER_LIBRARY to its path." > "$work/told"
@@ -345,7 +345,7 @@ if python3 -c 'import tomllib' 2> /dev/null; then
     refused "compare-requirements: one file is npm's and the other Cargo's; see compare-requirements --help" /dev/null \
         $compare $folder/old.json $folder/new.toml
     refused_as_manifest '' /dev/null
-    refused_as_manifest '' pyproject.toml
+    refused_as_manifest '' ../pyproject.toml
     refused_as_manifest ": package isn't an object" cases/cargo-lock/right/Cargo.lock
     echo '[dependencies]' > "$work/lines"
     same 'only a table of dependencies' 0 /dev/null /dev/null /dev/null $compare "$work/lines" "$work/lines"

@@ -1,8 +1,10 @@
 #!/bin/sh
 # Tests the Python package: its unit tests, over the table of cases too, with the shared library
-# that `make install` puts; its types, if mypy is there; and the wheel, in a virtual environment of
-# its own without a network. It installs nothing, is beside the gate, and needs cargo, python3 and a
-# C compiler (Debian: apt-get install cargo gcc python3 python3-venv). PYTHON names another python3.
+# that `make install` puts, and with that of the wheel; its types, if mypy is there; and what the
+# build backend makes: the wheel, the archive of sources, and what `pip install -e .` installs, each
+# in a virtual environment of its own without a network. It installs nothing, is beside the gate, and
+# needs cargo, python3 and a C compiler (Debian: apt-get install cargo gcc python3 python3-venv).
+# PYTHON names another python3.
 set -eu
 top=$(dirname -- "$(dirname -- "$(dirname -- "$(readlink -f -- "$0")")")")
 . "$top/tools/built.sh"
@@ -16,13 +18,18 @@ again "$library" || refuse 'cannot build the C library'
 cd "$top/python"
 unset PYTHONPATH
 export PYTHONDONTWRITEBYTECODE=1
-SEMVER_PARSER_LIBRARY=$top/$library "$python" -W error -m unittest discover --start-directory tests --top-level-directory . ||
-    refuse 'the Python package failed'
+
+# passes_with LIBRARY: the unit tests pass with a library.
+passes_with() {
+    SEMVER_PARSER_LIBRARY=$1 "$python" -W error -m unittest discover --start-directory tests \
+        --top-level-directory . || refuse "the Python package failed with $1"
+}
+passes_with "$top/$library"
 
 # ---- its types
 
 if command -v mypy > /dev/null; then
-    MYPYPATH=. mypy --strict --cache-dir "$work/types" semver_parser ../docs/examples/python/*.py ||
+    MYPYPATH=. mypy --config-file ../pyproject.toml --cache-dir "$work/types" semver_parser ../docs/examples/python/*.py ||
         refuse 'the Python package has wrong types'
     cat > "$work/wrong.py" << 'END'
 import semver_parser
@@ -37,7 +44,7 @@ Version(1, 2, 3).majr
 SemverError("1", "npm").reason == "leading-zeros"
 semver_parser.parse_version
 END
-    ! MYPYPATH=. mypy --strict --cache-dir "$work/types" "$work/wrong.py" > "$work/wrong" || refuse 'mypy finds no error'
+    ! MYPYPATH=. mypy --config-file ../pyproject.toml --cache-dir "$work/types" "$work/wrong.py" > "$work/wrong" || refuse 'mypy finds no error'
     [ "$(grep -c ': error: ' "$work/wrong")" = 9 ] || refuse "mypy finds other errors: $(cat "$work/wrong")"
 else
     echo 'mypy: skipped, since it is not there (Debian: apt-get install mypy python3-typeshed)'
@@ -45,29 +52,28 @@ fi
 
 # ---- the wheel
 
-# installed FILE OPTION..: installs a wheel or a directory into a new environment, without a network.
+# installed ARGUMENT..: installs what pip is given into a new environment, without a network.
 installed() {
     rm -rf "$work/environment"
-    from=$1
-    shift
-    "$python" -m venv "$@" "$work/environment"
+    "$python" -m venv "$work/environment"
     "$work/environment/bin/python" -m pip --isolated --disable-pip-version-check install --quiet \
-        --no-index --no-deps --no-build-isolation --no-cache-dir "$from" ||
-        refuse "pip does not install $from"
+        --no-index --no-cache-dir "$@" || refuse "pip does not install $*"
 }
 
-# works VARIABLE=VALUE..: what was installed has a package and programs that work elsewhere.
+# works DIRECTORY: what was installed has a package, below the directory, and programs that work
+# elsewhere.
 works() {
+    directory=$1
     cp "$top/python/cases/package-lock.json" "$work/lock.json"
     cd "$work"
-    said=$(env "$@" "$work/environment/bin/python" -W error -c \
+    said=$(env -u SEMVER_PARSER_LIBRARY "$work/environment/bin/python" -W error -c \
         'import semver_parser as it; print(it.__file__, it.Range("^1.2", dialect="npm").highest(["1.2.0", "1.9.0"]))')
-    [ "$said" = "$(find "$work/environment" -path '*/semver_parser/__init__.py') 1.9.0" ] ||
+    [ "$said" = "$(find "$directory" -path '*/semver_parser/__init__.py') 1.9.0" ] ||
         refuse "the installed package said $said"
     status=0
-    env "$@" "$work/environment/bin/check-lock-file" --quiet --format tsv lock.json > lines 2> told || status=$?
+    env -u SEMVER_PARSER_LIBRARY "$work/environment/bin/check-lock-file" --quiet --format tsv lock.json > lines 2> told || status=$?
     [ "$status" = 1 ] && cmp lines "$top/python/cases/package-lock.expected" || refuse 'check-lock-file is wrong'
-    env "$@" "$work/environment/bin/compare-requirements" --help > lines
+    env -u SEMVER_PARSER_LIBRARY "$work/environment/bin/compare-requirements" --help > lines
     cd "$top/python"
 }
 
@@ -85,13 +91,21 @@ tags() {
     printf '\267\0' | dd of="$work/other.so" bs=1 seek=18 conv=notrunc 2> "$work/told"
     of_glibc=$(readelf -V "$work/other.so" | grep -o 'GLIBC_[0-9.]*' | sort -uV | tail -n 1 | tr . _)
     has_tag "$work/other.so" '' "manylinux_${of_glibc#GLIBC_}_aarch64" 'libsemver_parser\.so\.1'
-    printf '\317\372\355\376\0\0\0\0' > "$work/other.dylib"
-    has_tag "$work/other.dylib" macosx-11.0-arm64 macosx_11_0_arm64 'libsemver_parser\.dylib'
+    # Python's own build for macOS may be for two processors, and for an older system than rustc's.
+    printf '\317\372\355\376\014\0\0\001' > "$work/other.dylib"
+    has_tag "$work/other.dylib" macosx-10.9-universal2 macosx_11_0_arm64 'libsemver_parser\.dylib'
+    has_tag "$work/other.dylib" macosx-14.2-arm64 macosx_14_2_arm64 'libsemver_parser\.dylib'
+    printf '\317\372\355\376\007\0\0\001' > "$work/other.dylib"
+    has_tag "$work/other.dylib" macosx-10.9-universal2 macosx_10_12_x86_64 'libsemver_parser\.dylib'
+    readelf -dW "$work/other.so" | grep -q 'NEEDED.*\[libc\.so\.6\]' ||
+        refuse 'the library needs no C library'
+    sed 's/libc\.so\.6/libd.so.6/' "$work/other.so" > "$work/unusual.so"
+    has_tag "$work/unusual.so" '' linux_aarch64 'libsemver_parser\.so\.1'
     printf 'MZ' > "$work/other.dll"
     has_tag "$work/other.dll" win-amd64 win_amd64 'semver_parser\.dll'
     status=0
     python3 "$top/tools/make-wheel.py" "$work/told" "$work" 2> "$work/lines" || status=$?
-    [ "$status" = 1 ] && grep -q '^make-wheel: .* is no shared library$' "$work/lines" || refuse "make-wheel: $(cat "$work/lines")"
+    [ "$status" = 1 ] && grep -q '^make-wheel: .* is not a shared library$' "$work/lines" || refuse "make-wheel: $(cat "$work/lines")"
 }
 
 # is_described_alike WHEEL OTHER: two wheels have the same metadata, files of licences and programs.
@@ -113,36 +127,90 @@ assert len(one[2]) == 2, one[0]
 END
 }
 
+# has_same_project: the reader of pyproject.toml for Python 3.9 reads it as Python's own does.
+has_same_project() {
+    (cd "$top/tools" && python3 -c 'import sys, tomllib
+from python_backend.project import TOP, tables_of
+text = (TOP / "pyproject.toml").read_text()
+assert tables_of(text) == tomllib.loads(text)')
+}
+
+# Wheels by setuptools have the same metadata.
+described_by_setuptools() {
+    mkdir "$work/source"
+    cp -RL "$top/python" "$top"/LICENSE-* "$work/source"
+    sed 's/^requires = .*/requires = ["setuptools"]/; /^backend-path/d
+        s/^build-backend = .*/build-backend = "setuptools.build_meta"/' \
+        "$top/pyproject.toml" > "$work/source/pyproject.toml"
+    printf '%s\n' '[tool.setuptools]' 'license-files = ["LICENSE-*"]' \
+        'packages = ["semver_parser"]' 'package-dir = { "" = "python" }' '[tool.setuptools.dynamic]' \
+        'version = { attr = "semver_parser.__version__" }' >> "$work/source/pyproject.toml"
+    "$python" -m pip --isolated --disable-pip-version-check wheel --quiet --no-index --no-deps \
+        --no-build-isolation --no-cache-dir --wheel-dir "$work/by-setuptools" "$work/source"
+    is_described_alike "$wheel" "$work"/by-setuptools/*.whl
+}
+
+# ends_without_cargo: pip says in one sentence that there is no cargo.
+ends_without_cargo() {
+    status=0
+    env PATH=/nowhere "$work/environment/bin/python" -m pip --isolated --disable-pip-version-check \
+        wheel --no-index --no-cache-dir --wheel-dir "$work/none" "$top" > "$work/told" 2>&1 ||
+        status=$?
+    why="the library is built by the command cargo, 1\.79 or later, which isn't there"
+    [ "$status" = 1 ] && grep -q "^ *semver-parser-proved: $why" "$work/told" &&
+        grep -q '\[1 lines of output\]' "$work/told" || refuse "without cargo: $(cat "$work/told")"
+}
+
 if ! "$python" -c 'import ensurepip' 2> /dev/null; then
     echo 'wheel: skipped, since ensurepip is not there (Debian: apt-get install python3-venv)'
-elif ! python3 -c 'import tomllib' 2> /dev/null; then
-    echo 'wheel: skipped, since python3 is older than 3.11'
-else
-    OUT=$work/wheels again wheel
-    wheel=$(echo "$work"/wheels/*.whl)
-    case ${wheel##*/} in
-    "semver_parser_proved-$(cat "$top/VERSION")-py3-none-manylinux_2_"*"_$(uname -m).whl") ;;
-    *) refuse "the wheel has the name ${wheel##*/}" ;;
-    esac
-    OUT=$work/wheels-again again wheel
-    cmp "$wheel" "$work"/wheels-again/*.whl
-    tags
-    installed "$wheel"
-    works -u SEMVER_PARSER_LIBRARY
-    "$work/environment/bin/python" -m pip --isolated show --files semver-parser-proved > "$work/lines" 2> /dev/null
-    grep -q "^ *semver_parser/libsemver_parser\.so\.[0-9.]*$" "$work/lines" || refuse 'the wheel has no library'
-    "$work/environment/bin/python" -c 'from importlib.metadata import requires
+    exit
+fi
+OUT=$work/wheels again wheel
+wheel=$(echo "$work"/wheels/*.whl)
+case ${wheel##*/} in
+"semver_parser_proved-$(cat "$top/VERSION")-py3-none-manylinux_2_"*"_$(uname -m).whl") ;;
+*) refuse "the wheel has the name ${wheel##*/}" ;;
+esac
+OUT=$work/wheels-again again wheel
+cmp "$wheel" "$work"/wheels-again/*.whl
+tags
+installed "$wheel"
+works "$work/environment"
+"$work/environment/bin/python" -m pip --isolated show --files semver-parser-proved > "$work/lines" 2> /dev/null
+grep -q "^ *semver_parser/libsemver_parser\.so\.[0-9.]*$" "$work/lines" || refuse 'the wheel has no library'
+"$work/environment/bin/python" -c 'from importlib.metadata import requires
 assert requires("semver-parser-proved") == ["PyYAML; extra == \"pnpm\""], requires("semver-parser-proved")'
-    # As a directory, without the library.
-    if "$python" -c 'import setuptools, wheel' 2> /dev/null; then
-        cp -RL "$top/python" "$work/python"
-        "$python" -m pip --isolated --disable-pip-version-check wheel --quiet --no-index --no-deps \
-            --no-build-isolation --no-cache-dir --wheel-dir "$work/by-setuptools" "$work/python"
-        is_described_alike "$wheel" "$work"/by-setuptools/*.whl
-        installed "$work/python" --system-site-packages
-        works SEMVER_PARSER_LIBRARY="$top/$library"
-    else
-        echo 'pip install ./python: skipped, since setuptools and wheel are not there'
-    fi
+passes_with "$(find "$work/environment" -name 'libsemver_parser.so.*')"
+ends_without_cargo
+
+# The archive of sources, made twice, and the wheel that is built of it.
+for directory in sources sources-again; do
+    mkdir "$work/$directory"
+    "$python" "$top/tools/make-wheel.py" --sdist "$work/$directory" > "$work/told"
+done
+sources=$(echo "$work"/sources/*.tar.gz)
+[ "${sources##*/}" = "semver_parser_proved-$(cat "$top/VERSION").tar.gz" ] ||
+    refuse "the archive has the name ${sources##*/}"
+cmp "$sources" "$work"/sources-again/*.tar.gz
+"$python" -m pip --isolated --disable-pip-version-check wheel --quiet --no-index --no-cache-dir \
+    --wheel-dir "$work/of-sources" "$sources" || refuse 'pip builds no wheel of the archive of sources'
+cmp "$wheel" "$work"/of-sources/*.whl
+
+# In place, in a copy of the repository: a change of the modules counts at once.
+mkdir "$work/a clone" && tar -C "$work/a clone" --strip-components 1 -xzf "$sources"
+installed --editable "$work/a clone"
+works "$work/a clone"
+echo 'answer = 42' >> "$work/a clone/python/semver_parser/_library.py"
+(cd / && "$work/environment/bin/python" -c 'from semver_parser._library import answer')
+
+if python3 -c 'import tomllib' 2> /dev/null; then
+    has_same_project
+else
+    echo 'pyproject.toml: not compared, since python3 is older than 3.11'
+fi
+if "$python" -c 'import setuptools, wheel' 2> /dev/null; then
+    described_by_setuptools
+else
+    echo 'metadata: not compared, since setuptools and wheel are not there'
 fi
 echo 'Python package: passed'

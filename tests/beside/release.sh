@@ -19,5 +19,5 @@ for directory in one another/directory; do
     (cd "$work/$directory/release" && sha256sum --quiet --strict -c SHA256SUMS)
 done
 diff "$work/one/release/SHA256SUMS" "$work/another/directory/release/SHA256SUMS"
-[ "$(wc -l < "$work/one/release/SHA256SUMS")" = 9 ]
+[ "$(wc -l < "$work/one/release/SHA256SUMS")" = 10 ]
 echo 'release: passed'

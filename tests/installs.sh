@@ -1,0 +1,249 @@
+#!/bin/sh
+# Tests that each command of README by which people take this works for somebody who has cargo,
+# Python and the system, and nothing else: no kit, nothing installed, no variable set, and no
+# network if the system allows that. `URL` in the commands is a clone of the files that git lists,
+# as they are now, and `REV` its commit. It needs cargo, git and python3, and tries what needs
+# pre-commit, PyYAML or ensurepip if these are there.
+set -eu
+unset CDPATH
+cd "$(dirname "$0")/.."
+for tool in cargo git python3; do
+    command -v $tool > /dev/null || { echo "installs: no $tool, so nothing is tried" && exit; }
+done
+git rev-parse --git-dir > /dev/null 2>&1 ||
+    { echo 'installs: this is not a repository of git, so nothing is tried' && exit; }
+top=$PWD
+work=$(mktemp -d)
+trap 'rm -rf "$work"' EXIT
+trap 'exit 2' HUP INT TERM
+unset $(git rev-parse --local-env-vars)
+clone="$work/a clone"
+mkdir "$clone" "$work/home" "$work/runner"
+
+# fails WHY: shows what was written last.
+fails() {
+    cat "$work/log"
+    echo "installs: $1"
+    exit 1
+}
+
+# The compilers themselves, since what rustup or pyenv put in their place reads the user's settings.
+python=$(python3 -c 'import os, sys; print(os.path.realpath(sys.executable))')
+path=$(rustc --print sysroot)/bin:${python%/*}:/usr/bin:/bin
+apart=''
+! unshare -n true 2> /dev/null || apart='unshare -n'
+
+# alone COMMAND..: runs a command as that user.
+alone() {
+    $apart env -i PATH="$path" HOME="$work/home" LANG=C.UTF-8 "$@"
+}
+
+# ends STATUS COMMAND..: what such a command writes is kept in `output` and `log`.
+ends() {
+    wanted=$1 status=0
+    shift
+    alone "$@" > "$work/output" 2> "$work/log" || status=$?
+    has_ended "$*"
+}
+
+# has_ended WHAT: the status has to be the wanted one.
+has_ended() {
+    [ "$status" = "$wanted" ] && return
+    cat "$work/output"
+    fails "$1: status $status instead of $wanted"
+}
+
+# lists FILE WANTED: the file has to hold the lines.
+lists() {
+    diff -u "$work/$2" "$work/$1" > "$work/differences" ||
+        { cat "$work/differences" && fails 'other lines are written'; }
+}
+
+# as_written COMMAND: the command of README, which has to be there, for this clone.
+as_written() {
+    grep -qF "\`$1\`" "$top/README.md" || { : > "$work/log" && fails "README has no command $1"; }
+    echo "$1" | sed "s|URL|file://$address|"
+}
+
+make_clone() {
+    git ls-files -z --cached --others --exclude-standard > "$work/files"
+    tar --null -T "$work/files" --ignore-failed-read -cf - 2> /dev/null | tar -C "$clone" -xf -
+    git -C "$clone" init -q
+    git -C "$clone" add -A
+    git -C "$clone" -c user.name=a -c user.email=a@b commit -qm 'What is tested'
+    revision=$(git -C "$clone" rev-parse HEAD)
+    # In a URL a blank is %20.
+    address=$(echo "$clone" | sed 's/ /%20/g')
+    ! alone sh -c 'command -v rt' > "$work/log" || fails "rt is there: $(cat "$work/log")"
+    cp -R "$top/python/cases/monorepo" "$work/monorepo"
+    block_after 'cd python/cases/monorepo && check-lock-file' > "$work/found"
+    [ -s "$work/found" ] || { : > "$work/log" && fails 'README has no example of check-lock-file'; }
+}
+
+# block_after COMMAND: what README shows as the output of a command.
+block_after() {
+    awk -v command="    \$ $1" '$0 == command { here = 1; next }
+        here && (!/^    / || /^    \$ /) { exit }
+        here { print substr($0, 5) }' "$top/README.md"
+}
+
+# Python: the package with its library, and the checkers, by the URL and in the clone.
+for_python() {
+    command -v "$python" > /dev/null && alone "$python" -c 'import ensurepip' 2> /dev/null ||
+        { echo 'installs: no ensurepip (Debian: python3-venv), so pip is not tried' && return; }
+    for command in "$(as_written 'pip install git+URL')" "$(as_written 'pip install .')"; do
+        rm -rf "$work/environment"
+        ends 0 python3 -m venv "$work/environment"
+        (cd "$clone" && ends 0 sh -c ". '$work/environment/bin/activate' && $command")
+        (cd "$work/monorepo" && ends 1 "$work/environment/bin/check-lock-file")
+        lists output found
+        [ -z "$(git -C "$clone" status --short --ignored | grep -v __pycache__)" ] ||
+            fails "$command leaves something in the clone"
+    done
+}
+
+# By its URL and its SHA-256, as README has it: pip takes the wheel, and none of another sum.
+for_python_by_a_sum() {
+    [ -e "$work/environment" ] || return 0
+    mkdir "$work/wheels"
+    (cd "$clone" && ends 0 make wheel OUT="$work/wheels")
+    wheel=$(echo "$work"/wheels/*.whl)
+    sum=$(sha256sum "$wheel" | cut -d ' ' -f 1)
+    grep -q "^\.venv/bin/pip install 'WHEEL-URL#sha256=SUM' PyYAML$" "$top/README.md" ||
+        fails 'README has another command for the wheel'
+    ends 1 "$work/environment/bin/pip" install --force-reinstall "file://$wheel#sha256=0$sum"
+    ends 0 "$work/environment/bin/pip" install --force-reinstall "file://$wheel#sha256=$sum"
+    (cd "$work/monorepo" && ends 1 "$work/environment/bin/check-lock-file")
+    lists output found
+}
+
+# The programs, and a crate that depends on this one, each by the URL.
+for_cargo() {
+    command=$(as_written 'cargo install --git URL semver-parser-proved')
+    ends 0 sh -c "$command --root '$work/programs'"
+    ends 0 "$work/programs/bin/compare-ranges" 1.2
+    block_after 'compare-ranges 1.2' > "$work/wanted"
+    lists output wanted
+    ends 0 cargo init --quiet --name user "$work/user"
+    command=$(as_written 'cargo add --git URL semver-parser-proved --rename semver-parser')
+    (cd "$work/user" && ends 0 sh -c "$command")
+    echo 'use semver_parser::{satisfies, Dialect::Npm};
+fn main() { println!("{}", satisfies("1.9.0", "^1.2", Npm).unwrap()) }' > "$work/user/src/main.rs"
+    (cd "$work/user" && ends 0 cargo run --quiet --offline)
+    echo true > "$work/wanted"
+    lists output wanted
+}
+
+# yaml_of_readme TEXT: the block of YAML in README that has the text.
+yaml_of_readme() {
+    awk -v text="$1" '/^```/ {
+            if (has) printf "%s", block
+            here = /^```yaml/; block = ""; has = 0
+            next
+        }
+        here { block = block $0 "\n"; if (index($0, text)) has = 1 }' "$top/README.md"
+}
+
+# hook ID STATUS ARGUMENT..: pre-commit runs the hook of README, under this name, with this status.
+hook() {
+    id=$1 wanted_status=$2
+    shift 2
+    yaml_of_readme 'id: check-lock-file' | sed "s|URL|$clone|; s|REV|$revision|; s|id: .*|id: $id|
+        s|args: .*|args: [--quiet]|" > "$work/hooked/.pre-commit-config.yaml"
+    git -C "$work/hooked" add .pre-commit-config.yaml
+    (cd "$work/hooked" && ends "$wanted_status" pre-commit run "$@")
+}
+
+# pre-commit installs the hook by itself, and runs it if a lock file, a manifest or a setting
+# changed; the other hook also if one is deleted.
+for_pre_commit() {
+    alone sh -c 'command -v pre-commit' > /dev/null ||
+        { echo 'installs: no pre-commit (Debian: pre-commit), so it is not tried' && return; }
+    cp -R "$work/monorepo" "$work/hooked"
+    git -C "$work/hooked" init -q
+    git -C "$work/hooked" add -f .
+    git -C "$work/hooked" -c user.name=a -c user.email=a@b commit -qm one
+    hook check-lock-file 1 --all-files
+    sed -n '/^[^ ]*\(lock.json\|\.lock\): /p' "$work/output" > "$work/listed"
+    lists listed found
+    hook check-lock-file 0
+    grep -q 'no files to check' "$work/output" || fails 'the hook runs for any other file'
+    git -C "$work/hooked" reset -q --hard
+    : > "$work/hooked/.npmrc"
+    git -C "$work/hooked" add -f .npmrc
+    hook check-lock-file 1
+    ! grep -q 'no files to check' "$work/output" || fails "the hook doesn't run for .npmrc"
+    git -C "$work/hooked" reset -q --hard
+    git -C "$work/hooked" rm -q packages/b/package.json
+    hook check-lock-file 0
+    hook check-lock-file-always 1
+}
+
+# The hook runs for each file that check-lock-file knows by its name, and for settings of the tools.
+for_each_name() {
+    has_yaml 'which files the hook is for' || return 0
+    "$python" - "$clone" << 'END' > "$work/log" || fails 'the hook runs for other files'
+import re, sys, yaml
+sys.dont_write_bytecode = True
+sys.path.insert(0, sys.argv[1] + "/python")
+from semver_parser.checks import discovery
+
+with open(sys.argv[1] + "/.pre-commit-hooks.yaml") as file:
+    hook = yaml.safe_load(file)[0]
+names = [*discovery.NAMES, *discovery.FOR, ".yarnrc", ".yarnrc.yml", ".pnpmfile.cjs", "bunfig.toml"]
+others = ["a.lock", "xpackage.json", "package.json.md", "Cargo.lock/a"]
+lacks = [it for name in names for it in (name, f"a/{name}") if not re.search(hook["files"], it)]
+has = [it for it in others if re.search(hook["files"], it)]
+print(lacks, has)
+sys.exit(bool(lacks or has))
+END
+}
+
+# has_yaml: whether python3 has PyYAML, which the tests of settings in YAML need.
+has_yaml() {
+    "$python" -c 'import yaml' 2> /dev/null && return
+    echo "installs: python3 has no PyYAML (Debian: python3-yaml), so $1 is not tried"
+    return 1
+}
+
+# action ARGS FORMAT STATUS: runs the steps of action.yml, but for the first one if that has run, as
+# GitHub does: each by bash, with the inputs in its environment, until one fails.
+action() {
+    INPUT_ARGS=$1 INPUT_FORMAT=$2 "$python" "$top/tests/action-steps.py" \
+        "$clone/action.yml" "$work/steps"
+    [ ! -e "$work/runner/check-lock-file" ] || rm "$work/steps/00.sh"
+    wanted=$3 status=0
+    for step in "$work"/steps/*; do
+        status=0
+        (cd "$work/monorepo" && alone GITHUB_ACTION_PATH="$clone" RUNNER_TEMP="$work/runner" \
+            GITHUB_ACTIONS=true bash "$step") > "$work/output" 2> "$work/log" || status=$?
+        [ "$status" = 0 ] || break
+    done
+    has_ended 'the action'
+}
+
+# GitHub: the action, without inputs and with those of README.
+for_github() {
+    has_yaml 'the action' || return 0
+    yaml_of_readme 'uses: OWNER/REPO@REV' > "$work/workflow"
+    "$python" "$top/tests/action-steps.py" --workflow "$clone/action.yml" "$work/workflow"
+    git -C "$work/monorepo" init -q && git -C "$work/monorepo" add -f .
+    action '' github 1
+    [ "$(grep -c '^::error file=' "$work/output")" = "$(wc -l < "$work/found")" ] ||
+        fails 'other annotations are written'
+    mkdir -p "$work/monorepo/ci"
+    sed 's/$/ # known/' "$work/found" > "$work/monorepo/ci/known.txt"
+    action '--allow ci/known.txt' text 0
+    action '--no-such-option' github 2
+    action "\$(touch '$work/run')" github 2
+    [ ! -e "$work/run" ] || fails 'an input of the action is run as a command'
+}
+
+make_clone
+for_python
+for_python_by_a_sum
+for_cargo
+for_pre_commit
+for_each_name
+for_github
+echo "installs: passed${apart:+, without a network}"

@@ -1,0 +1,223 @@
+#!/usr/bin/env python3
+"""Writes the manuals of docs/man as pages of Markdown, which one can read on the web.
+
+    tools/make-manual-pages.py [DIRECTORY]    docs/manual, if no directory is named
+
+semver-ranges(7) is left out: it is made of docs/RANGES.md. It knows the macros of man(7) that the
+manuals have, and stops at any other one."""
+
+import re
+import sys
+import textwrap
+from pathlib import Path
+
+TOP = Path(__file__).resolve().parents[1]
+MANUALS = sorted(it for it in (TOP / "docs/man").iterdir() if it.name != "semver-ranges.7")
+
+ROMAN, BOLD, ITALIC, BREAK = "R", "B", "I", "break"
+IGNORED = ("na", "ad")
+ESCAPES = {"-": "-", "e": "\\", "~": "\u00a0", "&": "", "(aq": "'", "(lq": "“", "(rq": "”"}
+ESCAPES |= {"(ti": "~", "(ha": "^"}
+ESCAPE = re.compile(r"\\(f[BIRP]|\(..|.)")
+
+# What Markdown would take for a mark in a text, and at the start of a line.
+MARKS = re.compile(r"([\\`*\[\]<>]|(?<![A-Za-z0-9])_|_(?![A-Za-z0-9]))")
+MARK_AT_START = re.compile(r"^(\d+(?=[.)])|(?=[-+#]))(?=\S(?: |$))")
+
+WIDTH = 98
+
+
+class Unknown(Exception):
+    """What of a manual isn't known here."""
+
+
+# ---- reading man(7)
+
+
+def runs_of(text, font):
+    """Returns the parts of a text, each with its font, which the text may change."""
+    runs, at, now = [], 0, font
+    for found in ESCAPE.finditer(text):
+        runs.append((now, text[at : found.start()]))
+        at, name = found.end(), found[1]
+        if name[0] == "f" and len(name) == 2:
+            now = font if name[1] == "P" else name[1]
+        elif name in ESCAPES:
+            runs.append((now, ESCAPES[name]))
+        else:
+            raise Unknown(f"the escape \\{name}")
+    return [run for run in [*runs, (now, text[at:])] if run[1]]
+
+
+def arguments(text):
+    """Returns the arguments of a macro, of which one in quotes may have blanks."""
+    found = re.findall(r'"((?:[^"]|"")*)"|(\S+)', text)
+    return [quoted.replace('""', '"') or plain for quoted, plain in found]
+
+
+def fonts(macro, given):
+    """Returns the parts of a macro for fonts: B and I, or two of B, I and R in turn."""
+    if len(macro) == 1:
+        return runs_of(" ".join(given), macro)
+    return [run for at, it in enumerate(given) for run in runs_of(it, macro[at % 2])]
+
+
+class Reader:
+    """Reads the lines of a manual into blocks: a heading, a paragraph of runs, an example, or an
+    item with a tag and blocks of its own."""
+
+    def __init__(self):
+        self.blocks = []
+        self.into, self.paragraph, self.example = self.blocks, None, None
+        self.awaits_tag = False
+
+    def begin(self, into):
+        """Begins something new, such as a paragraph, among these blocks."""
+        self.into, self.paragraph = into, None
+
+    def add(self, runs):
+        """Adds what a line has to the paragraph, or takes it for the tag of an item."""
+        if self.awaits_tag:
+            self.awaits_tag = False
+            inner = []
+            self.blocks.append(("item", runs, inner))
+            self.begin(inner)
+            return
+        if self.paragraph is None:
+            self.paragraph = []
+            self.into.append(("paragraph", self.paragraph))
+        elif self.paragraph[-1][0] != BREAK:
+            self.paragraph.append((ROMAN, " "))
+        self.paragraph += runs
+
+    def read(self, line):
+        """Reads a line."""
+        if self.example is not None and line != ".EE":
+            self.example.append("".join(text for _, text in runs_of(line, ROMAN)))
+        elif line.startswith("."):
+            macro, _, rest = line[1:].partition(" ")
+            self.call(macro, rest)
+        else:
+            self.add(runs_of(line, ROMAN))
+
+    def call(self, macro, rest):
+        """Follows a macro."""
+        if macro in ("SH", "SS"):
+            self.begin(self.blocks)
+            text = "".join(text for _, text in runs_of(" ".join(arguments(rest)), ROMAN))
+            self.blocks.append(("heading", "##" if macro == "SH" else "###", text))
+        elif macro in ("PP", "TP"):
+            self.begin(self.blocks)
+            self.awaits_tag = macro == "TP"
+        elif macro == "IP" and not rest:
+            self.begin(self.into)
+        elif macro == "EX":
+            self.example = []
+            self.into.append(("example", self.example))
+        elif macro == "EE":
+            self.example, self.paragraph = None, None
+        elif macro == "br":
+            self.paragraph.append((BREAK, ""))
+        elif re.fullmatch("[BI]|[BIR]{2}", macro):
+            self.add(fonts(macro, arguments(rest)))
+        elif macro not in IGNORED:
+            raise Unknown(f"the macro .{macro} {rest}".rstrip())
+
+
+def read_manual(text):
+    """Returns the title and the section of a manual, and its blocks."""
+    head, *lines = text.splitlines()
+    title = arguments(head)
+    if title[0] != ".TH":
+        raise Unknown(head)
+    reader = Reader()
+    for line in lines:
+        reader.read(line)
+    return title[1].replace("\\-", "-").lower(), title[2], reader.blocks
+
+
+# ---- writing Markdown
+
+
+def merged(runs):
+    """Returns runs of which no two in turn have the same font."""
+    found = []
+    for font, text in runs:
+        if found and found[-1][0] == font != BREAK:
+            text = found.pop()[1] + text
+        found.append((font, text))
+    return found
+
+
+def inline(runs):
+    """Returns the text of a paragraph: what is bold is code, which a reader types or sees."""
+    written, runs = [], merged(runs)
+    for at, (font, text) in enumerate(runs):
+        # Blanks beside a mark of Markdown have to be outside of it.
+        text = text.replace("\u00a0", " ")
+        before, text, after = re.fullmatch(r"(\s*)(.*?)(\s*)", text, re.S).groups()
+        section = re.match(r"\((\d)\)", runs[at + 1][1]) if runs[at + 1 :] else None
+        if font == BREAK:
+            text = "\\\n"
+        elif font == BOLD and section and reference(text, section[1]):
+            text = f"[{text}({section[1]})]({reference(text, section[1])})"
+            runs[at + 1] = (ROMAN, runs[at + 1][1][3:])
+        elif font == BOLD:
+            fence = "``" if "`" in text else "`"
+            text = f"{fence}{text}{fence}"
+        else:
+            escaped = MARKS.sub(r"\\\1", text)
+            text = f"*{escaped}*" if font == ITALIC and text else escaped
+        written.append(before + text + after)
+    return "".join(written)
+
+
+def reference(name, section):
+    """Returns where another manual is on the web, or nothing."""
+    if name == "semver-ranges":
+        return "../RANGES.md"
+    return f"{name}.{section}.md" if (TOP / f"docs/man/{name}.{section}").exists() else ""
+
+
+def wrapped(runs, indent):
+    """Returns the lines of a paragraph."""
+    parts = []
+    for part in inline(runs).split("\\\n"):
+        wrapper = textwrap.TextWrapper(WIDTH - len(indent))
+        wrapper.break_on_hyphens = wrapper.break_long_words = False
+        parts.append("\n".join(re.sub(MARK_AT_START, r"\1\\", it) for it in wrapper.wrap(part)))
+    return textwrap.indent("\\\n".join(parts), indent)
+
+
+def block(it, indent=""):
+    """Returns the Markdown of a block."""
+    kind = it[0]
+    if kind == "heading":
+        return f"{it[1]} {it[2].capitalize() if it[2].isupper() else it[2]}"
+    if kind == "paragraph":
+        return wrapped(it[1], indent)
+    if kind == "example":
+        return textwrap.indent("\n".join(["```text", *it[1], "```"]), indent)
+    blocks = [inline(it[1]), *(block(inner, indent + "  ") for inner in it[2])]
+    return f"{indent}- " + "\n\n".join(blocks)
+
+
+def page(manual):
+    """Returns the page of a manual."""
+    name, section, blocks = read_manual(manual.read_text(encoding="utf-8"))
+    source = f"[docs/man/{manual.name}](../man/{manual.name})"
+    said = f"Made of {source}, which is what `man {name}` shows."
+    return "\n\n".join([f"# {name}({section})", said, *map(block, blocks)]) + "\n"
+
+
+def main():
+    directory = Path(sys.argv[1]) if sys.argv[1:] else TOP / "docs/manual"
+    directory.mkdir(exist_ok=True)
+    for manual in MANUALS:
+        try:
+            (directory / f"{manual.name}.md").write_text(page(manual), encoding="utf-8")
+        except Unknown as error:
+            sys.exit(f"make-manual-pages: {manual.name}: there is no rule for {error}")
+
+
+main()
