@@ -3,7 +3,7 @@
 promises of docs/PROOFS.md name is there; each public call says by a comment what fixes its answer, and the law, edit or
 file that the comment names is there; the example in Rattle of docs/COMING_FROM.md is crates/library_tests/src/example.rt;
 docs/PROOFS.md is made of the sources, docs/CRATES.md of crates.txt, docs/manual of docs/man, and rust/src/docs of docs/; each file of lemmas begins with the call that it
-serves, and each lemma is cited; pages have the field's terms; the Rust crate has the licences; docs/ERASURE.md counts the lines by hand; and no paragraph or row of a table is in two of them.
+serves, and each lemma is cited; the Rust crate has the licences; and docs/ERASURE.md counts the lines by hand. It judges no prose.
 
 tests/documents.py --must-fail  shows that it fails where one of these is changed.
 tests/documents.py --proofs     prints docs/PROOFS.md.
@@ -39,22 +39,6 @@ EXAMPLES = 'docs/COMING_FROM.md'
 MOST_FREE = 9
 MOST_EDITS = 45
 
-# What pages don't say, and the field's term in its place.
-AVOIDED = {
-    'want of memory': 'out of memory', 'growth was refused': 'an allocation failed', 'parted by': 'separated by', 'hangs on': 'depends on',
-    'calls? for C': 'C functions', 'must-fail edits?': 'mutants', 'whose reading': 'which dialect',
-    'wants? no more': 'closed the pipe', 'is passed over': 'is skipped', 'by the reading of a number': 'in the dialect', 'own readings?': 'dialect',
-    '(?<!at )faults?(?! at null| elsewhere)': 'error', 'behind': 'after',
-}
-
-
-# What pages, manuals and comments don't say, besides; code, and the tables of measurements, do.
-AVOIDED_IN_PAGES = {
-    'folders?': 'directory', 'judge[ds]?': 'check', 'passe[sd] over': 'skip', r'asks?|(?<!\w )asked for': 'require', 'kin': 'the like',
-    r'(?<!at )least|greatest': 'lowest, highest', 'told|tells': 'report', 'stands?': 'is', "hasn't|haven't": "doesn't have", 'met|meets?': 'satisfy',
-    r'not a version': 'invalid version', 'owes?': 'must', r'rooms?': 'buffer', r'takes? (?:no )?memory': 'allocate', r'whose reading|own meaning': 'dialect, meaning',
-}
-
 # The pages of the Rust crate's documentation, which are made of others.
 RUST_PAGES = tuple(f'rust/src/docs/{name}.md' for name in ('ranges', 'meaning', 'grammar', 'original_crate'))
 
@@ -62,11 +46,8 @@ RUST_PAGES = tuple(f'rust/src/docs/{name}.md' for name in ('ranges', 'meaning', 
 MANUAL_PAGES = tuple(
     f'docs/manual/{name}.md' for name in sorted(os.listdir(os.path.join(TOP, 'docs/man'))) if name != 'semver-ranges.7')
 
-# The pages that are made of others, and that the glossary of the pages is not for.
+# The pages that are made of others.
 MADE = ('docs/PROOFS.md', 'docs/CRATES.md', *RUST_PAGES, *MANUAL_PAGES)
-
-# How many words a paragraph has that may be in one page only.
-TELLING = 12
 
 
 def read(path):
@@ -391,29 +372,6 @@ def errors_of_the_example():
         yield f"{EXAMPLES}: its example in Rattle isn't that of crates/library_tests"
 
 
-def worded():
-    """The files that have words for people: pages, manuals, the header, code, definitions, lemmas and scripts."""
-    yield from documents()
-    yield from ('test', 'Makefile', 'crates.txt', 'rust/capi/include/semver_parser.h')
-    places = [f'crates/{name}/{part}' for name in crates() for part in ('src', 'specs', 'proofs')]
-    for place in (*places, 'debian', 'docs/man', 'docs/examples', 'python', 'tests', 'tools'):
-        for folder, _, names in sorted(os.walk(os.path.join(TOP, place))):
-            for name in sorted(names):
-                path = os.path.relpath(os.path.join(folder, name), TOP)
-                if path != 'tests/documents.py' and not {'out', 'target', '__pycache__'} & set(path.split(os.sep)):
-                    yield path
-
-
-def errors_of_words():
-    """All that people read has the field's terms."""
-    avoided = re.compile('|'.join(f'(?P<w{n}>\\b{words}\\b)' for n, words in enumerate(AVOIDED)), re.I)
-    for path in worded():
-        with open(os.path.join(TOP, path), encoding='utf-8', errors='replace') as file:
-            text = re.sub(r'\s+(?:(?://[/!]?|--|#|\*)\s+)?', ' ', file.read())
-        for found in avoided.finditer(text):
-            yield f'{path} has "{found[0]}": say "{list(AVOIDED.values())[int(found.lastgroup[1:])]}"'
-
-
 def pages():
     """The pages and manuals that are written by hand, each with its text."""
     written = [page for page in documents() if page not in MADE]
@@ -437,63 +395,6 @@ def errors_of_paths():
     for name in re.findall(r'`(\w+)`', re.search(r'## A change, worked\n(.*?)\n## ', read('docs/ARCHITECTURE.md'), re.S)[1]):
         if name not in known and not re.fullmatch('[0-9a-f]{8}|[A-Z]+|rt', name):
             yield f'docs/ARCHITECTURE.md names {name}, which no source has'
-
-
-def prose(text):
-    """A page without its code: indented and fenced blocks, what is in backticks, and the names of options."""
-    text = re.sub(r'^```.*?^```', '', text, flags=re.M | re.S)
-    text = re.sub(r'^\.EX.*?^\.EE', '', text, flags=re.M | re.S)
-    text = re.sub(r'^ {4,}.*$', '', text, flags=re.M)
-    return re.sub(r'`[^`]*`|\\-\\-[a-z\\-]+|--[a-z-]+|"[^"\n]*"', '', text)
-
-
-def comments():
-    """The comments of each source, without the marks of comments."""
-    sources = [path for name in crates() for path in files(name, 'src', '.rt')]
-    for folder in ('rust/src', 'rust/capi/src', 'rust/wasm/src'):
-        names = sorted(os.listdir(os.path.join(TOP, folder)))
-        sources += [os.path.join(folder, name) for name in names if name.endswith('.rs')]
-    for source in sources:
-        marked = re.findall(r'^[ \t]*(//.*)$|^()', read(source), re.M)
-        yield source, '\n'.join(re.sub('^//[/!]? ?', '', line) for line, _ in marked)
-
-
-def errors_of_words_in_prose():
-    """Pages, manuals and comments have the words of the glossary."""
-    for path, text in (*pages(), *comments()):
-        for words, said in AVOIDED_IN_PAGES.items():
-            for found in re.finditer(rf'\b(?:{words})\b', prose(text), re.I):
-                yield f'{path} has "{found[0]}": say "{said}"'
-
-
-def tellings(page, text):
-    """What a page tells: its paragraphs of some length, and the rows of its tables of three cells and more, each as its
-    words."""
-    text = re.sub(r'^```.*?^```', '', text, flags=re.M | re.S)
-    if page.startswith('docs/man/'):
-        lines = [re.sub(r'\\f.|\\', '', line) for line in re.sub(r'^\.EX.*?^\.EE', '', text, flags=re.M | re.S).splitlines()]
-        rows_here = [line.split('\t') for line in lines if line.count('\t') > 1]
-        paragraphs = re.split(r'\n\.(?:PP|TP|SH|TS|TE|IP|SS|RS|RE)[^\n]*\n', '\n'.join(lines))
-    else:
-        rows_here = [cells for _, cells in rows(text.replace('`', ''))]
-        paragraphs = re.split(r'\n\s*\n|\n- ', re.sub(r'^( {4,}|\|).*$', '', text, flags=re.M))
-    for row in rows_here:
-        words = [re.sub(r'\W', '', cell) for cell in row]
-        if len([word for word in words if word]) > 2:
-            yield tuple(words)
-    for paragraph in paragraphs:
-        words = re.findall(r'\w+', re.sub(r'^\.\w+ ?', '', paragraph, flags=re.M))
-        if len(words) >= TELLING:
-            yield tuple(words)
-
-
-def errors_of_telling():
-    """No paragraph, and no row of a table, is in two pages or manuals; that which is made of a page is left out."""
-    first = {}
-    for page, text in (it for it in pages() if it[0] != 'docs/man/semver-ranges.7'):
-        for telling in tellings(page, text):
-            if first.setdefault(telling, page) != page:
-                yield f'{page} tells what {first[telling]} does: {" ".join(telling)[:60]}'
 
 
 def errors_of_the_readme():
@@ -553,7 +454,7 @@ def errors_of_licences():
 def errors():
     for check in (
         errors_of_links, errors_of_files, errors_of_promises, errors_of_proofs, errors_of_answers, errors_of_clauses,
-        errors_of_the_example, errors_of_words, errors_of_words_in_prose, errors_of_paths, errors_of_telling, errors_of_the_readme, errors_of_ranges, errors_of_made_pages, errors_of_crates,
+        errors_of_the_example, errors_of_paths, errors_of_the_readme, errors_of_ranges, errors_of_made_pages, errors_of_crates,
         errors_of_lemmas, errors_of_citations, errors_of_licences, errors_of_lines_by_hand,
     ):
         yield from check()
@@ -588,15 +489,8 @@ EDITS = [
     ('crates/version_sets/src/laws.rt', '::from_number(', '::other_number('),
     ('crates/semver_parser/must-fail/report_forgets_the_npm_line.edit', None, 'crates/semver_parser/must-fail/report.edit'),
     ('docs/PROOFS.md', '`one_parse`', 'equation'),
-    ('docs/TESTED.md', 'C functions', 'calls for C'),
     ('docs/COMING_FROM.md', '`VersionSet::lowest`', '`VersionSet::least`'),
     ('rust/LICENSE-MIT', 'WITHOUT WARRANTY', 'WITHOUT ANY WARRANTY'),
-    ('docs/TESTED.md', 'temporary directory', 'temporary folder'),
-    ('docs/MEANING.md', '## Terms\n', '## Terms\n\n| a | b | c | d |\n|---|---|---|---|\n| `crate-npm` | the crate, npm mode | `CrateNpm` | `CRATE_NPM` |\n'),
-    ('docs/GRAMMAR.md', '# Grammars\n', '# Grammars\n\nA term is a partial and its operator. A hyphen range has the terms `>=` of its left side and `<=`\n'
-     'of its right side; a wildcard side is dropped unless both are wildcards. An empty range is one term.\n'),
-    ('crates/version_sets/src/ranges.rt', '/// ', '/// By whose reading\n/// '),
-    ('crates/version_sets/src/ranges.rt', '/// ', '/// It asks for the greatest version.\n/// '),
     ('crates.txt', 'version_sets: semver_texts semver_versions semver_ranges', 'version_sets: semver_texts semver_ranges'),
 ]
 

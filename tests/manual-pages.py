@@ -2,11 +2,13 @@
 """Compares the pages of docs/manual with what mandoc lays out of the manuals of docs/man: they have
 the same words in the same order. It needs mandoc."""
 
+import glob
 import os
 import re
 import shutil
 import subprocess
 import sys
+import tempfile
 
 TOP = os.path.dirname(os.path.dirname(os.path.abspath(__file__)))
 
@@ -16,9 +18,16 @@ def read(path):
         return file.read()
 
 
+def make_manuals_of_types(directory):
+    """Writes the manuals of the types of C with their declarations, as they are installed."""
+    of_types = sorted(glob.glob(os.path.join(TOP, 'docs/man/semver_parser_*.3')))
+    command = [sys.executable, os.path.join(TOP, 'tools/make-manuals.py'), '@VERSION@', '@DATE@', directory, *of_types]
+    subprocess.run(command, input=read('rust/capi/include/semver_parser.h'), text=True, check=True)
+
+
 def words_of_manual(path):
     """The words that mandoc shows of a manual, but for its first and last line."""
-    command = ['mandoc', '-T', 'utf8', '-O', 'width=1000', os.path.join(TOP, path)]
+    command = ['mandoc', '-T', 'utf8', '-O', 'width=1000', path]
     shown = subprocess.run(command, capture_output=True, text=True, check=True).stdout
     text = '\n'.join(re.sub('.\b', '', shown).strip().splitlines()[1:-1])
     for sign, plain_sign in (('\u2010', '-'), ('\u2019', "'"), ('\u00a0', ' ')):
@@ -49,9 +58,10 @@ def plain(text):
     return ''.join(pieces)
 
 
-def differs(page):
+def differs(page, made):
     """Whether a page has other words than its manual, of which it prints the first ones."""
-    manual = words_of_manual(f'docs/man/{page[:-3]}')
+    manual = os.path.join(made, page[:-3])
+    manual = words_of_manual(manual if os.path.exists(manual) else os.path.join(TOP, 'docs/man', page[:-3]))
     shown = words_of_page(f'docs/manual/{page}')
     if manual == shown:
         return False
@@ -65,7 +75,11 @@ def main():
         print('manual pages: no mandoc (Debian: mandoc), so they are not compared')
         return 0
     pages = sorted(os.listdir(os.path.join(TOP, 'docs/manual')))
-    if any([differs(page) for page in pages]):
+    with tempfile.TemporaryDirectory() as work:
+        made = os.path.join(work, 'man')
+        make_manuals_of_types(made)
+        found = [page for page in pages if differs(page, made)]
+    if found:
         print('manual pages: failed')
         return 1
     print(f'manual pages: all {len(pages)} have the words that mandoc shows, passed')

@@ -3,11 +3,14 @@
 
     tools/make-manual-pages.py [DIRECTORY]    docs/manual, if no directory is named
 
-semver-ranges(7) is left out: it is made of docs/RANGES.md. It knows the macros of man(7) that the
+semver-ranges(7) is left out: it is made of docs/RANGES.md. The pages of the types of C have the
+declarations that tools/make-manuals.py puts into them. It knows the macros of man(7) that the
 manuals have, and stops at any other one."""
 
 import re
+import subprocess
 import sys
+import tempfile
 import textwrap
 from pathlib import Path
 
@@ -15,7 +18,7 @@ TOP = Path(__file__).resolve().parents[1]
 MANUALS = sorted(it for it in (TOP / "docs/man").iterdir() if it.name != "semver-ranges.7")
 
 ROMAN, BOLD, ITALIC, BREAK = "R", "B", "I", "break"
-IGNORED = ("na", "ad")
+IGNORED = ("na", "ad", "nh", "hy")
 ESCAPES = {"-": "-", "e": "\\", "~": "\u00a0", "&": "", "(aq": "'", "(lq": "“", "(rq": "”"}
 ESCAPES |= {"(ti": "~", "(ha": "^"}
 ESCAPE = re.compile(r"\\(f[BIRP]|\(..|.)")
@@ -70,6 +73,7 @@ class Reader:
         self.blocks = []
         self.into, self.paragraph, self.example = self.blocks, None, None
         self.awaits_tag = False
+        self.is_declared = False
 
     def begin(self, into):
         """Begins something new, such as a paragraph, among these blocks."""
@@ -92,7 +96,11 @@ class Reader:
 
     def read(self, line):
         """Reads a line."""
-        if self.example is not None and line != ".EE":
+        if self.is_declared and line != ".fi":
+            found = re.fullmatch(r"\.B (.*)", line)
+            text = " ".join(arguments(found[1])) if found else ""
+            self.example.append("".join(text for _, text in runs_of(text, ROMAN)))
+        elif self.example is not None and line not in (".EE", ".fi"):
             self.example.append("".join(text for _, text in runs_of(line, ROMAN)))
         elif line.startswith("."):
             macro, _, rest = line[1:].partition(" ")
@@ -111,11 +119,11 @@ class Reader:
             self.awaits_tag = macro == "TP"
         elif macro == "IP" and not rest:
             self.begin(self.into)
-        elif macro == "EX":
-            self.example = []
+        elif macro in ("EX", "nf"):
+            self.example, self.is_declared = [], macro == "nf"
             self.into.append(("example", self.example))
-        elif macro == "EE":
-            self.example, self.paragraph = None, None
+        elif macro in ("EE", "fi"):
+            self.example, self.paragraph, self.is_declared = None, None, False
         elif macro == "br":
             self.paragraph.append((BREAK, ""))
         elif re.fullmatch("[BI]|[BIR]{2}", macro):
@@ -202,9 +210,19 @@ def block(it, indent=""):
     return f"{indent}- " + "\n\n".join(blocks)
 
 
-def page(manual):
-    """Returns the page of a manual."""
-    name, section, blocks = read_manual(manual.read_text(encoding="utf-8"))
+def declared(directory):
+    """Writes the manuals of the types of C, with their declarations, into a directory."""
+    of_types = [str(it) for it in MANUALS if it.name.startswith("semver_parser_")]
+    maker, header = TOP / "tools/make-manuals.py", TOP / "rust/capi/include/semver_parser.h"
+    command = [sys.executable, str(maker), "@VERSION@", "@DATE@", str(directory), *of_types]
+    subprocess.run(command, input=header.read_text(encoding="utf-8"), text=True, check=True)
+
+
+def page(manual, made):
+    """Returns the page of a manual, which may be made in a directory."""
+    source = made / manual.name
+    text = (source if source.exists() else manual).read_text(encoding="utf-8")
+    name, section, blocks = read_manual(text)
     source = f"[docs/man/{manual.name}](../man/{manual.name})"
     said = f"Made of {source}, which is what `man {name}` shows."
     return "\n\n".join([f"# {name}({section})", said, *map(block, blocks)]) + "\n"
@@ -213,11 +231,14 @@ def page(manual):
 def main():
     directory = Path(sys.argv[1]) if sys.argv[1:] else TOP / "docs/manual"
     directory.mkdir(exist_ok=True)
-    for manual in MANUALS:
-        try:
-            (directory / f"{manual.name}.md").write_text(page(manual), encoding="utf-8")
-        except Unknown as error:
-            sys.exit(f"make-manual-pages: {manual.name}: there is no rule for {error}")
+    with tempfile.TemporaryDirectory() as work:
+        declared(Path(work) / "man")
+        for manual in MANUALS:
+            try:
+                text = page(manual, Path(work) / "man")
+            except Unknown as error:
+                sys.exit(f"make-manual-pages: {manual.name}: there is no rule for {error}")
+            (directory / f"{manual.name}.md").write_text(text, encoding="utf-8")
 
 
 main()
