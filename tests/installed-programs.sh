@@ -356,7 +356,8 @@ crate 2 of 2: semver_parser_main, 4 of 9 functions checked
 when_a_proof_fails() {
     touch "$small/crates.txt"
     stub rt 'echo "not proved"; exit 1'
-    ends 2 leaves_nothing "$small/semver-parser" 1.2.3
+    # Also if it fails before what shows the progress has begun to wait.
+    for turn in $(seq 30); do ends 2 leaves_nothing timeout 60 "$small/semver-parser" 1.2.3; done
     grep -qx 'not proved' "$work/stderr" && [ ! -s "$work/stdout" ] || fail 'a program runs that is not proved'
     for signal in HUP INT TERM; do stopped_by $signal; done
     stub rt "$proving"
