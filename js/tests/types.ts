@@ -63,6 +63,8 @@ export { componentOfCargo, termOfEither }
 
 // @ts-expect-error: the terms are those of a string
 semver.terms(new semver.Range('1'))
+// @ts-expect-error: only a hyphen range has a second version
+semver.terms('1')[0].upper.start
 // @ts-expect-error: a component may be a wildcard
 const noWildcard: number = semver.terms('1')[0].version.major
 // @ts-expect-error: a component of Cargo's is bigint

@@ -49,6 +49,7 @@ impl Span {
     ///
     /// assert_eq!(&"^1.2"[Span { start: 1, end: 4 }.range()], "1.2");
     /// ```
+    #[must_use]
     pub fn range(self) -> Range<usize> {
         self.start..self.end
     }
