@@ -59,6 +59,8 @@ for file in cases.json package.test.mjs results.mjs differences.mjs; do
 done
 node --test package.test.mjs > "$work/log" 2>&1 || { cat "$work/log" && fail 'its tests fail'; }
 passed=$(sed -n 's/^# pass //p' "$work/log")
+cp "$top/docs/examples/js/raise-requirement.cjs" .
+"$top/tests/raise-runs.sh" node raise-requirement.cjs
 types='no tsc (Debian: apt-get install node-typescript), so its types are not checked'
 if command -v tsc > /dev/null; then
     cp "$top/js/tests/types.ts" types.mts

@@ -93,11 +93,12 @@ stops_at_what_it_does_not_know() {
 }
 
 programs_run() {
-    quietly 'the programs' cargo build --quiet --release --bins
+    quietly 'the programs' cargo build --quiet --release --bins --examples
     programs=${CARGO_TARGET_DIR:-target}/release
     OPENED=yes tests/program-runs.sh "$programs/semver-parser"
     OPENED=yes tests/release-filter-runs.sh "$programs/release-filter"
     OPENED=yes tests/compare-ranges-runs.sh "$programs/compare-ranges"
+    tests/raise-runs.sh "$programs/examples/raise-requirement"
 }
 
 cargo_tests() {

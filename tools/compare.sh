@@ -46,6 +46,9 @@
 #   of these names (apt with its network, npm, and the library as for locks);
 # - places: brute force over all texts of up to COUNT characters, where a refused range stops being
 #   one (python3);
+# - raise: node-semver as npm ships it and Cargo's crate semver, what the examples that raise a
+#   requirement return of COUNT random ones that are made of known pieces, in each language (npm, cargo,
+#   librust-semver-dev, gcc, python3, and what rust/wasm/build.sh needs);
 # - order: a fresh process, what each of COUNT random calls, 2000 or more, returns after others: calls
 #   of the JavaScript package, of the Python package by several threads, too, and of the C functions
 #   (node, what rust/wasm/build.sh needs, python3 and gcc).
@@ -125,6 +128,10 @@ real-locks)
     . tools/comparisons/real-locks.sh
     exit
     ;;
+raise)
+    . tools/comparisons/raise/run.sh
+    exit
+    ;;
 damaged-locks)
     exec python3 tools/comparisons/damaged-locks.py "${2:-30000}" "$seed"
     ;;
@@ -144,7 +151,7 @@ order)
 crate | cargo | node | npm | versions | real | grid | lines | places | version-places | erased) ;;
 *)
     kinds='crate|cargo|node|npm|versions|real|grid|lines|places|version-places|js|npm-on-it'
-    kinds="$kinds|managers|damaged-locks|erased|order"
+    kinds="$kinds|managers|damaged-locks|erased|order|raise"
     echo "usage: tools/compare.sh $kinds [COUNT] [SEED], or locks FILE.., or real-locks [NAME..]," >&2
     echo '       or node-suite [--show], or semver-suite, crate-tests or targets' >&2
     exit 2

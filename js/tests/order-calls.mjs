@@ -238,6 +238,7 @@ export const CALLS = {
   validRange: 'range options',
   toComparators: 'range options',
   explainRange: 'range options',
+  terms: 'range options',
   minVersion: 'range options',
   intersects: 'range range options',
   subset: 'range range options',

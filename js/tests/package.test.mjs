@@ -430,6 +430,17 @@ test('the example of the README', () => {
   }
 })
 
+// Each line of its example of terms with a result, after those before it.
+test('the example of terms in the README', () => {
+  const readme = readFileSync(new URL('node_modules/semver-parser-proved/README.md', import.meta.url), 'utf8')
+  const [, example] = /\n## Terms\n[^]*?```js\nimport .*\n([^]*?)```/.exec(readme)
+  const code = example.replace(/^(.*\S) +\/\/ (.*)$/gm, 'results.push([$1, $2])')
+  const results = []
+  Function('terms', 'results', code)(semver.terms, results)
+  assert.equal(results.length, 3)
+  for (const [found, right] of results) assert.deepEqual(found, right)
+})
+
 test('the examples of the README that differ from node-semver', () => {
   const readme = readFileSync(new URL('node_modules/semver-parser-proved/README.md', import.meta.url), 'utf8')
   assert.deepEqual(wrongRows(readme, { ...common }, 3), [])

@@ -28,7 +28,8 @@ quietly() {
 quietly env MAKEFLAGS= make -s install PREFIX="$work/installed"
 libraries=$work/installed/lib
 export PKG_CONFIG_PATH="$libraries/pkgconfig" LD_LIBRARY_PATH="$libraries"
-quietly make -C docs/examples/c clean out/check-ranges CC=gcc
+quietly make -C docs/examples/c clean
+quietly make -C docs/examples/c CC=gcc
 export SEMVER_PARSER_LIBRARY="$libraries/libsemver_parser.so" PYTHONPATH="$top/python" PYTHONDONTWRITEBYTECODE=1
 cd docs/examples
 in_c=c/out/check-ranges
@@ -66,4 +67,9 @@ same 'Python, two dialects' 2 lines /dev/null "$work/usage" $in_python npm cargo
 same 'Python, invalid lines' 2 faulty-lines faulty-lines.npm faulty-lines.python-errors $in_python
 same 'Python, invalid lines to the crate' 2 faulty-lines faulty-lines.crate-npm faulty-lines.crate-npm.python-errors $in_python crate-npm
 same 'Python, no line' 0 /dev/null /dev/null /dev/null $in_python
+echo 'the output can'"'"'t be written: No space left on device' > "$work/no-output"
+same 'C, no output of a raised requirement' 2 /dev/null /dev/null "$work/no-output" \
+    sh -c 'exec "$@" > /dev/full' - c/out/raise-requirement ^1.2 2.5.1
+"$top/tests/raise-runs.sh" c/out/raise-requirement
+"$top/tests/raise-runs.sh" python3 python/raise_requirement.py
 echo 'examples: passed'

@@ -33,7 +33,7 @@ if command -v mypy > /dev/null; then
         refuse 'the Python package has wrong types'
     cat > "$work/wrong.py" << 'END'
 import semver_parser
-from semver_parser import Range, SemverError, Version, crate_comparators, precedence, satisfies
+from semver_parser import Range, SemverError, Version, crate_comparators, precedence, satisfies, terms
 satisfies("1.0.0", "1", dialect="nmp")
 satisfies("1.0.0", "1")
 tag: str = Range("1", dialect="npm").highest(["1.0.0"])
@@ -43,9 +43,12 @@ crate_comparators("1", dialect="npm")
 Version(1, 2, 3).majr
 SemverError("1", "npm").reason == "leading-zeros"
 semver_parser.parse_version
+terms("1")
+terms("1", dialect="npm")[0].version.major + 1
+terms("1", dialect="npm")[0].upper.start
 END
     ! MYPYPATH=. mypy --config-file ../pyproject.toml --cache-dir "$work/types" "$work/wrong.py" > "$work/wrong" || refuse 'mypy finds no error'
-    [ "$(grep -c ': error: ' "$work/wrong")" = 9 ] || refuse "mypy finds other errors: $(cat "$work/wrong")"
+    [ "$(grep -c ': error: ' "$work/wrong")" = 12 ] || refuse "mypy finds other errors: $(cat "$work/wrong")"
 else
     echo 'mypy: skipped, since it is not there (Debian: apt-get install mypy python3-typeshed)'
 fi

@@ -1,0 +1,43 @@
+/* Raises the requirements of standard input by the example in C: a range, a version and a dialect,
+ * each with a zero byte after it. It writes for each the new range, `!none` or `!invalid`, and a
+ * zero byte. */
+#define main main_of_example
+#include "raise-requirement.c"
+#undef main
+
+/* Reads what is before the next zero byte. */
+static bool read_field(char **field, size_t *capacity) {
+    return getdelim(field, capacity, '\0', stdin) >= 0;
+}
+
+static semver_parser_dialect dialect_of(const char *name) {
+    if (strcmp(name, "npm") == 0) {
+        return SEMVER_PARSER_DIALECT_NPM;
+    }
+    if (strcmp(name, "cargo") == 0) {
+        return SEMVER_PARSER_DIALECT_CARGO;
+    }
+    return strcmp(name, "crate-npm") == 0 ? SEMVER_PARSER_DIALECT_CRATE_NPM
+                                          : SEMVER_PARSER_DIALECT_CRATE_CARGO;
+}
+
+int main(void) {
+    char *fields[3] = {NULL, NULL, NULL};
+    size_t capacities[3] = {0, 0, 0};
+    while (read_field(&fields[0], &capacities[0])) {
+        if (!read_field(&fields[1], &capacities[1]) || !read_field(&fields[2], &capacities[2])) {
+            return 2;
+        }
+        char *made = NULL;
+        semver_parser_error error;
+        semver_parser_status status
+            = raised(fields[0], fields[1], dialect_of(fields[2]), &made, &error);
+        fputs(status != SEMVER_PARSER_OK ? "!invalid" : made == NULL ? "!none" : made, stdout);
+        putchar('\0');
+        free(made);
+    }
+    for (int at = 0; at < 3; at++) {
+        free(fields[at]);
+    }
+    return 0;
+}
