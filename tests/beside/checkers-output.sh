@@ -404,7 +404,7 @@ same 'standard input and a file' 1 cases/aliases.json "$work/lines" /dev/null \
 mkdir -p "$work/patterns/packages/a/inner" "$work/patterns/packages/b" "$work/patterns/other/a" "$work/patterns/packages/.h"
 mkdir -p "$work/patterns/packages/a/node_modules/part" && ln -s ../../.. "$work/patterns/packages/a/inner/up"
 cut -f 1 cases/workspace-patterns | python3 -c 'import sys
-from semver_parser.checks.patterns import places_at
+from semver_parser.checks.node.patterns import places_at
 for line in sys.stdin:
     pattern = line.rstrip("\n")
     print(pattern, " ".join(places_at(pattern, sys.argv[1])), sep="\t")' "$work/patterns" | diff -u cases/workspace-patterns -

@@ -3,10 +3,9 @@
 import os
 from typing import Dict, Iterator, List, NamedTuple
 
-from .discovery import NAMES
+from .tools import LOCK_FILES
 from .files import STANDARD_INPUT, Refusal, bytes_of, taking, utf8
 from .reports import Report, Unused
-from .sentences import sentence
 
 MARK = " # "
 
@@ -54,9 +53,9 @@ def allow(path: str, reports: List[Report]) -> List[Unused]:
     for report in reports:
         before = texts_before(report)
         for finding in [*report.findings, *report.duplicates]:
-            texts = (text + sentence(finding) for text in before)
+            texts = (text + finding.sentence() for text in before)
             used += [known[it] for it in texts if it in known]
-        kept = [it for it in report.listed if not is_known(sentence(it), before, known)]
+        kept = [it for it in report.listed if not is_known(it.sentence(), before, known)]
         report.allowed, report.listed = len(report.listed) - len(kept), kept
     checked = [short(report.name) for report in reports if report.refusal is None]
     return [
@@ -81,6 +80,6 @@ def may_apply_elsewhere(line: Line, checked: List[str], files: int) -> bool:
     """Whether a line begins with a lock file that wasn't checked, or with none, and one of the
     files was refused."""
     path, colon, _ = line.text.partition(": ")
-    if colon and os.path.basename(path.strip('"')) in NAMES:
+    if colon and os.path.basename(path.strip('"')) in LOCK_FILES:
         return short(path.strip('"')) not in checked
     return len(checked) < files

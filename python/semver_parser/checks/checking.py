@@ -8,7 +8,7 @@ from .allowed import allow
 from .closing import closing_line, error_of, total_line
 from .discovery import Discovery, discover
 from .files import STANDARD_INPUT
-from .findings import NOTES, Scope
+from .model import Scope
 from .output import github, json_object, sarif, text, tsv
 from .program import Misuse, Options, Outcome, escaped
 from .progress import Progress
@@ -74,7 +74,7 @@ def reports_on(paths: List[str], options: Options, form: str) -> Iterator[Report
             progress.at(number, path)
             report = report_on(path, options.given.get("--package-json"), wanted)
             is_strict = "--strict" in options.given
-            found = (it for it in report.findings if is_strict or not it.is_strict)
+            found = (it for it in report.findings if is_strict or not it.excuse)
             report.listed = [*found, *report.duplicates]
             yield report
     finally:
@@ -104,7 +104,7 @@ def status_of(results: Results) -> int:
     if results.refusals or any(error_of(it) is not None for it in results.reports):
         return 2
     listed = (finding for it in results.reports for finding in it.listed)
-    return int(bool(results.unused) or any(it.kind not in NOTES for it in listed))
+    return int(bool(results.unused) or any(not it.is_note for it in listed))
 
 
 def check(options: Options) -> Outcome:

@@ -32,18 +32,18 @@ def counted(count: int, one: str, several: str) -> str:
 
 def parts_of(report: Report) -> List[str]:
     """What a closing line has after what was checked."""
-    reasons, tally = report.not_checked(), report.tally
+    reasons = report.not_checked()
     parts = []
     if reasons:
         each = sorted(reasons.items(), key=lambda it: (-it[1], it[0]))
         listed = ", ".join(counted(count, *REASONS[reason]) for reason, count in each)
         parts.append(f"{sum(reasons.values()):,} not checked: {listed}")
-    if tally.left_out:
-        parts.append(f"{tally.left_out:,} left out")
+    if report.left_out:
+        parts.append(f"{report.left_out:,} left out")
     if report.allowed:
         parts.append(f"{report.allowed:,} allowed")
-    if tally.from_lock:
-        taken = counted(tally.from_lock, "workspace or link", "workspaces and links")
+    if report.from_lock:
+        taken = counted(report.from_lock, "workspace or link", "workspaces and links")
         parts.append(f"{taken} taken from the lock file")
     return parts
 
@@ -51,8 +51,8 @@ def parts_of(report: Report) -> List[str]:
 def closing_line(report: Report) -> str:
     """The closing line of a lock file."""
     requirements = counted(report.checked(), "requirement", "requirements")
-    packages = counted(report.tally.packages, "package", "packages")
-    first = f"checked {requirements} of {packages} in {report.name} ({report.tool})"
+    packages = counted(report.packages, "package", "packages")
+    first = f"checked {requirements} of {packages} in {report.name} ({report.tool_name})"
     return "; ".join([first, *parts_of(report)])
 
 
@@ -61,7 +61,7 @@ def total_line(results: Results) -> str:
     reports = [it for it in results.reports if error_of(it) is None]
     requirements = sum(it.checked() for it in reports)
     checked = counted(requirements, "requirement", "requirements")
-    packages = counted(sum(it.tally.packages for it in reports), "package", "packages")
+    packages = counted(sum(it.packages for it in reports), "package", "packages")
     files = counted(len(reports), "file", "files")
     listed = sum(len(it.listed) for it in reports) + len(results.unused)
     parts = [f"total: {checked} of {packages} in {files}", counted(listed, "finding", "findings")]
@@ -80,7 +80,7 @@ def error_of(report: Report) -> Optional[Refusal]:
 
 def unchecked_line(report: Report) -> str:
     """Why it is an error that nothing was checked."""
-    requirements = counted(report.tally.requirements, "requirement", "requirements")
-    packages = counted(report.tally.packages, "package", "packages")
-    first = f"nothing was checked of {requirements} and {packages} ({report.tool})"
+    requirements = counted(report.requirements, "requirement", "requirements")
+    packages = counted(report.packages, "package", "packages")
+    first = f"nothing was checked of {requirements} and {packages} ({report.tool_name})"
     return "; ".join([first, *parts_of(report)])

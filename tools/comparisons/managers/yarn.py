@@ -11,9 +11,10 @@ import subprocess
 from pathlib import Path
 from typing import Any, Dict, Optional
 
-from differences import PROJECT, Differences, Finding, Kind, listed_in
+from differences import PROJECT, Differences, Finding, Missing, listed_in
 from projects import environment, write_project
 from registry import Registry
+from semver_parser.checks.findings import TwoVersions
 from worlds import Maker, World
 from yarn_edits import ANOTHER_ARCHIVE, damaged, edited
 
@@ -58,12 +59,14 @@ def choice_of(what: str, finding: Finding) -> Optional[str]:
     """Why a finding is listed, though yarn takes the project, by a row of the README: it is of an
     alias, or of an archive of another version after that damage, or yarn fetches what the file lacks
     from a URL, which the registry serves."""
-    if finding.range.startswith("npm:"):
+    record = finding.record
+    wanted = record.range or ""
+    if wanted.startswith("npm:"):
         return "yarn doesn't compare an alias"
-    if finding.kind == Kind.ANOTHER_VERSION and what == ANOTHER_ARCHIVE:
+    if finding.kind == TwoVersions.kind and what == ANOTHER_ARCHIVE:
         return "yarn doesn't compare an archive of another version"
-    is_fetched = finding.kind == Kind.MISSING and finding.requirer != PROJECT
-    if is_fetched and finding.range.startswith("http://"):
+    is_fetched = finding.kind == Missing.kind and record.requirer != PROJECT
+    if is_fetched and wanted.startswith("http://"):
         return "yarn fetches an archive by its URL"
     return None
 

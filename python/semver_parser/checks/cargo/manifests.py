@@ -18,7 +18,7 @@ SOURCES = ("path", "git", "branch", "tag", "rev", "registry", "registry-index")
 NO_VERSION = "0.0.0"
 
 
-class Need(NamedTuple):
+class Dependency(NamedTuple):
     """What a manifest requires: the name of the package, the name that it is given, if another, the
     requirement, whether that is of a registry or of a path or git alone, the table that it is in,
     where the package is to be taken from, as stated and as it is, whether it is optional, and which
@@ -52,7 +52,7 @@ class Manifest(NamedTuple):
     folder: str
     name: Optional[str]
     version: str
-    needs: List[Need]
+    dependencies: List[Dependency]
     features: Dict[str, List[str]]
 
 
@@ -86,28 +86,28 @@ def patches_of(manifest: Entry) -> Iterator[Tuple[str, Entry]]:
         yield "replace", object_at(manifest["replace"], "replace")
 
 
-def need_of(
+def dependency_of(
     key: str, value: Any, table: str, inherited: Inherited = NOTHING_INHERITED, folder: str = ""
-) -> Need:
+) -> Dependency:
     """A dependency of a table: a requirement, or a table of its own, which may take that of the
     workspace."""
     where = f"{table}: {key}"
     if isinstance(value, str):
-        return Need(key, None, value, True, table, features=("default",))
+        return Dependency(key, None, value, True, table, features=("default",))
     entry = object_at(value, where)
     if entry.get("workspace") is True:
         if key not in inherited.dependencies:
             raise WrongShape(f": {where} isn't one of the workspace's dependencies")
-        need = need_of(key, inherited.dependencies[key], table, folder=inherited.folder)
-        features = (*need.features, *features_in(entry, where, False))
-        return need._replace(is_optional=entry.get("optional") is True, features=features)
+        own = dependency_of(key, inherited.dependencies[key], table, folder=inherited.folder)
+        features = (*own.features, *features_in(entry, where, False))
+        return own._replace(is_optional=entry.get("optional") is True, features=features)
     package = text_at(entry.get("package", key), f"{where}: package")
     requirement = text_at(entry.get("version", "*"), f"{where}: version")
     has_registry = "version" in entry or not ("path" in entry or "git" in entry)
     stated = ", ".join(
         f'{it} = "{text_at(entry[it], f"{where}: {it}")}"' for it in SOURCES if it in entry
     )
-    return Need(
+    return Dependency(
         package,
         key if package != key else None,
         requirement,
@@ -157,8 +157,8 @@ def manifest_of(entry: Entry, inherited: Inherited, folder: str) -> Manifest:
     version = package.get("version")
     if isinstance(version, dict) and version.get("workspace") is True:
         version = inherited.package.get("version")
-    needs = [
-        need_of(key, value, table, inherited, folder)
+    dependencies = [
+        dependency_of(key, value, table, inherited, folder)
         for table, values in tables_of(entry)
         for key, value in values.items()
     ]
@@ -169,7 +169,7 @@ def manifest_of(entry: Entry, inherited: Inherited, folder: str) -> Manifest:
         for key, value in features.items()
     }
     version = version if isinstance(version, str) else NO_VERSION
-    return Manifest(os.path.abspath(folder), name, version, needs, named)
+    return Manifest(os.path.abspath(folder), name, version, dependencies, named)
 
 
 def read(path: str) -> Entry:
@@ -178,7 +178,7 @@ def read(path: str) -> Entry:
         return toml_object(bytes_of(path))
 
 
-def by_table(entry: Entry) -> Dict[Tuple[str, str], Need]:
+def by_table(entry: Entry) -> Dict[Tuple[str, str], Dependency]:
     """What a manifest requires, by table and key; of a workspace what it has for its members, too,
     and what replaces packages. What it takes from another file has no requirement here. A file
     without any table of a manifest is none."""
@@ -186,13 +186,13 @@ def by_table(entry: Entry) -> Dict[Tuple[str, str], Need]:
     if not {"package", "workspace", "target", "patch", "replace", *KINDS}.intersection(entry):
         raise WrongShape("")
     inherited = inherited_of(entry, "")
-    found: Dict[Tuple[str, str], Need] = {}
+    found: Dict[Tuple[str, str], Dependency] = {}
     of_workspace = ("workspace.dependencies", inherited.dependencies)
     for table, values in (*tables_of(entry), of_workspace, *patches_of(entry)):
         for key, value in values.items():
             is_elsewhere = isinstance(value, dict) and value.get("workspace") is True
             if is_elsewhere and key not in inherited.dependencies:
-                found[table, key] = Need(key, None, "*", False, table, INHERITED)
+                found[table, key] = Dependency(key, None, "*", False, table, INHERITED)
             else:
-                found[table, key] = need_of(key, value, table, inherited)
+                found[table, key] = dependency_of(key, value, table, inherited)
     return found

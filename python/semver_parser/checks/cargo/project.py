@@ -5,7 +5,15 @@ import os
 from typing import Dict, Iterator, List, NamedTuple, Optional
 
 from ..files import Refusal, taking
-from .manifests import MANIFEST, Manifest, Need, inherited_of, need_of, patches_of, read
+from .manifests import (
+    MANIFEST,
+    Dependency,
+    Manifest,
+    dependency_of,
+    inherited_of,
+    patches_of,
+    read,
+)
 from .members import manifest_at, members_at
 from .sources import PATH, Source, patched_source
 
@@ -16,10 +24,10 @@ class Patch(NamedTuple):
     """A package that replaces those of a source, or one of [replace], of which the key has that."""
 
     source: Source
-    need: Need
+    dependency: Dependency
 
 
-class Project:
+class Workspace:
     """The manifests of a project. Those of packages at paths are read where they are needed, by
     their directories."""
 
@@ -28,8 +36,10 @@ class Project:
         self.members = [it for it in members_at(folder) if it.name is not None]
         self.manifests: Dict[str, Optional[Manifest]] = {it.folder: it for it in self.members}
         replacing = list(patches_at(folder))
-        self.patches = [it for it in replacing if it.need.table != REPLACE]
-        self.replacements = [it.need for it in replacing if it.need.table == REPLACE]
+        self.patches = [it for it in replacing if it.dependency.table != REPLACE]
+        self.replacements = [
+            it.dependency for it in replacing if it.dependency.table == REPLACE
+        ]
         self.folders: Dict[str, Dict[str, str]] = {}
         self.find()
 
@@ -55,15 +65,15 @@ class Project:
     def find(self) -> None:
         """Finds the packages at paths, all that a manifest or a patch has."""
         left: List[Optional[Manifest]] = list(self.members)
-        needs = [*(patch.need for patch in self.patches), *self.replacements]
+        stated = [*(it.dependency for it in self.patches), *self.replacements]
         seen = set(self.manifests)
-        while left or needs:
+        while left or stated:
             manifest = left.pop() if left else None
             if manifest is not None and manifest.name is not None:
                 self.folders.setdefault(manifest.name, {})[manifest.version] = manifest.folder
-                needs += manifest.needs
-            while needs:
-                source = needs.pop().source
+                stated += manifest.dependencies
+            while stated:
+                source = stated.pop().source
                 if source.kind == PATH and source.place not in seen:
                     seen.add(source.place)
                     left.append(self.known_at(source.place))
@@ -84,4 +94,4 @@ def patches_at(folder: str) -> Iterator[Patch]:
         for table, values in patches_of(top):
             source = patched_source(table[len(OF_PATCH) :] if table != REPLACE else "")
             for key, value in values.items():
-                yield Patch(source, need_of(key, value, table, inherited, folder))
+                yield Patch(source, dependency_of(key, value, table, inherited, folder))

@@ -2,18 +2,19 @@
 file has of them, and which directories are workspaces."""
 
 import os
-from typing import Dict, Iterator, List, Optional, Set, Tuple
+from typing import Dict, Iterable, Iterator, List, Optional, Set, Tuple
 
 from ..files import Entry, bytes_of, json_object, objects_at, taking, text_at, texts_at
-from .lock import ACCEPTED, ASKS_OF_TOPS, Packages, is_top, with_manifest
-from .workspaces import by_name, is_workspace, patterns_of, places_in
+from ..node.package_json import refuse_twice
+from ..node.workspaces import is_workspace, name_by_directory, patterns_in, patterns_of, places_in
+from .lock import ACCEPTED, KINDS_OF_TOPS, WORKSPACES, Packages, is_top, with_manifest
 
 
 def check_manifest(manifest: Entry) -> None:
     """Refuses a package.json whose names, versions and requirements aren't texts."""
     for key in ("name", "version"):
         text_at(manifest.get(key, ""), key)
-    for kind in (*ASKS_OF_TOPS, ACCEPTED):
+    for kind in (*KINDS_OF_TOPS, ACCEPTED):
         texts_at(manifest.get(kind, {}), kind)
     objects_at(manifest.get("peerDependenciesMeta", {}), "peerDependenciesMeta")
 
@@ -50,7 +51,8 @@ def read_links(packages: Packages, project: Optional[str]) -> Set[str]:
 def workspaces_of(packages: Packages, folder: Optional[str], is_there: bool) -> Dict[str, str]:
     """The places of the project's workspaces by their names: what is in its folder, if its
     package.json is there, and else what the lock file has of them."""
-    patterns = patterns_of(packages.get("", {}))
+    texts = patterns_in(packages.get("", {}).get(WORKSPACES, []), WORKSPACES)
+    patterns = patterns_of(texts)
     if folder is not None and is_there:
         with taking(os.path.join(folder, "package.json"), "package.json"):
             return by_name(list(manifests_at(folder, places_in(patterns, folder))))
@@ -63,3 +65,12 @@ def manifests_at(folder: str, places: List[str]) -> Iterator[Tuple[str, Entry]]:
         manifest = manifest_in(os.path.join(folder, place))
         if manifest is not None:
             yield place, manifest
+
+
+def by_name(manifests: Iterable[Tuple[str, Entry]]) -> Dict[str, str]:
+    """Returns the places of workspaces by the names in their package.json files."""
+    named = (
+        (text_at(manifest.get("name") or name_by_directory(place), f"{place}: name"), place)
+        for place, manifest in manifests
+    )
+    return refuse_twice(named)

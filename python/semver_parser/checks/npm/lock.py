@@ -6,52 +6,21 @@ and nothing for the project itself.
 
 import posixpath
 from functools import lru_cache
-from typing import Dict, Iterator, List, NamedTuple, Optional, Set, Tuple
+from typing import Dict, Iterator, List, Optional, Set, Tuple
 
 from ..files import Entry, WrongShape, objects_at, text_at, texts_at
-from ..findings import Keys, Scope, Tally
-from .archives import archive_at
-from .specs import alias_of
+from ..model import OPTIONAL, PEERS, PROJECT, Keys, Package, Requirement, Requirer, Scope
+from ..node.archives import archive_at
+from ..node.specifiers import alias_of
 
 Packages = Dict[str, Entry]
 
 # The kinds in npm's order: of one name in several of them the last replaces the others.
-PEERS = "peerDependencies"
-ASKS_OF_EACH = (PEERS, "dependencies", "optionalDependencies")
-ASKS_OF_TOPS = (*ASKS_OF_EACH, "devDependencies")
+KINDS_OF_EACH = (PEERS, "dependencies", "optionalDependencies")
+KINDS_OF_TOPS = (*KINDS_OF_EACH, "devDependencies")
 ACCEPTED = "acceptDependencies"
-OPTIONAL = "optionalDependencies"
 WORKSPACES = "workspaces"
-OF_MANIFEST = ("name", "version", "workspaces", *ASKS_OF_TOPS, "peerDependenciesMeta", ACCEPTED)
-
-
-class Package(NamedTuple):
-    """What is found: its place, with its links followed, and its name, its version and where it is
-    from, where it has them. A link that leads nowhere has none of these."""
-
-    place: str
-    name: Optional[str]
-    version: Optional[str]
-    resolved: Optional[str] = None
-
-
-class Ask(NamedTuple):
-    """Who requires what, of which kind, whether that has to be there, what is found, what else
-    would do, and what an override puts in place."""
-
-    place: str
-    name: str
-    spec: str
-    kind: str
-    is_required: bool
-    found: Optional[Package]
-    accepted: Optional[str] = None
-    override: Optional[str] = None
-
-    @property
-    def wanted(self) -> str:
-        """What is required with the override."""
-        return self.spec if self.override is None else self.override
+OF_MANIFEST = ("name", "version", "workspaces", *KINDS_OF_TOPS, "peerDependenciesMeta", ACCEPTED)
 
 
 # ---- places
@@ -141,16 +110,16 @@ def is_left_out(entry: Entry, scope: Scope) -> bool:
     return entry.get("dev") is True and not scope.has_development
 
 
-def within(packages: Packages, scope: Scope, tally: Tally) -> Packages:
-    """The packages with what a scope leaves of their requirements."""
-    kinds = set() if scope.has_peers else {PEERS}
-    kinds |= set() if scope.has_development else {"devDependencies"}
-    found = {}
+def within(packages: Packages, scope: Scope) -> Tuple[Packages, int]:
+    """Returns the packages with what a scope leaves of their requirements, and how many it leaves
+    out."""
+    kinds = {it for it in KINDS_OF_TOPS if not scope.has(it)}
+    found, left_out = {}, 0
     for place, entry in packages.items():
-        out = set(ASKS_OF_TOPS) if is_left_out(entry, scope) else kinds
-        tally.left_out += sum(len(entry[it]) for it in out if isinstance(entry.get(it), dict))
+        out = set(KINDS_OF_TOPS) if is_left_out(entry, scope) else kinds
+        left_out += sum(len(entry[it]) for it in out if isinstance(entry.get(it), dict))
         found[place] = {key: it for key, it in entry.items() if key not in out}
-    return found
+    return found, left_out
 
 
 def packages_inside(holder: Entry, place: str) -> Iterator[Tuple[str, Entry]]:
@@ -207,16 +176,18 @@ def end_of_links(packages: Packages, place: str) -> Optional[str]:
     return place
 
 
-def package_at(packages: Packages, place: str) -> Package:
-    """The package at a place."""
+def package_at(packages: Packages, place: str, is_old: bool) -> Package:
+    """Returns the package at a place, with its links followed. A link that leads nowhere has
+    neither a name nor a version."""
     end = end_of_links(packages, place)
     if end is None:
-        return Package(place, None, None)
+        return Package(None, None, place, keys_of(place, is_old))
     entry = packages[end]
     name = text_at(entry["name"], f"{end}: name") if "name" in entry else name_by_place(end)
     resolved = entry.get("resolved")
-    known = resolved if isinstance(resolved, str) else None
-    return Package(end, name, version_at(entry, place), known)
+    source = resolved if isinstance(resolved, str) else ""
+    version = version_at(entry, place)
+    return Package(name, version, end, keys_of(end, is_old), source, is_top(end))
 
 
 def version_at(entry: Entry, where: str) -> Optional[str]:
@@ -246,30 +217,43 @@ def pinned_in(packages: Packages) -> Set[str]:
 # ---- what is required
 
 
-def asks_at(
-    place: str, entry: Entry, found: Dict[str, Package], workspaces: Dict[str, str]
-) -> Iterator[Ask]:
-    """What the package at a place requires, in the order of the file, beside what is found at each
-    place, and the workspaces of the project, which it has under their names whatever else it asks
-    for."""
-    asked = [] if entry.get("link") else asked_at(place, entry)
+def requirements_at(
+    place: str, entry: Entry, found: Dict[str, Package], workspaces: Dict[str, str], is_old: bool
+) -> Iterator[Requirement]:
+    """Yields what the package at a place requires, in the order of the file, with what is found at
+    each place. The project has its workspaces under their names, whatever else it requires by
+    these."""
+    stated = [] if entry.get("link") else stated_at(place, entry)
     own = {} if place or entry.get("link") else workspaces
-    if not asked and not own:
+    if not stated and not own:
         return
     accepted: Dict[str, str] = {}
     if ACCEPTED in entry:
-        accepted = texts_at(entry[ACCEPTED], f"{place or 'the project'}: {ACCEPTED}")
+        accepted = texts_at(entry[ACCEPTED], f"{place or PROJECT}: {ACCEPTED}")
+    requirer = Requirer(place or PROJECT, "", place, keys_of(place, is_old))
     is_apart = PEERS in entry and not is_top(place)
     around = around_of(place)
     of_peers = around_of(folder_round(place)) if is_apart else around
-    for kind, name, spec in asked:
+    for kind, name, spec in stated:
         if name not in own:
             package = nearest(name, of_peers if kind == PEERS else around, found)
-            is_required = package is None and has_to_be_there(place, entry, kind, name)
-            yield Ask(place, name, spec, kind, is_required, package, accepted.get(name))
+            it = Requirement(requirer, name, spec, package, kind, accepted=accepted.get(name))
+            yield it if package is not None else missing(it, entry, is_old)
     for name, directory in own.items():
         if is_linked(name, directory, found):
-            yield Ask(place, name, f"file:{directory}", WORKSPACES, True, found[inside("", name)])
+            package = found[inside("", name)]
+            yield Requirement(requirer, name, f"file:{directory}", package, WORKSPACES)
+
+
+def missing(it: Requirement, entry: Entry, is_old: bool) -> Requirement:
+    """Returns a requirement for which nothing is there. It counts by `--strict` only if it may be
+    optional: a file of lockfileVersion 1 doesn't say what is."""
+    place = it.requirer.place
+    is_required = has_to_be_there(place, entry, it.kind, it.name)
+    is_optional = it.kind == OPTIONAL and not is_outside(place)
+    is_known = is_required and (is_top(place) or not is_old)
+    excuse = "" if is_known else "may be optional"
+    return it._replace(must_exist=is_required or is_optional, excuse=excuse)
 
 
 def is_linked(name: str, directory: str, found: Dict[str, Package]) -> bool:
@@ -300,10 +284,10 @@ def nearest(name: str, around: Tuple[str, ...], found: Dict[str, Package]) -> Op
     return None
 
 
-def asked_at(place: str, entry: Entry) -> List[Tuple[str, str, str]]:
+def stated_at(place: str, entry: Entry) -> List[Tuple[str, str, str]]:
     """What the package at a place requires: in which way, for which name, and for what."""
     where = place or "the project"
-    named = ASKS_OF_TOPS if is_top(place) else ASKS_OF_EACH
+    named = KINDS_OF_TOPS if is_top(place) else KINDS_OF_EACH
     kinds = [kind for kind in named if kind in entry]
     specs = {kind: texts_at(entry[kind], f"{where}: {kind}") for kind in kinds}
     if len(kinds) < 2:
@@ -325,9 +309,11 @@ def is_of_what_is_there(lock: Entry) -> bool:
     return isinstance(packages, dict) and "" not in packages
 
 
-def without_optional(asks: List[Ask]) -> List[Ask]:
-    """What a package requires, of which what is optional doesn't have to be there."""
-    return [it._replace(is_required=False) if it.kind == OPTIONAL else it for it in asks]
+def without_optional(requirements: List[Requirement]) -> List[Requirement]:
+    """Returns what a package requires, of which what is optional doesn't have to be there."""
+    return [
+        it._replace(excuse="may be optional") if it.kind == OPTIONAL else it for it in requirements
+    ]
 
 
 def has_to_be_there(place: str, entry: Entry, kind: str, name: str) -> bool:

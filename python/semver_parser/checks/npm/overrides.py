@@ -19,10 +19,9 @@ from semver_parser import Dialect, Range
 
 from ..files import Entry, WrongShape, object_at, text_at
 from ..satisfaction import is_met, is_range, is_version, range_in
+from ..model import PEERS, Package, Requirement
+from ..node.specifiers import alias_of, git_range_of, name_and_rest, range_of, reason_of
 from .lock import (
-    PEERS,
-    Ask,
-    Package,
     Packages,
     folder_round,
     folders,
@@ -32,7 +31,6 @@ from .lock import (
     pinned_in,
 )
 from .overlaps import Overlaps
-from .specs import alias_of, git_range_of, name_and_rest, range_of, reason_of
 
 ANY = "*"
 
@@ -205,10 +203,10 @@ def rule_within(here: Rule, name: str, version: str) -> Rule:
     return next(here.having(name, version), here) if is_version(version, Dialect.NPM) else here
 
 
-def put_in_place(rule: Optional[Rule], ask: Ask) -> str:
+def put_in_place(rule: Optional[Rule], ask: Requirement) -> str:
     """What is required, or what a rule puts in its place."""
     if rule is None or rule.name != ask.name or rule.spec is None:
-        return ask.spec
+        return ask.specifier
     return rule.spec
 
 
@@ -219,7 +217,7 @@ def put_in_place(rule: Optional[Rule], ask: Ask) -> str:
 class Edge:
     """What a package requires, the rule for that, if it has one, and the place that it leads to."""
 
-    ask: Ask
+    ask: Requirement
     rule: Optional[Rule] = None
     target: str = ""
 
@@ -233,7 +231,7 @@ class Edges:
 
     def add(self, edge: Edge) -> None:
         """Adds an edge."""
-        insort(self.by_place, (edge.ask.place, len(self.all)))
+        insort(self.by_place, (edge.ask.requirer.place, len(self.all)))
         self.all.append(edge)
 
     def inside(self, folder: str) -> List[Edge]:
@@ -257,7 +255,7 @@ class Reading:
         self.edges: Dict[str, Edges] = {}
         self.read: Set[str] = set()
 
-    def add(self, place: str, asks: List[Ask]) -> None:
+    def add(self, place: str, asks: List[Requirement]) -> None:
         """Reads the package at a place: edges that were read may lead there now, and its own begin
         there."""
         self.read.add(place)
@@ -283,7 +281,7 @@ class Reading:
 
     def choose(self, edge: Edge) -> None:
         """Chooses the rule for an edge, by what the rule before puts in place."""
-        rule = self.rules.get(edge.ask.place)
+        rule = self.rules.get(edge.ask.requirer.place)
         if rule is not None and edge.ask.name in self.named:
             rule = rule_for(rule, edge.ask.name, put_in_place(edge.rule, edge.ask))
         edge.rule = rule
@@ -302,9 +300,9 @@ class Reading:
         its package has been read. What is found doesn't fit then, so npm puts something else inside
         the package, chooses the rule anew, and takes what it found after all if that has the same
         rule, fits by it, and is newer than anything that was required."""
-        ask, here = edge.ask, self.rules.get(edge.ask.place)
+        ask, here = edge.ask, self.rules.get(edge.ask.requirer.place)
         asked, found = put_in_place(edge.rule, ask), ask.found
-        if here is None or found is None or ask.kind == PEERS or not are_beside(ask.place, found):
+        if here is None or found is None or ask.kind == PEERS or not are_beside(ask.requirer.place, found):
             return None
         rule, version = rule_for(here, ask.name, asked), found.version or ""
         wanted, spec = range_in(asked, Dialect.NPM, "included"), put_in_place(rule, ask)
@@ -328,7 +326,7 @@ def names_in(rule: Rule) -> Set[str]:
 
 
 def reading_of(
-    packages: Packages, found: Dict[str, Package], asks: Dict[str, List[Ask]], outermost: Rule
+    packages: Packages, found: Dict[str, Package], asks: Dict[str, List[Requirement]], outermost: Rule
 ) -> Reading:
     """What npm has read of a lock file, if there are overrides. It reads links after all
     packages."""
@@ -340,16 +338,16 @@ def reading_of(
     return reading
 
 
-def refused(reading: Reading) -> Iterator[Tuple[Ask, str]]:
+def refused(reading: Reading) -> Iterator[Tuple[Requirement, str]]:
     """What the project itself requires, where an override puts something else in its place: npm
     refuses that, also if a version satisfies both."""
     for edge in (it for edges in reading.edges.values() for it in edges.all):
         spec = put_in_place(edge.rule, edge.ask)
-        if not edge.ask.place and spec != edge.ask.spec:
+        if not edge.ask.requirer.place and spec != edge.ask.specifier:
             yield edge.ask, spec
 
 
-def put_overrides(packages: Packages, asks: Dict[str, List[Ask]], reading: Reading) -> None:
+def put_overrides(packages: Packages, asks: Dict[str, List[Requirement]], reading: Reading) -> None:
     """Puts overrides in place of what packages require, but for the project itself, and for what
     was put where it is by another package."""
     pinned = pinned_in(packages) if reading.read else set()
@@ -358,7 +356,10 @@ def put_overrides(packages: Packages, asks: Dict[str, List[Ask]], reading: Readi
     for edge in (it for each in edges for it in each):
         ask, spec = edge.ask, reading.put_late(edge) or put_in_place(edge.rule, edge.ask)
         is_pinned = ask.found is not None and ask.found.place in pinned
-        if ask.place and spec != ask.spec and not is_pinned:
-            replaced.setdefault(ask.place, {})[ask.name] = spec
+        if ask.requirer.place and spec != ask.specifier and not is_pinned:
+            replaced.setdefault(ask.requirer.place, {})[ask.name] = spec
     for place, specs in replaced.items():
-        asks[place] = [it._replace(override=specs.get(it.name)) for it in asks[place]]
+        asks[place] = [
+            it._replace(specifier=specs[it.name], is_override=True) if it.name in specs else it
+            for it in asks[place]
+        ]

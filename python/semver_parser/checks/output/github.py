@@ -3,7 +3,6 @@
 from typing import Iterator, Optional
 
 from ..closing import error_of
-from ..findings import NOTES
 from ..program import visible
 from ..reports import Results
 from .text import grouped, told
@@ -13,7 +12,7 @@ def lines(results: Results) -> Iterator[str]:
     """An annotation for each finding and each error."""
     for report in results.reports:
         for finding in grouped(report.listed):
-            level = "notice" if finding.kind in NOTES else "error"
+            level = "notice" if finding.is_note else "error"
             message = "\n".join(told(report, finding))
             yield annotation(*report.position(finding), message, level)
         error = error_of(report)

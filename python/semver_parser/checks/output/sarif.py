@@ -7,7 +7,7 @@ from urllib.parse import quote
 
 from ... import __version__
 from ..closing import error_of
-from ..findings import NOTES, Kind
+from ..findings import CLASSES
 from ..program import visible
 from ..reports import Results
 from .text import grouped, told
@@ -17,27 +17,14 @@ Object = Dict[str, Any]
 SCHEMA = "https://json.schemastore.org/sarif-2.1.0.json"
 REFUSED, NO_LONGER_APPLIES = "refused", "no-longer-applies"
 
-# The rules by their names: the kinds of findings, a file that is refused, and a known finding that
+# The rules by their names: the kinds of findings, a file that is rejected, and a known finding that
 # is there no more; and what those say whose names don't.
-RULES = [*(it.value for it in Kind), REFUSED, NO_LONGER_APPLIES]
 DESCRIPTIONS = {
-    Kind.UNSATISFIED.value: "A version does not satisfy what is required",
-    Kind.OVERRIDDEN.value: "A version does not satisfy what an override requires",
-    Kind.CONFLICT.value: "An override is not what the project requires",
-    Kind.ANOTHER_PACKAGE.value: "There is another package than is required",
-    Kind.ANOTHER_VERSION.value: "An entry has two versions",
-    Kind.ANOTHER_SOURCE.value: "A package comes from another source than is required",
-    Kind.INVALID_VERSION.value: "A version is invalid",
-    Kind.INVALID_RANGE.value: "A range is invalid",
-    Kind.MISSING.value: "A required package is missing",
-    Kind.NOT_REQUIRED.value: "Nothing requires a package",
-    Kind.STALE.value: "The lock file was written for something else",
-    Kind.NOT_CHECKED.value: "A requirement is not checked",
-    Kind.DUPLICATE.value: "A package is there in several versions",
-    Kind.DIFFERENT_RANGE.value: "Workspaces require a package by different ranges",
+    **{it.kind: it.title for it in CLASSES},
     REFUSED: "A file cannot be checked",
     NO_LONGER_APPLIES: "A known finding is there no more",
 }
+RULES = list(DESCRIPTIONS)
 
 
 def lines(results: Results) -> Iterator[str]:
@@ -60,7 +47,7 @@ def lines(results: Results) -> Iterator[str]:
 
 def rule(name: str) -> Object:
     """A rule. What there is to say of one is in the manual."""
-    text = {"text": DESCRIPTIONS.get(name, name.replace("-", " ").capitalize())}
+    text = {"text": DESCRIPTIONS[name]}
     help_text = {"text": f"See {name} in the manual check-lock-file(1)."}
     return {"id": name, "shortDescription": text, "fullDescription": text, "help": help_text}
 
@@ -70,8 +57,8 @@ def all_results(results: Results) -> Iterator[Object]:
     for report in results.reports:
         for it in grouped(report.listed):
             path, line = report.position(it)
-            level = "note" if it.is_strict or it.kind in NOTES else "error"
-            yield result(it.kind.value, level, path, line, "\n".join(told(report, it)))
+            level = "note" if it.excuse or it.is_note else "error"
+            yield result(it.kind, level, path, line, "\n".join(told(report, it)))
         error = error_of(report)
         if error is not None:
             yield result(REFUSED, "error", error.path, None, error.why)

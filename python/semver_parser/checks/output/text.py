@@ -5,7 +5,7 @@ from typing import Dict, Iterator, List
 from ..findings import Finding
 from ..program import escaped, visible
 from ..reports import Report, Results
-from ..sentences import PACKAGE, RANGE, VERSION, Paint, plain, quoted, sentence
+from ..wording import PACKAGE, RANGE, VERSION, Paint, plain, quoted
 
 LOOKS = {PACKAGE: "1", VERSION: "31", RANGE: "32"}
 
@@ -29,7 +29,7 @@ def lines(results: Results, is_colored: bool = False) -> Iterator[str]:
 
 def told(report: Report, finding: Finding, paint: Paint = plain) -> Iterator[str]:
     """The sentence of a finding, and below it the path to what requires it, if that is wanted."""
-    yield sentence(finding, paint)
+    yield finding.sentence(paint)
     if report.paths is not None:
         yield f"  path: {' > '.join(map(escaped, report.paths.path_to(finding)))}"
 
@@ -38,6 +38,6 @@ def grouped(findings: List[Finding]) -> Iterator[Finding]:
     """The findings, those of one package together, in the order of the first of each."""
     groups: Dict[str, List[Finding]] = {}
     for finding in findings:
-        groups.setdefault(finding.package or finding.dependency, []).append(finding)
+        groups.setdefault(finding.group, []).append(finding)
     for group in groups.values():
         yield from group

@@ -7,7 +7,8 @@ from typing import Dict, Iterator, List, NamedTuple, Optional, Tuple
 from semver_parser import Dialect
 
 from ..files import Entry, objects_at, text_at, texts_at
-from ..findings import Finding, Kind
+from ..findings import Finding, Missing, MissingEntry
+from ..model import Package, Requirement, Requirer
 from ..satisfaction import is_version
 
 LINK = "link:"
@@ -75,17 +76,17 @@ def depends_of(key: str, entry: Entry) -> Dict[str, str]:
     return {name: text for them in each for name, text in them.items()}
 
 
-def without_entry(entries: Entries, tops: List[str]) -> Iterator[Finding]:
-    """What there is to say of packages that have no entry, or only one of its two halves, of those
-    to which some keys lead."""
+def missing_entries(entries: Entries, tops: List[str]) -> Iterator[Finding]:
+    """Yields what there is to say of packages that have no entry, or only one of its two halves, of
+    those to which some keys lead."""
     seen, left = set(tops), list(tops)
     for key in left:
         own = key.partition("(")[0]
         name, version = called_by(key) or (own, "")
         if own not in entries.packages and key not in entries.packages:
-            reason = "of which the file has only a snapshot"
-            finding = Finding(Kind.MISSING, "", version, package=name, place=key)
-            yield finding._replace(at=("snapshots", key), reason=reason)
+            package = Package(name, version or None, key, ("snapshots", key))
+            yield MissingEntry(package, "", "of which the file has only a snapshot")
+        at = ("snapshots" if entries.form == "9" else "packages", key)
         for dependency, text in depends_of(key, entries.snapshots[key]).items():
             inner = entries.key_of(text, dependency)
             if text.startswith(LINK) or inner in seen:
@@ -93,6 +94,5 @@ def without_entry(entries: Entries, tops: List[str]) -> Iterator[Finding]:
             if inner in entries.snapshots:
                 seen.add(inner)
                 left.append(inner)
-                continue
-            finding = Finding(Kind.MISSING, text, "", name, dependency, requirer_version=version)
-            yield finding._replace(at=("snapshots" if entries.form == "9" else "packages", key))
+            else:
+                yield Missing(Requirement(Requirer(name, version, "", at), dependency, text))

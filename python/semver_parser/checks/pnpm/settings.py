@@ -3,7 +3,7 @@ package.json and of its .npmrc, beside what the lock file was written with.
 `pnpm install --frozen-lockfile` refuses one that differs: ERR_PNPM_LOCKFILE_CONFIG_MISMATCH."""
 
 import os
-from typing import Any, Dict, Iterator, NamedTuple, Optional, Tuple
+from typing import Any, Dict, Iterator, List, NamedTuple, Optional, Tuple
 
 from ..files import (
     Entry,
@@ -17,10 +17,11 @@ from ..files import (
     texts_at,
     yaml_object,
 )
-from ..findings import Finding, Kind
-from ..npm.settings import COMMENT, LINE_ENDS, unquoted
-from ..npm.specs import CATALOG, name_and_rest
-from .specs import parent_and_name
+from ..findings import Finding, StaleSetting
+from ..model import Keys
+from ..node.npmrc import COMMENT, LINE_ENDS, unquoted
+from ..node.specifiers import CATALOG, name_and_rest
+from .specifiers import parent_and_name
 
 WORKSPACE_FILE, MANIFEST, NPMRC = "pnpm-workspace.yaml", "package.json", ".npmrc"
 
@@ -145,8 +146,8 @@ def of_texts(name: str, locked: Dict[str, str], place: Place) -> Iterator[Findin
     file, texts = place
     for key in {**locked, **texts}:
         if locked.get(key) != texts.get(key):
-            finding = Finding(Kind.STALE, texts.get(key, ""), locked.get(key, ""), reason=file)
-            yield finding._replace(place=f"{name}.{key}", at=(name, key))
+            own, there = texts.get(key, ""), locked.get(key, "")
+            yield StaleSetting(f"{name}.{key}", own, there, file, (name, key))
 
 
 def of_catalogs(lock: Entry, settings: Settings) -> Iterator[Finding]:
@@ -157,9 +158,8 @@ def of_catalogs(lock: Entry, settings: Settings) -> Iterator[Finding]:
         for name, entry in objects_at(entries, f"catalogs: {catalog}").items():
             locked, now = str(entry.get("specifier")), catalogs.get(catalog, {}).get(name, "")
             if locked != now:
-                finding = Finding(Kind.STALE, now, locked, reason=WORKSPACE_FILE)
                 at = ("catalogs", catalog, name)
-                yield finding._replace(place=f"catalogs.{catalog}.{name}", at=at)
+                yield StaleSetting(".".join(at), now, locked, WORKSPACE_FILE, at)
 
 
 def of_patches(lock: Entry, settings: Settings) -> Iterator[Finding]:
@@ -181,8 +181,8 @@ def of_switches(lock: Entry, settings: Settings) -> Iterator[Finding]:
         file, now = settings.switch(name)
         there = locked.get(name, "false" if name == IF_ON else now)
         if there != now:
-            finding = Finding(Kind.STALE, now, str(there), reason=file)
-            yield finding._replace(place=f"settings.{name}", at=("settings", name))
+            at = ("settings", name)
+            yield StaleSetting(f"settings.{name}", now, str(there), file, at)
 
 
 def ignored_in(lists: Any) -> Dict[str, str]:
@@ -195,11 +195,11 @@ def of_extensions(lock: Entry, settings: Settings) -> Iterator[Finding]:
     file, own = settings.table(EXTENSIONS)
     locked = str(lock.get(f"{EXTENSIONS}Checksum") or "")
     if bool(own) != bool(locked):
-        finding = Finding(Kind.STALE, "set" if own else "", locked, reason=file)
-        yield finding._replace(place=EXTENSIONS, at=(f"{EXTENSIONS}Checksum",))
+        at = (f"{EXTENSIONS}Checksum",)
+        yield StaleSetting(EXTENSIONS, "set" if own else "", locked, file, at)
 
 
-def findings(lock: Entry, settings: Settings) -> Iterator[Finding]:
+def stale_settings(lock: Entry, settings: Settings) -> Iterator[Finding]:
     """What there is to say of settings that aren't those of the lock file."""
     yield from of_catalogs(lock, settings)
     locked = texts_at(lock.get("overrides") or {}, "overrides")
@@ -209,3 +209,30 @@ def findings(lock: Entry, settings: Settings) -> Iterator[Finding]:
     yield from of_extensions(lock, settings)
     yield from of_patches(lock, settings)
     yield from of_switches(lock, settings)
+
+
+# ---- where they are stated
+
+
+def keys_of_setting(at: Keys, file: str) -> List[Keys]:
+    """Returns the keys that may lead to a setting in a file, by those in the lock file: to it, or
+    to the list or the table that it is in."""
+    name, *inner = at
+    keys: List[Keys]
+    if name == "settings":
+        keys = [tuple(inner)]
+    elif name == "catalogs":
+        keys = keys_of_catalog(*inner)
+    else:
+        table = name.removesuffix("Checksum")
+        keys = [(table, *inner), (table,)]
+    if file != MANIFEST:
+        return keys
+    resolutions: List[Keys] = [("resolutions", *it[1:]) for it in keys if it[0] == "overrides"]
+    return [("pnpm", *keys[0]), *resolutions[:1], *(("pnpm", *it) for it in keys[1:])]
+
+
+def keys_of_catalog(catalog: str, name: str) -> List[Keys]:
+    """Returns the keys that may lead to an entry of a catalog."""
+    keys: List[Keys] = [("catalogs", catalog, name)]
+    return keys + ([("catalog", name)] if catalog == "default" else [])

@@ -6,7 +6,7 @@ from typing import Any, Dict, Iterator, NamedTuple, Optional, Tuple
 
 from semver_parser import Dialect
 
-from ..cargo.manifests import Need, by_table
+from ..cargo.manifests import Dependency, by_table
 from ..files import (
     Entry,
     WrongShape,
@@ -19,8 +19,8 @@ from ..files import (
     yaml_object,
 )
 from ..satisfaction import is_met, is_range
-from ..npm.specs import alias_of, git_range_of, is_elsewhere, is_no_range, name_and_rest, range_of
-from ..pnpm.specs import parent_and_name
+from ..node.specifiers import alias_of, git_range_of, is_elsewhere, is_no_range, name_and_rest, range_of
+from ..pnpm.specifiers import parent_and_name
 from ..yarn.resolutions import STEP
 from .cargo import beside_requirements
 
@@ -81,7 +81,7 @@ def is_kind(table: str) -> bool:
 # ---- one requirement
 
 
-def of_cargo(need: Need) -> Requirement:
+def of_cargo(need: Dependency) -> Requirement:
     """A requirement of a Cargo.toml."""
     wanted = need.requirement if need.has_registry else None
     package = f'package = "{need.name}"' if need.other_name is not None else ""

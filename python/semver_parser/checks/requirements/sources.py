@@ -5,7 +5,7 @@ from typing import Callable, Iterator, List, NamedTuple, Optional, Tuple
 
 from semver_parser import Dialect
 
-from ..discovery import is_among, named_below
+from ..directories import is_among, named_below
 from ..files import Refusal, bytes_of, taking, unmarked
 from ..git import below_in_revision, changed_below, in_revision
 from ..program import Misuse, Options

@@ -4,7 +4,7 @@ import re
 from typing import Dict, Iterable, List, NamedTuple, Tuple
 
 from ..files import Entry, texts_at
-from ..npm.specs import name_and_rest
+from ..node.specifiers import name_and_rest
 
 # A step of the path of a resolution: a name, and perhaps a range.
 STEP = re.compile(r"(?:@[^/]+/)?[^/]+")

@@ -6,7 +6,7 @@ from typing import Tuple
 from semver_parser import Dialect, satisfies
 
 from ..satisfaction import is_range, is_version
-from ..npm.specs import name_and_rest
+from ..node.specifiers import name_and_rest
 
 JSR = "jsr:"
 WORKSPACE = "workspace:"
@@ -22,7 +22,7 @@ def parent_and_name(key: str) -> Tuple[str, str]:
     return "".join(outer), last
 
 
-def of_jsr(name: str, spec: str) -> str:
+def npm_form_of_jsr(name: str, spec: str) -> str:
     """`jsr:RANGE` or `jsr:@SCOPE/NAME@RANGE` as the package of npm's registry that JSR has for it.
     Any other is its own."""
     if not spec.startswith(JSR):
@@ -32,7 +32,7 @@ def of_jsr(name: str, spec: str) -> str:
     return f"npm:@jsr/{own[1:].replace('/', '__')}@{within or 'latest'}"
 
 
-def of_workspace(spec: str, version: str) -> str:
+def npm_form_of_workspace(spec: str, version: str) -> str:
     """`workspace:RANGE` or `workspace:NAME@RANGE` by the version that is there, for which `*`, `^`
     and `~` are. A path, and any other, is its own."""
     rest = spec[len(WORKSPACE) :]
@@ -40,9 +40,14 @@ def of_workspace(spec: str, version: str) -> str:
         return spec
     name, within = name_and_rest(rest)
     if name and within:
-        return f"npm:{name}@{of_workspace(WORKSPACE + within, version)}"
+        return f"npm:{name}@{npm_form_of_workspace(WORKSPACE + within, version)}"
     marks = {"": "", "*": "", "^": "^", "~": "~"}
     return marks[rest] + version if rest in marks else rest
+
+
+def npm_form_of(name: str, spec: str, version: str) -> str:
+    """Returns what is required of a name as npm has it, by the version that is there."""
+    return npm_form_of_workspace(npm_form_of_jsr(name, spec), version)
 
 
 def takes_peer(spec: str, version: str) -> bool:

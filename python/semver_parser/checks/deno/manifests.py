@@ -5,12 +5,13 @@ else."""
 import os
 from typing import Any, Iterator, List, NamedTuple, Optional, Set, Tuple
 
-from ..bun.lock import json_of
-from ..files import Entry, bytes_of, is_there, json_object, list_at, object_at, taking, text_at
-from ..findings import PROJECT, Finding, Keys, Kind
-from ..manifests import FOR_DEVELOPMENT, MANIFEST, USUAL, manifest_in
-from ..npm.specs import name_and_rest
-from ..patterns import places_at
+from ..files import Entry, bytes_of, is_there, list_at, object_at, taking, text_at
+from ..findings import Finding, NotRequired, Stale
+from ..model import FOR_DEVELOPMENT, PROJECT, USUAL, Keys, Requirement, Requirer
+from ..node.json_with_comments import object_with_comments
+from ..node.package_json import MANIFEST, manifest_in
+from ..node.specifiers import name_and_rest
+from ..node.workspaces import directories_of, patterns_in
 
 CONFIGS = ("deno.json", "deno.jsonc")
 KEY = "dependencies"
@@ -34,21 +35,15 @@ def member_at(top: str, folder: str) -> Member:
     at = os.path.join(top, folder)
     manifest = manifest_in(at)
     with taking(os.path.join(at, MANIFEST), MANIFEST):
-        members = named_in((manifest or {}).get("workspaces"), "packages")
+        members = patterns_in((manifest or {}).get("workspaces") or [], "packages")
     for name in CONFIGS:
         path = os.path.join(at, name)
         with taking(path, name):
             if is_there(path):
-                config = json_object(json_of(bytes_of(path)))
-                members += named_in(config.get("workspace"), "members")
+                config = object_with_comments(bytes_of(path))
+                members += patterns_in(config.get("workspace") or [], "members", "members")
                 return Member(folder, name, set(of_config(config)), members, manifest)
     return Member(folder, CONFIGS[0], None, members, manifest)
-
-
-def named_in(value: Any, key: str) -> List[str]:
-    """The patterns of members in a list, or in that of an object."""
-    listed = value.get(key) if isinstance(value, dict) else value
-    return [text_at(it, key) for it in list_at(listed or [], key)]
 
 
 def members_of(top: Optional[str]) -> List[Member]:
@@ -58,9 +53,7 @@ def members_of(top: Optional[str]) -> List[Member]:
     project = member_at(top, "")
     if project.config is None and project.manifest is None:
         return []
-    patterns = [it for it in project.members if it[:1] != "!"]
-    folders = sorted({place for it in patterns for place in places_at(it, top)})
-    members = (member_at(top, it) for it in folders)
+    members = (member_at(top, it) for it in directories_of(project.members, top))
     return [project, *(it for it in members if it.config is not None or it.manifest is not None)]
 
 
@@ -112,25 +105,27 @@ def parts_of(specifier: str) -> Tuple[str, str]:
     return specifier[:4] + name, wanted
 
 
-def of_lists(own: Set[str], locked: Set[str], finding: Finding, file: str) -> Iterator[Finding]:
-    """What there is to say of two lists of specifiers."""
+def different_lists(
+    own: Set[str], locked: Set[str], requirer: Requirer, file: str
+) -> Iterator[Finding]:
+    """Yields what there is to say of two lists of specifiers."""
     gone = dict(map(parts_of, sorted(locked - own)))
     for name, wanted in map(parts_of, sorted(own - locked)):
-        stale = finding._replace(dependency=name[4:], range=wanted, reason=file)
-        yield stale._replace(version=gone.pop(name, ""))
+        yield Stale(Requirement(requirer, name[4:], wanted), wanted, gone.pop(name, ""), file)
     for name in gone:
-        yield finding._replace(kind=Kind.NOT_REQUIRED, dependency=name[4:])
+        yield NotRequired(Requirement(requirer, name[4:], ""))
 
 
-def findings(lock: Entry, top: Optional[str]) -> Iterator[Finding]:
-    """What there is to say of what the files beside a lock file list."""
+def stale_lists(lock: Entry, top: Optional[str]) -> Iterator[Finding]:
+    """Yields what there is to say of what the files beside a lock file list."""
     workspace = object_at(lock.get("workspace", {}), "workspace")
     members = object_at(workspace.get("members", {}), "workspace: members")
     for it in members_of(top):
         locked = object_at(members.get(it.folder, {}) if it.folder else workspace, "workspace")
         at: Keys = ("workspace", "members", it.folder) if it.folder in members else ("workspace",)
-        finding = Finding(Kind.STALE, requirer=it.folder or PROJECT, at=at)
-        yield from of_lists(it.config or set(), listed_in(locked), finding, it.config_name)
+        requirer = Requirer(it.folder or PROJECT, "", it.folder, at)
+        own = it.config or set()
+        yield from different_lists(own, listed_in(locked), requirer, it.config_name)
         inner = object_at(locked.get("packageJson", {}), "packageJson")
         required = set(of_manifest(it.manifest or {}))
-        yield from of_lists(required, listed_in(inner), finding, MANIFEST)
+        yield from different_lists(required, listed_in(inner), requirer, MANIFEST)

@@ -1,14 +1,17 @@
-"""What npm, yarn and pnpm require: a range, or a tag, an address or a path."""
+"""Specifiers of the tools of npm's registry: ranges, tags, URLs and paths, and what each says of a
+version."""
 
 import posixpath
 import re
 from functools import lru_cache
-from typing import List, NamedTuple, Optional, Tuple
+from typing import Optional, Tuple
 from urllib.parse import unquote
 
 from semver_parser import Dialect
 
-from ..findings import Kind
+from ..findings import NotChecked
+from ..judge import INVALID_RANGE, NO_VERSION, RIGHT, UNSATISFIED, Scheme, Verdict
+from ..model import Requirement
 from ..satisfaction import is_met, range_in
 
 # What npm takes for an address or a path.
@@ -42,15 +45,6 @@ REASONS = (
     ("URL", re.compile(r"https?:", re.I)),
     ("protocol", re.compile(r"(?!npm:)[a-z]+:", re.I)),
 )
-
-
-class Override(NamedTuple):
-    """What is put in place of what is required: of which package's asks, and of which of these,
-    each empty if it is for all, and what is put there."""
-
-    parent: str
-    within: str
-    spec: str
 
 
 def name_and_rest(text: str) -> Tuple[str, str]:
@@ -136,23 +130,36 @@ def may_overlap(spec: str, within: str) -> bool:
     return one is None or other is None or not one.isdisjoint(other)
 
 
-def verdict_on(version: Optional[str], spec: str) -> Optional[Kind]:
-    """What there is to say of the version of a package, if it has one, by what is required; None if
-    it satisfies that. What is at a URL may have none."""
+def verdict_on(version: Optional[str], spec: str) -> Optional[Verdict]:
+    """Returns the verdict on the version of a package, if it has one, by a specifier. What is at a
+    URL may have none."""
     met = is_met(range_of(spec), version or "", Dialect.NPM)
     if met is None:
-        return Kind.NOT_CHECKED if is_no_range(spec) else Kind.INVALID_RANGE
+        return Verdict(NotChecked, reason_of(spec)) if is_no_range(spec) else INVALID_RANGE
     if version is None:
-        return Kind.NOT_CHECKED if is_elsewhere(spec) else Kind.INVALID_VERSION
-    return None if met else Kind.UNSATISFIED
+        return Verdict(NotChecked, "no version") if is_elsewhere(spec) else NO_VERSION
+    return RIGHT if met else UNSATISFIED
 
 
-def verdict_by(version: str, specs: List[str]) -> Tuple[str, Optional[Kind]]:
-    """Of what is put in place of a requirement that by which the most is right, and the verdict by
-    it."""
-    verdicts = {verdict_on(version, spec): spec for spec in reversed(specs)}
-    for verdict in (None, Kind.NOT_CHECKED):
-        if verdict in verdicts:
-            return verdicts[verdict], verdict
-    verdict = verdict_on(version, specs[0])
-    return specs[0], Kind.OVERRIDDEN if verdict == Kind.UNSATISFIED else verdict
+class NodeScheme(Scheme):
+    """How tools of npm's registry read specifiers. One may have npm's form of each."""
+
+    dialect = Dialect.NPM
+
+    def npm_form(self, specifier: str, requirement: Requirement) -> str:
+        """Returns a specifier as npm has it."""
+        return specifier
+
+    def has_name(self, specifier: str, requirement: Requirement) -> bool:
+        """Returns whether the package has the name that an alias requires."""
+        name = requirement.found.name if requirement.found else None
+        return has_name(name or "", self.npm_form(specifier, requirement))
+
+    def verdict(self, specifier: str, requirement: Requirement) -> Optional[Verdict]:
+        """Returns the verdict on the package that is found. What has no version isn't checked."""
+        wanted = self.npm_form(specifier, requirement)
+        found = requirement.found
+        if found is not None and found.version is None:
+            why = "workspace" if found.is_own else "no version"
+            return Verdict(NotChecked, reason_of(specifier) if is_no_range(specifier) else why)
+        return verdict_on(found.version if found else None, wanted)

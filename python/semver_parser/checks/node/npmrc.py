@@ -13,11 +13,6 @@ STRICT_PEERS = "strict-peer-deps"
 OFF = ("false", "null", "0")
 
 
-def has_legacy_peers(project: Optional[str]) -> bool:
-    """Whether the .npmrc in a project's folder has npm leave peers alone."""
-    return is_set(project, LEGACY_PEERS)
-
-
 def is_set(project: Optional[str], name: str) -> bool:
     """Whether the .npmrc in a project's folder turns on a setting."""
     path = os.path.join(project or "", ".npmrc")

@@ -9,7 +9,7 @@ import re
 from functools import lru_cache
 from typing import Iterator, List, Pattern
 
-from .files import WrongShape
+from ..files import WrongShape
 
 BRACES = re.compile(r"\{([^{},]*(?:,[^{},]*)+)\}")
 MAGIC = re.compile(r"[*?\[(]")

@@ -1,0 +1,327 @@
+"""npm: lock files of lockfileVersion 1, 2 and 3, beside the package.json files of the project.
+
+WHO REQUIRES. Each package requires its `peerDependencies`, `dependencies` and
+`optionalDependencies`, and the project and its workspaces, which are below no `node_modules`, for
+their `devDependencies` too. Of one name in several of these npm keeps the last, in this order. In
+lockfileVersion 1 each package requires what it `requires`. What the project, its workspaces and
+linked directories require is in their package.json, and in the lock file too from lockfileVersion 2
+on, where it may be stale.
+
+WHAT IS FOUND. The nearest package of the name: in the package's own `node_modules`, or else in
+that of a folder round it. A peer is looked for from the folder round the package on; those of the
+project and its workspaces, round which there is none, are in their own. A link is followed. What
+isn't found has no version. The project has each workspace by a link under its name.
+
+WHAT COUNTS. What nothing leads to from the project and its workspaces isn't looked at, and what npm
+leaves as it is counts by `--strict` alone.
+
+OVERRIDES. They aren't in a lock file, but in the project's package.json. What an override replaces
+is checked by what the override requires.
+"""
+
+import os
+from typing import Dict, Iterable, Iterator, List, Optional, Set, Tuple
+
+from ..files import STANDARD_INPUT, Entry, json_object, taking, text_at
+from ..findings import Conflict, Finding, MissingTarget, NotChecked, TwoPackages, TwoVersions
+from ..judge import RIGHT, UNSATISFIED, Verdict
+from ..locating import AFTER_KEY_OF_OBJECT, json_offsets
+from ..model import (
+    PROJECT,
+    Keys,
+    LockFile,
+    Node,
+    Package,
+    Requirement,
+    Scope,
+)
+from ..node.archives import archive_at
+from ..node.npmrc import LEGACY_PEERS, STRICT_PEERS, is_set
+from ..node.package_json import (
+    MANIFEST,
+    bytes_of,
+    manifest_path,
+    missing_workspace,
+    requirements_in,
+    requirer_of,
+    statement_of,
+)
+from ..node.specifiers import (
+    NodeScheme,
+    directory_at,
+    is_any,
+    is_archive,
+    is_no_range,
+    reason_of,
+    verdict_on,
+)
+from ..satisfaction import is_met, is_version
+from ..tool import Input, Offsets, Statement, Tool
+from .disk import check_manifest, read_links, workspaces_of
+from .leaving import Leaving
+from .lock import (
+    WORKSPACES,
+    Packages,
+    is_left_out,
+    is_linked,
+    is_of_what_is_there,
+    is_top,
+    keys_of,
+    package_at,
+    packages_of,
+    requirements_at,
+    within,
+    without_optional,
+)
+from .overrides import Rule, put_overrides, reading_of, refused, rules_of
+from .peers import Peers
+
+# The lock file that npm writes into node_modules.
+HIDDEN = ".package-lock.json"
+
+# The kinds that `--duplicates` compares.
+KINDS_TO_COMPARE = ("dependencies", "devDependencies", "optionalDependencies")
+
+Requirements = Dict[str, List[Requirement]]
+"""What each place requires."""
+
+
+class NpmScheme(NodeScheme):
+    """How npm reads versions and specifiers."""
+
+    def verdict(self, specifier: str, requirement: Requirement) -> Optional[Verdict]:
+        """Returns the verdict on what is found, which `acceptDependencies` may accept."""
+        verdict = self.verdict_by(specifier, requirement)
+        accepted = requirement.accepted
+        if accepted is not None and self.verdict_by(accepted, requirement) is RIGHT:
+            return RIGHT
+        return verdict
+
+    def verdict_by(self, specifier: str, requirement: Requirement) -> Optional[Verdict]:
+        """Returns the verdict by a specifier: npm takes each package for `*`, that from just the
+        URL that is required, and a link to just the directory. An archive or a repository of an old
+        file has no version there."""
+        found = requirement.found
+        if found is not None and found.name is not None:
+            if is_any(specifier):
+                return RIGHT
+            if found.version is None and found.source:
+                why = reason_of(specifier) if is_no_range(specifier) else "no version"
+                return Verdict(NotChecked, why)
+            if is_top(found.place):
+                requirer = "" if requirement.is_override else requirement.requirer.place
+                directory = directory_at(specifier, requirer)
+                if directory is not None:
+                    return RIGHT if directory == found.place else UNSATISFIED
+            elif is_archive(specifier) and found.source:
+                return RIGHT if specifier == found.source else UNSATISFIED
+        return verdict_on(None if found is None else found.version, specifier)
+
+    def fits(self, requirement: Requirement) -> bool:
+        """Returns whether npm takes what is found."""
+        if requirement.found is None:
+            return False
+        verdict = self.verdict(requirement.specifier, requirement)
+        return verdict is RIGHT or verdict.finding is NotChecked
+
+
+# ---- what npm demands besides
+
+
+def archive_findings(package: Package, resolved: object) -> Iterator[Finding]:
+    """Yields what there is to say of the archive of a package, which npm installs. Nearly all are
+    named by their own."""
+    name, version = package.name or "", package.version
+    if not isinstance(resolved, str) or version is None or not is_version(version, NPM.dialect):
+        return
+    if resolved.endswith(f"/{name}/-/{name.rpartition('/')[2]}-{version}.tgz"):
+        return
+    archive = archive_at(resolved)
+    if archive is not None and archive.name != name:
+        yield TwoPackages(package, resolved)
+    elif archive is not None and not is_met(archive.version, version, NPM.dialect):
+        yield TwoVersions(package, resolved)
+
+
+def project_findings(
+    packages: Packages, found: Dict[str, Package], workspaces: Dict[str, str], is_old: bool
+) -> Iterator[Finding]:
+    """Yields what there is to say of links that lead nowhere, and of workspaces without a link."""
+    for place, entry in packages.items():
+        if entry.get("link") and found[place].name is None:
+            target = text_at(entry.get("resolved"), f"{place}: resolved")
+            yield MissingTarget(Package(None, None, place, keys_of(place, is_old)), target)
+    for name, directory in workspaces.items():
+        if not is_linked(name, directory, found):
+            yield missing_workspace(name, None, directory, keys_of("", is_old))
+
+
+# ---- the graph
+
+
+def edges_of(required: Requirements) -> Iterator[Tuple[str, Optional[str]]]:
+    """Yields the places that what each place requires leads to. A workspace is where a path
+    begins."""
+    for place, each in required.items():
+        yield place or PROJECT, None
+        for it in each:
+            if it.found is not None and it.kind != WORKSPACES:
+                yield place or PROJECT, it.found.place or PROJECT
+
+
+def reached(required: Requirements, tops: Iterable[str]) -> Set[str]:
+    """Returns the places that are reached from some of them: npm removes the others."""
+    found: Set[str] = set()
+    left = list(tops)
+    while left:
+        place = left.pop()
+        if place not in found:
+            found.add(place)
+            left += [it.found.place for it in required.get(place, ()) if it.found is not None]
+    return found
+
+
+class Npm(Tool):
+    """npm."""
+
+    name, repair, scheme = "npm", "npm install", NpmScheme()
+    lock_files = ("package-lock.json", "npm-shrinkwrap.json")
+    manifests = (MANIFEST, ".npmrc")
+    takes_package_json = True
+    dialect = scheme.dialect
+
+    def recognizes(self, file: Input) -> bool:
+        """Returns whether a file is JSON."""
+        return file.text.lstrip()[:1] == b"{"
+
+    def directory_of(self, file: Input) -> Optional[str]:
+        """Returns the directory of the project: npm has a file in its node_modules, too."""
+        if file.directory is None or os.path.basename(file.path) != HIDDEN:
+            return file.directory
+        return os.path.normpath(os.path.join(file.directory, ".."))
+
+    def read(self, file: Input) -> LockFile:
+        """Returns what a lock file has, beside the project's package.json."""
+        beside = self.directory_of(file)
+        directory = beside
+        if beside is None and file.named not in (None, STANDARD_INPUT):
+            directory = os.path.dirname(file.named or "")
+        manifest, rules = manifest_and_rules(manifest_path(file, beside))
+        has_peers = file.scope.has_peers and not is_set(directory, LEGACY_PEERS)
+        scope = file.scope._replace(has_peers=has_peers)
+        return Reader(lock_of(file), directory, manifest, rules, scope).lock_file()
+
+    def offsets(self, text: bytes, wanted: Set[Keys]) -> Offsets:
+        """Yields the entries of a file, which are objects."""
+        return json_offsets(text, wanted, AFTER_KEY_OF_OBJECT)
+
+    def statement(self, finding: Finding, file: Input) -> Optional[Statement]:
+        """Returns where a package.json states a requirement."""
+        return statement_of(finding, file, self.directory_of(file))
+
+    def read_instead(self, path: str, is_named: bool) -> Optional[str]:
+        """Returns why npm doesn't read a package-lock.json: a shrinkwrap is beside it."""
+        directory, name = os.path.split(path)
+        other = self.lock_files[1]
+        if is_named or name == other or not os.path.isfile(os.path.join(directory, other)):
+            return None
+        return f"since {other} is beside it"
+
+
+NPM = Npm()
+
+
+def lock_of(file: Input) -> Entry:
+    """Returns the object of a lock file. npm reads an npm-shrinkwrap.json without lockfileVersion
+    as one of lockfileVersion 1."""
+    lock = file.json
+    is_old = os.path.basename(file.path) == NPM.lock_files[1] and "lockfileVersion" not in lock
+    return {"lockfileVersion": 1, **lock} if is_old else lock
+
+
+def manifest_and_rules(path: Optional[str]) -> Tuple[Optional[Entry], Rule]:
+    """Returns the project's package.json, if there is one, and the rules of its overrides."""
+    if path is None:
+        return None, rules_of({})
+    with taking(path, MANIFEST):
+        manifest = json_object(bytes_of(path))
+        check_manifest(manifest)
+        return manifest, rules_of(manifest)
+
+
+class Reader:
+    """Reads a lock file: its packages, what is found at each place, and what each requires."""
+
+    def __init__(
+        self,
+        lock: Entry,
+        directory: Optional[str],
+        manifest: Optional[Entry],
+        rules: Rule,
+        scope: Scope,
+    ) -> None:
+        self.directory, self.manifest, self.rules, self.scope = directory, manifest, rules, scope
+        self.packages, self.left_out = packages_of(lock, manifest), 0
+        self.is_old = lock["lockfileVersion"] == 1
+        self.from_lock = read_links(self.packages, directory)
+        self.workspaces = workspaces_of(self.packages, directory, manifest is not None)
+        if scope != Scope():
+            self.packages, self.left_out = within(self.packages, scope)
+        places = self.packages
+        self.found = {it: package_at(places, it, self.is_old) for it in places}
+        self.required = {place: self.requirements_at(place) for place in places}
+        if is_of_what_is_there(lock):
+            self.required = {it: without_optional(each) for it, each in self.required.items()}
+
+    def requirements_at(self, place: str) -> List[Requirement]:
+        """Returns what the package at a place requires."""
+        entry = self.packages[place]
+        return list(requirements_at(place, entry, self.found, self.workspaces, self.is_old))
+
+    def checked(self) -> List[str]:
+        """Returns the places that are checked: what nothing leads to npm removes."""
+        places = self.packages
+        checked = [it for it in places if not is_left_out(places[it], self.scope)]
+        if self.manifest is None:
+            return checked
+        there = reached(self.required, ["", *self.workspaces.values()])
+        return [it for it in checked if it in there]
+
+    def stated(self) -> Iterator[Requirement]:
+        """Yields what the project and its workspaces require."""
+        for place in filter(is_top, self.packages):
+            requirer = requirer_of(place)
+            yield from requirements_in(self.packages[place], requirer, KINDS_TO_COMPARE)
+
+    def nodes(self, checked: List[str], first: List[Finding]) -> Iterator[Node]:
+        """Yields a node for the project as a whole, and one for each place that is checked."""
+        yield Node(findings=first)
+        for place in checked:
+            entry = self.packages[place]
+            package = None if entry.get("link") else self.found[place]
+            own = archive_findings(package, entry.get("resolved")) if package else ()
+            requirements = [it for it in self.required[place] if it.kind != WORKSPACES]
+            yield Node(package, requirements, own)
+
+    def lock_file(self) -> LockFile:
+        """Returns what the lock file has."""
+        packages, found, required = self.packages, self.found, self.required
+        first = list(project_findings(packages, found, self.workspaces, self.is_old))
+        reading = reading_of(packages, found, required, self.rules)
+        first += [Conflict(it, override) for it, override in refused(reading)]
+        checked, plain = self.checked(), dict(required)
+        put_overrides(packages, required, reading)
+        is_strict = is_set(self.directory, STRICT_PEERS)
+        tops = self.workspaces.values()
+        peers = None if is_strict else Peers(required, NPM.scheme.fits, tops)
+        there = [it for it in packages if not is_top(it) and not packages[it].get("link")]
+        return LockFile(
+            self.nodes(checked, first),
+            [found[it] for it in there],
+            lambda: edges_of(plain),
+            self.stated,
+            Leaving(packages, peers).excuse,
+            left_out=self.left_out,
+            from_lock=len(self.from_lock.intersection(checked)),
+            package_count=len(set(there).intersection(checked)),
+        )
