@@ -20,18 +20,19 @@ REASONS = {
     "bundled": ("bundled", "bundled"),
     "outside": ("outside of the project", "outside of the project"),
     "conflicting peer": ("conflicting peer", "conflicting peers"),
+    "override": ("override that npm may leave", "overrides that npm may leave"),
     "no version": ("without a version", "without a version"),
     "missing": ("missing", "missing"),
 }
 
 
 def counted(count: int, one: str, several: str) -> str:
-    """A count with what is counted."""
+    """Returns a count with what is counted."""
     return f"{count:,} {one if count == 1 else several}"
 
 
 def parts_of(report: Report) -> List[str]:
-    """What a closing line has after what was checked."""
+    """Returns what a closing line has after what was checked."""
     reasons = report.not_checked()
     parts = []
     if reasons:
@@ -49,7 +50,7 @@ def parts_of(report: Report) -> List[str]:
 
 
 def closing_line(report: Report) -> str:
-    """The closing line of a lock file."""
+    """Returns the closing line of a lock file."""
     requirements = counted(report.checked(), "requirement", "requirements")
     packages = counted(report.packages, "package", "packages")
     first = f"checked {requirements} of {packages} in {report.name} ({report.tool_name})"
@@ -57,14 +58,17 @@ def closing_line(report: Report) -> str:
 
 
 def total_line(results: Results) -> str:
-    """The line after those of several lock files."""
+    """Returns the line after those of several lock files."""
     reports = [it for it in results.reports if error_of(it) is None]
     requirements = sum(it.checked() for it in reports)
     checked = counted(requirements, "requirement", "requirements")
     packages = counted(sum(it.packages for it in reports), "package", "packages")
     files = counted(len(reports), "file", "files")
     listed = sum(len(it.listed) for it in reports) + len(results.unused)
-    parts = [f"total: {checked} of {packages} in {files}", counted(listed, "finding", "findings")]
+    parts = [f"total: {checked} of {packages} in {files}"]
+    not_checked = sum(sum(it.not_checked().values()) for it in reports)
+    parts += [f"{not_checked:,} not checked"] if not_checked else []
+    parts.append(counted(listed, "finding", "findings"))
     errors = len(results.reports) - len(reports) + len(results.refusals)
     if errors:
         parts.append(counted(errors, "error", "errors"))
@@ -72,14 +76,14 @@ def total_line(results: Results) -> str:
 
 
 def error_of(report: Report) -> Optional[Refusal]:
-    """Why a lock file isn't checked: it is refused, or has nothing that can be checked."""
+    """Returns why a lock file isn't checked: it is refused, or has nothing that can be checked."""
     if report.refusal is None and report.is_unchecked():
         return Refusal(report.path, unchecked_line(report))
     return report.refusal
 
 
 def unchecked_line(report: Report) -> str:
-    """Why it is an error that nothing was checked."""
+    """Returns why it is an error that nothing was checked."""
     requirements = counted(report.requirements, "requirement", "requirements")
     packages = counted(report.packages, "package", "packages")
     first = f"nothing was checked of {requirements} and {packages} ({report.tool_name})"

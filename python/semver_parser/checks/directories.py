@@ -11,20 +11,21 @@ MADE = ("node_modules", ".git", "target")
 
 
 def is_among(place: str, names: Tuple[str, ...]) -> bool:
-    """Whether a file below a directory has one of these names, and no tool put it there."""
+    """Returns whether a file below a directory has one of these names, and no tool put it there."""
     *folders, name = place.split("/")
     return name in names and not set(MADE).intersection(folders)
 
 
 def named_below(directory: str, names: Tuple[str, ...]) -> List[str]:
-    """The files of these names below a directory, from it on, but for those that git ignores or a
-    tool put there."""
+    """Returns the files of these names below a directory, from it on, but for those that git
+    ignores or a tool put there."""
     places = (it for it in files_below(directory) if is_among(it, names))
     return sorted(it for it in places if os.path.isfile(os.path.join(directory, it)))
 
 
 def files_below(directory: str) -> List[str]:
-    """The files below a directory by git, and without it, or outside of its work trees, all."""
+    """Returns the files below a directory by git, and without it, or outside of its work trees,
+    all."""
     try:
         os.scandir(directory or ".").close()
     except OSError as error:
@@ -34,13 +35,13 @@ def files_below(directory: str) -> List[str]:
 
 
 def refuse_unread(error: OSError) -> NoReturn:
-    """Refuses a directory that can't be read."""
+    """Rejects a directory that can't be read."""
     path = os.path.normpath(os.fsdecode(error.filename or "."))
     raise Refusal(path, f"it can't be read: {error.strerror}")
 
 
 def walked(directory: str) -> Iterator[str]:
-    """The files below a directory, but for what tools put there."""
+    """Yields the files below a directory, but for what tools put there."""
     for folder, inner, names in os.walk(directory, onerror=refuse_unread):
         inner[:] = [it for it in inner if it not in MADE]
         for name in names:

@@ -1,8 +1,8 @@
 """What there is to say of a lock file: a class for each kind of finding, with its sentence.
 
 A finding is about a requirement, or about a package. `record` has its parts for the outputs that
-have fields. What only counts with `--strict` has an `excuse`, and what no command of its tool
-repairs an `advice`.
+have fields. What only counts with `--strict` has an `excuse`. What no command of its tool repairs
+has an `advice`, and if it makes the command fail it is blocking.
 """
 
 from dataclasses import dataclass
@@ -40,6 +40,7 @@ class Finding:
 
     excuse = ""
     advice = ""
+    is_blocking = False
     at: Keys = ()
 
     @property
@@ -59,6 +60,11 @@ class Finding:
     def sentence(self, paint: Paint = plain) -> str:
         """Returns the sentence of the finding, whose parts are painted."""
         return self.text.format(**self.parts(paint))
+
+    def advised(self: F, advice: str, is_blocking: bool) -> F:
+        """Returns the finding, which no command repairs, with what to change instead."""
+        self.advice, self.is_blocking = advice, is_blocking
+        return self
 
     def excused(self: F, reason: str) -> F:
         """Returns the finding, which only counts with `--strict` if there is a reason."""
@@ -196,7 +202,7 @@ class InvalidRange(OfFound):
 
     kind, title = "invalid-range", "A range is invalid"
     text = "{found} cannot be checked: {range} is an invalid range, {required}"
-    advice = "correct the range in the manifest"
+    advice, is_blocking = "correct the range where it is required", True
 
 
 class NoVersion(OfFound):
@@ -219,6 +225,15 @@ class Missing(OfRequirement):
 
     kind, title = "missing", "A required package is missing"
     text = "{name} {range} is missing, {required}"
+
+
+@dataclass(eq=False)
+class MissingFeature(OfFound):
+    """A feature that is required of a package, which doesn't have it. The specifier is its name."""
+
+    kind, title = Missing.kind, Missing.title
+    text = "the feature {range} of {found} is missing, {required}"
+    advice, is_blocking = "correct the features in the manifests", True
 
 
 class NotRequired(OfRequirement):
@@ -246,7 +261,7 @@ class Conflict(OfRequirement):
 
     kind, title = "conflict", "An override is not what the project requires"
     text = "the override {override} of {name} conflicts with {stated}, {required}"
-    advice = "have the override and the requirement say the same"
+    advice, is_blocking = "have the override and the requirement say the same", True
 
     @property
     def record(self) -> Record:
@@ -368,6 +383,7 @@ class ManifestVersion(TwoVersions):
     """A package whose manifest has another version."""
 
     text = "{found} does not match {other} of its {what}{inside}"
+    advice = ""
 
 
 class TwoPackages(TwoVersions):
@@ -392,6 +408,28 @@ class NotPatched(OfPackage):
     text = "{found} comes from another source than the patch {other}"
 
 
+class NotReplaced(OfPackage):
+    """A package that was replaced by another one, which nothing requires any more."""
+
+    kind, title = NotRequired.kind, NotRequired.title
+    text = "{found} is replaced, but nothing requires that"
+
+
+class WrongChecksum(OfPackage):
+    """A package whose checksum is missing or can't be right, and why."""
+
+    kind, title = "checksum", "A checksum is missing or invalid"
+    text = "{found} has {what}"
+
+
+class OwnConflict(OfPackage):
+    """A package whose manifest conflicts with itself or another one, and how."""
+
+    kind, title = Conflict.kind, Conflict.title
+    text = "{found} {what}"
+    advice, is_blocking = "correct the manifests: no lock file is right for them", True
+
+
 class MissingMember(OfPackage):
     """A member of the workspace that the lock file lacks."""
 
@@ -409,6 +447,7 @@ class MissingTarget(MissingMember):
     """A link to a directory that isn't there."""
 
     text = "{other} is missing, the target of the link {where}"
+    advice, is_blocking = "remove the entry of the link", True
 
 
 @dataclass(eq=False)
@@ -470,6 +509,6 @@ class Duplicate(Finding):
 
 CLASSES: List[Type[Finding]] = [
     Unsatisfied, Overridden, Conflict, AnotherPackage, TwoVersions, AnotherSource, InvalidVersion,
-    InvalidRange, Missing, NotRequired, Stale, NotChecked, Duplicate, DifferentRange,
+    InvalidRange, Missing, WrongChecksum, NotRequired, Stale, NotChecked, Duplicate, DifferentRange,
 ]  # fmt: skip
 """A class for each kind, in the order in which the manual describes them."""

@@ -48,10 +48,6 @@ class Scheme:
         """Returns whether the version of a package is valid."""
         return package.version is None or is_version(package.version, self.dialect)
 
-    def is_met(self, specifier: str, version: str) -> Optional[bool]:
-        """Returns whether a version satisfies a specifier; None if that isn't a range."""
-        return is_met(specifier, version, self.dialect)
-
     def has_name(self, specifier: str, requirement: Requirement) -> bool:
         """Returns whether the package that is found has the name that a specifier requires."""
         return True
@@ -59,7 +55,7 @@ class Scheme:
     def verdict(self, specifier: str, requirement: Requirement) -> Optional[Verdict]:
         """Returns the verdict on the package that is found, by a specifier."""
         version = requirement.found.version if requirement.found else None
-        met = self.is_met(specifier, version or "")
+        met = is_met(specifier, version or "", self.dialect)
         if met is None:
             return INVALID_RANGE
         return RIGHT if met else UNSATISFIED if version is not None else NO_VERSION
@@ -69,16 +65,15 @@ class Scheme:
         return Missing(requirement).excused(requirement.excuse)
 
 
-def is_plainly_met(it: Requirement, scheme: Scheme) -> bool:
+def is_plainly_met(it: Requirement, dialect: Dialect) -> bool:
     """Returns whether a range is required, as nearly always, and the package has a version in that
     range and no other name: then there is no more to say."""
-    found = it.found
-    if found is None or found.version is None or it.replaced_by or ":" in it.specifier:
+    found, specifier = it.found, it.specifier
+    if found is None or found.version is None or ":" in specifier or it.stated is not None:
         return False
-    if it.stated is not None:
+    if it.replaced_by or it.locked is not None or found.name not in (None, it.name):
         return False
-    is_named = found.name is None or found.name == it.name
-    return is_named and scheme.is_met(it.specifier, found.version) is True
+    return is_met(specifier, found.version, dialect) is True
 
 
 def best_of(it: Requirement, scheme: Scheme) -> Tuple[str, Optional[Verdict]]:
@@ -100,8 +95,6 @@ def best_of(it: Requirement, scheme: Scheme) -> Tuple[str, Optional[Verdict]]:
 
 def findings_of(it: Requirement, scheme: Scheme) -> Iterator[Finding]:
     """Yields what there is to say of a requirement."""
-    if is_plainly_met(it, scheme):
-        return
     if it.found is None:
         if it.must_exist:
             yield scheme.missing(it)
@@ -134,7 +127,10 @@ def judged(node: Node, scheme: Scheme) -> Iterator[Finding]:
     if node.package is not None and not scheme.is_version(node.package):
         yield InvalidVersion(node.package)
     yield from node.findings
+    dialect = scheme.dialect
     for it in node.requirements:
+        if is_plainly_met(it, dialect):
+            continue
         found = [] if it.is_gone else list(findings_of(it, scheme))
         yield from found
         if it.locked is not None and all(each.excuse for each in found):
@@ -157,7 +153,7 @@ def judge(lock: LockFile, scheme: Scheme) -> Judgement:
             if not finding.excuse:
                 finding.excused(lock.excuse(finding))
             findings.append(finding)
-        requirements += sum(it.is_counted for it in node.requirements)
+        requirements += sum(it.found is not None or it.is_counted for it in node.requirements)
     if not findings:
         findings += lock.if_right()
     return Judgement(findings, requirements)

@@ -23,8 +23,8 @@ class Paths:
                     left.append(it)
 
     def path_to(self, finding: Finding) -> List[str]:
-        """The path to what is required, or to a package of which there is something to say. Nothing
-        leads to what isn't in the graph."""
+        """Returns the path to what is required, or to a package of which there is something to say.
+        Nothing leads to what isn't in the graph."""
         last, record = finding.about, finding.record
         label = f"{record.package or ''} {record.version or ''}".rstrip()
         if last not in self.before and record.package and record.requirer is None:

@@ -45,6 +45,7 @@ class Report:
     positions: Dict[int, Position] = field(default_factory=dict)
     paths: Optional[Paths] = None
     refusal: Optional[Refusal] = None
+    is_strict: bool = False
 
     @property
     def name(self) -> str:
@@ -87,12 +88,13 @@ class Report:
 
     def is_unchecked(self) -> bool:
         """Returns whether nothing is checked or listed by default, although something is required
-        that isn't in the project's own directories."""
+        that isn't in the project's own directories: with `--strict` that is an error."""
         is_wrong = any(not it.excuse for it in self.findings)
         is_required = bool(self.requirements + self.packages)
         reasons = set(self.not_checked())
         is_own = bool(reasons) and reasons <= OWN
-        return is_required and not (self.checked() or self.left_out or is_wrong or is_own)
+        is_known = bool(self.checked() or self.left_out or is_wrong or is_own)
+        return self.is_strict and is_required and not is_known
 
 
 class Unused(NamedTuple):
@@ -149,6 +151,8 @@ def check(report: Report, tool: Tool, lock: LockFile) -> None:
     """Has the judge check a lock file, and counts what it has."""
     judgement = judge(lock, lock.scheme or tool.scheme)
     report.findings, report.requirements = judgement
+    for finding in report.findings:
+        tool.advise(finding)
     report.packages = lock.package_count
     report.left_out, report.from_lock = lock.left_out, lock.from_lock
 

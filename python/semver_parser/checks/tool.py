@@ -83,6 +83,9 @@ class Tool:
         """Returns where a manifest may state what a finding is about."""
         return None
 
+    def advise(self, finding: Finding) -> None:
+        """Says of a finding what to change, if the command of the tool doesn't repair it."""
+
     def read_instead(self, path: str, is_named: bool) -> Optional[str]:
         """Returns why the tool doesn't read the lock file at a path, if it reads another one, as
         the end of a note. A file that is named is read, unless the tool can't."""

@@ -21,7 +21,7 @@ BY_LINE = (
 
 
 def refuse_others(text: bytes) -> None:
-    """Refuses a lock file of a tool that isn't supported."""
+    """Rejects a lock file of a tool that isn't supported."""
     start = text[:1000].lstrip()
     for pattern, file, owner in BY_BEGINNING:
         if re.match(pattern, start):

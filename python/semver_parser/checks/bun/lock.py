@@ -22,14 +22,14 @@ STEP = re.compile(r"@[^/]+/[^/]+|[^/]+")
 
 
 def workspaces_of(lock: Entry) -> Dict[str, Entry]:
-    """The workspaces by their directories. That of the project is empty."""
+    """Returns the workspaces by their directories. That of the project is empty."""
     if lock.get("lockfileVersion") not in (0, 1) or isinstance(lock["lockfileVersion"], bool):
         raise WrongShape(" of lockfileVersion 0 or 1")
     return objects_at(lock.get("workspaces"), "workspaces")
 
 
 def packages_of(lock: Entry, manifests: Dict[str, Entry]) -> Iterator[Package]:
-    """The packages of a file, in its order, of which workspaces have the versions of their
+    """Yields the packages of a file, in its order, of which workspaces have the versions of their
     package.json."""
     for key, value in object_at(lock.get("packages", {}), "packages").items():
         where = f"packages: {key}"
@@ -45,19 +45,19 @@ def packages_of(lock: Entry, manifests: Dict[str, Entry]) -> Iterator[Package]:
 
 
 def version_of(there: str) -> Optional[str]:
-    """The version of a package of a registry; what is at a URL or a path has none."""
+    """Returns the version of a package of a registry; what is at a URL or a path has none."""
     return None if ":" in there or "/" in there else there
 
 
 def places_from(path: str, name: str) -> Iterator[str]:
-    """The keys by which a name is looked for from a path on: the nearest first."""
+    """Yields the keys by which a name is looked for from a path on: the nearest first."""
     steps = STEP.findall(path)
     for count in range(len(steps), -1, -1):
         yield "/".join((*steps[:count], name))
 
 
 def nearest(path: str, name: str, packages: Dict[str, Package]) -> Optional[Package]:
-    """The package of a name that is nearest to a path."""
+    """Returns the package of a name that is nearest to a path."""
     return next((packages[it] for it in places_from(path, name) if it in packages), None)
 
 

@@ -38,6 +38,7 @@ from ..node.package_json import (
     MANIFEST,
     TOP,
     Project,
+    advise,
     manifest_in,
     missing_workspace,
     name_in,
@@ -240,6 +241,10 @@ class Bun(Tool):
     def offsets(self, text: bytes, wanted: Set[Keys]) -> Offsets:
         """Yields the entries of a file, by the JSON that it is for, whose offsets are the same."""
         return json_offsets(plain_json(text), wanted)
+
+    def advise(self, finding: Finding) -> None:
+        """Says of a finding what to change, if the command doesn't repair it."""
+        advise(finding)
 
     def statement(self, finding: Finding, file: Input) -> Optional[Statement]:
         """Returns where a package.json states a requirement."""

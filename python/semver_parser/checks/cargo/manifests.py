@@ -5,6 +5,7 @@ from typing import Any, Dict, Iterator, List, NamedTuple, Optional, Tuple
 
 from ..files import Entry, WrongShape, bytes_of, list_at, object_at, taking, text_at, toml_object
 from .sources import CRATES_IO, Source, source_of
+from .validity import refuse_invalid
 
 KINDS = ("dependencies", "dev-dependencies", "build-dependencies")
 MANIFEST = "Cargo.toml"
@@ -46,14 +47,15 @@ class Dependency(NamedTuple):
 
 
 class Manifest(NamedTuple):
-    """The directory, the name and the version of a package, what it requires, and its features.
-    Without a name it is that of a workspace alone."""
+    """The directory, the name and the version of a package, what it requires, its features, and
+    the library that it links. Without a name it is that of a workspace alone."""
 
     folder: str
     name: Optional[str]
     version: str
     dependencies: List[Dependency]
     features: Dict[str, List[str]]
+    links: str = ""
 
 
 class Inherited(NamedTuple):
@@ -68,7 +70,7 @@ NOTHING_INHERITED = Inherited("", {}, {})
 
 
 def tables_of(manifest: Entry) -> Iterator[Tuple[str, Entry]]:
-    """The tables of dependencies, those for a target too."""
+    """Yields the tables of dependencies, those for a target too."""
     for kind in KINDS:
         for spelled in (kind, kind.replace("-", "_")) if "-" in kind else (kind,):
             if spelled in manifest:
@@ -79,7 +81,7 @@ def tables_of(manifest: Entry) -> Iterator[Tuple[str, Entry]]:
 
 
 def patches_of(manifest: Entry) -> Iterator[Tuple[str, Entry]]:
-    """The tables of what replaces packages, by their sources, or by package and version."""
+    """Yields the tables of what replaces packages, by their sources, or by package and version."""
     for source, table in object_at(manifest.get("patch", {}), "patch").items():
         yield f"patch.{source}", object_at(table, f"patch: {source}")
     if "replace" in manifest:
@@ -89,8 +91,8 @@ def patches_of(manifest: Entry) -> Iterator[Tuple[str, Entry]]:
 def dependency_of(
     key: str, value: Any, table: str, inherited: Inherited = NOTHING_INHERITED, folder: str = ""
 ) -> Dependency:
-    """A dependency of a table: a requirement, or a table of its own, which may take that of the
-    workspace."""
+    """Returns a dependency of a table: a requirement, or a table of its own, which may take that of
+    the workspace."""
     where = f"{table}: {key}"
     if isinstance(value, str):
         return Dependency(key, None, value, True, table, features=("default",))
@@ -121,8 +123,8 @@ def dependency_of(
 
 
 def features_in(entry: Entry, where: str, has_default: bool) -> Tuple[str, ...]:
-    """The features that a dependency is to have, where that of the name `default` is one unless
-    the manifest says otherwise, or is only if the manifest says so."""
+    """Returns the features that a dependency is to have, where that of the name `default` is one
+    unless the manifest says otherwise, or is only if the manifest says so."""
     for spelled in ("default-features", "default_features"):
         has_default = bool(entry.get(spelled, has_default))
     features = list_at(entry.get("features", []), f"{where}: features")
@@ -131,28 +133,28 @@ def features_in(entry: Entry, where: str, has_default: bool) -> Tuple[str, ...]:
 
 
 def package_of(manifest: Entry) -> Entry:
-    """What a manifest has of its package. Up to edition 2021 the table may be `project`."""
+    """Returns what a manifest has of its package. Up to edition 2021 the table may be `project`."""
     return object_at(manifest.get("package", manifest.get("project", {})), "package")
 
 
 def workspace_of(manifest: Entry) -> Entry:
-    """What a manifest has of its workspace, if it is that of one."""
+    """Returns what a manifest has of its workspace, if it is that of one."""
     return object_at(manifest.get("workspace", {}), "workspace")
 
 
 def workspace_table(manifest: Entry) -> Entry:
-    """The dependencies that a workspace has for its members."""
+    """Returns the dependencies that a workspace has for its members."""
     return object_at(workspace_of(manifest).get("dependencies", {}), "workspace: dependencies")
 
 
 def inherited_of(manifest: Entry, folder: str) -> Inherited:
-    """What a workspace's manifest has for the members."""
+    """Returns what a workspace's manifest has for the members."""
     package = object_at(workspace_of(manifest).get("package", {}), "workspace: package")
     return Inherited(folder, workspace_table(manifest), package)
 
 
 def manifest_of(entry: Entry, inherited: Inherited, folder: str) -> Manifest:
-    """A manifest, whose dependencies and version may be those of the workspace."""
+    """Returns a manifest, whose dependencies and version may be those of the workspace."""
     package = package_of(entry)
     version = package.get("version")
     if isinstance(version, dict) and version.get("workspace") is True:
@@ -169,19 +171,22 @@ def manifest_of(entry: Entry, inherited: Inherited, folder: str) -> Manifest:
         for key, value in features.items()
     }
     version = version if isinstance(version, str) else NO_VERSION
-    return Manifest(os.path.abspath(folder), name, version, dependencies, named)
+    refuse_invalid(entry, package, dict(tables_of(entry)), folder)
+    links = package.get("links")
+    links = links if isinstance(links, str) else ""
+    return Manifest(os.path.abspath(folder), name, version, dependencies, named, links)
 
 
 def read(path: str) -> Entry:
-    """What a Cargo.toml has."""
+    """Returns what a Cargo.toml has."""
     with taking(path, MANIFEST):
         return toml_object(bytes_of(path))
 
 
 def by_table(entry: Entry) -> Dict[Tuple[str, str], Dependency]:
-    """What a manifest requires, by table and key; of a workspace what it has for its members, too,
-    and what replaces packages. What it takes from another file has no requirement here. A file
-    without any table of a manifest is none."""
+    """Returns what a manifest requires, by table and key; of a workspace what it has for its
+    members, too, and what replaces packages. What it takes from another file has no requirement
+    here. A file without any table of a manifest is none."""
     package_of(entry)
     if not {"package", "workspace", "target", "patch", "replace", *KINDS}.intersection(entry):
         raise WrongShape("")

@@ -62,18 +62,18 @@ class GraphPackage(NamedTuple):
 
 
 def optional_text_at(value: Any, where: str) -> Optional[str]:
-    """A text of the file, or null."""
+    """Returns a text of the file, or null."""
     return None if value is None else text_at(value, where)
 
 
 def kind_at(value: Entry, where: str) -> DependencyKind:
-    """The kind and the target of what is required or given."""
+    """Returns the kind and the target of what is required or given."""
     kind = optional_text_at(value.get("kind"), f"{where}: kind")
     return kind, optional_text_at(value.get("target"), f"{where}: target")
 
 
 def dependency_at(value: Any, where: str) -> Dependency:
-    """A dependency of a manifest."""
+    """Returns a dependency of a manifest."""
     entry = object_at(value, where)
     source = optional_text_at(entry.get("source"), f"{where}: source")
     return Dependency(
@@ -87,7 +87,7 @@ def dependency_at(value: Any, where: str) -> Dependency:
 
 
 def edge_at(value: Any, packages: Dict[str, Entry], where: str) -> GraphEdge:
-    """An edge of the graph."""
+    """Returns an edge of the graph."""
     entry = object_at(value, where)
     package_id = text_at(entry.get("pkg"), f"{where}: pkg")
     if package_id not in packages:
@@ -101,19 +101,19 @@ def edge_at(value: Any, packages: Dict[str, Entry], where: str) -> GraphEdge:
 
 
 def name_and_version(package: Entry) -> Tuple[str, str]:
-    """The name and the version of a package."""
+    """Returns the name and the version of a package."""
     name = text_at(package.get("name"), "packages: name")
     return name, text_at(package.get("version"), f"{name}: version")
 
 
 def by_id(entries: Any, where: str) -> Dict[str, Entry]:
-    """The objects of a list, each by its id."""
+    """Returns the objects of a list, each by its id."""
     objects = [object_at(it, where) for it in list_at(entries, where)]
     return {text_at(it.get("id"), f"{where}: id"): it for it in objects}
 
 
 def packages_at(metadata: Entry) -> Iterator[GraphPackage]:
-    """The packages of the file, in its order."""
+    """Yields the packages of the file, in its order."""
     if metadata.get("version") != 1:
         raise WrongShape(": it is not of --format-version 1")
     if metadata.get("resolve") is None:
@@ -138,8 +138,8 @@ def packages_at(metadata: Entry) -> Iterator[GraphPackage]:
 
 
 def active_at(package: Entry, node: Entry, name: str) -> Set[str]:
-    """The optional dependencies that the active features of a package have. `NAME?/FEATURE` has
-    none: what it adds is no name."""
+    """Returns the optional dependencies that the active features of a package have. `NAME?/FEATURE`
+    has none: what it adds is no name."""
     features = object_at(package.get("features", {}), f"{name}: features")
     active = set()
     for it in list_at(node.get("features", []), f"{name}: features"):
@@ -158,13 +158,14 @@ def active_at(package: Entry, node: Entry, name: str) -> Set[str]:
 
 
 def crate_name(name: str) -> str:
-    """The name by which code knows what the manifest names."""
+    """Returns the name by which code knows what the manifest names."""
     return name.replace("-", "_")
 
 
 def is_edge_for(edge: GraphEdge, it: Dependency, package: GraphPackage) -> bool:
-    """Whether an edge of a package is for what it requires. One to the package itself, which is for
-    development, has its own name in the graph, whatever other name the manifest gives."""
+    """Returns whether an edge of a package is for what it requires. One to the package itself,
+    which is for development, has its own name in the graph, whatever other name the manifest
+    gives."""
     if edge.name != it.name or it.kind not in edge.kinds:
         return False
     if (edge.name, edge.version) == (package.name, package.version):
@@ -180,8 +181,8 @@ def is_edge_for(edge: GraphEdge, it: Dependency, package: GraphPackage) -> bool:
 
 
 def has_to_be_there(it: Dependency, package: GraphPackage, targets: Set[Optional[str]]) -> bool:
-    """Whether the graph has to have an edge for what a package requires, where these targets are
-    active."""
+    """Returns whether the graph has to have an edge for what a package requires, where these
+    targets are active."""
     kind, target = it.kind
     is_active = not it.is_optional or (it.other_name or it.name) in package.active
     is_built = kind != "dev" or package.is_member
@@ -189,8 +190,8 @@ def has_to_be_there(it: Dependency, package: GraphPackage, targets: Set[Optional
 
 
 def active_targets(packages: List[GraphPackage]) -> Set[Optional[str]]:
-    """The targets that the graph shows to be active: those that an edge is for alone. An edge for
-    several is there if one of them is active."""
+    """Returns the targets that the graph shows to be active: those that an edge is for alone. An
+    edge for several is there if one of them is active."""
     edges = (edge for package in packages for edge in package.edges)
     targets_of_each = ({target for _, target in edge.kinds} for edge in edges)
     return {target for targets in targets_of_each if len(targets) == 1 for target in targets}

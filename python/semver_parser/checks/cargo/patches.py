@@ -3,7 +3,7 @@ isn't used."""
 
 from typing import Iterator, List, Optional
 
-from ..findings import Finding, MissingEntry, NotPatched, Unreached
+from ..findings import Finding, MissingEntry, NotPatched, NotReplaced, Unreached
 from ..model import Package
 from .packages import source_of
 from .project import Patch
@@ -14,7 +14,7 @@ A_PATCH = "a patch"
 
 
 def patch_findings(resolution: Resolution) -> Iterator[Finding]:
-    """What there is to say of the patches of a workspace, and of those that a lock file has."""
+    """Yields the findings of the patches of a workspace, and of those that a lock file has."""
     project, lock = resolution.project, resolution.lock
     for patch in project.patches:
         used = [it for it in lock.packages if resolution.is_of_patch(patch, it)]
@@ -33,8 +33,8 @@ def patch_findings(resolution: Resolution) -> Iterator[Finding]:
 
 
 def replacement_findings(resolution: Resolution) -> Iterator[Finding]:
-    """The packages that [replace] has another one for, at a path and of the same version, which
-    the lock file doesn't have in their place."""
+    """Yields the packages that [replace] has another one for, at a path and of the same version,
+    which the lock file doesn't have in their place."""
     project = resolution.project
     for need in project.replacements:
         if need.source.kind != PATH:
@@ -46,10 +46,15 @@ def replacement_findings(resolution: Resolution) -> Iterator[Finding]:
             to = [resolution.lock.directory_of(it) for it in edges]
             if is_meant and need.source.place not in to:
                 yield NotPatched(package, need.source.text(project.folder))
+    # A key is NAME:VERSION, perhaps after the URL of the source and `#`.
+    stated = {it.key.rpartition("#")[2].partition(":")[0] for it in project.replacements}
+    for package in resolution.lock.packages:
+        if "replace" in package.entry and package.name not in stated:
+            yield NotReplaced(package)
 
 
 def version_of(patch: Patch, resolution: Resolution) -> Optional[str]:
-    """The version of a patch, if it is at a path."""
+    """Returns the version of a patch, if it is at a path."""
     source = patch.dependency.source
     return resolution.project.at(source.place).version if source.kind == PATH else None
 
@@ -57,8 +62,8 @@ def version_of(patch: Patch, resolution: Resolution) -> Optional[str]:
 def exchanged(
     patch: Patch, resolution: Resolution, unused: List[Package]
 ) -> Iterator[Finding]:
-    """The packages that a patch replaces, by their version, where the lock file has them from the
-    source that is patched."""
+    """Yields the packages that a patch replaces, by their version, where the lock file has them
+    from the source that is patched."""
     project = resolution.project
     versions = {version_of(patch, resolution), *(it.version for it in unused)}
     for package in resolution.lock.by_name.get(patch.dependency.name, []):

@@ -44,16 +44,16 @@ class Workspace:
         self.find()
 
     def is_member(self, manifest: Manifest) -> bool:
-        """Whether a package is a member of the workspace."""
+        """Returns whether a package is a member of the workspace."""
         return any(it.folder == manifest.folder for it in self.members)
 
     def at(self, folder: str) -> Manifest:
-        """The manifest in a directory, which has to be there."""
+        """Returns the manifest in a directory, which has to be there."""
         found = self.known_at(folder)
         return manifest_at(folder) if found is None else found
 
     def known_at(self, folder: str) -> Optional[Manifest]:
-        """The manifest in a directory, if it is one."""
+        """Returns the manifest in a directory, if it is one."""
         if folder not in self.manifests:
             try:
                 found: Optional[Manifest] = manifest_at(os.path.relpath(folder))
@@ -79,14 +79,14 @@ class Workspace:
                     left.append(self.known_at(source.place))
 
     def place(self, name: str, version: str) -> Optional[str]:
-        """The directory of a package of the lock file that has no source: Cargo goes by the name
-        where that is one package's alone."""
+        """Returns the directory of a package of the lock file that has no source: Cargo goes by the
+        name where that is one package's alone."""
         places = self.folders.get(name, {})
         return next(iter(places.values())) if len(places) == 1 else places.get(version)
 
 
 def patches_at(folder: str) -> Iterator[Patch]:
-    """The patches and replacements of the workspace or the package in a directory."""
+    """Yields the patches and replacements of the workspace or the package in a directory."""
     path = os.path.join(folder, MANIFEST)
     top = read(path)
     with taking(path, MANIFEST):

@@ -42,14 +42,14 @@ class Resolution:
         self.ask()
 
     def edges_of(self, package: Package) -> List[Edge]:
-        """What a package depends on."""
+        """Returns what a package depends on."""
         key = key_of(package)
         if key not in self.edges:
             self.edges[key] = list(self.lock.edges_of(package))
         return self.edges[key]
 
     def entry_of(self, manifest: Manifest) -> Optional[Package]:
-        """The package of the lock file that a manifest is of."""
+        """Returns the package of the lock file that a manifest is of."""
         return self.entries.get(manifest.folder)
 
     def reach(self) -> None:
@@ -86,7 +86,7 @@ class Resolution:
                     left.append(self.project.at(folder))
 
     def manifests(self) -> Iterator[Manifest]:
-        """The manifests of the members, and of the packages at paths that are required."""
+        """Yields the manifests of the members, and of the packages at paths that are required."""
         yield from map(self.project.at, self.features)
         for folder in sorted(self.asked_by_others - set(self.features)):
             yield self.project.at(folder)
@@ -94,10 +94,10 @@ class Resolution:
     # ---- what is required
 
     def dependencies_of(self, manifest: Manifest) -> Iterator[Tuple[Dependency, bool]]:
-        """What a manifest may require, and whether it does. What is for development a member alone
-        requires, and an optional dependency is there if a feature requires it: which those may be
-        isn't known if a package asks whose manifest isn't there. A package at a path has to be
-        there."""
+        """Yields what a manifest may require, and whether it does. What is for development a member
+        alone requires, and an optional dependency is there if a feature requires it: which those
+        may be isn't known if a package asks whose manifest isn't there. A package at a path has to
+        be there."""
         asked = activated_by(manifest, self.features.get(manifest.folder, set()))
         is_member = self.project.is_member(manifest)
         for need in manifest.dependencies:
@@ -110,7 +110,7 @@ class Resolution:
                 yield need, is_active
 
     def matches_of(self, manifest: Manifest) -> Iterator[Match]:
-        """What a manifest requires, each with what of the lock file Cargo takes for it."""
+        """Yields what a manifest requires, each with what of the lock file Cargo takes for it."""
         entry = self.entry_of(manifest)
         edges = [] if entry is None else self.edges_of(entry)
         by_name: Dict[str, List[Package]] = {}
@@ -123,19 +123,20 @@ class Resolution:
             yield Match(need, next(fits, None), is_active)
 
     def version_of(self, package: Package) -> str:
-        """The version of a package: one at a path has that of its manifest."""
+        """Returns the version of a package: one at a path has that of its manifest."""
         directory = self.lock.directory_of(package)
         return self.project.at(directory).version if directory else package.version or ""
 
     def is_met(self, need: Dependency, package: Package) -> Optional[bool]:
-        """Whether a package has a version that is required; None if the requirement isn't read. A
-        path or git without a requirement lets each version in."""
+        """Returns whether a package has a version that is required; None if the requirement isn't
+        read. A path or git without a requirement lets each version in."""
         if need.requirement == "*" and not need.has_registry:
             return True
         return is_met(need.requirement, self.version_of(package), Dialect.CARGO)
 
     def is_source(self, need: Dependency, package: Package) -> bool:
-        """Whether a package is from the source that is required, or from a patch of that."""
+        """Returns whether a package is from the source that is required, or from a patch of
+        that."""
         return self.lock.is_at(need.source, package) or any(
             is_patched(need.source, patch.source) and self.is_of_patch(patch, package)
             for patch in self.project.patches
@@ -148,7 +149,8 @@ class Resolution:
 
 
 def in_order(packages: List[Package]) -> List[Package]:
-    """Packages of one name in Cargo's order, by which the first that is required is taken."""
+    """Returns packages of one name in Cargo's order, by which the first that is required is
+    taken."""
     if len(packages) < 2 or not all(is_version(it.version or "", Dialect.CARGO) for it in packages):
         return packages
     return sorted(packages, key=lambda it: Version.parse(it.version or "", dialect=Dialect.CARGO))

@@ -26,12 +26,14 @@ from ..findings import (
     OfRequirement,
     ManifestVersion,
     Unreached,
+    Unsatisfied,
 )
 from ..judge import INVALID_RANGE, RIGHT, UNSATISFIED, Scheme, Verdict, findings_of
 from ..locating import text_at_path, toml_lines
 from ..model import Keys, LockFile, Node, Package, Requirement, Requirer, Scope
 from ..satisfaction import is_version
 from ..tool import Input, Offsets, Statement, Tool
+from .demands import checksum_findings, conflict_findings, feature_findings
 from .manifests import MANIFEST, Dependency, Manifest
 from .members import unread_beside_workspace
 from .packages import Lock, key_of
@@ -168,6 +170,12 @@ class Reader:
                 for label in [f"{name} {rest[0]}"] if rest else by_name.get(name, []):
                     yield it.label, label
 
+    def own_findings(self) -> Iterator[Finding]:
+        """Yields what Cargo demands besides requirements."""
+        yield from checksum_findings(self.lock)
+        yield from conflict_findings(self.resolution)
+        yield from feature_findings(self.resolution)
+
     def lock_file(self) -> LockFile:
         """Returns what the lock file has: first its versions, then what each package requires whose
         manifest is there, the patches, and what the other packages depend on. If all of that is
@@ -182,6 +190,7 @@ class Reader:
         for manifest in self.resolution.manifests():
             lock.nodes += self.manifest_nodes(manifest, lock)
         lock.nodes.append(Node(findings=[*patch_findings(self.resolution), *self.lost()]))
+        lock.nodes.append(Node(findings=list(self.own_findings())))
         return lock
 
 
@@ -227,6 +236,12 @@ class Cargo(Tool):
                 name, version = fields[b"name"], fields[b"version"]
                 keys = (it.group(2).decode("utf-8", "replace") for it in (name, version))
                 yield ("package", *keys), name.start()
+
+    def advise(self, finding: Finding) -> None:
+        """Says of a package at a path of another version that its manifest or another one has to
+        change."""
+        if isinstance(finding, Unsatisfied) and finding.found and not finding.found.source:
+            finding.advised("change the version of the package, or what is required of it", True)
 
     def statement(self, finding: Finding, file: Input) -> Optional[Statement]:
         """Returns where the Cargo.toml of a package below the directory states a requirement."""

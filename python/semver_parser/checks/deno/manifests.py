@@ -31,7 +31,7 @@ class Member(NamedTuple):
 
 
 def member_at(top: str, folder: str) -> Member:
-    """What is in the directory of a member."""
+    """Returns what is in the directory of a member."""
     at = os.path.join(top, folder)
     manifest = manifest_in(at)
     with taking(os.path.join(at, MANIFEST), MANIFEST):
@@ -42,12 +42,12 @@ def member_at(top: str, folder: str) -> Member:
             if is_there(path):
                 config = object_with_comments(bytes_of(path))
                 members += patterns_in(config.get("workspace") or [], "members", "members")
-                return Member(folder, name, set(of_config(config)), members, manifest)
+                return Member(folder, name, set(specifiers_of_config(config)), members, manifest)
     return Member(folder, CONFIGS[0], None, members, manifest)
 
 
 def members_of(top: Optional[str]) -> List[Member]:
-    """The project and its members, if the project is there."""
+    """Returns the project and its members, if the project is there."""
     if top is None:
         return []
     project = member_at(top, "")
@@ -61,7 +61,8 @@ def members_of(top: Optional[str]) -> List[Member]:
 
 
 def specifier_of(text: str) -> Optional[str]:
-    """The specifier of what a deno.json maps a name to, without what is inside of the package."""
+    """Returns the specifier of what a deno.json maps a name to, without what is inside of the
+    package."""
     if text[:4] not in REGISTRIES:
         return None
     name, rest = name_and_rest(text[4:].lstrip("/"))
@@ -70,8 +71,8 @@ def specifier_of(text: str) -> Optional[str]:
     return f"{text[:4]}{bare}@{rest.partition('/')[0] or '*'}"
 
 
-def of_config(config: Entry) -> Iterator[str]:
-    """The specifiers that a deno.json has in its map of imports."""
+def specifiers_of_config(config: Entry) -> Iterator[str]:
+    """Yields the specifiers that a deno.json has in its map of imports."""
     scopes = object_at(config.get("scopes") or {}, "scopes")
     for table in (config.get("imports") or {}, *scopes.values()):
         for text in object_at(table, "imports").values():
@@ -80,8 +81,8 @@ def of_config(config: Entry) -> Iterator[str]:
                 yield found
 
 
-def of_manifest(manifest: Entry) -> Iterator[str]:
-    """The specifiers that a package.json has: of its ranges and tags."""
+def specifiers_of_manifest(manifest: Entry) -> Iterator[str]:
+    """Yields the specifiers that a package.json has: of its ranges and tags."""
     for kind in (USUAL, FOR_DEVELOPMENT):
         for name, spec in (manifest.get(kind) or {}).items():
             if spec[:4] in REGISTRIES:
@@ -95,12 +96,12 @@ def of_manifest(manifest: Entry) -> Iterator[str]:
 
 
 def listed_in(entry: Entry) -> Set[str]:
-    """The specifiers that a file has of a deno.json or a package.json."""
+    """Returns the specifiers that a file has of a deno.json or a package.json."""
     return {text_at(it, KEY) for it in list_at(entry.get(KEY, []), KEY)}
 
 
 def parts_of(specifier: str) -> Tuple[str, str]:
-    """The name of a specifier after its registry, and its range."""
+    """Returns the name of a specifier after its registry, and its range."""
     name, wanted = name_and_rest(specifier[4:])
     return specifier[:4] + name, wanted
 
@@ -127,5 +128,5 @@ def stale_lists(lock: Entry, top: Optional[str]) -> Iterator[Finding]:
         own = it.config or set()
         yield from different_lists(own, listed_in(locked), requirer, it.config_name)
         inner = object_at(locked.get("packageJson", {}), "packageJson")
-        required = set(of_manifest(it.manifest or {}))
+        required = set(specifiers_of_manifest(it.manifest or {}))
         yield from different_lists(required, listed_in(inner), requirer, MANIFEST)

@@ -19,8 +19,8 @@ class Archive(NamedTuple):
 
 
 def archive_at(address: str) -> Optional[Archive]:
-    """The archive at an address of a registry, `.../NAME/-/FILE`. None if it is elsewhere, or if
-    the name of the file isn't made of that of the package and a version."""
+    """Returns the archive at an address of a registry, `.../NAME/-/FILE`. None if it is elsewhere,
+    or if the name of the file isn't made of that of the package and a version."""
     if not address.startswith(("http:/", "https:/")):
         return None
     package, mark, file = address.split("/", 3)[-1].rpartition("/-/")
@@ -28,7 +28,7 @@ def archive_at(address: str) -> Optional[Archive]:
 
 
 def archive_of(path: str, file: str) -> Optional[Archive]:
-    """The archive of a package whose name ends a path."""
+    """Returns the archive of a package whose name ends a path."""
     *_, scope, name = ["", *SLASH.split(path)]
     if not file.startswith(f"{name}-"):
         return None
@@ -41,7 +41,7 @@ def archive_of(path: str, file: str) -> Optional[Archive]:
 
 @lru_cache(maxsize=None)
 def without_build(text: str) -> Optional[str]:
-    """A version without its build metadata; None if it is none to npm."""
+    """Returns a version without its build metadata; None if it is none to npm."""
     try:
         version = Version.parse(text, dialect=Dialect.NPM)
     except VersionError:

@@ -14,7 +14,7 @@ OFF = ("false", "null", "0")
 
 
 def is_set(project: Optional[str], name: str) -> bool:
-    """Whether the .npmrc in a project's folder turns on a setting."""
+    """Returns whether the .npmrc in a project's folder turns on a setting."""
     path = os.path.join(project or "", ".npmrc")
     if project is None or not os.path.exists(path):
         return False
@@ -23,8 +23,8 @@ def is_set(project: Optional[str], name: str) -> bool:
 
 
 def is_on(settings: str, name: str) -> bool:
-    """Whether settings turn one on, the last time that they name it. After the head of a section
-    there are none of npm's."""
+    """Returns whether settings turn one on, the last time that they name it. After the head of a
+    section there are none of npm's."""
     found = False
     for line in LINE_ENDS.split(settings):
         if line.startswith("["):
@@ -36,5 +36,5 @@ def is_on(settings: str, name: str) -> bool:
 
 
 def unquoted(text: str) -> str:
-    """A key or a value without blanks and quotes around it."""
+    """Returns a key or a value without blanks and quotes around it."""
     return text.strip().strip("\"'")

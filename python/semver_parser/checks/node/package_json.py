@@ -14,7 +14,7 @@ from ..files import (
     text_at,
     texts_at,
 )
-from ..findings import Finding, MissingMember, OfRequirement
+from ..findings import Finding, MissingMember, OfRequirement, Unsatisfied
 from ..model import (
     FOR_DEVELOPMENT,
     OPTIONAL,
@@ -175,3 +175,13 @@ def statement_of(
 def text_or(value: object, where: str, other: str) -> str:
     """Returns a text of a file, or another one if it isn't there."""
     return other if value is None else text_at(value, where)
+
+
+# ---- what repairs a lock file
+
+
+def advise(finding: Finding) -> None:
+    """Says of a finding what to change, if writing the lock file anew doesn't repair it: if a
+    directory of the project has another version than is required, the registry has to have that."""
+    if isinstance(finding, Unsatisfied) and finding.found is not None and finding.found.is_own:
+        finding.advised("change the version of the package, or what is required of it", True)

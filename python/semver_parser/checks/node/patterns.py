@@ -32,7 +32,7 @@ NOTHING = re.compile(r"(?!)")
 
 
 def alternatives(pattern: str) -> List[str]:
-    """The patterns that one with braces is for: `{a,b}/*` is for `a/*` and `b/*`."""
+    """Returns the patterns that one with braces is for: `{a,b}/*` is for `a/*` and `b/*`."""
     patterns = [pattern]
     while any(BRACES.search(it) for it in patterns):
         patterns = [inner for it in patterns for inner in without_braces(it)]
@@ -42,7 +42,7 @@ def alternatives(pattern: str) -> List[str]:
 
 
 def without_braces(pattern: str) -> List[str]:
-    """The patterns that one is for by its first braces."""
+    """Returns the patterns that one is for by its first braces."""
     found = BRACES.search(pattern)
     if found is None:
         return [pattern]
@@ -52,7 +52,7 @@ def without_braces(pattern: str) -> List[str]:
 
 @lru_cache(maxsize=None)
 def expression(pattern: str) -> Pattern[str]:
-    """The expression that a pattern without braces is. One with `[z-a]` matches nothing."""
+    """Returns the expression that a pattern without braces is. One with `[z-a]` matches nothing."""
     parts = (matched(it.group(), it.start(), pattern) for it in PART.finditer(pattern))
     try:
         return re.compile("".join(parts), re.S)
@@ -61,7 +61,8 @@ def expression(pattern: str) -> Pattern[str]:
 
 
 def matched(part: str, at: int, pattern: str) -> str:
-    """What a part of a pattern matches. A name that begins with a dot is matched only by one."""
+    """Returns what a part of a pattern matches. A name that begins with a dot is matched only by
+    one."""
     no_dot = r"(?!\.)" if at == 0 or pattern[at - 1] == "/" else ""
     if part == "**/":
         return r"(?:(?!\.)[^/]+/)*"
@@ -76,7 +77,7 @@ def matched(part: str, at: int, pattern: str) -> str:
 
 
 def with_a_list(part: str, no_dot: str) -> str:
-    """What a part with a list of patterns matches, as `@(a|b)` and `!(c)`."""
+    """Returns what a part with a list of patterns matches, as `@(a|b)` and `!(c)`."""
     listed = "|".join(expression(it).pattern for it in part[2:-1].split("|"))
     if part[0] == "!":
         return rf"{no_dot}(?!(?:{listed})(?:/|\Z))[^/]*"
@@ -87,7 +88,7 @@ def with_a_list(part: str, no_dot: str) -> str:
 
 
 def places_at(pattern: str, top: str) -> List[str]:
-    """The directories below another one that a pattern finds."""
+    """Returns the directories below another one that a pattern finds."""
     if "\0" in pattern:
         raise WrongShape(": workspaces: no folder has such a name")
     parts = map(parts_of, alternatives(pattern))
@@ -97,7 +98,7 @@ def places_at(pattern: str, top: str) -> List[str]:
 
 
 def parts_of(pattern: str) -> List[str]:
-    """The parts of a pattern. Several `**` one after another are as one."""
+    """Returns the parts of a pattern. Several `**` one after another are as one."""
     parts = [it for it in pattern.split("/") if it not in ("", ".")]
     if ".." in parts and ANYWHERE in parts:
         raise WrongShape(f": workspaces: {pattern} is for directories outside of the project")
@@ -105,7 +106,7 @@ def parts_of(pattern: str) -> List[str]:
 
 
 def places_below(top: str, place: str, parts: List[str]) -> Iterator[str]:
-    """The places that the parts of a pattern find from one on."""
+    """Yields the places that the parts of a pattern find from one on."""
     if not parts:
         yield place
         return
@@ -120,7 +121,7 @@ def places_below(top: str, place: str, parts: List[str]) -> Iterator[str]:
 
 
 def names_in(top: str, place: str, part: str) -> List[str]:
-    """The names of the directories in one that a part of a pattern matches."""
+    """Returns the names of the directories in one that a part of a pattern matches."""
     is_deep = part == ANYWHERE
     matches = expression("*" if is_deep else part).fullmatch
     with os.scandir(os.path.join(top, place) or ".") as entries:

@@ -48,53 +48,55 @@ REASONS = (
 
 
 def name_and_rest(text: str) -> Tuple[str, str]:
-    """The name in `NAME@REST`, which may begin with `@`, and the rest, which may be missing."""
+    """Returns the name in `NAME@REST`, which may begin with `@`, and the rest, which may be
+    missing."""
     at = text.find("@", 1)
     return (text, "") if at < 0 else (text[:at], text[at + 1 :])
 
 
 def alias_of(spec: str) -> Optional[Tuple[str, str]]:
-    """The name and the range of `npm:NAME@RANGE`, which is empty where there is none; None where
-    it is no alias."""
+    """Returns the name and the range of `npm:NAME@RANGE`, which is empty where there is none; None
+    where it is no alias."""
     if ":" not in spec or spec[:4].lower() != "npm:" or len(spec) == 4:
         return None
     return name_and_rest(spec[4:])
 
 
 def has_name(name: str, spec: str) -> bool:
-    """Whether a package has the name that is required, if that is an alias."""
+    """Returns whether a package has the name that is required, if that is an alias."""
     alias = alias_of(spec)
     return alias is None or alias[0] == name
 
 
 @lru_cache(maxsize=None)
 def is_any(spec: str) -> bool:
-    """Whether npm takes each package for what is required, also without a valid version."""
+    """Returns whether npm takes each package for what is required, also without a valid version."""
     alias = alias_of(spec)
     wanted = spec if alias is None else alias[1]
     return not wanted or wanted.strip() == "*"
 
 
 def git_range_of(spec: str) -> Optional[Tuple[str, str]]:
-    """The address and the range of `ADDRESS#semver:RANGE`; None where it is no such address."""
+    """Returns the address and the range of `ADDRESS#semver:RANGE`; None where it is no such
+    address."""
     found = GIT_RANGE.fullmatch(spec) if alias_of(spec) is None else None
     return None if found is None else (found.group(1), unquote(found.group(2)))
 
 
 def range_of(spec: str) -> str:
-    """What comes in place of the range in what is required."""
+    """Returns what comes in place of the range in what is required."""
     named = alias_of(spec) or (git_range_of(spec) if "#" in spec else None)
     return spec if named is None else named[1]
 
 
 def is_archive(spec: str) -> bool:
-    """Whether what is required is an archive at a URL."""
+    """Returns whether what is required is an archive at a URL."""
     return spec.startswith(("http:", "https:")) and spec.endswith((".tgz", ".tar", ".tar.gz"))
 
 
 def directory_at(spec: str, place: str) -> Optional[str]:
-    """The place of the directory that is required from another place; None if it is none, or if
-    its path begins at the root or at the user's home."""
+    """Returns the place of the directory that is required from another place; None if it is none,
+    or if its path begins at the root or at the user's home."""
     found = DIRECTORY.fullmatch(spec)
     if found is None or spec.endswith((".tgz", ".tar", ".tar.gz")):
         return None
@@ -103,13 +105,14 @@ def directory_at(spec: str, place: str) -> Optional[str]:
 
 
 def is_elsewhere(spec: str) -> bool:
-    """Whether npm takes what is required for an address or a path. An alias is none."""
+    """Returns whether npm takes what is required for an address or a path. An alias is none."""
     return alias_of(spec) is None and ELSEWHERE.match(spec) is not None
 
 
 def is_no_range(spec: str) -> bool:
-    """Whether npm takes what is required, which isn't read as a range, for something else: a tag,
-    an address or a path. An alias has a range or a tag, and an address of git may have a range."""
+    """Returns whether npm takes what is required, which isn't read as a range, for something else:
+    a tag, an address or a path. An alias has a range or a tag, and an address of git may have a
+    range."""
     if git_range_of(spec) is not None:
         return False
     wanted = range_of(spec).strip()
@@ -118,13 +121,14 @@ def is_no_range(spec: str) -> bool:
 
 
 def reason_of(spec: str) -> str:
-    """Why what is required isn't checked, in a word: it is a tag, if it is none of the others."""
+    """Returns why what is required isn't checked, in a word: it is a tag, if it is none of the
+    others."""
     return next((reason for reason, begins in REASONS if begins.match(spec)), "tag")
 
 
 @lru_cache(maxsize=None)
 def may_overlap(spec: str, within: str) -> bool:
-    """Whether two ranges have a version in common, or may have one, since one of them isn't
+    """Returns whether two ranges have a version in common, or may have one, since one of them isn't
     read."""
     one, other = (range_in(it, Dialect.NPM) for it in (spec, within))
     return one is None or other is None or not one.isdisjoint(other)

@@ -27,8 +27,8 @@ OF_MANIFEST = ("name", "version", "workspaces", *KINDS_OF_TOPS, "peerDependencie
 
 
 def keys_of(place: str, is_old: bool) -> Keys:
-    """The keys in the file that lead to the package at a place; none to the project of an old file,
-    of lockfileVersion 1."""
+    """Returns the keys in the file that lead to the package at a place; none to the project of an
+    old file, of lockfileVersion 1."""
     if not is_old:
         return "packages", place
     keys: List[str] = []
@@ -38,7 +38,7 @@ def keys_of(place: str, is_old: bool) -> Keys:
 
 
 def folders(place: str) -> Iterator[str]:
-    """The folders from a place upward, itself first, up to the project.
+    """Yields the folders from a place upward, itself first, up to the project.
 
     Of a place outside the project, as `../other`, they end where only `..` is left.
     """
@@ -51,22 +51,23 @@ def folders(place: str) -> Iterator[str]:
 
 
 def inside(folder: str, name: str) -> str:
-    """The place of a name in the `node_modules` of a folder."""
+    """Returns the place of a name in the `node_modules` of a folder."""
     return f"{folder}/node_modules/{name}" if folder else f"node_modules/{name}"
 
 
 def is_top(place: str) -> bool:
-    """Whether a place is the project, a workspace or what else lies below no `node_modules`."""
+    """Returns whether a place is the project, a workspace or what else lies below no
+    `node_modules`."""
     return "node_modules" not in place or "node_modules" not in place.split("/")
 
 
 def is_outside(place: str) -> bool:
-    """Whether a place is outside of the project: npm puts nothing there."""
+    """Returns whether a place is outside of the project: npm puts nothing there."""
     return place.split("/")[0] == ".."
 
 
 def folder_round(place: str) -> str:
-    """The folder whose `node_modules` has the package."""
+    """Returns the folder whose `node_modules` has the package."""
     parts = place.split("/")
     while parts.pop() != "node_modules":
         pass
@@ -74,7 +75,7 @@ def folder_round(place: str) -> str:
 
 
 def name_by_place(place: str) -> str:
-    """The name that a package has where none is written: that of its folder."""
+    """Returns the name that a package has where none is written: that of its folder."""
     if is_top(place):
         return place.rpartition("/")[2]
     return f"/{place}".rpartition("/node_modules/")[2]
@@ -84,8 +85,9 @@ def name_by_place(place: str) -> str:
 
 
 def packages_of(lock: Entry, manifest: Optional[Entry]) -> Packages:
-    """The packages of a lock file, in its order. What the project itself requires is taken from its
-    package.json, where there is one, and else from the file: one of lockfileVersion 1 hasn't it."""
+    """Returns the packages of a lock file, in its order. What the project itself requires is taken
+    from its package.json, where there is one, and else from the file: one of lockfileVersion 1
+    hasn't it."""
     version = lock.get("lockfileVersion")
     if version not in (1, 2, 3) or type(version) is not int:
         raise WrongShape(" of lockfileVersion 1, 2 or 3")
@@ -100,13 +102,14 @@ def packages_of(lock: Entry, manifest: Optional[Entry]) -> Packages:
 
 
 def with_manifest(entry: Entry, manifest: Entry) -> Entry:
-    """A package of a lock file, with what its package.json has in place of the lock file's."""
+    """Returns a package of a lock file, with what its package.json has in place of the lock
+    file's."""
     own = {key: it for key, it in entry.items() if key not in OF_MANIFEST}
     return {**own, **{key: it for key, it in manifest.items() if key in OF_MANIFEST}}
 
 
 def is_left_out(entry: Entry, scope: Scope) -> bool:
-    """Whether a scope leaves out a package: npm marks one that is for development alone."""
+    """Returns whether a scope leaves out a package: npm marks one that is for development alone."""
     return entry.get("dev") is True and not scope.has_development
 
 
@@ -123,20 +126,21 @@ def within(packages: Packages, scope: Scope) -> Tuple[Packages, int]:
 
 
 def packages_inside(holder: Entry, place: str) -> Iterator[Tuple[str, Entry]]:
-    """The packages inside a package or the project of lockfileVersion 1, each with its place."""
+    """Yields the packages inside a package or the project of lockfileVersion 1, each with its
+    place."""
     where = f"{place}: dependencies" if place else "dependencies"
     for name, entry in objects_at(holder.get("dependencies", {}), where).items():
         its_place, target = inside(place, name), target_of(entry)
         if target is not None:
             yield its_place, {"link": True, "resolved": target}
         at = its_place if target is None else target
-        yield at, of_this_day(entry, its_place)
+        yield at, modern_entry(entry, its_place)
         yield from packages_inside(entry, at)
 
 
 def target_of(old: Entry) -> Optional[str]:
-    """The place that a package of lockfileVersion 1 is linked from: one at `file:PATH` is, as a
-    workspace, if that is no archive."""
+    """Returns the place that a package of lockfileVersion 1 is linked from: one at `file:PATH` is,
+    as a workspace, if that is no archive."""
     version = old.get("version")
     if not isinstance(version, str) or not version.startswith("file:"):
         return None
@@ -144,9 +148,9 @@ def target_of(old: Entry) -> Optional[str]:
     return None if path.endswith((".tgz", ".tar", ".tar.gz")) else posixpath.normpath(path)
 
 
-def of_this_day(old: Entry, place: str) -> Entry:
-    """A package of lockfileVersion 1 as lockfileVersion 2 and 3 have it. One from an archive of a
-    registry has the version in the name of that."""
+def modern_entry(old: Entry, place: str) -> Entry:
+    """Returns a package of lockfileVersion 1 as lockfileVersion 2 and 3 have it. One from an
+    archive of a registry has the version in the name of that."""
     entry: Entry = {"inBundle": old.get("bundled", False), "dev": old.get("dev", False)}
     requires = old.get("requires", {})
     if not isinstance(requires, bool):
@@ -166,7 +170,7 @@ def of_this_day(old: Entry, place: str) -> Entry:
 
 
 def end_of_links(packages: Packages, place: str) -> Optional[str]:
-    """The place to which the links from a place lead; None where that is nowhere."""
+    """Returns the place to which the links from a place lead; None where that is nowhere."""
     seen = set()
     while packages[place].get("link"):
         seen.add(place)
@@ -191,7 +195,7 @@ def package_at(packages: Packages, place: str, is_old: bool) -> Package:
 
 
 def version_at(entry: Entry, where: str) -> Optional[str]:
-    """The version of a package, where it has one."""
+    """Returns the version of a package, where it has one."""
     version = entry.get("version", "")
     if not isinstance(version, str):
         text_at(version, f"{where}: version")
@@ -199,13 +203,13 @@ def version_at(entry: Entry, where: str) -> Optional[str]:
 
 
 def locked_in(packages: Packages) -> Set[str]:
-    """The places of the packages that have their own lock file."""
+    """Returns the places of the packages that have their own lock file."""
     return {place for place, entry in packages.items() if place and entry.get("hasShrinkwrap")}
 
 
 def pinned_in(packages: Packages) -> Set[str]:
-    """The places of the packages that were put there by one that brings them along, or that has its
-    own lock file."""
+    """Returns the places of the packages that were put there by one that brings them along, or that
+    has its own lock file."""
     locked = locked_in(packages)
     return {
         place
@@ -237,33 +241,33 @@ def requirements_at(
     for kind, name, spec in stated:
         if name not in own:
             package = nearest(name, of_peers if kind == PEERS else around, found)
-            it = Requirement(requirer, name, spec, package, kind, accepted=accepted.get(name))
-            yield it if package is not None else missing(it, entry, is_old)
+            other = accepted.get(name) if accepted else None
+            it = Requirement(requirer, name, spec, package, kind, True, "", (), False, other)
+            yield it if package is not None else missing(it, entry)
     for name, directory in own.items():
         if is_linked(name, directory, found):
             package = found[inside("", name)]
             yield Requirement(requirer, name, f"file:{directory}", package, WORKSPACES)
 
 
-def missing(it: Requirement, entry: Entry, is_old: bool) -> Requirement:
+def missing(it: Requirement, entry: Entry) -> Requirement:
     """Returns a requirement for which nothing is there. It counts by `--strict` only if it may be
-    optional: a file of lockfileVersion 1 doesn't say what is."""
+    missing: npm wrote files of lockfileVersion 2 and 3 without what packages require optionally."""
     place = it.requirer.place
     is_required = has_to_be_there(place, entry, it.kind, it.name)
     is_optional = it.kind == OPTIONAL and not is_outside(place)
-    is_known = is_required and (is_top(place) or not is_old)
-    excuse = "" if is_known else "may be optional"
+    excuse = "" if is_required else "may be optional"
     return it._replace(must_exist=is_required or is_optional, excuse=excuse)
 
 
 def is_linked(name: str, directory: str, found: Dict[str, Package]) -> bool:
-    """Whether the project's `node_modules` has a link to a directory under a name."""
+    """Returns whether the project's `node_modules` has a link to a directory under a name."""
     package = found.get(inside("", name))
     return package is not None and package.place == directory
 
 
 def around_of(place: str) -> Tuple[str, ...]:
-    """What is before a name in the `node_modules` around a place, the nearest first."""
+    """Returns what is before a name in the `node_modules` around a place, the nearest first."""
     outer, slash, last = place.rpartition("/")
     if last in ("", ".."):
         return (inside(place, ""),)
@@ -276,7 +280,7 @@ around_again = lru_cache(maxsize=None)(around_of)
 
 
 def nearest(name: str, around: Tuple[str, ...], found: Dict[str, Package]) -> Optional[Package]:
-    """The first package of a name in some folders."""
+    """Returns the first package of a name in some folders."""
     for folder in around:
         package = found.get(folder + name)
         if package is not None:
@@ -285,7 +289,7 @@ def nearest(name: str, around: Tuple[str, ...], found: Dict[str, Package]) -> Op
 
 
 def stated_at(place: str, entry: Entry) -> List[Tuple[str, str, str]]:
-    """What the package at a place requires: in which way, for which name, and for what."""
+    """Returns what the package at a place requires: in which way, for which name, and for what."""
     where = place or "the project"
     named = KINDS_OF_TOPS if is_top(place) else KINDS_OF_EACH
     kinds = [kind for kind in named if kind in entry]
@@ -303,8 +307,8 @@ def stated_at(place: str, entry: Entry) -> List[Tuple[str, str, str]]:
 
 
 def is_of_what_is_there(lock: Entry) -> bool:
-    """Whether a file is that in node_modules, which has what is there and no project: what is
-    optional may be for another platform."""
+    """Returns whether a file is that in node_modules, which has what is there and no project: what
+    is optional may be for another platform."""
     packages = lock.get("packages")
     return isinstance(packages, dict) and "" not in packages
 
@@ -317,8 +321,8 @@ def without_optional(requirements: List[Requirement]) -> List[Requirement]:
 
 
 def has_to_be_there(place: str, entry: Entry, kind: str, name: str) -> bool:
-    """Whether what a package requires in a way has to be in the file. Of what is optional only that
-    of the project, its workspaces and linked directories has to: npm adds that."""
+    """Returns whether what a package requires in a way has to be in the file. Of what is optional
+    only that of the project, its workspaces and linked directories has to: npm adds that."""
     if is_outside(place):
         return False
     if kind != PEERS:

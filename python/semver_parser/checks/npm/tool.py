@@ -23,10 +23,21 @@ import os
 from typing import Dict, Iterable, Iterator, List, Optional, Set, Tuple
 
 from ..files import STANDARD_INPUT, Entry, json_object, taking, text_at
-from ..findings import Conflict, Finding, MissingTarget, NotChecked, TwoPackages, TwoVersions
+from ..findings import (
+    Conflict,
+    Finding,
+    Missing,
+    MissingTarget,
+    NotChecked,
+    OfRequirement,
+    TwoPackages,
+    TwoVersions,
+    Unsatisfied,
+)
 from ..judge import RIGHT, UNSATISFIED, Verdict
 from ..locating import AFTER_KEY_OF_OBJECT, json_offsets
 from ..model import (
+    OPTIONAL,
     PROJECT,
     Keys,
     LockFile,
@@ -39,6 +50,7 @@ from ..node.archives import archive_at
 from ..node.npmrc import LEGACY_PEERS, STRICT_PEERS, is_set
 from ..node.package_json import (
     MANIFEST,
+    advise,
     bytes_of,
     manifest_path,
     missing_workspace,
@@ -57,7 +69,7 @@ from ..node.specifiers import (
 )
 from ..satisfaction import is_met, is_version
 from ..tool import Input, Offsets, Statement, Tool
-from .disk import check_manifest, read_links, workspaces_of
+from .disk import check_manifest, read_links, root_around, workspaces_of
 from .leaving import Leaving
 from .lock import (
     WORKSPACES,
@@ -99,8 +111,9 @@ class NpmScheme(NodeScheme):
 
     def verdict_by(self, specifier: str, requirement: Requirement) -> Optional[Verdict]:
         """Returns the verdict by a specifier: npm takes each package for `*`, that from just the
-        URL that is required, and a link to just the directory. An archive or a repository of an old
-        file has no version there."""
+        URL that is required, and a link to just the directory, but none of a registry for a
+        directory, an archive or a repository. An archive or a repository of an old file has no
+        version there."""
         found = requirement.found
         if found is not None and found.name is not None:
             if is_any(specifier):
@@ -113,9 +126,18 @@ class NpmScheme(NodeScheme):
                 directory = directory_at(specifier, requirer)
                 if directory is not None:
                     return RIGHT if directory == found.place else UNSATISFIED
+                if is_fetched(specifier):
+                    return UNSATISFIED
             elif is_archive(specifier) and found.source:
                 return RIGHT if specifier == found.source else UNSATISFIED
+            elif is_fetched(specifier) and archive_at(found.source) is not None:
+                return UNSATISFIED
         return verdict_on(None if found is None else found.version, specifier)
+
+    def is_version(self, package: Package) -> bool:
+        """Returns whether a version is valid. npm doesn't look at that of the project itself, nor
+        at those of its own directories."""
+        return package.is_own or super().is_version(package)
 
     def fits(self, requirement: Requirement) -> bool:
         """Returns whether npm takes what is found."""
@@ -125,16 +147,26 @@ class NpmScheme(NodeScheme):
         return verdict is RIGHT or verdict.finding is NotChecked
 
 
+def is_fetched(specifier: str) -> bool:
+    """Returns whether npm fetches what is required from a URL, a repository or a path."""
+    return is_no_range(specifier) and reason_of(specifier) in ("git", "URL", "path")
+
+
 # ---- what npm demands besides
 
 
+def is_own_archive(package: Package, resolved: object) -> bool:
+    """Returns whether the archive of a package is named by its name and version, as nearly all
+    are."""
+    name = package.name or ""
+    end = f"/{name}/-/{name.rpartition('/')[2]}-{package.version}.tgz"
+    return isinstance(resolved, str) and resolved.endswith(end)
+
+
 def archive_findings(package: Package, resolved: object) -> Iterator[Finding]:
-    """Yields what there is to say of the archive of a package, which npm installs. Nearly all are
-    named by their own."""
+    """Yields what there is to say of the archive of a package, which npm installs."""
     name, version = package.name or "", package.version
     if not isinstance(resolved, str) or version is None or not is_version(version, NPM.dialect):
-        return
-    if resolved.endswith(f"/{name}/-/{name.rpartition('/')[2]}-{version}.tgz"):
         return
     archive = archive_at(resolved)
     if archive is not None and archive.name != name:
@@ -181,6 +213,19 @@ def reached(required: Requirements, tops: Iterable[str]) -> Set[str]:
     return found
 
 
+def looked_at(required: Requirements) -> Set[str]:
+    """Returns the places that npm comes to from the project without a link."""
+    found: Set[str] = set()
+    left = [""]
+    while left:
+        place = left.pop()
+        if place not in found:
+            found.add(place)
+            to = (it.found.place for it in required.get(place, ()) if it.found is not None)
+            left += [it for it in to if not is_top(it)]
+    return found
+
+
 class Npm(Tool):
     """npm."""
 
@@ -215,17 +260,27 @@ class Npm(Tool):
         """Yields the entries of a file, which are objects."""
         return json_offsets(text, wanted, AFTER_KEY_OF_OBJECT)
 
+    def advise(self, finding: Finding) -> None:
+        """Says of a finding what to change, if the command doesn't repair it: npm leaves out what
+        is optional and can't be installed."""
+        advise(finding)
+        is_unmet = isinstance(finding, (Missing, Unsatisfied))
+        if is_unmet and isinstance(finding, OfRequirement) and finding.requirement.kind == OPTIONAL:
+            finding.advised("install it, or remove it, if it can't be installed", False)
+
     def statement(self, finding: Finding, file: Input) -> Optional[Statement]:
         """Returns where a package.json states a requirement."""
         return statement_of(finding, file, self.directory_of(file))
 
     def read_instead(self, path: str, is_named: bool) -> Optional[str]:
-        """Returns why npm doesn't read a package-lock.json: a shrinkwrap is beside it."""
+        """Returns why npm doesn't read a package-lock.json: a shrinkwrap is beside it, or it is in
+        a workspace, of which npm reads the project's."""
         directory, name = os.path.split(path)
         other = self.lock_files[1]
-        if is_named or name == other or not os.path.isfile(os.path.join(directory, other)):
-            return None
-        return f"since {other} is beside it"
+        if not is_named and name != other and os.path.isfile(os.path.join(directory, other)):
+            return f"since {other} is beside it"
+        root = root_around(directory)
+        return None if root is None else f"since it is in a workspace of {root}"
 
 
 NPM = Npm()
@@ -299,9 +354,13 @@ class Reader:
         for place in checked:
             entry = self.packages[place]
             package = None if entry.get("link") else self.found[place]
-            own = archive_findings(package, entry.get("resolved")) if package else ()
-            requirements = [it for it in self.required[place] if it.kind != WORKSPACES]
-            yield Node(package, requirements, own)
+            resolved = entry.get("resolved")
+            is_plain = package is None or is_own_archive(package, resolved)
+            own = () if package is None or is_plain else archive_findings(package, resolved)
+            required = self.required[place]
+            if not place:
+                required = [it for it in required if it.kind != WORKSPACES]
+            yield Node(package, required, own)
 
     def lock_file(self) -> LockFile:
         """Returns what the lock file has."""
@@ -320,7 +379,7 @@ class Reader:
             [found[it] for it in there],
             lambda: edges_of(plain),
             self.stated,
-            Leaving(packages, peers).excuse,
+            Leaving(packages, peers, lambda: looked_at(required)).excuse,
             left_out=self.left_out,
             from_lock=len(self.from_lock.intersection(checked)),
             package_count=len(set(there).intersection(checked)),

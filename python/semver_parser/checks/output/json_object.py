@@ -13,17 +13,17 @@ Object = Dict[str, Any]
 
 
 def lines(results: Results) -> Iterator[str]:
-    """The lines of the object."""
+    """Yields the lines of the object."""
     whole = {
-        "files": [of_report(it) for it in results.reports],
+        "files": [report_object(it) for it in results.reports],
         "errors": [{"file": it.path, "error": it.why} for it in results.refusals],
         "allow": [it._asdict() for it in results.unused],
     }
     yield from map(visible, json.dumps(whole, indent=2, ensure_ascii=False).split("\n"))
 
 
-def of_report(report: Report) -> Object:
-    """What is known of a lock file. One that is refused has no tool."""
+def report_object(report: Report) -> Object:
+    """Returns what is known of a lock file. One that is refused has no tool."""
     error = error_of(report)
     return {
         "file": report.name,
@@ -36,16 +36,17 @@ def of_report(report: Report) -> Object:
         "left_out": report.left_out,
         "allowed": report.allowed,
         "from_lock": report.from_lock,
-        "findings": [of_finding(it, report) for it in report.listed],
+        "findings": [finding_object(it, report) for it in report.listed],
     }
 
 
-def of_finding(it: Finding, report: Report) -> Object:
+def finding_object(it: Finding, report: Report) -> Object:
     """Returns all parts of a finding. What it hasn't is null."""
     stated = report.statement(it)
     return {
         "kind": it.kind,
         **it.record._asdict(),
+        "advice": it.advice or None,
         "line": report.lines.get(it.at),
         "manifest": None if stated is None else stated.path,
         "manifest_line": None if stated is None else stated.line,

@@ -10,7 +10,7 @@ NO_LONGER_APPLIES = "no-longer-applies"
 
 
 def lines(results: Results) -> Iterator[str]:
-    """The lines of all files."""
+    """Yields the lines of all files."""
     for report in results.reports:
         before = [report.name] if results.is_several else []
         for finding in report.listed:
@@ -20,8 +20,8 @@ def lines(results: Results) -> Iterator[str]:
 
 
 def fields_of(finding: Finding) -> List[str]:
-    """The fields of a finding: what is required, what is found, who requires it, and its kind if
-    there is more to know."""
+    """Returns the fields of a finding: what is required, what is found, who requires it, and its
+    kind if there is more to know."""
     it = finding.record
     alias = f" as {it.alias}" if it.alias else ""
     who = f"{it.requirer} {it.requirer_version or ''}".rstrip()

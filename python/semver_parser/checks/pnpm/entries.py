@@ -33,7 +33,7 @@ class Entries(NamedTuple):
     form: str
 
     def key_of(self, text: str, name: str) -> str:
-        """The key of the entry to which a version of a name leads."""
+        """Returns the key of the entry to which a version of a name leads."""
         before = text.partition("(")[0]
         if self.form == "9":
             at, colon = before.find("@"), before.find(":")
@@ -44,13 +44,13 @@ class Entries(NamedTuple):
         return f"/{name}@{text}" if self.form == "6" else f"/{name}/{text}"
 
     def has(self, text: str, name: str) -> bool:
-        """Whether a version of a name has an entry."""
+        """Returns whether a version of a name has an entry."""
         return self.key_of(text, name) in self.snapshots
 
 
 def called_by(text: str) -> Optional[Tuple[str, str]]:
-    """The name and the version in what a package is called. One that is at an address or a path has
-    none, as `github.com/user/numbers/0123` and `example.org/numbers/0123`."""
+    """Returns the name and the version in what a package is called. One that is at an address or a
+    path has none, as `github.com/user/numbers/0123` and `example.org/numbers/0123`."""
     called = CALLED.fullmatch(text)
     if called is None or ":" in text[: called.end("version")]:
         return None
@@ -61,7 +61,7 @@ def called_by(text: str) -> Optional[Tuple[str, str]]:
 
 
 def entries_of(lock: Entry) -> Entries:
-    """What packages have in a file."""
+    """Returns what packages have in a file."""
     form = text_at(lock.get("lockfileVersion"), "lockfileVersion").partition(".")[0]
     packages = objects_at(lock.get("packages") or {}, "packages")
     if form != "9":
@@ -70,7 +70,7 @@ def entries_of(lock: Entry) -> Entries:
 
 
 def depends_of(key: str, entry: Entry) -> Dict[str, str]:
-    """What a package depends on: names, each with its version."""
+    """Returns what a package depends on: names, each with its version."""
     kinds = ("optionalDependencies", "dependencies")
     each = (texts_at(entry.get(kind) or {}, f"{key}: {kind}") for kind in kinds)
     return {name: text for them in each for name, text in them.items()}

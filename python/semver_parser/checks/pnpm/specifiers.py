@@ -16,15 +16,15 @@ PRE_RELEASE = re.compile(r"([0-9]+\.[0-9]+\.[0-9]+)-[0-9A-Za-z.-]+", re.A)
 
 
 def parent_and_name(key: str) -> Tuple[str, str]:
-    """The parent and the package that the key of an override is for, each a name and perhaps a
-    range after `@`. A range may have `>` at its start, after a blank and after `|`."""
+    """Returns the parent and the package that the key of an override is for, each a name and
+    perhaps a range after `@`. A range may have `>` at its start, after a blank and after `|`."""
     *outer, last = re.split(r"(?<=[^ |@])>", key, maxsplit=1)
     return "".join(outer), last
 
 
 def npm_form_of_jsr(name: str, spec: str) -> str:
-    """`jsr:RANGE` or `jsr:@SCOPE/NAME@RANGE` as the package of npm's registry that JSR has for it.
-    Any other is its own."""
+    """Returns `jsr:RANGE` or `jsr:@SCOPE/NAME@RANGE` as the package of npm's registry that JSR has
+    for it. Any other is its own."""
     if not spec.startswith(JSR):
         return spec
     rest = spec[len(JSR) :]
@@ -33,8 +33,8 @@ def npm_form_of_jsr(name: str, spec: str) -> str:
 
 
 def npm_form_of_workspace(spec: str, version: str) -> str:
-    """`workspace:RANGE` or `workspace:NAME@RANGE` by the version that is there, for which `*`, `^`
-    and `~` are. A path, and any other, is its own."""
+    """Returns `workspace:RANGE` or `workspace:NAME@RANGE` by the version that is there, for which
+    `*`, `^` and `~` are. A path, and any other, is its own."""
     rest = spec[len(WORKSPACE) :]
     if not spec.startswith(WORKSPACE) or rest.startswith("."):
         return spec
@@ -51,8 +51,8 @@ def npm_form_of(name: str, spec: str, version: str) -> str:
 
 
 def takes_peer(spec: str, version: str) -> bool:
-    """Whether a peer's range takes a version, or its release, with all pre-releases, as pnpm has
-    it."""
+    """Returns whether a peer's range takes a version, or its release, with all pre-releases, as
+    pnpm has it."""
     if not is_range(spec, Dialect.NPM) or not is_version(version, Dialect.NPM):
         return False
     versions = (version, PRE_RELEASE.sub(r"\1", version))

@@ -30,7 +30,7 @@ from ..model import (
     Requirement,
     Scope,
 )
-from ..node.package_json import MANIFEST, TOP, statement_of
+from ..node.package_json import MANIFEST, TOP, advise, statement_of
 from ..node.specifiers import CATALOG, NodeScheme, may_overlap, name_and_rest, range_of
 from ..satisfaction import is_met, range_in
 from ..tool import Input, Offsets, Statement, Tool
@@ -281,6 +281,10 @@ class Pnpm(Tool):
     def offsets(self, text: bytes, wanted: Set[Keys]) -> Offsets:
         """Yields the keys of a file."""
         return yaml_offsets(text, wanted)
+
+    def advise(self, finding: Finding) -> None:
+        """Says of a finding what to change, if the command doesn't repair it."""
+        advise(finding)
 
     def statement(self, finding: Finding, file: Input) -> Optional[Statement]:
         """Returns where a package.json states a requirement, or a pnpm-workspace.yaml that of a

@@ -26,7 +26,7 @@ from ..node.specifiers import alias_of, is_elsewhere, is_no_range, name_and_rest
 from ..tool import Input
 from .family import YarnScheme, YarnTool, stated_in
 from .lock import PATCH, YarnFile, bare, requirements_of, source_of
-from .resolutions import Resolutions, of_yarn, specs_for
+from .resolutions import Resolutions, without_protocol, specs_for
 
 # What the key of a workspace has before its directory.
 OWN = "workspace:"
@@ -41,7 +41,7 @@ class BerryScheme(YarnScheme):
         name, spec = requirement.name, specifier
         if PATCH in spec:
             name, spec = name_and_rest(source_of(f"{name}@{spec}"))
-        spec = of_yarn(spec)
+        spec = without_protocol(spec)
         return spec if alias_of(spec) is not None or is_elsewhere(spec) else f"npm:{name}@{spec}"
 
 
@@ -84,7 +84,8 @@ class Reader:
             resolved: List[str] = []
             if it.name in self.resolutions:
                 names = [name]
-                resolved = specs_for(self.resolutions, it.name, it.specifier, names, of_yarn(place))
+                at = without_protocol(place)
+                resolved = specs_for(self.resolutions, it.name, it.specifier, names, at)
             self.used.add(self.lock.key_for(it.name, (*resolved, it.specifier)[0]))
             yield self.looked_up(it._replace(is_override=bool(resolved)), *resolved[:1])
 

@@ -14,25 +14,38 @@ that of the resolution, and refuses the file if the project itself requires the 
 package or a workspace that does, or beside itself, if it has workspaces.
 """
 
+import os
 from typing import Dict, Iterable, Iterator, List, Optional, Tuple
 
 from semver_parser import Dialect
 
-from ..files import Entry
-from ..findings import Conflict, Finding, InvalidRange, Overridden, TwoVersions
+from ..files import Entry, taking
+from ..findings import (
+    Conflict,
+    Finding,
+    InvalidRange,
+    Missing,
+    Overridden,
+    OwnConflict,
+    TwoVersions,
+)
 from ..judge import INVALID_RANGE, RIGHT, UNSATISFIED, Verdict
 from ..model import PEERS, PROJECT, LockFile, Node, Package, Requirement, Requirer
 from ..node.archives import archive_at, without_build
 from ..node.package_json import (
     KINDS,
+    MANIFEST,
     TOP,
     Project,
+    manifest_path,
     name_in,
+    refuse_twice,
     requirements_in,
     requirer_of,
     version_in,
 )
-from ..node.specifiers import alias_of, is_elsewhere, name_and_rest, verdict_on
+from ..node.specifiers import alias_of, directory_at, is_elsewhere, name_and_rest, verdict_on
+from ..node.workspaces import patterns_in
 from ..satisfaction import is_range, is_version
 from ..tool import Input
 from .family import YarnScheme, YarnTool, stated_in
@@ -40,6 +53,9 @@ from .lock import YarnFile, bare, own_name, requirements_of
 from .resolutions import Resolution, Resolutions, resolutions_for
 
 TRIVIAL = ("", "*")
+
+# What to change if a directory is gone.
+GONE = "put the directory there, or remove what requires it"
 
 
 class ClassicScheme(YarnScheme):
@@ -79,8 +95,12 @@ class Reader:
 
     def own_found(self, it: Requirement) -> Requirement:
         """Returns a requirement with what is found for it without resolutions. Without a
-        package.json these aren't known."""
-        excuse = "" if self.project.manifests else "no package.json"
+        package.json these aren't known, and of what only workspaces and packages require yarn asks
+        the registry."""
+        if not self.project.manifests:
+            excuse = "no package.json"
+        else:
+            excuse = "" if it.requirer.name == PROJECT else "the registry is asked"
         found = self.lock.found(it.name, it.specifier)
         return it._replace(found=found, must_exist=True, excuse=excuse)
 
@@ -179,6 +199,24 @@ class Reader:
                     conflict.at = found.found.at
                     yield conflict
 
+    def gone_directories(self, stated: List[Requirement]) -> Iterator[Finding]:
+        """Yields what the project and its workspaces require from directories that aren't there:
+        yarn reads their package.json."""
+        for it in stated:
+            path = directory_at(it.specifier, "") if it.specifier.startswith("file:") else None
+            is_known = path is not None and self.project.directory is not None and it.requirer.place
+            if is_known and self.lock.found(it.name, it.specifier) is not None:
+                if not os.path.isdir(os.path.join(self.project.directory or "", path or "")):
+                    yield Missing(it).advised(GONE, True)
+
+    def not_private(self) -> Iterator[Finding]:
+        """Yields the project if it has workspaces and isn't private: yarn rejects that."""
+        top = self.project.top
+        patterns = patterns_in(top.get("workspaces", []), "workspaces")
+        if patterns and not top.get("private"):
+            package = Package(name_in(top), None, PROJECT, is_own=True)
+            yield OwnConflict(package, "", "has workspaces, and is not private")
+
     def lock_file(self, file: Input) -> LockFile:
         """Returns what the lock file has. First comes what the project requires."""
         stated = list(self.stated() if self.project.manifests else self.of_keys())
@@ -190,6 +228,7 @@ class Reader:
         shown = [it for it in stated if file.scope.has(it.kind)]
         dropped = self.dropped(shown, reached) if self.resolutions else ()
         lock.nodes = [Node(None, lock.scoped(outside, file.scope)), Node(findings=dropped)]
+        lock.nodes.append(Node(findings=[*self.gone_directories(shown), *self.not_private()]))
         for it in map(self.lock.keyed, reached):
             lock.nodes.append(Node(it, self.required_by(it), archive_findings(it)))
         return lock
@@ -202,6 +241,19 @@ class Reader:
         for it in (*outside, *inner):
             if it.found is not None:
                 yield it.requirer.label, self.lock.requirer(it.found).label
+
+
+def with_workspaces(project: Project, path: str) -> Project:
+    """Returns a project with what yarn 1 takes for its workspaces: those with a name and a version.
+    It rejects two of one name."""
+    with taking(path, MANIFEST):
+        found = {TOP: project.top} if project.manifests else {}
+        for place, it in project.manifests.items():
+            if name_in(it) and version_in(it):
+                found[place] = it
+        inner = ((name_in(it) or "", place) for place, it in found.items() if place != TOP)
+        refuse_twice(inner)
+    return project._replace(manifests=found)
 
 
 def has_workspaces(manifest: Entry) -> bool:
@@ -244,6 +296,7 @@ class Classic(YarnTool):
     def read(self, file: Input) -> LockFile:
         """Returns what a lock file has, beside the package.json files of the project."""
         project, resolutions = self.project_of(file)
+        project = with_workspaces(project, manifest_path(file, file.directory) or "")
         return Reader(self.lock_of(file), project, resolutions).lock_file(file)
 
 

@@ -45,7 +45,7 @@ USUAL = re.compile(
 
 
 def lines_of(text: str) -> Iterator[Tuple[int, int, str, str, bool]]:
-    """The lines of a file: of each its number, indent, key and value, and whether an object
+    """Yields the lines of a file: of each its number, indent, key and value, and whether an object
     follows. Berry writes a key of more than 1,024 characters after `? `, and its colon on the next
     line."""
     key = ""
@@ -87,8 +87,9 @@ def tree_of(text: bytes) -> Tree:
 
 
 def cut(line: str, number: int) -> Tuple[str, str, bool]:
-    """The key of a line, its value, and whether an object follows it. Several keys of one package
-    are joined by a line feed: yarn 1 has each in quotes of its own, and later ones all in one."""
+    """Returns the key of a line, its value, and whether an object follows it. Several keys of one
+    package are joined by a line feed: yarn 1 has each in quotes of its own, and later ones all in
+    one."""
     keys: List[str] = []
     at = 0
     while True:
@@ -113,14 +114,14 @@ def cut(line: str, number: int) -> Tuple[str, str, bool]:
 
 
 def after_blanks(line: str, at: int) -> int:
-    """Where the blanks of a line end that may begin at a place."""
+    """Returns where the blanks of a line end that may begin at a place."""
     found = BLANKS.match(line, at)
     assert found is not None
     return found.end()
 
 
 def unquoted(word: str, number: int) -> str:
-    """The text that a word is for."""
+    """Returns the text that a word is for."""
     if not word.startswith('"'):
         return word
     try:
@@ -211,7 +212,8 @@ def own_name(fields: Tree) -> Optional[str]:
 
 
 def source_of(text: str) -> str:
-    """The `NAME@REST` that is patched, in `NAME@patch:SOURCE#PATCH`; any other is its own."""
+    """Returns the `NAME@REST` that is patched, in `NAME@patch:SOURCE#PATCH`; any other is its
+    own."""
     rest = spec_of(text) if PATCH in text else ""
     while rest.startswith(PATCH):
         text = unquote(rest[len(PATCH) :].partition("#")[0])
@@ -220,7 +222,8 @@ def source_of(text: str) -> str:
 
 
 def version_of(reference: str) -> Optional[str]:
-    """The version in the reference of what a package is resolved by, if that is of a registry."""
+    """Returns the version in the reference of what a package is resolved by, if that is of a
+    registry."""
     bare = reference.partition("::")[0]
     return bare[4:] if bare.startswith("npm:") else None
 
