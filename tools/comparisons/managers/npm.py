@@ -12,10 +12,12 @@ from typing import Any, Iterator, List, NamedTuple, Optional
 from differences import PROJECT, Differences, Finding, Unsatisfied, listed_in
 from npm_edits import Edited, edited, kinds_of
 from projects import environment, write_project
+from repairs import repair
 from registry import Json, Registry, in_order
 from semver_parser import Dialect
 from semver_parser.checks.findings import AnotherPackage, TwoVersions
 from semver_parser.checks.model import PEERS
+from semver_parser.checks.npm import NPM
 from semver_parser.checks.node.specifiers import range_of
 from semver_parser.checks.npm.lock import (
     Packages,
@@ -231,6 +233,18 @@ def compare(it: Case, answer: Answer, as_written: Answer, found: Differences) ->
                 found.choose(choice, why)
 
 
+def leave_over(it: Case, found: Differences) -> None:
+    """Compares whether npm ignores a lock file in a workspace with whether the checker does."""
+    for place in it.world.manifests:
+        if place.startswith("packages/") and not it.edit:
+            path = it.folder / place / LOCK
+            path.write_text("{}")
+            found.count("lock files in workspaces")
+            if NPM.read_instead(str(path), True) is None:
+                found.add("a lock file in a workspace", shown(it, place))
+            path.unlink()
+
+
 def shown(it: Case, why: Any) -> Json:
     """What is printed of a project, without archives and their sums."""
     packages = {
@@ -263,5 +277,10 @@ def run(top: Path, count: int, seed: int) -> Differences:
         answers = [npm.answer(it.folder) for it in cases]
         for it, answer in zip(cases, answers):
             compare(it, answer, answers[0], found)
+            leave_over(it, found)
+            flags = ["--package-lock-only", "--no-audit", "--no-fund", "--ignore-scripts"]
+            flags.append(f"--registry={registry.url}")
+            again = lambda: not npm.answer(it.folder).refused  # noqa: B023
+            repair(it.folder / LOCK, flags, environment(top), again, found, shown(it, answer))
     found.counts["worlds"] = made
     return found
