@@ -183,12 +183,18 @@ class Shared(unittest.TestCase):
 
     def test_paths_of_the_repository(self) -> None:
         with tempfile.TemporaryDirectory() as top, patch.dict(os.environ, GITHUB_WORKSPACE=top):
-            repository.roots.cache_clear()
+            forget_paths()
             path = os.path.join(top, "package.json")
             open(path, "w").close()
             self.assertEqual(repository.in_repository(path), "package.json")
             self.assertEqual(repository.in_repository("/"), "/")
-        repository.roots.cache_clear()
+        forget_paths()
+
+
+def forget_paths() -> None:
+    """Has the root of the repository looked for again."""
+    repository.roots.cache_clear()
+    repository.in_repository.cache_clear()
 
 
 class Tools(unittest.TestCase):

@@ -17,6 +17,7 @@ def roots() -> List[str]:
     return [os.path.realpath(it) for it in named if it]
 
 
+@lru_cache(maxsize=None)
 def in_repository(path: str) -> str:
     """Returns a path from the root on; one elsewhere from the root of the system on."""
     if not os.path.exists(path):

@@ -10,7 +10,6 @@ from typing import Any, Dict, Iterator, Optional
 
 from ..files import Entry, WrongShape, list_at, object_at, objects_at, text_at
 from ..model import Package
-from ..node.json_with_comments import object_with_comments as tree_of
 from ..node.package_json import TOP, version_in
 from ..node.specifiers import name_and_rest
 

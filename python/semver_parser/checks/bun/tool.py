@@ -15,7 +15,7 @@ else than what it was written for.
 
 import os
 import re
-from typing import Dict, Iterator, List, Optional, Set, Tuple
+from typing import Iterator, List, Optional, Set, Tuple
 
 from ..files import Entry, Unreadable, list_at, objects_at, texts_at
 from ..findings import Finding, StaleSetting, Unreached
@@ -33,7 +33,7 @@ from ..model import (
     Requirement,
     Requirer,
 )
-from ..node.json_with_comments import plain_json
+from ..node.json_with_comments import object_with_comments, plain_json
 from ..node.package_json import (
     MANIFEST,
     TOP,
@@ -49,8 +49,8 @@ from ..node.package_json import (
 from ..node.specifiers import CATALOG, NodeScheme
 from ..pnpm.specifiers import npm_form_of_workspace
 from ..tool import Input, Offsets, Statement, Tool
-from .lock import nearest, packages_of, path_of, tree_of, workspaces_of
-from .replacements import Replacements, replaced_by, replacements_of, locked_replacements
+from .lock import nearest, packages_of, path_of, workspaces_of
+from .replacements import Replacements, locked_replacements, replaced_by, replacements_of
 
 # The kinds of requirements. Of one name in several of them the first counts.
 KINDS_OF_EACH = (OPTIONAL, USUAL, PEERS)
@@ -236,7 +236,7 @@ class Bun(Tool):
 
     def read(self, file: Input) -> LockFile:
         """Returns what a lock file has, beside the package.json files of the project."""
-        return Reader(file.parsed(tree_of), project_beside(file)).lock_file(file)
+        return Reader(file.parsed(object_with_comments), project_beside(file)).lock_file(file)
 
     def offsets(self, text: bytes, wanted: Set[Keys]) -> Offsets:
         """Yields the entries of a file, by the JSON that it is for, whose offsets are the same."""

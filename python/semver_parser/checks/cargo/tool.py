@@ -31,7 +31,6 @@ from ..findings import (
 from ..judge import INVALID_RANGE, RIGHT, UNSATISFIED, Scheme, Verdict, findings_of
 from ..locating import text_at_path, toml_lines
 from ..model import Keys, LockFile, Node, Package, Requirement, Requirer, Scope
-from ..satisfaction import is_version
 from ..tool import Input, Offsets, Statement, Tool
 from .demands import checksum_findings, conflict_findings, feature_findings
 from .manifests import MANIFEST, Dependency, Manifest

@@ -3,7 +3,7 @@ members, for which the file was written. `deno install --frozen` refuses it if t
 else."""
 
 import os
-from typing import Any, Iterator, List, NamedTuple, Optional, Set, Tuple
+from typing import Iterator, List, NamedTuple, Optional, Set, Tuple
 
 from ..files import Entry, bytes_of, is_there, list_at, object_at, taking, text_at
 from ..findings import Finding, NotRequired, Stale

@@ -77,6 +77,13 @@ def requirements_in(
                 yield Requirement(requirer, name, spec, kind=kind, must_exist=kind != OPTIONAL)
 
 
+def compared_in(manifests: Iterable[Tuple[str, Entry]]) -> Iterator[Requirement]:
+    """Yields what the project and its workspaces require, which `--duplicates` compares."""
+    for directory, manifest in manifests:
+        requirer = requirer_of(directory)
+        yield from requirements_in(manifest, requirer, (USUAL, FOR_DEVELOPMENT, OPTIONAL))
+
+
 def checked(manifest: Entry) -> Entry:
     """Returns a package.json whose requirements are texts."""
     for kind in KINDS:

@@ -52,10 +52,9 @@ from ..node.package_json import (
     MANIFEST,
     advise,
     bytes_of,
+    compared_in,
     manifest_path,
     missing_workspace,
-    requirements_in,
-    requirer_of,
     statement_of,
 )
 from ..node.specifiers import (
@@ -90,9 +89,6 @@ from .peers import Peers
 
 # The lock file that npm writes into node_modules.
 HIDDEN = ".package-lock.json"
-
-# The kinds that `--duplicates` compares.
-KINDS_TO_COMPARE = ("dependencies", "devDependencies", "optionalDependencies")
 
 Requirements = Dict[str, List[Requirement]]
 """What each place requires."""
@@ -342,12 +338,6 @@ class Reader:
         there = reached(self.required, ["", *self.workspaces.values()])
         return [it for it in checked if it in there]
 
-    def stated(self) -> Iterator[Requirement]:
-        """Yields what the project and its workspaces require."""
-        for place in filter(is_top, self.packages):
-            requirer = requirer_of(place)
-            yield from requirements_in(self.packages[place], requirer, KINDS_TO_COMPARE)
-
     def nodes(self, checked: List[str], first: List[Finding]) -> Iterator[Node]:
         """Yields a node for the project as a whole, and one for each place that is checked."""
         yield Node(findings=first)
@@ -378,7 +368,7 @@ class Reader:
             self.nodes(checked, first),
             [found[it] for it in there],
             lambda: edges_of(plain),
-            self.stated,
+            lambda: compared_in((it, packages[it]) for it in packages if is_top(it)),
             Leaving(packages, peers, lambda: looked_at(required)).excuse,
             left_out=self.left_out,
             from_lock=len(self.from_lock.intersection(checked)),

@@ -17,10 +17,9 @@ from typing import Any, Dict, Iterator, List, NamedTuple, Optional, Set, Tuple
 from semver_parser import Dialect, Range
 
 from ..files import Entry, object_at, texts_at, yaml_objects
-from ..findings import Finding, NotRequired, OfRequirement, Stale, StaleSetting
+from ..findings import Finding, OfRequirement, Stale, StaleSetting
 from ..locating import yaml_offsets
 from ..model import (
-    FOR_DEVELOPMENT,
     OPTIONAL,
     USUAL,
     Keys,

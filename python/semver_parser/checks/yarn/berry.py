@@ -17,6 +17,7 @@ from ..model import PROJECT, LockFile, Node, Package, Requirement, Requirer
 from ..node.package_json import (
     KINDS_OF_BERRY,
     Project,
+    compared_in,
     missing_workspace,
     name_in,
     requirements_in,
@@ -24,7 +25,7 @@ from ..node.package_json import (
 )
 from ..node.specifiers import alias_of, is_elsewhere, is_no_range, name_and_rest, reason_of
 from ..tool import Input
-from .family import YarnScheme, YarnTool, stated_in
+from .family import YarnScheme, YarnTool
 from .lock import PATCH, YarnFile, bare, requirements_of, source_of
 from .resolutions import Resolutions, without_protocol, specs_for
 
@@ -144,7 +145,7 @@ class Reader:
         own = [list(self.of_project(it)) for it in packages]
         lock = LockFile([], self.lock.own(), lambda: self.edges([*own, *required]))
         lock.package_count = len(lock.packages)
-        lock.stated = lambda: stated_in(self.project)
+        lock.stated = lambda: compared_in(self.project.manifests.items())
         lock.nodes = [Node(findings=list(self.workspaces()))]
         for package, of_keys, each in zip(packages, own, required):
             it = self.lock.keyed(package)

@@ -37,6 +37,7 @@ from ..node.package_json import (
     MANIFEST,
     TOP,
     Project,
+    compared_in,
     manifest_path,
     name_in,
     refuse_twice,
@@ -48,7 +49,7 @@ from ..node.specifiers import alias_of, directory_at, is_elsewhere, name_and_res
 from ..node.workspaces import patterns_in
 from ..satisfaction import is_range, is_version
 from ..tool import Input
-from .family import YarnScheme, YarnTool, stated_in
+from .family import YarnScheme, YarnTool
 from .lock import YarnFile, bare, own_name, requirements_of
 from .resolutions import Resolution, Resolutions, resolutions_for
 
@@ -224,7 +225,7 @@ class Reader:
         outside = [*found, *map(self.own_found, self.of_resolutions())]
         reached = self.reached(outside) if self.project.manifests else self.lock.packages
         lock = LockFile([], self.lock.own(), lambda: self.edges(outside, reached))
-        lock.package_count, lock.stated = len(lock.packages), lambda: stated_in(self.project)
+        lock.package_count, lock.stated = len(lock.packages), lambda: compared_in(self.project.manifests.items())
         shown = [it for it in stated if file.scope.has(it.kind)]
         dropped = self.dropped(shown, reached) if self.resolutions else ()
         lock.nodes = [Node(None, lock.scoped(outside, file.scope)), Node(findings=dropped)]

@@ -3,7 +3,7 @@ in any of them."""
 
 import os
 import re
-from typing import Iterator, Optional, Set, Tuple
+from typing import Optional, Set, Tuple
 
 from ..files import taking
 from ..findings import Finding, NotChecked, OfRequirement
@@ -14,8 +14,6 @@ from ..node.package_json import (
     Project,
     manifest_path,
     project_beside,
-    requirements_in,
-    requirer_of,
     statement_of,
 )
 from ..node.specifiers import CATALOG, NodeScheme
@@ -28,9 +26,6 @@ TOP = re.compile(rb"^(?:\? [^\n]*\n)?[^\s#][^\n]*", re.M)
 
 # The name of a package in a key, unless it has an escape.
 NAME = re.compile(rb"""(?:^|[\s",'])(@?[^@\s",']+)@""")
-
-# The kinds that `--duplicates` compares.
-KINDS_TO_COMPARE = ("dependencies", "devDependencies", "optionalDependencies")
 
 
 class YarnScheme(NodeScheme):
@@ -55,12 +50,6 @@ class YarnScheme(NodeScheme):
         if requirement.specifier.startswith(CATALOG):
             return NotChecked(requirement, None, requirement.specifier).excused("catalog")
         return super().missing(requirement)
-
-
-def stated_in(project: Project) -> Iterator[Requirement]:
-    """Yields what the project and its workspaces require."""
-    for directory, manifest in project.manifests.items():
-        yield from requirements_in(manifest, requirer_of(directory), KINDS_TO_COMPARE)
 
 
 class YarnTool(Tool):
