@@ -169,7 +169,7 @@ class LockFile:
       manifests aren't there.
     """
 
-    nodes: Iterable[Node]
+    nodes: List[Node]
     packages: List[Package] = field(default_factory=list)
     edges: Callable[[], Iterable[Tuple[str, Optional[str]]]] = tuple
     stated: Callable[[], Iterable[Requirement]] = tuple

@@ -262,7 +262,7 @@ class Reader:
 
     def lock_file(self) -> LockFile:
         """Returns what the graph has, in the order of its packages."""
-        lock = LockFile((), [], self.edges)
+        lock = LockFile([], [], self.edges)
         lock.package_count = sum(not package.is_member for package in self.packages)
         lock.nodes = [node for it in self.packages for node in self.nodes(it, lock)]
         return lock

@@ -143,6 +143,9 @@ class NpmScheme(NodeScheme):
         return verdict is RIGHT or verdict.finding is NotChecked
 
 
+NPM_SCHEME = NpmScheme()
+
+
 def is_fetched(specifier: str) -> bool:
     """Returns whether npm fetches what is required from a URL, a repository or a path."""
     return is_no_range(specifier) and reason_of(specifier) in ("git", "URL", "path")
@@ -162,12 +165,14 @@ def is_own_archive(package: Package, resolved: object) -> bool:
 def archive_findings(package: Package, resolved: object) -> Iterator[Finding]:
     """Yields what there is to say of the archive of a package, which npm installs."""
     name, version = package.name or "", package.version
-    if not isinstance(resolved, str) or version is None or not is_version(version, NPM.dialect):
+    if not isinstance(resolved, str) or version is None:
+        return
+    if not is_version(version, NPM_SCHEME.dialect):
         return
     archive = archive_at(resolved)
     if archive is not None and archive.name != name:
         yield TwoPackages(package, resolved)
-    elif archive is not None and not is_met(archive.version, version, NPM.dialect):
+    elif archive is not None and not is_met(archive.version, version, NPM_SCHEME.dialect):
         yield TwoVersions(package, resolved)
 
 
@@ -225,11 +230,10 @@ def looked_at(required: Requirements) -> Set[str]:
 class Npm(Tool):
     """npm."""
 
-    name, repair, scheme = "npm", "npm install", NpmScheme()
+    name, repair, scheme = "npm", "npm install", NPM_SCHEME
     lock_files = ("package-lock.json", "npm-shrinkwrap.json")
     manifests = (MANIFEST, ".npmrc")
     takes_package_json = True
-    dialect = scheme.dialect
 
     def recognizes(self, file: Input) -> bool:
         """Returns whether a file is JSON."""
@@ -362,10 +366,10 @@ class Reader:
         put_overrides(packages, required, reading)
         is_strict = is_set(self.directory, STRICT_PEERS)
         tops = self.workspaces.values()
-        peers = None if is_strict else Peers(required, NPM.scheme.fits, tops)
+        peers = None if is_strict else Peers(required, NPM_SCHEME.fits, tops)
         there = [it for it in packages if not is_top(it) and not packages[it].get("link")]
         return LockFile(
-            self.nodes(checked, first),
+            list(self.nodes(checked, first)),
             [found[it] for it in there],
             lambda: edges_of(plain),
             lambda: compared_in((it, packages[it]) for it in packages if is_top(it)),

@@ -241,7 +241,7 @@ class Reader:
 
     def lock_file(self) -> LockFile:
         """Returns what the document has."""
-        lock = LockFile((), self.there(), self.edges, self.stated)
+        lock = LockFile([], self.there(), self.edges, self.stated)
         lock.package_count = len(self.packages)
         lock.nodes = list(self.nodes(lock))
         return lock
