@@ -122,6 +122,15 @@ same "GitHub's escapes" 1 /dev/null "$work/lines" /dev/null sh -c 'cd "$1" && ex
 echo "::error file=cases/cut-off.json::it isn't JSON: line 1 column 37" > "$work/lines"
 same 'the annotation of an error' 2 /dev/null "$work/lines" cases/cut-off.told $check --format github cases/cut-off.json
 
+# Below the root of a repository, and elsewhere than GitHub says.
+mkdir "$work/rooted" && git init -q "$work/rooted" && cp -R cases/monorepo/web "$work/rooted"
+echo '::error file=web/package.json,line=1::react ^18.2.0 is missing, required by the project' > "$work/lines"
+for variable in GITHUB_WORKSPACE= "GITHUB_WORKSPACE=$work/rooted" "GITHUB_WORKSPACE=$here"; do
+    same "paths from the root, $variable" 1 /dev/null "$work/lines" /dev/null \
+        sh -c 'cd "$1" && exec env "$2" "$3" --quiet --format github ../web/yarn.lock' - "$work/rooted/web" "$variable" "$here/$check"
+done
+(cd "$work/rooted/web" && env GITHUB_WORKSPACE= "$here/$check" --quiet --format sarif yarn.lock || :) | grep -q '"uri": "web/package.json"'
+
 # ---- paths, repairs and sums
 
 # why STATUS FILE PATH..: the paths below the findings of a file of cases/, by --why.
@@ -220,6 +229,18 @@ printf '\n{"lockfileVersion": 3, "packages": {"node_modules/\200": {"version": "
 in_each_form "it isn't UTF-8: line 2" "$work/encoded"
 printf '# yarn lockfile v1\n\n"a\377@1":\n  version "1.0.0"\n' > "$work/encoded"
 in_each_form "it isn't UTF-8: line 3" "$work/encoded"
+
+# A version that looks like a conflict of git: the status is the same in each form.
+if has_toml; then
+    cp -R cases/monorepo/rust "$work/like-a-conflict"
+    sed -i 's/"1.0.4"/"<<<<<<< 1.0.4"/' "$work/like-a-conflict/Cargo.lock"
+    for form in text tsv json github sarif; do
+        status=0
+        $check --quiet --format $form "$work/like-a-conflict/Cargo.lock" > "$work/output" 2> "$work/errors" || status=$?
+        [ "$status" = 1 ] && diff /dev/null "$work/errors" && grep -q '<<<<<<< 1.0.4' "$work/output"
+    done
+    echo 'a version like a conflict, in each form: passed'
+fi
 
 # Characters that a terminal takes for more, of a lock file, of its name, and of known findings.
 mkdir "$work/controls"
