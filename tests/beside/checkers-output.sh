@@ -182,6 +182,7 @@ advised() {
 advised monorepo/package-lock.json 'change the version of the package, or what is required of it'
 advised overrides-conflict/package-lock.json 'have the override and the requirement say the same'
 ! has_toml || advised cargo-lock/conflicts/Cargo.lock 'correct the manifests: no lock file is right for them'
+! has_toml || advised cargo-lock/checksums/Cargo.lock 'remove the checksum, and have it written anew'
 repaired monorepo/web/yarn.lock 'yarn install'
 advised yarn/stale/yarn.lock 'correct the manifests: no lock file is right for them'
 advised yarn/gone/yarn.lock 'put the directory there, or remove what requires it'

@@ -40,7 +40,7 @@ def repair(
     )  # fmt: skip
     listed = listed_in(path)
     if ended.returncode:
-        found.choose("a repair for which the registry lacks a release", shown)
+        found.choose("a repair that the tool rejects, as without a release", shown)
     elif any(not it.advice for it in listed) or not (listed or is_taken()):
         found.add("a repair that repairs nothing", shown)
     else:

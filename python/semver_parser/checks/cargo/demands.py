@@ -10,10 +10,13 @@ from .features import activated_by, features_of
 from .manifests import Manifest
 from .packages import Lock, key_of, source_of
 from .resolution import Resolution
-from .sources import GIT
+from .sources import GIT, PATH
 
 CHECKSUM = re.compile(r"[0-9a-f]{64}")
 FIELD = "checksum"
+
+# What to change if there is a wrong one: Cargo writes those that are missing.
+ADVICE = "remove the checksum, and have it written anew"
 
 
 def checksum_findings(lock: Lock) -> Iterator[Finding]:
@@ -24,11 +27,13 @@ def checksum_findings(lock: Lock) -> Iterator[Finding]:
         is_of_registry = bool(package.source) and source_of(package.source).kind != GIT
         checksum = package.entry.get(FIELD)
         if not is_of_registry and checksum is not None and not lock.is_gone(package):
-            yield WrongChecksum(package, "", "a checksum, and isn't from a registry")
+            what = "a checksum, and isn't from a registry"
+            yield WrongChecksum(package, "", what).advised(ADVICE, True)
         elif is_of_registry and checksum is None and has_any:
             yield WrongChecksum(package, "", "no checksum")
         elif is_of_registry and checksum is not None and not is_checksum(checksum):
-            yield WrongChecksum(package, "", f"the invalid checksum {checksum}")
+            what = f"the invalid checksum {checksum}"
+            yield WrongChecksum(package, "", what).advised(ADVICE, True)
 
 
 def is_checksum(value: object) -> bool:
@@ -66,9 +71,9 @@ def conflict_findings(resolution: Resolution) -> Iterator[Finding]:
         if other not in ("", package.label):
             yield OwnConflict(package, "", f"links {manifest.links}, as {other} does")
         requires[manifest.folder] = [
-            resolution.lock.directory_of(it.found) or ""
-            for it in resolution.matches_of(manifest)
-            if it.found is not None and it.is_active and not it.dependency.is_development
+            it.source.place
+            for it, is_active in resolution.dependencies_of(manifest)
+            if is_active and not it.is_development and it.source.kind == PATH
         ]
     for manifest in manifests:
         if is_reached(manifest.folder, requires):
