@@ -12,6 +12,9 @@ may_read() {
     esac
 }
 
+# Annotations have paths from the root of the repository on.
+export GITHUB_WORKSPACE="$PWD"
+
 # ---- the formats
 
 # for_people FILE [--strict]: the sentences of a file of cases/, which are beside it.
@@ -24,7 +27,7 @@ for name in keys resolution; do for_people "yarn/$name/yarn.lock"; done
 for_people pnpm/wrong-9.yaml --strict
 for name in settings projects entries; do for_people "pnpm/$name/pnpm-lock.yaml"; done
 for_people bun/beside/bun.lock
-for name in no-source patches exchanged unreached; do for_people "cargo-lock/$name/Cargo.lock"; done
+for name in no-source patches exchanged unreached checksums conflicts; do for_people "cargo-lock/$name/Cargo.lock"; done
 
 for option in --json --format=json; do
     same "one object, by $option" 1 /dev/null cases/object.json /dev/null \
@@ -119,6 +122,15 @@ same "GitHub's escapes" 1 /dev/null "$work/lines" /dev/null sh -c 'cd "$1" && ex
 echo "::error file=cases/cut-off.json::it isn't JSON: line 1 column 37" > "$work/lines"
 same 'the annotation of an error' 2 /dev/null "$work/lines" cases/cut-off.told $check --format github cases/cut-off.json
 
+# Below the root of a repository, and elsewhere than GitHub says.
+mkdir "$work/rooted" && git init -q "$work/rooted" && cp -R cases/monorepo/web "$work/rooted"
+echo '::error file=web/package.json,line=1::react ^18.2.0 is missing, required by the project' > "$work/lines"
+for variable in GITHUB_WORKSPACE= "GITHUB_WORKSPACE=$work/rooted" "GITHUB_WORKSPACE=$here"; do
+    same "paths from the root, $variable" 1 /dev/null "$work/lines" /dev/null \
+        sh -c 'cd "$1" && exec env "$2" "$3" --quiet --format github ../web/yarn.lock' - "$work/rooted/web" "$variable" "$here/$check"
+done
+(cd "$work/rooted/web" && env GITHUB_WORKSPACE= "$here/$check" --quiet --format sarif yarn.lock || :) | grep -q '"uri": "web/package.json"'
+
 # ---- paths, repairs and sums
 
 # why STATUS FILE PATH..: the paths below the findings of a file of cases/, by --why.
@@ -129,21 +141,24 @@ why() {
     printf '  path: %s\n' "$@" > "$work/lines"
     status=0
     $check --quiet --why "cases/$file" > "$work/output" || status=$?
-    [ "$status" = "$wanted" ] && grep '^  path: ' "$work/output" | diff -u "$work/lines" -
+    [ "$status" = "$wanted" ] && grep '^  path: ' "$work/output" | sed 's/ ([^ ]*, line [0-9]*)$//' | diff -u "$work/lines" -
     $check --quiet "cases/$file" > "$work/lines" || :
     grep -v '^  path: ' "$work/output" | diff -u "$work/lines" -
     echo "paths to the findings of $file: passed"
 }
 why 1 monorepo/package-lock.json 'the project > lodash' 'packages/b > a'
 why 1 yarn/stale/yarn.lock 'the project > perhaps' 'the project > any-release' 'the project > linked' 'the project > num' 'the project > replaced' 'the project > tool' \
-    'packages/a > c' 'packages/a > right' 'packages/b > a' 'the project > right 1.4.0 > system'
+    'packages/a > right' 'the project'
 why 1 pnpm/stale/pnpm-lock.yaml 'the project > num' 'the project > perhaps' 'the project > git' 'the project > tool' 'packages/a > right' \
     'the project > right 1.4.0 > missing'
 why 1 cargo-lock/root/Cargo.lock 'app 0.1.0 > below'
+printf '%s\n' 'react ^18.2.0 is missing, required by the project' \
+    '  path: the project > react (cases/monorepo/web/package.json, line 1)' > "$work/lines"
+same 'where a manifest states a requirement' 1 /dev/null "$work/lines" /dev/null $check --quiet --why cases/monorepo/web/yarn.lock
 $check --quiet --json --why cases/monorepo/package-lock.json > "$work/object" || :
 grep -A 3 '"path": \[' "$work/object" | tr -d ' \n' > "$work/output"
 printf '"path":["theproject","lodash"],--"path":["packages/b","a"],' | diff -u - "$work/output"
-echo '::error file=cases/monorepo/web/package.json,line=1::react ^18.2.0 is missing, required by the project%0A  path: the project > react' \
+echo '::error file=cases/monorepo/web/package.json,line=1::react ^18.2.0 is missing, required by the project%0A  path: the project > react (cases/monorepo/web/package.json, line 1)' \
     > "$work/lines"
 same 'a path in an annotation' 1 /dev/null "$work/lines" /dev/null $check --quiet --why --format github cases/monorepo/web/yarn.lock
 
@@ -155,12 +170,26 @@ repaired() {
     echo "to repair cases/$1, run $2 in $folder" | diff -u - "$work/errors"
     echo "how to repair $1: passed"
 }
-repaired monorepo/package-lock.json 'npm install'
-repaired yarn/stale/yarn.lock 'yarn install'
+repaired stale/package-lock.json 'npm install'
+# advised FILE ADVICE..: what the lines on repairs of a file of cases/ say to change.
+advised() {
+    file=$1
+    shift
+    $check "cases/$file" 2>&1 > "$work/output" | grep '^to repair' > "$work/errors" || :
+    printf "to repair cases/$file, %s\n" "$@" | diff -u - "$work/errors"
+    echo "what to change for $file: passed"
+}
+advised monorepo/package-lock.json 'change the version of the package, or what is required of it'
+advised overrides-conflict/package-lock.json 'have the override and the requirement say the same'
+! has_toml || advised cargo-lock/conflicts/Cargo.lock 'correct the manifests: no lock file is right for them'
+! has_toml || advised cargo-lock/checksums/Cargo.lock 'remove the checksum, and have it written anew'
+repaired monorepo/web/yarn.lock 'yarn install'
+advised yarn/stale/yarn.lock 'correct the manifests: no lock file is right for them'
+advised yarn/gone/yarn.lock 'put the directory there, or remove what requires it'
 repaired yarn/stale-berry/yarn.lock 'yarn install'
 repaired pnpm/stale/pnpm-lock.yaml 'pnpm install'
-repaired bun/stale/bun.lock 'bun install'
-repaired deno/wrong/deno.lock 'deno install'
+repaired bun/beside/bun.lock 'bun install'
+repaired deno/beside/deno.lock 'deno install'
 repaired cargo-lock/no-source/Cargo.lock 'cargo update --workspace'
 echo 'checked 1 requirement of 1 package in Cargo.lock (Cargo)
 to repair Cargo.lock, run cargo update --workspace' > "$work/told"
@@ -201,6 +230,18 @@ printf '\n{"lockfileVersion": 3, "packages": {"node_modules/\200": {"version": "
 in_each_form "it isn't UTF-8: line 2" "$work/encoded"
 printf '# yarn lockfile v1\n\n"a\377@1":\n  version "1.0.0"\n' > "$work/encoded"
 in_each_form "it isn't UTF-8: line 3" "$work/encoded"
+
+# A version that looks like a conflict of git: the status is the same in each form.
+if has_toml; then
+    cp -R cases/monorepo/rust "$work/like-a-conflict"
+    sed -i 's/"1.0.4"/"<<<<<<< 1.0.4"/' "$work/like-a-conflict/Cargo.lock"
+    for form in text tsv json github sarif; do
+        status=0
+        $check --quiet --format $form "$work/like-a-conflict/Cargo.lock" > "$work/output" 2> "$work/errors" || status=$?
+        [ "$status" = 1 ] && diff /dev/null "$work/errors" && grep -q '<<<<<<< 1.0.4' "$work/output"
+    done
+    echo 'a version like a conflict, in each form: passed'
+fi
 
 # Characters that a terminal takes for more, of a lock file, of its name, and of known findings.
 mkdir "$work/controls"
@@ -264,21 +305,28 @@ done > "$work/closing"
 diff -u cases/closing "$work/closing"
 echo 'closing lines: passed'
 
-# unchecked TOLD FILE OPTION..: nothing of a file is checked, which is an error.
+# unchecked TOLD FILE LINES REST: nothing of a file is checked, which is an error with --strict; and
+# the rest of the closing line without it.
 unchecked() {
     echo "check-lock-file: cases/unchecked/$2: nothing was checked of $1" > "$work/told"
-    file=$2
-    shift 2
-    same "nothing is checked in $file $*" 2 /dev/null /dev/null "$work/told" $check "$@" "cases/unchecked/$file"
+    for option in --strict '--strict --quiet'; do
+        same "nothing is checked in $2 $option" 2 /dev/null "$3" "$work/told" $check $option "cases/unchecked/$2"
+    done
+    echo "checked 0 requirements of $4" > "$work/told"
+    same "nothing is checked in $2" 0 /dev/null /dev/null "$work/told" $check "cases/unchecked/$2"
 }
-unchecked '2 requirements and 2 packages (npm); 2 not checked: 1 git, 1 tag' package-lock.json
+printf '%s 1.0.0 is not checked against %s (%s), required by the project\n' part user/part git tool latest tag > "$work/unchecked"
+unchecked '2 requirements and 2 packages (npm); 2 not checked: 1 git, 1 tag' package-lock.json "$work/unchecked" \
+    '2 packages in cases/unchecked/package-lock.json (npm); 2 not checked: 1 git, 1 tag'
 echo "checked 1 requirement of 0 packages in cases/unchecked/paths/package-lock.json (npm)" > "$work/told"
 same 'only paths' 0 /dev/null /dev/null "$work/told" $check cases/unchecked/paths/package-lock.json
-unchecked '2 requirements and 2 packages (npm); 2 not checked: 1 git, 1 tag' package-lock.json --quiet
-unchecked '0 requirements and 1 package (npm)' npm-shrinkwrap.json
-same 'nothing is checked, in JSON' 2 /dev/null cases/object-unchecked.json "$work/told" $check --json cases/unchecked/npm-shrinkwrap.json
+$check cases/unchecked/package-lock.json cases/unchecked/paths 2>&1 | tail -n 1 > "$work/output"
+echo 'total: 1 requirement of 2 packages in 2 files; 2 not checked; 0 findings' | diff -u - "$work/output"
+unchecked '0 requirements and 1 package (npm)' npm-shrinkwrap.json /dev/null '1 package in cases/unchecked/npm-shrinkwrap.json (npm)'
+echo 'check-lock-file: cases/unchecked/npm-shrinkwrap.json: nothing was checked of 0 requirements and 1 package (npm)' > "$work/told"
+same 'nothing is checked, in JSON' 2 /dev/null cases/object-unchecked.json "$work/told" $check --strict --json cases/unchecked/npm-shrinkwrap.json
 echo "::error file=cases/unchecked/npm-shrinkwrap.json::nothing was checked of 0 requirements and 1 package (npm)" > "$work/lines"
-same 'nothing is checked, an annotation' 2 /dev/null "$work/lines" "$work/told" $check --format github cases/unchecked/npm-shrinkwrap.json
+same 'nothing is checked, an annotation' 2 /dev/null "$work/lines" "$work/told" $check --strict --format github cases/unchecked/npm-shrinkwrap.json
 sed 's/"latest"/"^1.0.0"/' cases/unchecked/package-lock.json > "$work/lock"
 echo 'checked 1 requirement of 2 packages in standard input (npm); 1 not checked: 1 git' > "$work/told"
 same 'one requirement is checked' 0 "$work/lock" /dev/null "$work/told" $check -
@@ -386,6 +434,14 @@ cp cases/nothing-wrong.json "$work/shrinkwrap/package-lock.json" && cp cases/not
 } > "$work/told"
 same 'npm-shrinkwrap.json beside package-lock.json' 0 /dev/null /dev/null "$work/told" \
     sh -c 'cd "$1" && exec "$2"' - "$work/shrinkwrap" "$here/$check"
+mkdir -p "$work/leftover/packages/b"
+cp cases/monorepo/package.json cases/monorepo/package-lock.json "$work/leftover"
+for name in package.json package-lock.json; do cp "cases/monorepo/packages/b/package.json" "$work/leftover/packages/b/$name"; done
+echo 'packages/b/package-lock.json: left out, since it is in a workspace of .' > "$work/told"
+for path in packages/b packages/b/package-lock.json; do
+    same "a package-lock.json in a workspace, by $path" 0 /dev/null /dev/null "$work/told" \
+        sh -c 'cd "$1" && exec "$2" "$3"' - "$work/leftover" "$here/$check" "$path"
+done
 refused "check-lock-file: --package-json is for exactly one file; see check-lock-file --help" /dev/null \
     $check --package-json cases/stale/package.json cases/stale
 refused "check-lock-file: --package-json is for exactly one file; see check-lock-file --help" /dev/null \
@@ -404,7 +460,7 @@ same 'standard input and a file' 1 cases/aliases.json "$work/lines" /dev/null \
 mkdir -p "$work/patterns/packages/a/inner" "$work/patterns/packages/b" "$work/patterns/other/a" "$work/patterns/packages/.h"
 mkdir -p "$work/patterns/packages/a/node_modules/part" && ln -s ../../.. "$work/patterns/packages/a/inner/up"
 cut -f 1 cases/workspace-patterns | python3 -c 'import sys
-from semver_parser.checks.patterns import places_at
+from semver_parser.checks.node.patterns import places_at
 for line in sys.stdin:
     pattern = line.rstrip("\n")
     print(pattern, " ".join(places_at(pattern, sys.argv[1])), sep="\t")' "$work/patterns" | diff -u cases/workspace-patterns -
@@ -473,7 +529,7 @@ echo 'x 1.0.0 cannot be checked: "1 # 2" is an invalid range, required by the pr
 same 'a known finding with a mark in it' 0 "$work/lock" /dev/null /dev/null $check --quiet --allow "$work/known.txt" -
 printf '%s # later\n' "$lodash" > "$work/known.txt"
 echo 'checked 2 requirements of 1 package in cases/monorepo/package-lock.json (npm); 1 allowed
-to repair cases/monorepo/package-lock.json, run npm install in cases/monorepo' > "$work/told"
+to repair cases/monorepo/package-lock.json, change the version of the package, or what is required of it' > "$work/told"
 echo "$a" > "$work/lines"
 same 'known findings are counted' 1 /dev/null "$work/lines" "$work/told" \
     $check --allow "$work/known.txt" cases/monorepo/package-lock.json

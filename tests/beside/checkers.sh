@@ -19,6 +19,10 @@ cd python
 check=bin/check-lock-file compare=bin/compare-requirements
 fields="$check --quiet --format tsv"
 
+# The modules by themselves.
+python3 -W error -m unittest tests.test_checkers 2> "$work/log" || { cat "$work/log" && exit 1; }
+echo 'modules: passed'
+
 # checked STATUS FILE [--strict]: checks a file of cases/. Its fields are beside it, and the error,
 # if there is one; those of --strict in other files.
 checked() {
@@ -56,10 +60,10 @@ refused() {
 # ---- npm
 
 for name in package-lock version-1 version-2 links missing peers kinds accepted any archives archives-1 names ranges aliases aliases-1 versions overrides/package-lock canaries tags \
-    unread from-npm/package-lock stale/package-lock workspaces/package-lock workspaces-1/package-lock legacy-peers/package-lock overrides-turn/package-lock workspaces-stale/package-lock overrides-conflict/package-lock overrides-linked/package-lock overrides-late/package-lock peers-conflict/package-lock peers-strict/package-lock; do
+    unread from-npm/package-lock stale/package-lock workspaces/package-lock workspaces-1/package-lock legacy-peers/package-lock overrides-turn/package-lock workspaces-stale/package-lock overrides-conflict/package-lock overrides-linked/package-lock overrides-late/package-lock peers-conflict/package-lock peers-strict/package-lock fetched/package-lock; do
     checked 1 "$name.json"
 done
-for name in nothing-wrong canaries-right left-alone/package-lock hidden/node_modules/.package-lock; do
+for name in nothing-wrong canaries-right left-alone/package-lock own-versions/package-lock hidden/node_modules/.package-lock; do
     checked 0 "$name.json"
 done
 cp -R cases/hidden "$work" && sed -i -f cases/hidden/broken.sed "$work/hidden/node_modules/.package-lock.json"
@@ -87,7 +91,8 @@ for name in no-graph no-node no-package another-format; do checked 2 "cargo/$nam
 
 if python3 -c 'import tomllib' 2> /dev/null; then
     for name in right package empty removed replaced; do checked 0 "cargo-lock/$name/Cargo.lock"; done
-    for name in wrong outside/workspace project root source no-source edges lost unreached beside patches not-replaced exchanged; do
+    for name in wrong outside/workspace project root source no-source edges lost unreached beside patches not-replaced exchanged \
+        features checksums conflicts unreplaced; do
         checked 1 "cargo-lock/$name/Cargo.lock"
     done
     for name in alone no-member zero-path zero-pattern twice newer; do checked 2 "cargo-lock/$name/Cargo.lock"; done
@@ -105,6 +110,37 @@ if python3 -c 'import tomllib' 2> /dev/null; then
     printf '[package]\nname = "a"\n[features]\nx = ["dep:y"]\n' > "$work/right/Cargo.toml"
     refused "check-lock-file: $work/right/Cargo.toml: it is no Cargo.toml: features: x: dep:y isn't there" \
         /dev/null $check "$work/right/Cargo.lock"
+    # refused_by_cargo WHY PACKAGE REST: has a Cargo.toml refused that Cargo refuses.
+    refused_by_cargo() {
+        printf '[package]\nname = "a"\nversion = "0.1.0"\n%b\n%b\n' "$2" "$3" > "$work/right/Cargo.toml"
+        refused "check-lock-file: $work/right/Cargo.toml: it is no Cargo.toml: $1" /dev/null $check "$work/right/Cargo.lock"
+    }
+    refused_by_cargo 'edition 2099 is unknown' 'edition = "2099"' ''
+    refused_by_cargo 'resolver 9 is unknown' 'resolver = "9"' ''
+    refused_by_cargo 'links is there without a build script' 'links = "z"' ''
+    refused_by_cargo 'it has a workspace and names another one' 'workspace = ".."' '[workspace]'
+    refused_by_cargo 'replace and patch are both there' '' '[replace]\n[patch.crates-io]'
+    refused_by_cargo 'target cfg(foo is invalid' '' '[target."cfg(foo".dependencies]'
+    refused_by_cargo 'target foo bar is invalid' '' '[target."foo bar".dependencies]'
+    refused_by_cargo 'features: x requires itself' '' '[features]\nx = ["x"]'
+    refused_by_cargo 'features: x/y has a slash or dep:' '' '[features]\n"x/y" = []'
+    refused_by_cargo "features: x: y/z isn't there" '' '[features]\nx = ["y/z"]'
+    refused_by_cargo 'dev-dependencies: b: it is for development and optional' '' '[dev-dependencies]\nb = { version = "1", optional = true }'
+    refused_dependency() { refused_by_cargo "dependencies: b: $1" '' "[dependencies]\nb = { $2 }"; }
+    refused_dependency 'it has neither a version nor a place' ''
+    refused_dependency 'git and path are both there' 'path = "b", git = "https://example.org/b"'
+    refused_dependency 'git and registry are both there' 'git = "https://example.org/b", registry = "r"'
+    refused_dependency 'branch and tag are both there' 'git = "https://example.org/b", branch = "b", tag = "t"'
+    refused_dependency 'branch is there without git' 'version = "1", branch = "b"'
+    refused_dependency 'feature x/y has a slash or dep:' 'version = "1", features = ["x/y"]'
+    printf '[workspace]\n[dependencies]\n' > "$work/right/Cargo.toml"
+    refused "check-lock-file: $work/right/Cargo.toml: it is no Cargo.toml: dependencies is there without a package" \
+        /dev/null $check "$work/right/Cargo.lock"
+    for line in 'name = "1a"' 'name = "a b"'; do
+        printf '[package]\n%s\n' "$line" > "$work/right/Cargo.toml"
+        refused "check-lock-file: $work/right/Cargo.toml: it is no Cargo.toml: $(echo "$line" | cut -d '"' -f 2) is no name of a package" \
+            /dev/null $check "$work/right/Cargo.lock"
+    done
     cp -R cases/cargo-lock/wrong "$work/[a]*"
     same 'a directory whose name is a pattern' 1 /dev/null cases/cargo-lock/wrong/Cargo.expected /dev/null \
         $fields "$work/[a]*/Cargo.lock"
@@ -124,8 +160,10 @@ checked 1 yarn/classic/yarn.lock --strict
 checked 0 yarn/berry-right/yarn.lock
 checked 1 yarn/berry/yarn.lock
 checked 1 yarn/berry/yarn.lock --strict
-for name in resolution resolutions keys stale stale-berry workspaces-berry; do checked 1 "yarn/$name/yarn.lock"; done
-checked 2 yarn/cut-off/yarn.lock
+for name in resolution resolutions keys stale stale-berry workspaces-berry gone; do checked 1 "yarn/$name/yarn.lock"; done
+for name in asked not-required; do checked 0 "yarn/$name/yarn.lock"; done
+checked 1 yarn/asked/yarn.lock --strict
+for name in cut-off one-name; do checked 2 "yarn/$name/yarn.lock"; done
 if python3 -c 'import yaml' 2> /dev/null; then
     for version in 5 6 9; do
         checked 0 "pnpm/right-$version.yaml"

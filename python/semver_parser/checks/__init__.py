@@ -2,11 +2,11 @@
 `compare-requirements` what changed requirements lose and gain. The programs are public, and these
 modules aren't.
 
-A directory for each family of formats has what it reads: `npm`, `yarn`, `pnpm` and `cargo`. They
-share the files (`files`), the check of a version (`satisfaction`), what there is to say
-(`findings`), the frame of a program (`program`), and how it starts (`entry_points`).
+A tool is a package with an object of `tool.Tool`: `npm`, `yarn`, `pnpm`, `bun`, `deno` and `cargo`.
+It reads its lock file into the model (`model`), which the judge checks (`judge`, `findings`). The
+list in `tools` names each. What the tools of npm's registry share is in `node`.
 
-`check_lock_file` has the options, and `checking` what is done by them: `discovery` finds lock
-files, `lock_files` knows each, `reports` has what a check of one reports, `allowed` takes out known
-findings, and `output` prints the rest as `sentences` and otherwise.
+`check_lock_file` has the options, and `checking` does what they say: `discovery` finds lock files,
+`reports` checks one, `locating` finds lines afterwards, `allowed` takes out known findings, and
+`output` prints the rest. `requirements` is what `compare-requirements` compares.
 """

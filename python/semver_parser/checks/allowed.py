@@ -3,10 +3,9 @@
 import os
 from typing import Dict, Iterator, List, NamedTuple
 
-from .discovery import NAMES
+from .tools import LOCK_FILES
 from .files import STANDARD_INPUT, Refusal, bytes_of, taking, utf8
 from .reports import Report, Unused
-from .sentences import sentence
 
 MARK = " # "
 
@@ -18,7 +17,7 @@ class Line(NamedTuple):
     text: str
 
     def sentences(self) -> Iterator[str]:
-        """What the line may allow: the text before a mark that has a reason after it."""
+        """Yields what the line may allow: the text before a mark that has a reason after it."""
         at = self.text.find(MARK)
         while at >= 0:
             if self.text[at + len(MARK) :].strip():
@@ -27,12 +26,12 @@ class Line(NamedTuple):
 
 
 def short(path: str) -> str:
-    """A path as it is from the current directory, however it was given."""
+    """Returns a path as it is from the current directory, however it was given."""
     return os.path.relpath(path) if path != STANDARD_INPUT else path
 
 
 def lines_of(path: str) -> List[Line]:
-    """The lines of a file of known findings, each of which has to have a reason."""
+    """Returns the lines of a file of known findings, each of which has to have a reason."""
     with taking(path, "list of known findings"):
         text = utf8(bytes_of(path))
     found = []
@@ -54,9 +53,9 @@ def allow(path: str, reports: List[Report]) -> List[Unused]:
     for report in reports:
         before = texts_before(report)
         for finding in [*report.findings, *report.duplicates]:
-            texts = (text + sentence(finding) for text in before)
+            texts = (text + finding.sentence() for text in before)
             used += [known[it] for it in texts if it in known]
-        kept = [it for it in report.listed if not is_known(sentence(it), before, known)]
+        kept = [it for it in report.listed if not is_known(it.sentence(), before, known)]
         report.allowed, report.listed = len(report.listed) - len(kept), kept
     checked = [short(report.name) for report in reports if report.refusal is None]
     return [
@@ -67,20 +66,20 @@ def allow(path: str, reports: List[Report]) -> List[Unused]:
 
 
 def texts_before(report: Report) -> List[str]:
-    """What may be before a sentence of a report: nothing, its file as it is printed, or as it is
-    from the current directory."""
+    """Returns what may be before a sentence of a report: nothing, its file as it is printed, or as
+    it is from the current directory."""
     return list(dict.fromkeys(("", report.before, f"{short(report.name)}: ")))
 
 
 def is_known(text: str, before: List[str], known: Dict[str, Line]) -> bool:
-    """Whether a sentence is allowed, with or without its file before it."""
+    """Returns whether a sentence is allowed, with or without its file before it."""
     return any(it + text in known for it in before)
 
 
 def may_apply_elsewhere(line: Line, checked: List[str], files: int) -> bool:
-    """Whether a line begins with a lock file that wasn't checked, or with none, and one of the
-    files was refused."""
+    """Returns whether a line begins with a lock file that wasn't checked, or with none, and one of
+    the files was refused."""
     path, colon, _ = line.text.partition(": ")
-    if colon and os.path.basename(path.strip('"')) in NAMES:
+    if colon and os.path.basename(path.strip('"')) in LOCK_FILES:
         return short(path.strip('"')) not in checked
     return len(checked) < files

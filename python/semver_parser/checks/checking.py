@@ -8,11 +8,11 @@ from .allowed import allow
 from .closing import closing_line, error_of, total_line
 from .discovery import Discovery, discover
 from .files import STANDARD_INPUT
-from .findings import NOTES, Scope
+from .model import Scope
 from .output import github, json_object, sarif, text, tsv
 from .program import Misuse, Options, Outcome, escaped
 from .progress import Progress
-from .repairs import repair_line
+from .repairs import repair_lines
 from .reports import Report, Results, Wanted, report_on
 
 NAME = "check-lock-file"
@@ -31,7 +31,7 @@ COLORS = ("auto", "always", "never")
 
 
 def format_of(options: Options) -> str:
-    """The format that is asked for."""
+    """Returns the format that is asked for."""
     named = options.given.get("--format", "text")
     if "--json" in options.given:
         if named not in ("text", "json"):
@@ -43,7 +43,7 @@ def format_of(options: Options) -> str:
 
 
 def refuse_several(options: Options, found: Discovery) -> None:
-    """Refuses a package.json that isn't for exactly one file, and standard input for two files."""
+    """Rejects a package.json that isn't for exactly one file, and standard input for two files."""
     named, allowed = options.given.get("--package-json"), options.given.get("--allow")
     if named is not None and (found.is_several or len(found.paths) != 1):
         raise Misuse("--package-json is for exactly one file")
@@ -52,8 +52,8 @@ def refuse_several(options: Options, found: Discovery) -> None:
 
 
 def is_colored(options: Options) -> bool:
-    """Whether sentences are in color: as it is asked for, or else if standard output is a terminal
-    that shows colors, which nobody refused."""
+    """Returns whether sentences are in color: as it is asked for, or else if standard output is a
+    terminal that shows colors, which nobody refused."""
     asked = options.given.get("--color", "auto")
     if asked not in COLORS:
         raise Misuse(f'unknown color: "{asked}"')
@@ -64,17 +64,17 @@ def is_colored(options: Options) -> bool:
 
 
 def reports_on(paths: List[str], options: Options, form: str) -> Iterator[Report]:
-    """What a check of each lock file reports."""
+    """Yields what a check of each lock file reports."""
     scope = Scope("--no-peers" not in options.given, "--no-dev" not in options.given)
     asked = ("--why" in options.given, "--duplicates" in options.given)
-    wanted = Wanted(scope, form in WITH_LINES, *asked)
+    wanted = Wanted(scope, form in WITH_LINES or asked[0], *asked)
     progress = Progress(len(paths))
     try:
         for number, path in enumerate(paths, 1):
             progress.at(number, path)
             report = report_on(path, options.given.get("--package-json"), wanted)
-            is_strict = "--strict" in options.given
-            found = (it for it in report.findings if is_strict or not it.is_strict)
+            report.is_strict = "--strict" in options.given
+            found = (it for it in report.findings if report.is_strict or not it.excuse)
             report.listed = [*found, *report.duplicates]
             yield report
     finally:
@@ -82,17 +82,15 @@ def reports_on(paths: List[str], options: Options, form: str) -> Iterator[Report
 
 
 def notes_of(results: Results, is_quiet: bool) -> Iterator[str]:
-    """What standard error gets of each lock file: its closing line and what repairs it, or why it
-    isn't checked; and the line of all, if there are several."""
+    """Yields what standard error gets of each lock file: its closing line and what repairs it, or
+    why it isn't checked; and the line of all, if there are several."""
     for report in results.reports:
         error = error_of(report)
         if error is not None:
             yield f"{NAME}: {escaped(str(error))}"
         elif not is_quiet:
             yield escaped(closing_line(report))
-            repair = repair_line(report)
-            if repair is not None:
-                yield escaped(repair)
+            yield from map(escaped, repair_lines(report))
     for refusal in results.refusals:
         yield f"{NAME}: {escaped(str(refusal))}"
     if len(results.reports) > 1 and not is_quiet:
@@ -100,11 +98,11 @@ def notes_of(results: Results, is_quiet: bool) -> Iterator[str]:
 
 
 def status_of(results: Results) -> int:
-    """The status: the worst of all files."""
+    """Returns the status: the worst of all files."""
     if results.refusals or any(error_of(it) is not None for it in results.reports):
         return 2
     listed = (finding for it in results.reports for finding in it.listed)
-    return int(bool(results.unused) or any(it.kind not in NOTES for it in listed))
+    return int(bool(results.unused) or any(not it.is_note for it in listed))
 
 
 def check(options: Options) -> Outcome:
@@ -117,6 +115,6 @@ def check(options: Options) -> Outcome:
     named = options.given.get("--allow")
     unused = [] if named is None else allow(named, reports)
     results = Results(reports, found.refusals, unused, found.is_several)
-    lines = list(text.lines(results, True) if in_color else FORMATS[form](results))
+    lines = text.lines(results, True) if in_color else FORMATS[form](results)
     notes = [] if is_quiet else [escaped(note) for note in found.notes]
     return Outcome(lines, [*notes, *notes_of(results, is_quiet)], status_of(results))

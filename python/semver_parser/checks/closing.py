@@ -20,51 +20,55 @@ REASONS = {
     "bundled": ("bundled", "bundled"),
     "outside": ("outside of the project", "outside of the project"),
     "conflicting peer": ("conflicting peer", "conflicting peers"),
+    "override": ("override that npm may leave", "overrides that npm may leave"),
     "no version": ("without a version", "without a version"),
     "missing": ("missing", "missing"),
 }
 
 
 def counted(count: int, one: str, several: str) -> str:
-    """A count with what is counted."""
+    """Returns a count with what is counted."""
     return f"{count:,} {one if count == 1 else several}"
 
 
 def parts_of(report: Report) -> List[str]:
-    """What a closing line has after what was checked."""
-    reasons, tally = report.not_checked(), report.tally
+    """Returns what a closing line has after what was checked."""
+    reasons = report.not_checked()
     parts = []
     if reasons:
         each = sorted(reasons.items(), key=lambda it: (-it[1], it[0]))
         listed = ", ".join(counted(count, *REASONS[reason]) for reason, count in each)
         parts.append(f"{sum(reasons.values()):,} not checked: {listed}")
-    if tally.left_out:
-        parts.append(f"{tally.left_out:,} left out")
+    if report.left_out:
+        parts.append(f"{report.left_out:,} left out")
     if report.allowed:
         parts.append(f"{report.allowed:,} allowed")
-    if tally.from_lock:
-        taken = counted(tally.from_lock, "workspace or link", "workspaces and links")
+    if report.from_lock:
+        taken = counted(report.from_lock, "workspace or link", "workspaces and links")
         parts.append(f"{taken} taken from the lock file")
     return parts
 
 
 def closing_line(report: Report) -> str:
-    """The closing line of a lock file."""
+    """Returns the closing line of a lock file."""
     requirements = counted(report.checked(), "requirement", "requirements")
-    packages = counted(report.tally.packages, "package", "packages")
-    first = f"checked {requirements} of {packages} in {report.name} ({report.tool})"
+    packages = counted(report.packages, "package", "packages")
+    first = f"checked {requirements} of {packages} in {report.name} ({report.tool_name})"
     return "; ".join([first, *parts_of(report)])
 
 
 def total_line(results: Results) -> str:
-    """The line after those of several lock files."""
+    """Returns the line after those of several lock files."""
     reports = [it for it in results.reports if error_of(it) is None]
     requirements = sum(it.checked() for it in reports)
     checked = counted(requirements, "requirement", "requirements")
-    packages = counted(sum(it.tally.packages for it in reports), "package", "packages")
+    packages = counted(sum(it.packages for it in reports), "package", "packages")
     files = counted(len(reports), "file", "files")
     listed = sum(len(it.listed) for it in reports) + len(results.unused)
-    parts = [f"total: {checked} of {packages} in {files}", counted(listed, "finding", "findings")]
+    parts = [f"total: {checked} of {packages} in {files}"]
+    not_checked = sum(sum(it.not_checked().values()) for it in reports)
+    parts += [f"{not_checked:,} not checked"] if not_checked else []
+    parts.append(counted(listed, "finding", "findings"))
     errors = len(results.reports) - len(reports) + len(results.refusals)
     if errors:
         parts.append(counted(errors, "error", "errors"))
@@ -72,15 +76,15 @@ def total_line(results: Results) -> str:
 
 
 def error_of(report: Report) -> Optional[Refusal]:
-    """Why a lock file isn't checked: it is refused, or has nothing that can be checked."""
+    """Returns why a lock file isn't checked: it is refused, or has nothing that can be checked."""
     if report.refusal is None and report.is_unchecked():
         return Refusal(report.path, unchecked_line(report))
     return report.refusal
 
 
 def unchecked_line(report: Report) -> str:
-    """Why it is an error that nothing was checked."""
-    requirements = counted(report.tally.requirements, "requirement", "requirements")
-    packages = counted(report.tally.packages, "package", "packages")
-    first = f"nothing was checked of {requirements} and {packages} ({report.tool})"
+    """Returns why it is an error that nothing was checked."""
+    requirements = counted(report.requirements, "requirement", "requirements")
+    packages = counted(report.packages, "package", "packages")
+    first = f"nothing was checked of {requirements} and {packages} ({report.tool_name})"
     return "; ".join([first, *parts_of(report)])

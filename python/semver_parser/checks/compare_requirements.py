@@ -40,7 +40,7 @@ def compare(options: Options) -> Outcome:
 
 
 def takes(options: Options) -> bool:
-    """Whether the program is called with as many files as it takes."""
+    """Returns whether the program is called with as many files as it takes."""
     if "--git" in options.given:
         return len(options.files) in (1, 2)
     return len(options.files) == 2 and options.files != ["-", "-"]

@@ -12,12 +12,12 @@ NAME = "compare-requirements"
 
 
 def shown(text: Optional[str]) -> str:
-    """A requirement as it is printed: the empty one in quotes."""
+    """Returns a requirement as it is printed: the empty one in quotes."""
     return text or '""'
 
 
 def lines_of(it: Change) -> Iterator[str]:
-    """The lines of a change."""
+    """Yields the lines of a change."""
     table = it.table if it.new_table is None else f"{it.table} -> {it.new_table}"
     if it.old is None or it.new is None:
         yield f"{it.name} ({table}): {it.note} {shown(it.new if it.old is None else it.old)}"

@@ -8,7 +8,7 @@ import sys
 from contextlib import contextmanager
 from typing import Any, Dict, Iterator, List, NoReturn
 
-from .toml_text import of_1_0
+from .toml_text import toml_1_0
 from .yaml_events import Repeated, Unusual, documents_by_nodes, documents_of
 
 Entry = Dict[str, Any]
@@ -28,7 +28,7 @@ UTF_16 = re.compile(rb"\xff\xfe|\xfe\xff|\0[^\0]|[^\0]\0", re.S)
 
 
 def name_of(path: str) -> str:
-    """A file as it is named in lines."""
+    """Returns a file as it is named in lines."""
     return "standard input" if path == STANDARD_INPUT else path
 
 
@@ -52,7 +52,7 @@ class WrongShape(Exception):
 
 
 def bytes_of(path: str) -> bytes:
-    """What a file holds, or standard input, after a byte order mark."""
+    """Returns what a file holds, or standard input, after a byte order mark."""
     if path != STANDARD_INPUT:
         try:
             with open(path, "rb") as file:
@@ -65,14 +65,14 @@ def bytes_of(path: str) -> bytes:
 
 
 def unmarked(text: bytes) -> bytes:
-    """A text without a byte order mark. UTF-16 is refused."""
+    """Returns a text without a byte order mark. UTF-16 is refused."""
     if UTF_16.match(text):
         raise Unreadable("it is in UTF-16, not in UTF-8")
     return text.removeprefix(BYTE_ORDER_MARK)
 
 
 def is_there(path: str) -> bool:
-    """Whether there is something at a path. What can't be known is an error."""
+    """Returns whether there is something at a path. What can't be known is an error."""
     try:
         os.stat(path)
     except ValueError:
@@ -105,12 +105,12 @@ def taking(path: str, what: str) -> Iterator[None]:
 
 
 def refuse_constant(name: str) -> NoReturn:
-    """Refuses what Python reads as JSON, and JSON hasn't."""
+    """Rejects what Python reads as JSON, and JSON hasn't."""
     raise ValueError(f"{name} isn't JSON")
 
 
 def refuse_conflict(text: bytes) -> None:
-    """Refuses a file in which git left a conflict."""
+    """Rejects a file in which git left a conflict."""
     found = CONFLICT.search(text) if b"<<<<<<< " in text else None
     if found is not None:
         line = text.count(b"\n", 0, found.end()) + 1
@@ -118,7 +118,7 @@ def refuse_conflict(text: bytes) -> None:
 
 
 def json_object(text: bytes) -> Entry:
-    """The object that a text of JSON is."""
+    """Returns the object that a text of JSON is."""
     whole = utf8(text)
     try:
         value = json.loads(whole, parse_constant=refuse_constant)
@@ -130,7 +130,7 @@ def json_object(text: bytes) -> Entry:
 
 
 def toml_object(text: bytes) -> Entry:
-    """The table that a text of TOML is."""
+    """Returns the table that a text of TOML is."""
     try:
         import tomllib
     except ImportError:
@@ -138,7 +138,7 @@ def toml_object(text: bytes) -> Entry:
     whole, why = utf8(text), ""
     for is_1_1 in (False, True):
         try:
-            return tomllib.loads(of_1_0(whole) if is_1_1 else whole)
+            return tomllib.loads(toml_1_0(whole) if is_1_1 else whole)
         except tomllib.TOMLDecodeError as error:
             why = f": {error}"
         except ValueError:
@@ -147,8 +147,8 @@ def toml_object(text: bytes) -> Entry:
 
 
 def yaml_objects(text: bytes) -> List[Entry]:
-    """The mappings that the documents of a text of YAML are. Their scalars are texts, as `1.10` has
-    to be."""
+    """Returns the mappings that the documents of a text of YAML are. Their scalars are texts, as
+    `1.10` has to be."""
     try:
         import yaml
     except ImportError:
@@ -169,7 +169,7 @@ def yaml_objects(text: bytes) -> List[Entry]:
 
 
 def yaml_object(text: bytes) -> Entry:
-    """The mapping that the one document of a text of YAML is."""
+    """Returns the mapping that the one document of a text of YAML is."""
     documents = yaml_objects(text)
     if len(documents) > 1:
         raise WrongShape(": it has several documents")
@@ -177,7 +177,7 @@ def yaml_object(text: bytes) -> Entry:
 
 
 def utf8(text: bytes) -> str:
-    """The text that bytes are."""
+    """Returns the text that bytes are."""
     refuse_conflict(text)
     try:
         return text.decode("utf-8")
@@ -190,14 +190,14 @@ def utf8(text: bytes) -> str:
 
 
 def object_at(value: Any, where: str) -> Entry:
-    """An object of a file."""
+    """Returns an object of a file."""
     if isinstance(value, dict):
         return value
     raise WrongShape(f": {where} isn't an object")
 
 
 def objects_at(value: Any, where: str) -> Dict[str, Entry]:
-    """An object of a file that holds objects."""
+    """Returns an object of a file that holds objects."""
     entries = object_at(value, where)
     for key, entry in entries.items():
         if not isinstance(entry, dict):
@@ -206,7 +206,7 @@ def objects_at(value: Any, where: str) -> Dict[str, Entry]:
 
 
 def texts_at(value: Any, where: str) -> Dict[str, str]:
-    """An object of a file that holds texts."""
+    """Returns an object of a file that holds texts."""
     entries = object_at(value, where)
     for key, entry in entries.items():
         if not isinstance(entry, str):
@@ -215,14 +215,14 @@ def texts_at(value: Any, where: str) -> Dict[str, str]:
 
 
 def list_at(value: Any, where: str) -> List[Any]:
-    """A list of a file."""
+    """Returns a list of a file."""
     if isinstance(value, list):
         return value
     raise WrongShape(f": {where} isn't a list")
 
 
 def text_at(value: Any, where: str) -> str:
-    """A text of a file."""
+    """Returns a text of a file."""
     if isinstance(value, str):
         return value
     raise WrongShape(f": {where} isn't a text")

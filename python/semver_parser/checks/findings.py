@@ -1,89 +1,514 @@
-"""A finding of a lock file, in parts that every output has, and how much was looked at."""
+"""What there is to say of a lock file: a class for each kind of finding, with its sentence.
 
-from dataclasses import dataclass, field
-from enum import Enum
-from typing import Callable, Dict, List, NamedTuple, Tuple
+A finding is about a requirement, or about a package. `record` has its parts for the outputs that
+have fields. What only counts with `--strict` has an `excuse`. What no command of its tool repairs
+has an `advice`, and if it makes the command fail it is blocking.
+"""
 
-PROJECT = "the project"
-"""The project itself, where it requires something."""
+from dataclasses import dataclass
+from typing import ClassVar, Dict, List, NamedTuple, Optional, Tuple, Type, TypeVar
 
-Keys = Tuple[str, ...]
-"""The keys in a file that lead to an entry of it."""
+from .model import PROJECT, Keys, Package, Requirement
+from .wording import PACKAGE, RANGE, VERSION, Paint, escaped, plain, quoted
 
-Graph = Dict[str, List[str]]
-"""What the project, its workspaces and each package lead to, named as what requires something."""
-
-
-class Kind(str, Enum):
-    """What there is to say of a version or of a requirement, in a word."""
-
-    UNSATISFIED = "unsatisfied"
-    OVERRIDDEN = "overridden"
-    CONFLICT = "conflict"
-    ANOTHER_PACKAGE = "another-package"
-    ANOTHER_VERSION = "another-version"
-    ANOTHER_SOURCE = "another-source"
-    INVALID_VERSION = "invalid-version"
-    INVALID_RANGE = "invalid-range"
-    MISSING = "missing"
-    NOT_REQUIRED = "not-required"
-    STALE = "stale"
-    NOT_CHECKED = "not-checked"
-    DUPLICATE = "duplicate"
-    DIFFERENT_RANGE = "different-range"
+F = TypeVar("F", bound="Finding")
 
 
-# What is listed on demand, and isn't wrong.
-NOTES = (Kind.DUPLICATE, Kind.DIFFERENT_RANGE)
+class Record(NamedTuple):
+    """The parts of a finding, each None if it has none. The manual describes them."""
+
+    package: Optional[str] = None
+    version: Optional[str] = None
+    place: Optional[str] = None
+    range: Optional[str] = None
+    dependency: Optional[str] = None
+    alias: Optional[str] = None
+    requirer: Optional[str] = None
+    requirer_version: Optional[str] = None
+    reason: Optional[str] = None
 
 
-class Finding(NamedTuple):
-    """What there is to say of a requirement, or of a package.
+class Finding:
+    """What there is to say of a requirement or of a package: the word of its kind, what that means,
+    and its sentence, in which names in braces are for parts."""
 
-    A requirement has a `requirer`, of which some files have the version, too. It requires a
-    `range`, or what is no range, under the name `dependency`, which Cargo's code may know by an
-    `alias`. The package that is there has a name, a version and a place, as far as the file has
-    them. `at` leads to the package, or to the requirer if there is none. What only counts with
-    `--strict` says so, and by a `reason` why it isn't checked; of a package that says what it is,
-    or what has the other version. What is stale has what the manifest has as its `range`, and what
-    the lock file was written for as its `version`.
-    """
+    kind: ClassVar[str]
+    title: ClassVar[str]
+    text: ClassVar[str]
+    is_note: ClassVar[bool] = False
+    is_wrong_package: ClassVar[bool] = False
 
-    kind: Kind
-    range: str = ""
-    version: str = ""
-    requirer: str = ""
-    dependency: str = ""
-    package: str = ""
-    place: str = ""
-    alias: str = ""
-    requirer_version: str = ""
+    excuse = ""
+    advice = ""
+    is_blocking = False
     at: Keys = ()
-    is_strict: bool = False
-    reason: str = ""
 
     @property
-    def who(self) -> str:
-        """Who requires something, with its version if the file has it."""
-        version = f" {self.requirer_version}" if self.requirer_version else ""
-        return self.requirer + version
+    def record(self) -> Record:
+        """The parts of the finding, as outputs with fields have them."""
+        raise NotImplementedError
+
+    @property
+    def about(self) -> str:
+        """The label of what the path of `--why` leads to."""
+        raise NotImplementedError
+
+    def parts(self, paint: Paint) -> Dict[str, str]:
+        """Returns the parts of the sentence, painted."""
+        raise NotImplementedError
+
+    def sentence(self, paint: Paint = plain) -> str:
+        """Returns the sentence of the finding, whose parts are painted."""
+        return self.text.format(**self.parts(paint))
+
+    def advised(self: F, advice: str, is_blocking: bool) -> F:
+        """Returns the finding, which no command repairs, with what to change instead."""
+        self.advice, self.is_blocking = advice, is_blocking
+        return self
+
+    def excused(self: F, reason: str) -> F:
+        """Returns the finding, which only counts with `--strict` if there is a reason."""
+        self.excuse = reason
+        return self
+
+    @property
+    def group(self) -> str:
+        """The name of the package by which sentences are grouped."""
+        return self.record.package or self.record.dependency or ""
 
 
-class Scope(NamedTuple):
-    """Which requirements are looked at: also those for peers, and those for development."""
-
-    has_peers: bool = True
-    has_development: bool = True
+def place_of(place: str) -> str:
+    """Returns a path or a name as a sentence has it: the project has no quotes."""
+    return PROJECT if place == PROJECT else quoted(place)
 
 
-@dataclass
-class Tally:
-    """How much of a file was looked at: its requirements, and how many were left out by the scope,
-    its packages, and the workspaces and links that were taken from the lock file; and what makes
-    the graph of its requirements."""
+def or_missing(text: str) -> str:
+    """Returns a text of a manifest or a lock file, which may not be there."""
+    return quoted(text) if text else "missing"
 
-    requirements: int = 0
-    left_out: int = 0
-    packages: int = 0
-    from_lock: int = 0
-    graph: Callable[[], Graph] = field(default=dict, repr=False)
+
+# ---- about a requirement
+
+
+@dataclass(eq=False)
+class OfRequirement(Finding):
+    """A finding about a requirement. Some have a package that is found for it."""
+
+    requirement: Requirement
+
+    def __post_init__(self) -> None:
+        """Has the finding lead to the package that is found, or else to the requirer."""
+        self.at = (self.found.at if self.found else ()) or self.requirement.requirer.at
+
+    @property
+    def found(self) -> Optional[Package]:
+        """The package that the finding is about."""
+        return None
+
+    @property
+    def range(self) -> str:
+        """The range, or what else is required."""
+        return self.requirement.specifier
+
+    @property
+    def about(self) -> str:
+        """The label of the requirer."""
+        return self.requirement.requirer.label
+
+    @property
+    def record(self) -> Record:
+        """The parts of the finding."""
+        it, found = self.requirement, self.found or Package(None, None)
+        return Record(
+            found.name or None,
+            found.version or None,
+            found.place or (PROJECT if found.is_own else None),
+            self.range,
+            it.name,
+            it.alias or None,
+            it.requirer.name,
+            it.requirer.version or None,
+            self.excuse or None,
+        )
+
+    def parts(self, paint: Paint) -> Dict[str, str]:
+        """Returns the parts of the sentence, the requirer last."""
+        it, who, found = self.requirement, self.requirement.requirer, self.found
+        own_name = found.name if found is not None else None
+        name = paint(quoted(own_name or it.name), PACKAGE)
+        version = found.version if found is not None else None
+        requirer = place_of(who.name) + (f" {quoted(who.version)}" if who.version else "")
+        is_renamed = bool(it.alias) or bool(own_name and own_name != it.name)
+        known_as = f" as {quoted(it.alias or it.name)}" if is_renamed else ""
+        return {
+            "name": name,
+            "found": f"{name} {paint(quoted(version), VERSION)}" if version else name,
+            "range": paint(quoted(self.range), RANGE),
+            "excuse": self.excuse,
+            "requirer": requirer,
+            "required": f"required{known_as} by {requirer}",
+        }
+
+
+@dataclass(eq=False)
+class OfFound(OfRequirement):
+    """A finding about what the lock file has for a requirement, and the specifier that counted."""
+
+    package_found: Optional[Package]
+    specifier: str
+
+    @property
+    def found(self) -> Optional[Package]:
+        """The package that is there."""
+        return self.package_found
+
+    @property
+    def range(self) -> str:
+        """The specifier that counted."""
+        return self.specifier
+
+
+class Unsatisfied(OfFound):
+    """A version that doesn't satisfy what is required."""
+
+    kind, title = "unsatisfied", "A version does not satisfy what is required"
+    text = "{found} does not satisfy {range}, {required}"
+
+
+class Overridden(OfFound):
+    """A version that doesn't satisfy what an override puts in place of a requirement."""
+
+    kind, title = "overridden", "A version does not satisfy what an override requires"
+    text = "{found} does not satisfy the override {range}, {required}"
+
+
+class AnotherPackage(OfFound):
+    """A package of another name than that which is required."""
+
+    kind, title = "another-package", "There is another package than is required"
+    text = "{found} is not the package of {range}, {required}"
+    is_wrong_package = True
+
+
+class AnotherSource(OfFound):
+    """A package from another source than that which is required."""
+
+    kind, title = "another-source", "A package comes from another source than is required"
+    text = "{found} comes from another source than {range}, {required}"
+
+
+class InvalidRange(OfFound):
+    """A requirement that its tool doesn't read."""
+
+    kind, title = "invalid-range", "A range is invalid"
+    text = "{found} cannot be checked: {range} is an invalid range, {required}"
+    advice, is_blocking = "correct the range where it is required", True
+
+
+class NoVersion(OfFound):
+    """A package without a valid version, which is required by a range."""
+
+    kind, title = "invalid-version", "A version is invalid"
+    text = "{name} has no version for {range}, {required}"
+    advice = "give the package a valid version"
+
+
+class NotChecked(OfFound):
+    """A requirement that isn't a range."""
+
+    kind, title = "not-checked", "A requirement is not checked"
+    text = "{found} is not checked against {range} ({excuse}), {required}"
+
+
+class Missing(OfRequirement):
+    """A requirement for which the lock file has nothing."""
+
+    kind, title = "missing", "A required package is missing"
+    text = "{name} {range} is missing, {required}"
+
+
+@dataclass(eq=False)
+class MissingFeature(OfFound):
+    """A feature that is required of a package, which doesn't have it. The specifier is its name."""
+
+    kind, title = Missing.kind, Missing.title
+    text = "the feature {range} of {found} is missing, {required}"
+    advice, is_blocking = "correct the features in the manifests", True
+
+
+class NotRequired(OfRequirement):
+    """What the lock file has for a requirer, which doesn't require it."""
+
+    kind, title = "not-required", "Nothing requires a package"
+    text = "{found} is in the graph, but not required by {requirer}"
+
+    @property
+    def found(self) -> Optional[Package]:
+        """The package that is there."""
+        return self.requirement.found
+
+    @property
+    def record(self) -> Record:
+        """The parts of the finding."""
+        return super().record._replace(range=None)
+
+
+@dataclass(eq=False)
+class Conflict(OfRequirement):
+    """An override of what the project itself requires otherwise."""
+
+    override: str
+
+    kind, title = "conflict", "An override is not what the project requires"
+    text = "the override {override} of {name} conflicts with {stated}, {required}"
+    advice, is_blocking = "have the override and the requirement say the same", True
+
+    @property
+    def record(self) -> Record:
+        """The parts of the finding."""
+        stated = self.requirement.specifier
+        return super().record._replace(range=self.override, version=stated)
+
+    def parts(self, paint: Paint) -> Dict[str, str]:
+        """Returns the parts of the sentence."""
+        override, stated = paint(quoted(self.override), RANGE), quoted(self.requirement.specifier)
+        return {**super().parts(paint), "override": override, "stated": stated}
+
+
+@dataclass(eq=False)
+class Stale(OfRequirement):
+    """A requirement of a manifest for which the lock file wasn't written."""
+
+    stated: str
+    locked: str
+    file: str
+
+    kind, title = "stale", "The lock file was written for something else"
+    text = "{name} is {stated} in {file}, and {locked} in the lock file, {required}"
+
+    @property
+    def record(self) -> Record:
+        """The parts of the finding."""
+        version = self.locked or None
+        return super().record._replace(range=self.stated, version=version, reason=self.file)
+
+    def parts(self, paint: Paint) -> Dict[str, str]:
+        """Returns the parts of the sentence."""
+        stated, locked = or_missing(self.stated), or_missing(self.locked)
+        return {**super().parts(paint), "stated": stated, "locked": locked, "file": self.file}
+
+
+@dataclass(eq=False)
+class DifferentRange(OfRequirement):
+    """A requirement by another range than that of the project or another workspace."""
+
+    other: Requirement
+
+    kind, title = "different-range", "Workspaces require a package by different ranges"
+    text = "{name} {range} differs from {other}, {required}"
+    is_note = True
+
+    def __post_init__(self) -> None:
+        """Has the finding lead to no entry of the lock file."""
+
+    @property
+    def record(self) -> Record:
+        """The parts of the finding."""
+        other = self.other
+        return super().record._replace(version=other.specifier, reason=other.requirer.name)
+
+    def parts(self, paint: Paint) -> Dict[str, str]:
+        """Returns the parts of the sentence."""
+        other = f"{quoted(self.other.specifier)} of {place_of(self.other.requirer.name)}"
+        return {**super().parts(paint), "other": other}
+
+
+# ---- about a package
+
+
+@dataclass(eq=False)
+class OfPackage(Finding):
+    """A finding about a package by itself. Some have what else is there, or what it is."""
+
+    it: Package
+    other: str = ""
+    what: str = ""
+
+    def __post_init__(self) -> None:
+        """Has the finding lead to the package."""
+        self.at = self.it.at
+
+    @property
+    def about(self) -> str:
+        """The place of the package, or else its name."""
+        return self.it.place or (PROJECT if self.it.is_own else self.it.name or "")
+
+    @property
+    def record(self) -> Record:
+        """The parts of the finding."""
+        it = self.it
+        other, what = self.other or None, self.what or None
+        return Record(it.name or None, it.version, self.about or None, other, reason=what)
+
+    def parts(self, paint: Paint) -> Dict[str, str]:
+        """Returns the parts of the sentence."""
+        name, version, where = self.it.name, self.it.version, place_of(self.about)
+        package = paint(quoted(name) if name else where, PACKAGE)
+        return {
+            "found": package if version is None else f"{package} {paint(quoted(version), VERSION)}",
+            "other": paint(quoted(self.other), RANGE),
+            "what": self.what,
+            "where": where,
+            "inside": "" if name in (None, "", self.about) else f", in {where}",
+        }
+
+
+class InvalidVersion(OfPackage):
+    """A package whose version its tool doesn't read."""
+
+    kind, title = NoVersion.kind, NoVersion.title
+    text = "{found} has an invalid version{inside}"
+    advice = "correct the version of the package"
+
+
+class TwoVersions(OfPackage):
+    """An entry whose archive is that of another version, or has another version itself."""
+
+    kind, title = "another-version", "An entry has two versions"
+    text = "{found} does not match {other} of the same entry{inside}"
+    advice = "remove the entry, and have it written anew"
+
+
+class ManifestVersion(TwoVersions):
+    """A package whose manifest has another version."""
+
+    text = "{found} does not match {other} of its {what}{inside}"
+    advice = ""
+
+
+class TwoPackages(TwoVersions):
+    """An entry whose archive is that of another package."""
+
+    kind, title = AnotherPackage.kind, AnotherPackage.title
+    is_wrong_package = True
+    advice = ""
+
+
+class Unreached(OfPackage):
+    """A package to which nothing leads."""
+
+    kind, title = NotRequired.kind, NotRequired.title
+    text = "{found} is there, but nothing requires it"
+
+
+class NotPatched(OfPackage):
+    """A package in place of which a patch has another one."""
+
+    kind, title = AnotherSource.kind, AnotherSource.title
+    text = "{found} comes from another source than the patch {other}"
+
+
+class NotReplaced(OfPackage):
+    """A package that was replaced by another one, which nothing requires any more."""
+
+    kind, title = NotRequired.kind, NotRequired.title
+    text = "{found} is replaced, but nothing requires that"
+
+
+class WrongChecksum(OfPackage):
+    """A package whose checksum is missing or can't be right, and why."""
+
+    kind, title = "checksum", "A checksum is missing or invalid"
+    text = "{found} has {what}"
+
+
+class OwnConflict(OfPackage):
+    """A package whose manifest conflicts with itself or another one, and how."""
+
+    kind, title = Conflict.kind, Conflict.title
+    text = "{found} {what}"
+    advice, is_blocking = "correct the manifests: no lock file is right for them", True
+
+
+class MissingMember(OfPackage):
+    """A member of the workspace that the lock file lacks."""
+
+    kind, title = Missing.kind, Missing.title
+    text = "{found} is missing, a member of the workspace{inside}"
+
+
+class MissingEntry(MissingMember):
+    """A package that the lock file lacks, and what it is."""
+
+    text = "{found} is missing, {what}"
+
+
+class MissingTarget(MissingMember):
+    """A link to a directory that isn't there."""
+
+    text = "{other} is missing, the target of the link {where}"
+    advice, is_blocking = "remove the entry of the link", True
+
+
+@dataclass(eq=False)
+class StaleSetting(Finding):
+    """A setting of a project for which the lock file wasn't written."""
+
+    name: str
+    stated: str
+    locked: str
+    file: str
+    at: Keys = ()
+
+    kind, title = Stale.kind, Stale.title
+    text = "{name} is {stated} in {file}, and {locked} in the lock file"
+
+    @property
+    def about(self) -> str:
+        """The name of the setting."""
+        return self.name
+
+    @property
+    def record(self) -> Record:
+        """The parts of the finding."""
+        locked, stated = self.locked or None, self.stated or None
+        return Record(None, locked, self.name, stated, reason=self.file)
+
+    def parts(self, paint: Paint) -> Dict[str, str]:
+        """Returns the parts of the sentence."""
+        stated, locked = or_missing(self.stated), or_missing(self.locked)
+        return {"name": quoted(self.name), "stated": stated, "locked": locked, "file": self.file}
+
+
+@dataclass(eq=False)
+class Duplicate(Finding):
+    """A package of which there are several versions."""
+
+    name: str
+    versions: Tuple[str, ...]
+    at: Keys = ()
+
+    kind, title = "duplicate", "A package is there in several versions"
+    text = "{name} is there in several versions: {versions}"
+    is_note = True
+
+    @property
+    def about(self) -> str:
+        """The name of the package."""
+        return self.name
+
+    @property
+    def record(self) -> Record:
+        """The parts of the finding."""
+        return Record(self.name or None, ", ".join(self.versions), self.name or None)
+
+    def parts(self, paint: Paint) -> Dict[str, str]:
+        """Returns the parts of the sentence."""
+        return {"name": quoted(self.name), "versions": escaped(", ".join(self.versions))}
+
+
+CLASSES: List[Type[Finding]] = [
+    Unsatisfied, Overridden, Conflict, AnotherPackage, TwoVersions, AnotherSource, InvalidVersion,
+    InvalidRange, Missing, WrongChecksum, NotRequired, Stale, NotChecked, Duplicate, DifferentRange,
+]  # fmt: skip
+"""A class for each kind, in the order in which the manual describes them."""

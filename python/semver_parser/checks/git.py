@@ -21,7 +21,7 @@ def run(arguments: List[str], directory: str) -> "subprocess.CompletedProcess[by
 
 
 def output_of(arguments: List[str], directory: str) -> Tuple[Optional[bytes], str]:
-    """What git prints in a directory; if it fails None, and why."""
+    """Returns what git prints in a directory; if it fails None, and why."""
     try:
         done = run(arguments, directory)
     except OSError as error:
@@ -30,13 +30,19 @@ def output_of(arguments: List[str], directory: str) -> Tuple[Optional[bytes], st
 
 
 def said_by(done: "subprocess.CompletedProcess[bytes]") -> str:
-    """What git said on standard error, in a line."""
+    """Returns what git said on standard error, in a line."""
     return " ".join(done.stderr.decode("utf-8", "replace").split())
 
 
+def top_of(directory: str) -> Optional[str]:
+    """Returns the top of the work tree that a directory is in, if it is in one."""
+    shown, _ = output_of(["rev-parse", "--show-toplevel"], directory)
+    return None if shown is None else os.fsdecode(shown.rstrip(b"\n")) or None
+
+
 def files_in_work_tree(directory: str) -> Optional[List[str]]:
-    """The files below a directory that git doesn't ignore; None outside of its work trees, and
-    without git. What git refuses to list is refused: it can't be known what it ignores."""
+    """Returns the files below a directory that git doesn't ignore; None outside of its work trees,
+    and without git. What git refuses to list is refused: it can't be known what it ignores."""
     try:
         done = run(["ls-files", "-z", "-co", "--exclude-standard"], directory)
     except OSError:
@@ -55,12 +61,12 @@ def files_in_work_tree(directory: str) -> Optional[List[str]]:
 
 
 def paths_of(listed: bytes) -> List[str]:
-    """Paths that git ends by a zero byte."""
+    """Returns paths that git ends by a zero byte."""
     return [os.fsdecode(it) for it in listed.split(b"\0") if it]
 
 
 def nearest(path: str) -> Tuple[str, str]:
-    """The nearest directory of a path that is there, and the path from it on."""
+    """Returns the nearest directory of a path that is there, and the path from it on."""
     directory, name = os.path.split(path)
     while directory and not os.path.isdir(directory):
         directory, inner = os.path.split(directory)
@@ -69,8 +75,8 @@ def nearest(path: str) -> Tuple[str, str]:
 
 
 def in_revision(revision: str, path: str) -> Optional[bytes]:
-    """What a file holds in a revision; None if that lacks it. The directory of the file may be gone
-    now."""
+    """Returns what a file holds in a revision; None if that lacks it. The directory of the file may
+    be gone now."""
     directory, name = nearest(path)
     refuse_unknown(revision, path, directory)
     listed, why = output_of(
@@ -85,7 +91,7 @@ def in_revision(revision: str, path: str) -> Optional[bytes]:
 
 
 def refuse_unknown(revision: str, path: str, directory: str) -> None:
-    """Refuses a revision that git doesn't know."""
+    """Rejects a revision that git doesn't know."""
     known, why = output_of(
         ["rev-parse", "--quiet", "--verify", "--end-of-options", f"{revision}^{{tree}}"], directory
     )
@@ -94,8 +100,8 @@ def refuse_unknown(revision: str, path: str, directory: str) -> None:
 
 
 def changed_below(old: str, new: Optional[str], directory: str) -> List[str]:
-    """The files below a directory, from it on, that differ between two revisions, or between one
-    and what git knows of the work tree."""
+    """Returns the files below a directory, from it on, that differ between two revisions, or
+    between one and what git knows of the work tree."""
     top, name = nearest(os.path.join(directory, ""))
     revisions = [old] if new is None else [old, new]
     options = ["-z", "--name-only", "--no-renames", "--no-ext-diff", "--relative"]
@@ -106,12 +112,12 @@ def changed_below(old: str, new: Optional[str], directory: str) -> List[str]:
 
 
 def from_on(name: str, paths: List[str]) -> List[str]:
-    """Paths below a directory of this name, from it on."""
+    """Returns paths below a directory of this name, from it on."""
     return [os.path.relpath(it, name) if name else it for it in paths]
 
 
 def below_in_revision(revision: str, directory: str) -> List[str]:
-    """The files below a directory in a revision, from it on."""
+    """Returns the files below a directory in a revision, from it on."""
     top, name = nearest(os.path.join(directory, ""))
     refuse_unknown(revision, directory, top)
     listed, _ = output_of(["ls-tree", "-r", "-z", "--name-only", revision, f"./{name}"], top)

@@ -3,7 +3,8 @@
 from collections import deque
 from typing import Dict, List, Optional
 
-from .findings import PROJECT, Finding, Graph
+from .findings import Finding, OfRequirement
+from .model import PROJECT, Graph
 
 
 class Paths:
@@ -22,15 +23,17 @@ class Paths:
                     left.append(it)
 
     def path_to(self, finding: Finding) -> List[str]:
-        """The path to what is required, or to a package of which there is something to say. Nothing
-        leads to what isn't in the graph."""
-        last = finding.who or finding.place
-        if last not in self.before and not finding.who:
-            last = f"{finding.package} {finding.version}".rstrip()
+        """Returns the path to what is required, or to a package of which there is something to say.
+        Nothing leads to what isn't in the graph."""
+        last, record = finding.about, finding.record
+        label = f"{record.package or ''} {record.version or ''}".rstrip()
+        if last not in self.before and record.package and record.requirer is None:
+            last = label
         path = [last]
         at = self.before.get(last)
         while at is not None:
             path.append(at)
             at = self.before.get(at)
         path.reverse()
-        return [*path, finding.dependency] if finding.who else path
+        is_required = isinstance(finding, OfRequirement)
+        return [*path, finding.requirement.name] if is_required else path

@@ -6,7 +6,7 @@ import os
 import re
 import signal
 import sys
-from typing import Callable, Dict, List, NamedTuple, Tuple
+from typing import Callable, Dict, Iterable, List, NamedTuple, Tuple
 
 from .. import __version__
 from .files import STANDARD_INPUT, Refusal
@@ -25,22 +25,23 @@ CONTROL = re.compile("[\0-\x1f\x7f-\x9f\u061c\u200e\u200f\u2028-\u202e\u2066-\u2
 
 
 def visible(text: str) -> str:
-    """A text in which control characters are written as JSON may write them."""
+    """Returns a text in which control characters are written as JSON may write them."""
     return CONTROL.sub(lambda it: in_json(it.group()), text)
 
 
 def in_json(character: str) -> str:
-    """A control character as JSON may write it."""
+    """Returns a control character as JSON may write it."""
     return json.dumps(character)[1:-1] if character < " " else f"\\u{ord(character):04x}"
 
 
 def escaped(text: str) -> str:
-    """A text in which backslashes and control characters are written as JSON may write them."""
+    """Returns a text in which backslashes and control characters are written as JSON may write
+    them."""
     return visible(text.replace("\\", "\\\\"))
 
 
 def joined(*fields: str) -> str:
-    """A line of fields, separated by tabs."""
+    """Returns a line of fields, separated by tabs."""
     return "\t".join(escaped(field) for field in fields)
 
 
@@ -66,7 +67,7 @@ class Options(NamedTuple):
 class Outcome(NamedTuple):
     """What a program prints on standard output and on standard error, and its status."""
 
-    lines: List[str]
+    lines: Iterable[str]
     notes: List[str]
     status: int
 
@@ -86,8 +87,8 @@ class Program(NamedTuple):
 def read_arguments(
     arguments: List[str], options: Dict[str, bool]
 ) -> Tuple[List[str], Dict[str, str]]:
-    """The files that are named, and the options, each with its value. Of those for help and the
-    version there is no more to know than that one is there."""
+    """Returns the files that are named, and the options, each with its value. Of those for help and
+    the version there is no more to know than that one is there."""
     files: List[str] = []
     given: Dict[str, str] = {}
     left = iter(arguments)
@@ -139,7 +140,7 @@ def run(program: Program, arguments: List[str]) -> int:
 
 
 def outcome_of(program: Program, arguments: List[str]) -> Outcome:
-    """What a program does by its arguments."""
+    """Returns what a program does by its arguments."""
     files, given = read_arguments(arguments, program.options)
     if "--help" in given:
         return Outcome([program.page], [], 0)

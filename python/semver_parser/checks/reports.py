@@ -1,39 +1,51 @@
 """What a check of one lock file reports."""
 
 from dataclasses import dataclass, field
-from typing import Dict, List, NamedTuple, Optional, Tuple
+from typing import Dict, List, NamedTuple, Optional, Set, Tuple
 
 from .duplicates import duplicates_in
 from .files import STANDARD_INPUT, Refusal, bytes_of, name_of, taking
-from .findings import Finding, Keys, Kind, Scope, Tally
-from .lines import lines_at
-from .lock_files import Input, findings
-from .manifest_lines import Position, positions_of
+from .findings import Finding, Missing
+from .judge import judge
+from .locating import lines_at, statement_lines
+from .model import Keys, LockFile, Scope
 from .paths import Paths
-from .sentences import quoted
+from .tool import Input, Statement, Tool
+from .tools import tool_for
+from .wording import quoted
 
 # Why what is in directories of the project isn't checked.
 OWN = {"path", "link", "workspace"}
 
 
-@dataclass
-class Report:
-    """A lock file, the tool that wrote it, what there is to say of it, what of that is listed, what
-    is listed on demand and isn't wrong, how much is allowed, how much was looked at, the lines of
-    its entries, those of manifests and the paths from the project if they were looked for, and why
-    it is refused, if it is."""
+class Position(NamedTuple):
+    """A file, and a line of it, if that is known."""
 
     path: str
-    tool: str = ""
+    line: Optional[int]
+
+
+@dataclass
+class Report:
+    """A lock file and the tool that wrote it; the findings, those of them that are listed, and how
+    many are allowed; how much was checked; and why it is rejected, if it is. If they were looked
+    for, it has the lines of entries and of manifests, and the paths from the project."""
+
+    path: str
+    tool: Optional[Tool] = None
     findings: List[Finding] = field(default_factory=list)
     listed: List[Finding] = field(default_factory=list)
     duplicates: List[Finding] = field(default_factory=list)
     allowed: int = 0
-    tally: Tally = field(default_factory=Tally)
+    requirements: int = 0
+    packages: int = 0
+    left_out: int = 0
+    from_lock: int = 0
     lines: Dict[Keys, int] = field(default_factory=dict)
-    positions: Dict[Finding, Position] = field(default_factory=dict)
+    positions: Dict[int, Position] = field(default_factory=dict)
     paths: Optional[Paths] = None
     refusal: Optional[Refusal] = None
+    is_strict: bool = False
 
     @property
     def name(self) -> str:
@@ -41,36 +53,48 @@ class Report:
         return name_of(self.path)
 
     @property
+    def tool_name(self) -> str:
+        """The name of the tool that wrote the file; empty if that isn't known."""
+        return "" if self.tool is None else self.tool.name
+
+    @property
     def before(self) -> str:
         """What a sentence has before it, if it begins with its file."""
         return f"{self.name if self.path == STANDARD_INPUT else quoted(self.path)}: "
 
-    def position(self, finding: Finding) -> Tuple[str, Optional[int]]:
-        """The file that a finding is about, and the line there, if that is known: the manifest, if
-        that has the requirement."""
-        return self.positions.get(finding, (self.name, self.lines.get(finding.at)))
+    def statement(self, finding: Finding) -> Optional[Position]:
+        """Returns where a manifest states what a finding is about, if that is known."""
+        return self.positions.get(id(finding))
+
+    def position(self, finding: Finding) -> Position:
+        """Returns the file that a finding is about, and the line there: the manifest, if that has
+        the requirement."""
+        stated = self.statement(finding)
+        return stated or Position(self.name, self.lines.get(finding.at))
 
     def not_checked(self) -> Dict[str, int]:
-        """How many requirements aren't checked for each reason, as far as that needs a human."""
+        """Returns how many requirements aren't checked for each reason, as far as that needs a
+        human."""
         found: Dict[str, int] = {}
         for it in self.findings:
-            if it.is_strict:
-                reason = "missing" if it.kind == Kind.MISSING else it.reason
+            if it.excuse:
+                reason = Missing.kind if it.kind == Missing.kind else it.excuse
                 found[reason] = found.get(reason, 0) + 1
         return found
 
     def checked(self) -> int:
-        """How many requirements are checked."""
-        return self.tally.requirements - sum(self.not_checked().values())
+        """Returns how many requirements are checked."""
+        return self.requirements - sum(self.not_checked().values())
 
     def is_unchecked(self) -> bool:
-        """Whether nothing is checked or listed by default, although something is required that
-        isn't in the project's own directories."""
-        tally, is_wrong = self.tally, any(not it.is_strict for it in self.findings)
-        is_required = bool(tally.requirements + tally.packages)
+        """Returns whether nothing is checked or listed by default, although something is required
+        that isn't in the project's own directories: with `--strict` that is an error."""
+        is_wrong = any(not it.excuse for it in self.findings)
+        is_required = bool(self.requirements + self.packages)
         reasons = set(self.not_checked())
         is_own = bool(reasons) and reasons <= OWN
-        return is_required and not (self.checked() or tally.left_out or is_wrong or is_own)
+        is_known = bool(self.checked() or self.left_out or is_wrong or is_own)
+        return self.is_strict and is_required and not is_known
 
 
 class Unused(NamedTuple):
@@ -102,22 +126,52 @@ class Wanted(NamedTuple):
 
 
 def report_on(path: str, named: Optional[str], wanted: Wanted) -> Report:
-    """What a check of a lock file reports, with lines and paths on demand."""
+    """Returns what a check of a lock file reports, with lines and paths on demand. These come after
+    the verdict, and don't change it."""
     report = Report(path)
     try:
         with taking(path, "lock file"):
-            text = bytes_of(path)
-            file = Input(path, text, named, wanted.scope)
-            report.tool, found = findings(file, report.tally)
-            report.findings = list(found)
+            file = Input(path, bytes_of(path), named, wanted.scope)
+            report.tool = tool_for(file)
+            lock = report.tool.read(file)
+            check(report, report.tool, lock)
             if wanted.has_duplicates:
-                report.duplicates = duplicates_in(report.tool, file)
+                report.duplicates = duplicates_in(lock)
             if wanted.has_paths:
-                report.paths = Paths(report.tally.graph())
-            if wanted.has_lines:
-                listed = [*report.findings, *report.duplicates]
-                report.lines = lines_at(report.tool, text, {it.at for it in listed})
-                report.positions = positions_of(report.tool, file, listed)
+                report.paths = Paths(lock.graph())
     except Refusal as error:
         report.refusal = error
+        return report
+    if wanted.has_lines:
+        locate(report, report.tool, file)
     return report
+
+
+def check(report: Report, tool: Tool, lock: LockFile) -> None:
+    """Has the judge check a lock file, and counts what it has."""
+    judgement = judge(lock, lock.scheme or tool.scheme)
+    report.findings, report.requirements = judgement
+    for finding in report.findings:
+        tool.advise(finding)
+    report.packages = lock.package_count
+    report.left_out, report.from_lock = lock.left_out, lock.from_lock
+
+
+def locate(report: Report, tool: Tool, file: Input) -> None:
+    """Looks for the lines of findings, in the lock file and in manifests."""
+    listed = [*report.findings, *report.duplicates]
+    wanted = {it.at for it in listed if it.at}
+    if wanted:
+        report.lines = lines_at(file.text, tool.offsets(file.text, wanted), wanted)
+    stated: Dict[str, List[Tuple[Finding, Statement]]] = {}
+    for finding in listed:
+        statement = tool.statement(finding, file)
+        if statement is not None:
+            stated.setdefault(statement.path, []).append((finding, statement))
+    for path, several in stated.items():
+        keys: Set[Keys] = {it for _, statement in several for it in statement.keys}
+        lines = statement_lines(path, keys)
+        for finding, statement in several:
+            line = next((lines[it] for it in statement.keys if it in lines), None)
+            if line is not None:
+                report.positions[id(finding)] = Position(path, line)

@@ -9,7 +9,7 @@ from semver_parser import Dialect, Range, RangeError, Version, VersionError, sat
 
 @lru_cache(maxsize=None)
 def is_version(text: str, dialect: Dialect) -> bool:
-    """Whether a text is a version to a tool."""
+    """Returns whether a text is a version to a tool."""
     try:
         Version.parse(text, dialect=dialect)
     except VersionError:
@@ -21,7 +21,7 @@ def is_version(text: str, dialect: Dialect) -> bool:
 def range_in(
     text: str, dialect: Dialect, pre_releases: Literal["default", "included"] = "default"
 ) -> Optional[Range]:
-    """The range that a text is to a tool; None if it is none."""
+    """Returns the range that a text is to a tool; None if it is none."""
     try:
         return Range(text, dialect=dialect, pre_releases=pre_releases)
     except RangeError:
@@ -29,13 +29,13 @@ def range_in(
 
 
 def is_range(text: str, dialect: Dialect) -> bool:
-    """Whether a text is a range to a tool."""
+    """Returns whether a text is a range to a tool."""
     return range_in(text, dialect) is not None
 
 
 @lru_cache(maxsize=None)
 def is_met(wanted: str, version: str, dialect: Dialect) -> Optional[bool]:
-    """Whether a version satisfies a range; None if the range is invalid. An invalid version
+    """Returns whether a version satisfies a range; None if the range is invalid. An invalid version
     satisfies none."""
     try:
         return satisfies(version, wanted, dialect=dialect)

@@ -23,8 +23,8 @@ MINUTES = re.compile(r"((?:\A|[0-9][Tt])[0-9]{2}:[0-9]{2})(?=\Z|[Zz+-])")
 ARRAY, OPENED, KEY, EQUALS, VALUE, COMMA = "[", "{", "key", "=", "value", ","
 
 
-def of_1_0(text: str) -> str:
-    """The text in the words of TOML 1.0. What is neither stays as it is, for the reader to
+def toml_1_0(text: str) -> str:
+    """Returns the text in the words of TOML 1.0. What is neither stays as it is, for the reader to
     refuse."""
     made: List[str] = []
     states = [ARRAY]
@@ -55,7 +55,7 @@ def of_1_0(text: str) -> str:
 
 
 def after(state: str, token: str) -> str:
-    """What is before the next token of an inline table."""
+    """Returns what is before the next token of an inline table."""
     if token == ",":
         return COMMA if state == VALUE else KEY
     if token == "=":
@@ -64,7 +64,7 @@ def after(state: str, token: str) -> str:
 
 
 def in_words(token: str) -> str:
-    """A token in the words of TOML 1.0."""
+    """Returns a token in the words of TOML 1.0."""
     if token.startswith('"'):
         return ESCAPE.sub(unescaped, token)
     if ":" in token and not token.startswith("'"):
@@ -73,7 +73,7 @@ def in_words(token: str) -> str:
 
 
 def unescaped(found: "re.Match[str]") -> str:
-    """What an escape of TOML 1.1 is in TOML 1.0; any other is its own."""
+    """Returns what an escape of TOML 1.1 is in TOML 1.0; any other is its own."""
     if found.group(1):
         return "\\u001B"
     return f"\\u00{found.group(2)}" if found.group(2) else found.group()

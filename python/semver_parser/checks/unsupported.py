@@ -4,17 +4,6 @@ import re
 
 from .files import Unreadable
 
-# The beginnings of files of Bun and of Deno, which are read elsewhere.
-BLANK = rb"(?:\s|//[^\n]*\n|/\*.*?\*/)*"
-BUN = re.compile(BLANK + rb'\{(?:\s*"\w+"\s*:\s*\d+\s*,)*\s*"workspaces"\s*:\s*\{', re.S)
-DENO = re.compile(
-    rb'\s*\{\s*"version"\s*:\s*"\d"\s*(?:\}|,'
-    rb'\s*"(?:specifiers|packages|remote|redirects|jsr|npm|workspace)"\s*:)'
-)
-
-# What is written of a binary file, of which Bun makes the text.
-BINARY = b"#!/usr/bin/env bun\n"
-
 # What only one file has at its beginning, the file, and whose it is.
 BY_BEGINNING = (
     (rb'\{\s*"_meta"\s*:', "Pipfile.lock", "Python's Pipenv"),
@@ -32,9 +21,7 @@ BY_LINE = (
 
 
 def refuse_others(text: bytes) -> None:
-    """Refuses a lock file of a tool that isn't supported."""
-    if text.startswith(BINARY):
-        raise Unreadable("bun.lockb is binary; run bun install --save-text-lockfile")
+    """Rejects a lock file of a tool that isn't supported."""
     start = text[:1000].lstrip()
     for pattern, file, owner in BY_BEGINNING:
         if re.match(pattern, start):

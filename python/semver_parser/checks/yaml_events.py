@@ -45,7 +45,7 @@ class Open:
 
 
 def documents_of(text: str) -> List[Any]:
-    """The documents of a text, whose scalars are texts."""
+    """Returns the documents of a text, whose scalars are texts."""
     import yaml
 
     if not yaml.__with_libyaml__:
@@ -75,14 +75,14 @@ def documents_of(text: str) -> List[Any]:
 
 
 def documents_by_nodes(text: str) -> List[Any]:
-    """The documents of a text by PyYAML's own reader, whose scalars are texts."""
+    """Returns the documents of a text by PyYAML's own reader, whose scalars are texts."""
     import yaml
 
     class Reader(yaml.BaseLoader):
         """PyYAML's own reader, which takes no key twice."""
 
         def construct_mapping(self, node: Any, deep: bool = False) -> Any:
-            """A mapping, each of whose keys is there once."""
+            """Returns a mapping, each of whose keys is there once."""
             seen = set()
             for key, _ in node.value:
                 if not isinstance(key, yaml.ScalarNode):

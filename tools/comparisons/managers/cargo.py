@@ -6,7 +6,7 @@ import json
 from pathlib import Path
 from typing import Any, Dict, Iterator, List, Tuple
 
-from cargo_edits import AN_EDGE_MORE, damaged, edited
+from cargo_edits import A_CHECKSUM, AN_EDGE_MORE, damaged, edited
 from cargo_worlds import (
     Crate,
     Maker,
@@ -22,6 +22,7 @@ from cargo_worlds import (
     write_world,
 )
 from differences import Differences, is_refused
+from repairs import repair
 
 CHANGES = 5
 
@@ -47,7 +48,17 @@ def edit_manifests(top: Path, world: World, maker: Maker, found: Differences) ->
         write_manifests(top, other)
         taken = graph_at(top) is not None
         compare(what, taken, top / "Cargo.lock", found, shown_of(other, lock))
+        mend(top, other, lock, found)
     write_manifests(top, world)
+
+
+def mend(top: Path, world: World, lock: str, found: Differences) -> None:
+    """Runs the repair that the checker proposes."""
+    path, environment = top / "Cargo.lock", {"CARGO_HOME": str(top / "home")}
+    before = path.read_text()
+    taken = lambda: graph_at(top) is not None  # noqa: E731
+    repair(path, ["--offline", "--quiet"], environment, taken, found, shown_of(world, lock))
+    path.write_text(before)
 
 
 def damage_lock(top: Path, world: World, maker: Maker, found: Differences) -> None:
@@ -60,11 +71,14 @@ def damage_lock(top: Path, world: World, maker: Maker, found: Differences) -> No
         what, text, is_of_registry = damaged(lock, maker)
         path.write_text(text)
         taken, refused = graph_at(top) is not None, is_refused(path)
-        if is_of_registry and taken == refused and (refused is False or what == AN_EDGE_MORE):
+        if what == A_CHECKSUM and not taken and not refused:
+            found.choose("Cargo compares checksums with those of the registry", what)
+        elif is_of_registry and taken == refused and (refused is False or what == AN_EDGE_MORE):
             found.count(f"{what}: Cargo {'takes' if taken else 'refuses'} it")
             found.choose("Cargo.lock has no requirements of crates", shown_of(world, text))
         else:
             compare(what, taken, path, found, shown_of(world, text))
+        mend(top, world, text, found)
     path.write_text(lock)
 
 

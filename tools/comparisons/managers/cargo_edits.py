@@ -163,7 +163,80 @@ def patch_removed(world: World, maker: Maker) -> Edited:
     return world.patches.pop() if world.patches else None
 
 
+def feature_gone(world: World, maker: Maker) -> Edited:
+    """A feature less of a package at a path, which another one may require."""
+    places = [it for it, local in world.locals.items() if local.features]
+    if not places:
+        return None
+    place = maker.chance.choice(places)
+    features = world.locals[place].features
+    gone = maker.chance.choice(list(features))
+    world.locals[place].features = {
+        name: [it for it in each if it != gone] for name, each in features.items() if name != gone
+    }
+    return place
+
+
+def feature_of_another(world: World, maker: Maker) -> Edited:
+    """A default feature that requires one of another package at a path."""
+    places = [it for it in with_needs(world) if any(need.place for need in world.locals[it].needs)]
+    if not places:
+        return None
+    place = maker.chance.choice(places)
+    local = world.locals[place]
+    need = maker.chance.choice([it for it in local.needs if it.place])
+    known = [*world.locals[need.place].features, "gone"]
+    local.features["default"] = [f"{need.key}/{maker.chance.choice(known)}"]
+    return place
+
+
+def cycle(world: World, maker: Maker) -> Edited:
+    """A package at a path that requires one that may require it."""
+    if len(world.members) < 2:
+        return None
+    one, other = world.members[:2]
+    for place, to in ((one, other), (other, one)):
+        local, target = world.locals[place], world.locals[to]
+        if all(it.name != target.name for it in local.needs):
+            local.needs.append(Need("dependencies", target.name, target.name, "", False, to))
+    return one
+
+
+def another_name(world: World, maker: Maker) -> Edited:
+    """A requirement more of what a package requires, by another name."""
+    places = with_needs(world)
+    if not places:
+        return None
+    place = maker.chance.choice(places)
+    local = world.locals[place]
+    need = maker.chance.choice(local.needs)
+    local.needs.append(need._replace(key="another", table="dependencies", is_optional=False))
+    return place
+
+
+def links(world: World, maker: Maker) -> Edited:
+    """Packages at paths that link a library, perhaps the same."""
+    for place in world.members:
+        library = maker.chance.choice("yz")
+        world.locals[place].more = f'links = "{library}"\nbuild = "src/lib.rs"\n'
+    return world.members[0]
+
+
+def invalid_manifest(world: World, maker: Maker) -> Edited:
+    """A line that Cargo rejects."""
+    place = maker.chance.choice(world.members)
+    lines = ('resolver = "9"', 'links = "z"', 'workspace = "nowhere"', 'rust-version = "1.60"')
+    world.locals[place].more = f"{maker.chance.choice(lines)}\n"
+    return place
+
+
 MANIFEST_EDITS: Dict[str, Callable[[World, Maker], Edited]] = {
+    "a feature gone": feature_gone,
+    "a feature of another package": feature_of_another,
+    "members that require each other": cycle,
+    "one crate under two names": another_name,
+    "packages that link": links,
+    "a line of a manifest": invalid_manifest,
     "a requirement changed": another_requirement,
     "a requirement in another table": another_table,
     "a requirement optional": optional,
@@ -193,6 +266,7 @@ def edited(world: World, maker: Maker) -> Tuple[str, World]:
 
 ENTRY = re.compile(r"\n\n(?=\[\[)")
 AN_EDGE_MORE = "an edge more"
+A_CHECKSUM = "another checksum"
 NAME = re.compile(r'name = "([^"]*)"')
 
 
@@ -269,7 +343,16 @@ def of_source(entries: List[str], index: int, _: Maker) -> List[str]:
     return [*entries[:index], entry, *entries[index + 1 :]]
 
 
+def of_checksum(entries: List[str], index: int, maker: Maker) -> List[str]:
+    """An entry without a checksum, or with one that is none."""
+    value = maker.chance.choice(("", '\nchecksum = "<none>"', '\nchecksum = "0123"'))
+    entry = re.sub('\nchecksum = "[^"]*"', "", entries[index])
+    entry = re.sub('(\nversion = "[^"]*"(?:\nsource = "[^"]*")?)', rf"\1{value}", entry, count=1)
+    return [*entries[:index], entry, *entries[index + 1 :]]
+
+
 DAMAGES: Dict[str, Callable[[List[str], int, Maker], List[str]]] = {
+    A_CHECKSUM: of_checksum,
     "another version": of_version,
     "an entry removed": of_removed,
     "an entry twice": of_twice,

@@ -1,5 +1,7 @@
 """Random crates of a directory, and workspaces of Cargo that require them, by a seed."""
 
+import hashlib
+import json
 import os
 import random
 import shutil
@@ -49,12 +51,14 @@ Needs = Dict[Crate, List[Need]]
 
 @dataclass
 class Local:
-    """A package at a path: its name and version, what it requires, and its features."""
+    """A package at a path: its name and version, what it requires, its features, and more of its
+    table."""
 
     name: str
     version: str
     needs: List[Need]
     features: Dict[str, List[str]] = field(default_factory=dict)
+    more: str = ""
 
 
 @dataclass
@@ -167,19 +171,26 @@ class Maker:
 # ---- on the disk
 
 
-def manifest_of(name: str, version: str, needs: List[Need], place: str = "") -> str:
+def sum_of(crate: Crate) -> str:
+    """The sum of a crate's archive, which is made up."""
+    return hashlib.sha256(" ".join(crate).encode()).hexdigest()
+
+
+def manifest_of(
+    name: str, version: str, needs: List[Need], place: str = "", more: str = ""
+) -> str:
     """The text of a Cargo.toml in a directory, without its features."""
     tables: Dict[str, List[str]] = {}
     for need in needs:
         tables.setdefault(need.table, []).append(need.line(place))
-    head = f'[package]\nname = "{name}"\nversion = "{version}"\nedition = "2021"\n'
+    head = f'[package]\nname = "{name}"\nversion = "{version}"\nedition = "2021"\n{more}'
     return head + "".join(f"\n[{table}]\n{''.join(lines)}" for table, lines in tables.items())
 
 
 def text_of(world: World, place: str) -> str:
     """The text of the Cargo.toml of a package at a path."""
     local = world.locals[place]
-    text = manifest_of(local.name, local.version, local.needs, place)
+    text = manifest_of(local.name, local.version, local.needs, place, local.more)
     if local.features:
         lines = (f"{key} = {list(values)}\n" for key, values in local.features.items())
         text += "\n[features]\n" + "".join(lines)
@@ -234,7 +245,8 @@ def write_world(top: Path, world: World) -> None:
     """Writes all, and has Cargo take the crates from there."""
     for crate, needs in world.crates.items():
         write_package(crate_folder(top, crate), manifest_of(*crate, needs))
-        (crate_folder(top, crate) / ".cargo-checksum.json").write_text('{"files":{}}')
+        sums = json.dumps({"files": {}, "package": sum_of(crate)})
+        (crate_folder(top, crate) / ".cargo-checksum.json").write_text(sums)
     write_manifests(top, world)
     (top / ".cargo").mkdir(exist_ok=True)
     (top / ".cargo" / "config.toml").write_text(

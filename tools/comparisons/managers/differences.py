@@ -8,11 +8,34 @@ from typing import Any, Dict, List, NamedTuple, Set, Tuple
 
 TOP = os.path.dirname(os.path.dirname(os.path.dirname(os.path.dirname(os.path.abspath(__file__)))))
 sys.path.insert(0, os.path.join(TOP, "python"))
-from semver_parser.checks.findings import PROJECT, Finding, Kind, Scope  # noqa: E402
+from semver_parser.checks.findings import (  # noqa: E402
+    Finding,
+    InvalidVersion,
+    Missing,
+    NotChecked,
+    Overridden,
+    Record,
+    Unsatisfied,
+)
+from semver_parser.checks.model import PROJECT, Scope  # noqa: E402
 from semver_parser.checks.reports import Wanted, report_on  # noqa: E402
 
 Edge = Tuple[str, str]
 """Who requires which name. The project is empty."""
+
+
+class Rejected(Finding):
+    """A lock file that the checker rejects."""
+
+    kind = "rejected"
+
+    def __init__(self, why: str) -> None:
+        self.why = why
+
+    @property
+    def record(self) -> Record:
+        """Why it is."""
+        return Record(range=self.why)
 
 
 class Found(NamedTuple):
@@ -27,13 +50,14 @@ def found_in(path: str, is_strict: bool = False) -> Found:
     report = report_on(path, None, Wanted(Scope()))
     if report.refusal is not None:
         sys.exit(f"{path}: {report.refusal}")
-    listed = [it for it in report.findings if is_strict or not it.is_strict]
-    unmet = (Kind.UNSATISFIED, Kind.OVERRIDDEN, Kind.MISSING, Kind.INVALID_VERSION)
+    listed = [it for it in report.findings if is_strict or not it.excuse]
+    unmet = [it.kind for it in (Unsatisfied, Overridden, Missing, InvalidVersion)]
     edges, others = set(), []
     for it in listed:
-        if it.kind in unmet and it.requirer:
-            edges.add(("" if it.requirer == PROJECT else it.who, it.dependency))
-        elif it.kind != Kind.NOT_CHECKED:
+        record = it.record
+        if it.kind in unmet and record.requirer:
+            edges.add(("" if record.requirer == PROJECT else it.about, record.dependency or ""))
+        elif it.kind != NotChecked.kind:
             others.append(it)
     return Found(edges, others)
 
@@ -42,8 +66,8 @@ def listed_in(path: Path) -> List[Finding]:
     """What the checker lists of a lock file by default, or that it refuses it."""
     report = report_on(str(path), None, Wanted(Scope()))
     if report.refusal is not None:
-        return [Finding(Kind.INVALID_RANGE, str(report.refusal))]
-    return [it for it in report.findings if not it.is_strict]
+        return [Rejected(str(report.refusal))]
+    return [it for it in report.findings if not it.excuse]
 
 
 def is_refused(path: Path) -> bool:

@@ -9,22 +9,25 @@ import subprocess
 from pathlib import Path
 from typing import Any, Iterator, List, NamedTuple, Optional
 
-from differences import PROJECT, Differences, Finding, Kind, listed_in
+from differences import PROJECT, Differences, Finding, Unsatisfied, listed_in
 from npm_edits import Edited, edited, kinds_of
 from projects import environment, write_project
+from repairs import repair
 from registry import Json, Registry, in_order
 from semver_parser import Dialect
+from semver_parser.checks.findings import AnotherPackage, TwoVersions
+from semver_parser.checks.model import PEERS
+from semver_parser.checks.npm import NPM
+from semver_parser.checks.node.specifiers import range_of
 from semver_parser.checks.npm.lock import (
-    PEERS,
     Packages,
-    asks_at,
     folders,
     name_by_place,
     package_at,
     packages_of,
+    requirements_at,
     with_manifest,
 )
-from semver_parser.checks.npm.specs import range_of
 from semver_parser.checks.satisfaction import is_met, range_in
 from worlds import Maker, World
 
@@ -110,17 +113,19 @@ def cases_of(
 def choice_of(finding: Finding, it: Case, answer: Answer) -> Optional[str]:
     """Why a finding is listed, though npm takes the project: by a row of the README, or since it
     can't be known without a network."""
-    requirer = "" if finding.requirer == PROJECT else finding.requirer
-    if finding.kind in (Kind.ANOTHER_PACKAGE, Kind.ANOTHER_VERSION):
+    record = finding.record
+    requirer = "" if record.requirer in (PROJECT, None) else record.requirer
+    wanted, name = record.range or "", record.dependency or ""
+    if finding.kind in (AnotherPackage.kind, TwoVersions.kind):
         return "names and archives"
     if requirer not in answer.looked:
         return "what is required below workspaces"
-    if [requirer, finding.dependency] in answer.left_out:
+    if [requirer, name] in answer.left_out:
         return "what is optional and can't be installed"
-    releases = it.world.releases.get(finding.dependency, {})
-    if not any(is_met(finding.range, version, Dialect.NPM) for version in releases):
+    releases = it.world.releases.get(name, {})
+    if not any(is_met(wanted, version, Dialect.NPM) for version in releases):
         return "what no registry has"
-    if any(is_met(finding.range, version, Dialect.NPM) for version in above(finding, it.lock)):
+    if any(is_met(wanted, version, Dialect.NPM) for version in above(finding, it.lock)):
         return "what fits is further up"
     return "a peer whose newest version has no place" if is_left_peer(finding, it) else None
 
@@ -129,15 +134,23 @@ def is_left_peer(finding: Finding, it: Case) -> bool:
     """Whether a peer doesn't fit, and the version that npm picks for it isn't for all else that
     requires what is there and is right."""
     packages = with_manifests(it)
-    found = {place: package_at(packages, place) for place in packages}
-    asks = [ask for place, entry in packages.items() for ask in asks_at(place, entry, found, {})]
-    into = [ask for ask in asks if ask.found is not None and ask.found.place == finding.place]
-    mine = (PEERS, finding.requirer, finding.dependency)
-    if finding.kind != Kind.UNSATISFIED or mine not in [(it.kind, it.place, it.name) for it in into]:
+    found = {place: package_at(packages, place, False) for place in packages}
+    required = [
+        each
+        for place, entry in packages.items()
+        for each in requirements_at(place, entry, found, {}, False)
+    ]
+    record = finding.record
+    into = [each for each in required if each.found and each.found.place == record.place]
+    mine = (PEERS, record.requirer, record.dependency)
+    others = [(each.kind, each.requirer.name, each.name) for each in into]
+    if finding.kind != Unsatisfied.kind or mine not in others:
         return False
-    picked = picked_for(finding.range, list(it.world.releases.get(finding.package, {})))
-    ranges = [range_of(ask.spec) for ask in into]
-    needed = [each for each in ranges if is_met(each, finding.version, Dialect.NPM)]
+    releases = it.world.releases.get(record.package or "", {})
+    picked = picked_for(record.range or "", list(releases))
+    ranges = [range_of(each.specifier) for each in into]
+    version = record.version or ""
+    needed = [each for each in ranges if is_met(each, version, Dialect.NPM)]
     return picked is not None and not all(is_met(each, picked, Dialect.NPM) for each in needed)
 
 
@@ -190,8 +203,9 @@ def names_by_range(overrides: Json) -> Iterator[str]:
 
 def above(finding: Finding, lock: Json) -> List[str]:
     """The versions of what is required that are further up than what is found."""
-    packages, name = packages_of(lock, None), finding.dependency
-    places = [f"{folder}/node_modules/{name}".lstrip("/") for folder in folders(finding.requirer)]
+    packages, name = packages_of(lock, None), finding.record.dependency
+    around = folders(finding.record.requirer or "")
+    places = [f"{folder}/node_modules/{name}".lstrip("/") for folder in around]
     found = [packages[it]["version"] for it in places if "version" in packages.get(it, {})]
     return found[1:]
 
@@ -211,12 +225,24 @@ def compare(it: Case, answer: Answer, as_written: Answer, found: Differences) ->
             found.choose(choice, shown(it, answer.refused))
     else:
         choices = {choice_of(each, it, answer) for each in listed}
-        why = shown(it, [[each.kind.value, *each[1:7]] for each in listed])
+        why = shown(it, [[each.kind, *each.record] for each in listed])
         for choice in choices:
             if choice is None:
                 found.add("the checker alone refuses", why)
             else:
                 found.choose(choice, why)
+
+
+def leave_over(it: Case, found: Differences) -> None:
+    """Compares whether npm ignores a lock file in a workspace with whether the checker does."""
+    for place in it.world.manifests:
+        if place.startswith("packages/") and not it.edit:
+            path = it.folder / place / LOCK
+            path.write_text("{}")
+            found.count("lock files in workspaces")
+            if NPM.read_instead(str(path), True) is None:
+                found.add("a lock file in a workspace", shown(it, place))
+            path.unlink()
 
 
 def shown(it: Case, why: Any) -> Json:
@@ -251,5 +277,10 @@ def run(top: Path, count: int, seed: int) -> Differences:
         answers = [npm.answer(it.folder) for it in cases]
         for it, answer in zip(cases, answers):
             compare(it, answer, answers[0], found)
+            leave_over(it, found)
+            flags = ["--package-lock-only", "--no-audit", "--no-fund", "--ignore-scripts"]
+            flags.append(f"--registry={registry.url}")
+            again = lambda: not npm.answer(it.folder).refused  # noqa: B023
+            repair(it.folder / LOCK, flags, environment(top), again, found, shown(it, answer))
     found.counts["worlds"] = made
     return found

@@ -142,7 +142,48 @@ def require_workspace(world: World, maker: Maker) -> bool:
     return True
 
 
+def change_specifier(world: World, maker: Maker) -> bool:
+    """Gives a requirement a specifier of another kind: a path, a repository or a URL."""
+    manifest = some_manifest(world, maker)
+    kinds = [it for it in kinds_of(manifest) if it in KINDS_OF_ALL]
+    if not kinds:
+        return False
+    kind = maker.chance.choice(kinds)
+    name = maker.chance.choice(list(manifest[kind]))
+    manifest[kind][name] = maker.chance.choice(SPECIFIERS)
+    return True
+
+
+def change_own_version(world: World, maker: Maker) -> bool:
+    """Gives the project or a workspace a version that is none."""
+    some_manifest(world, maker)["version"] = maker.chance.choice(("1.0", "", "next"))
+    return True
+
+
+def add_late_override(world: World, maker: Maker) -> bool:
+    """Adds an override of what other packages require, perhaps inside of another one."""
+    names = list(world.releases)
+    name, outer = maker.chance.choice(names), maker.chance.choice(names)
+    version = maker.chance.choice(list(world.releases[name]))
+    key = f"{name}@{maker.range_of(name) or '*'}" if maker.maybe(0.3) else name
+    overrides = world.manifests[""].setdefault("overrides", {})
+    if maker.maybe(0.3) and outer not in overrides:
+        overrides[outer] = {key: version}
+    else:
+        overrides[key] = version
+    return True
+
+
+# Specifiers of other kinds, of which nothing is there.
+SPECIFIERS = (
+    "file:nowhere", "./nowhere.tgz", "github:user/nowhere", "user/nowhere",
+    "git+https://127.0.0.1:1/nowhere.git", "http://127.0.0.1:1/nowhere.tgz",
+)  # fmt: skip
+
 MANIFEST_EDITS: Dict[str, Edit] = {
+    "a specifier of another kind": change_specifier,
+    "an own version": change_own_version,
+    "an override added later": add_late_override,
     "a dependency added": add_dependency,
     "a dependency removed": remove_dependency,
     "a dependency changed": change_dependency,
@@ -192,9 +233,23 @@ def damaged(
     return f"{what} in the lock file", made
 
 
+def without_one(lock: Json, maker: Maker) -> Optional[Json]:
+    """A copy of a lock file of lockfileVersion 1 without one of its packages."""
+    made = copy.deepcopy(lock)
+    names = list(made.get("dependencies", {}))
+    if not names:
+        return None
+    del made["dependencies"][maker.chance.choice(names)]
+    return made
+
+
 def edited(lock: Json, world: World, registry: Registry, maker: Maker) -> Edited:
     """The project or its lock file with a random edit."""
     while True:
+        if lock["lockfileVersion"] == 1 and maker.maybe(0.3):
+            made = without_one(lock, maker)
+            if made is not None:
+                return Edited("a package in an old lock file", world, made)
         if lock["lockfileVersion"] > 1 and maker.maybe(0.4):
             found = damaged(lock, world, registry, maker)
             if found is not None:

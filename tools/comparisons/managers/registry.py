@@ -101,10 +101,6 @@ class Registry(ThreadingHTTPServer):
             document = {"name": name, "dist-tags": {"latest": latest}, "versions": listed}
             self.files[f"/{name}"] = json.dumps(document).encode()
 
-    def forget_names(self) -> None:
-        """Serves archives alone, and of no name its versions."""
-        self.files = {path: it for path, it in self.files.items() if "/-/" in path}
-
     def serve_advisories(self, advisories: Json) -> None:
         """Serves advisories by the names of packages in place of those before."""
         self.advisories = advisories

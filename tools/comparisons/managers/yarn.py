@@ -2,8 +2,7 @@
 these, which `yarn install --frozen-lockfile` takes or refuses.
 
 What yarn 1 calls frozen is the project alone: what its workspaces and packages require, and the
-file lacks, it takes from the registry. So the registry serves archives and no versions of a name,
-and yarn has to do with what is in the file, but for archives that are required by their URLs.
+file lacks, it takes from the registry. The checker lists that with --strict alone.
 """
 
 import shutil
@@ -11,9 +10,10 @@ import subprocess
 from pathlib import Path
 from typing import Any, Dict, Optional
 
-from differences import PROJECT, Differences, Finding, Kind, listed_in
+from differences import Differences, Finding, listed_in
 from projects import environment, write_project
 from registry import Registry
+from semver_parser.checks.findings import TwoVersions
 from worlds import Maker, World
 from yarn_edits import ANOTHER_ARCHIVE, damaged, edited
 
@@ -56,15 +56,13 @@ def shown_of(world: World, lock: str) -> Dict[str, Any]:
 
 def choice_of(what: str, finding: Finding) -> Optional[str]:
     """Why a finding is listed, though yarn takes the project, by a row of the README: it is of an
-    alias, or of an archive of another version after that damage, or yarn fetches what the file lacks
-    from a URL, which the registry serves."""
-    if finding.range.startswith("npm:"):
+    alias, or of an archive of another version after that damage."""
+    record = finding.record
+    wanted = record.range or ""
+    if wanted.startswith("npm:"):
         return "yarn doesn't compare an alias"
-    if finding.kind == Kind.ANOTHER_VERSION and what == ANOTHER_ARCHIVE:
+    if finding.kind == TwoVersions.kind and what == ANOTHER_ARCHIVE:
         return "yarn doesn't compare an archive of another version"
-    is_fetched = finding.kind == Kind.MISSING and finding.requirer != PROJECT
-    if is_fetched and finding.range.startswith("http://"):
-        return "yarn fetches an archive by its URL"
     return None
 
 
@@ -113,7 +111,6 @@ def run(top: Path, count: int, seed: int) -> Differences:
             found.count("worlds that yarn refuses")
             continue
         made += 1
-        registry.forget_names()
         other = folder / "other"
         compare("as written", other, world, lock, yarn, found)
         for _ in range(CHANGES):

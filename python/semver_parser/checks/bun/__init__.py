@@ -1,1 +1,5 @@
-"""Lock files of Bun: `bun.lock`, the text."""
+"""Lock files of Bun: `bun.lock`."""
+
+from .tool import BUN
+
+__all__ = ["BUN"]

@@ -1,1 +1,6 @@
-"""What Cargo resolved: `Cargo.lock` beside its manifests, and what `cargo metadata` writes."""
+"""Lock files of Cargo: `Cargo.lock`, and what `cargo metadata` writes."""
+
+from .metadata import METADATA
+from .tool import CARGO
+
+__all__ = ["CARGO", "METADATA"]

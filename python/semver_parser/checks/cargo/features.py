@@ -7,9 +7,9 @@ from .manifests import Manifest
 
 
 def features_of(manifest: Manifest) -> Dict[str, List[str]]:
-    """The features of a package: its own, and one for each optional dependency that no feature has
-    after `dep:`."""
-    optional = {need.key for need in manifest.needs if need.is_optional}
+    """Returns the features of a package: its own, and one for each optional dependency that no
+    feature has after `dep:`."""
+    optional = {it.key for it in manifest.dependencies if it.is_optional}
     values = [it for each in manifest.features.values() for it in each]
     stated = {it[len("dep:") :] for it in values if it.startswith("dep:")}
     implied = {key: [f"dep:{key}"] for key in optional - stated - set(manifest.features)}
@@ -17,23 +17,24 @@ def features_of(manifest: Manifest) -> Dict[str, List[str]]:
 
 
 def checked(manifest: Manifest) -> Manifest:
-    """A manifest, whose features require others and for optional dependencies alone."""
-    features = features_of(manifest)
-    optional = {need.key for need in manifest.needs if need.is_optional}
+    """Returns a manifest, whose features require others and for optional dependencies alone."""
+    features, keys = features_of(manifest), {it.key for it in manifest.dependencies}
+    optional = {it.key for it in manifest.dependencies if it.is_optional}
     for feature, values in manifest.features.items():
         for value in values:
             key = value[len("dep:") :] if value.startswith("dep:") else value
             known = optional if key != value else features
-            if "/" not in value and key not in known:
+            known = keys if "/" in value else known
+            if key.partition("/")[0].rstrip("?") not in known:
                 raise WrongShape(f": features: {feature}: {value} isn't there")
     return manifest
 
 
 def activated_by(manifest: Manifest, wanted: Set[str]) -> Dict[str, Set[str]]:
-    """The dependencies that features of a package require, and which features of these.
+    """Returns the dependencies that features of a package require, and which features of these.
     `NAME?/FEATURE` requires the dependency, too: in the lock file it is there."""
     features = features_of(manifest)
-    optional = {need.key for need in manifest.needs if need.is_optional}
+    optional = {it.key for it in manifest.dependencies if it.is_optional}
     found: Dict[str, Set[str]] = {}
     left, seen = list(wanted), set(wanted)
 

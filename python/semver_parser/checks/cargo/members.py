@@ -21,7 +21,7 @@ from .manifests import (
 
 
 def manifest_at(folder: str) -> Manifest:
-    """The manifest in a directory, with what it takes from its workspace."""
+    """Returns the manifest in a directory, with what it takes from its workspace."""
     path = os.path.join(folder, MANIFEST)
     entry = read(path)
     root = root_of(folder, entry)
@@ -32,7 +32,7 @@ def manifest_at(folder: str) -> Manifest:
 
 
 def members_at(folder: str) -> Iterator[Manifest]:
-    """The manifests of the workspace or the package in a directory."""
+    """Yields the manifests of the workspace or the package in a directory."""
     top = read(os.path.join(folder, MANIFEST))
     with taking(os.path.join(folder, MANIFEST), MANIFEST):
         inherited = inherited_of(top, folder)
@@ -43,8 +43,8 @@ def members_at(folder: str) -> Iterator[Manifest]:
 
 
 def root_of(folder: str, entry: Entry) -> Optional[str]:
-    """The directory of the workspace that a directory's manifest is in, if it is in one: its own,
-    that which it names, or the nearest around it that doesn't exclude it."""
+    """Returns the directory of the workspace that a directory's manifest is in, if it is in one:
+    its own, that which it names, or the nearest around it that doesn't exclude it."""
     if "workspace" in entry:
         return folder
     outer, found = os.path.abspath(folder), entry
@@ -63,8 +63,8 @@ def root_of(folder: str, entry: Entry) -> Optional[str]:
 
 
 def unread_beside_workspace(folder: str) -> Optional[str]:
-    """The lock file that Cargo reads in place of that in a directory, if this is in a workspace
-    whose directory is another one."""
+    """Returns the lock file that Cargo reads in place of that in a directory, if this is in a
+    workspace whose directory is another one."""
     path = os.path.join(folder, MANIFEST)
     try:
         root = root_of(folder, read(path)) if os.path.isfile(path) else None
@@ -76,9 +76,9 @@ def unread_beside_workspace(folder: str) -> Optional[str]:
 
 
 def entries_of(folder: str, top: Entry) -> Dict[str, Entry]:
-    """The manifests of a workspace or a package by their directories. Members are the packages that
-    a workspace names, and those that a member has by a path inside the directory, or elsewhere if
-    their manifest names the workspace, but for what is excluded."""
+    """Returns the manifests of a workspace or a package by their directories. Members are the
+    packages that a workspace names, and those that a member has by a path inside the directory, or
+    elsewhere if their manifest names the workspace, but for what is excluded."""
     root = os.path.normpath(folder or ".")
     found = {root: top}
     if "workspace" not in top:
@@ -97,7 +97,7 @@ def entries_of(folder: str, top: Entry) -> Dict[str, Entry]:
 
 
 def names_workspace(path: str, entry: Entry, root: str) -> bool:
-    """Whether the manifest of a package names the workspace of a directory as its own."""
+    """Returns whether the manifest of a package names the workspace of a directory as its own."""
     named = package_of(entry).get("workspace")
     if not isinstance(named, str):
         return False
@@ -105,14 +105,14 @@ def names_workspace(path: str, entry: Entry, root: str) -> bool:
 
 
 def texts_of(top: Entry, key: str) -> List[str]:
-    """A list of paths that a workspace has."""
+    """Returns a list of paths that a workspace has."""
     where = f"workspace: {key}"
     return [text_at(it, where) for it in list_at(workspace_of(top).get(key, []), where)]
 
 
 def named_by(folder: str, top: Entry) -> Iterator[str]:
-    """The directories that a workspace names as its members. A pattern that finds nothing names
-    itself, and one that ends in `**` finds what is below, as Cargo has it."""
+    """Yields the directories that a workspace names as its members. A pattern that finds nothing
+    names itself, and one that ends in `**` finds what is below, as Cargo has it."""
     for text in texts_of(top, "members"):
         pattern = os.path.join(escape(folder), f"{text}/*" if text.endswith("**") else text)
         # Python's glob refuses a zero byte, which no file has in its name.
@@ -124,15 +124,15 @@ def named_by(folder: str, top: Entry) -> Iterator[str]:
 
 
 def parts_of(folder: str, path: str) -> List[str]:
-    """The parts of a path that begins at a directory, by which Cargo compares paths: `..` is
-    one."""
+    """Returns the parts of a path that begins at a directory, by which Cargo compares paths: `..`
+    is one."""
     whole = os.path.join(os.path.abspath(folder), path)
     return [part for part in whole.split("/") if part not in ("", ".")]
 
 
 def is_excluded(path: str, folder: str, top: Entry) -> bool:
-    """Whether a package is at or below a directory that a workspace excludes, and at or below none
-    that it names as a member without a pattern."""
+    """Returns whether a package is at or below a directory that a workspace excludes, and at or
+    below none that it names as a member without a pattern."""
     parts = parts_of(path, "")
 
     def is_within(key: str) -> bool:
@@ -143,7 +143,7 @@ def is_excluded(path: str, folder: str, top: Entry) -> bool:
 
 
 def paths_of(folder: str, entry: Entry, root: str, top: Entry) -> Iterator[str]:
-    """The directories of the packages that a manifest has by a path, its own or the
+    """Yields the directories of the packages that a manifest has by a path, its own or the
     workspace's."""
     inherited = workspace_table(top)
     for _, values in tables_of(entry):
@@ -155,6 +155,6 @@ def paths_of(folder: str, entry: Entry, root: str, top: Entry) -> Iterator[str]:
 
 
 def is_inside(path: str, folder: str) -> bool:
-    """Whether a path is inside a directory."""
+    """Returns whether a path is inside a directory."""
     top = os.path.abspath(folder)
     return os.path.commonpath([top, os.path.abspath(path)]) == top

@@ -1,5 +1,5 @@
-"""The findings of what `cargo metadata --format-version 1` writes: a graph that Cargo resolved, and
-the manifests that require it. A Cargo.lock has the graph alone.
+"""What `cargo metadata --format-version 1` writes: a graph that Cargo resolved, and the manifests
+that require it. A Cargo.lock has the graph alone.
 
 WHO REQUIRES. Each package requires the `dependencies` of its manifest.
 
@@ -16,17 +16,18 @@ WHAT HAS TO BE THERE. An edge has to be there for each dependency, but for
 
 from typing import Any, Dict, Iterator, List, NamedTuple, Optional, Set, Tuple
 
-from semver_parser import Dialect
-
 from ..files import Entry, WrongShape, list_at, object_at, text_at
-from ..findings import Finding, Kind, Scope, Tally
-from ..satisfaction import is_met, is_version
+from ..findings import NotRequired
+from ..judge import RIGHT, Verdict, findings_of
+from ..model import LockFile, Node, Package, Requirement, Requirer, Scope
+from ..tool import Input, Tool
+from .tool import CargoScheme
 
 DependencyKind = Tuple[Optional[str], Optional[str]]
 """A kind of dependency, as `dev`, and a target. A usual one has neither."""
 
 
-class Need(NamedTuple):
+class Dependency(NamedTuple):
     """What a manifest requires, and the other name that it gives to that, if any."""
 
     name: str
@@ -37,7 +38,7 @@ class Need(NamedTuple):
     has_registry: bool
 
 
-class Edge(NamedTuple):
+class GraphEdge(NamedTuple):
     """What a package was given: under which name, which package, and as which kinds."""
 
     known_as: str
@@ -46,13 +47,13 @@ class Edge(NamedTuple):
     kinds: List[DependencyKind]
 
 
-class Package(NamedTuple):
+class GraphPackage(NamedTuple):
     """A package, what it requires, what it was given, and what its active features require."""
 
     name: str
     version: str
-    needs: List[Need]
-    edges: List[Edge]
+    dependencies: List[Dependency]
+    edges: List[GraphEdge]
     active: Set[str]
     is_member: bool
 
@@ -61,21 +62,21 @@ class Package(NamedTuple):
 
 
 def optional_text_at(value: Any, where: str) -> Optional[str]:
-    """A text of the file, or null."""
+    """Returns a text of the file, or null."""
     return None if value is None else text_at(value, where)
 
 
 def kind_at(value: Entry, where: str) -> DependencyKind:
-    """The kind and the target of what is required or given."""
+    """Returns the kind and the target of what is required or given."""
     kind = optional_text_at(value.get("kind"), f"{where}: kind")
     return kind, optional_text_at(value.get("target"), f"{where}: target")
 
 
-def need_at(value: Any, where: str) -> Need:
-    """A dependency of a manifest."""
+def dependency_at(value: Any, where: str) -> Dependency:
+    """Returns a dependency of a manifest."""
     entry = object_at(value, where)
     source = optional_text_at(entry.get("source"), f"{where}: source")
-    return Need(
+    return Dependency(
         text_at(entry.get("name"), f"{where}: name"),
         optional_text_at(entry.get("rename"), f"{where}: rename"),
         text_at(entry.get("req"), f"{where}: req"),
@@ -85,8 +86,8 @@ def need_at(value: Any, where: str) -> Need:
     )
 
 
-def edge_at(value: Any, packages: Dict[str, Entry], where: str) -> Edge:
-    """An edge of the graph."""
+def edge_at(value: Any, packages: Dict[str, Entry], where: str) -> GraphEdge:
+    """Returns an edge of the graph."""
     entry = object_at(value, where)
     package_id = text_at(entry.get("pkg"), f"{where}: pkg")
     if package_id not in packages:
@@ -96,23 +97,23 @@ def edge_at(value: Any, packages: Dict[str, Entry], where: str) -> Edge:
         for it in list_at(entry.get("dep_kinds"), f"{where}: dep_kinds")
     ]
     name, version = name_and_version(packages[package_id])
-    return Edge(text_at(entry.get("name"), f"{where}: name"), name, version, kinds)
+    return GraphEdge(text_at(entry.get("name"), f"{where}: name"), name, version, kinds)
 
 
 def name_and_version(package: Entry) -> Tuple[str, str]:
-    """The name and the version of a package."""
+    """Returns the name and the version of a package."""
     name = text_at(package.get("name"), "packages: name")
     return name, text_at(package.get("version"), f"{name}: version")
 
 
 def by_id(entries: Any, where: str) -> Dict[str, Entry]:
-    """The objects of a list, each by its id."""
+    """Returns the objects of a list, each by its id."""
     objects = [object_at(it, where) for it in list_at(entries, where)]
     return {text_at(it.get("id"), f"{where}: id"): it for it in objects}
 
 
-def packages_at(metadata: Entry) -> Iterator[Package]:
-    """The packages of the file, in its order."""
+def packages_at(metadata: Entry) -> Iterator[GraphPackage]:
+    """Yields the packages of the file, in its order."""
     if metadata.get("version") != 1:
         raise WrongShape(": it is not of --format-version 1")
     if metadata.get("resolve") is None:
@@ -126,10 +127,10 @@ def packages_at(metadata: Entry) -> Iterator[Package]:
         node, (name, version) = nodes[package_id], name_and_version(entry)
         asked = list_at(entry.get("dependencies"), f"{name}: dependencies")
         given = list_at(node.get("deps"), f"{name}: deps")
-        yield Package(
+        yield GraphPackage(
             name,
             version,
-            [need_at(it, f"{name}: dependencies") for it in asked],
+            [dependency_at(it, f"{name}: dependencies") for it in asked],
             [edge_at(it, packages, f"{name}: deps") for it in given],
             active_at(entry, node, name),
             package_id in members,
@@ -137,8 +138,8 @@ def packages_at(metadata: Entry) -> Iterator[Package]:
 
 
 def active_at(package: Entry, node: Entry, name: str) -> Set[str]:
-    """The optional dependencies that the active features of a package have. `NAME?/FEATURE` has
-    none: what it adds is no name."""
+    """Returns the optional dependencies that the active features of a package have. `NAME?/FEATURE`
+    has none: what it adds is no name."""
     features = object_at(package.get("features", {}), f"{name}: features")
     active = set()
     for it in list_at(node.get("features", []), f"{name}: features"):
@@ -157,104 +158,129 @@ def active_at(package: Entry, node: Entry, name: str) -> Set[str]:
 
 
 def crate_name(name: str) -> str:
-    """The name by which code knows what the manifest names."""
+    """Returns the name by which code knows what the manifest names."""
     return name.replace("-", "_")
 
 
-def is_edge_for(edge: Edge, need: Need, package: Package) -> bool:
-    """Whether an edge of a package is for what it requires. One to the package itself, which is for
-    development, has its own name in the graph, whatever other name the manifest gives."""
-    if edge.name != need.name or need.kind not in edge.kinds:
+def is_edge_for(edge: GraphEdge, it: Dependency, package: GraphPackage) -> bool:
+    """Returns whether an edge of a package is for what it requires. One to the package itself,
+    which is for development, has its own name in the graph, whatever other name the manifest
+    gives."""
+    if edge.name != it.name or it.kind not in edge.kinds:
         return False
     if (edge.name, edge.version) == (package.name, package.version):
         return True
-    if need.other_name is not None:
-        return edge.known_as == crate_name(need.other_name)
+    if it.other_name is not None:
+        return edge.known_as == crate_name(it.other_name)
     other_names = {
-        crate_name(it.other_name)
-        for it in package.needs
-        if it.other_name is not None and it.name == need.name
+        crate_name(other.other_name)
+        for other in package.dependencies
+        if other.other_name is not None and other.name == it.name
     }
-    return edge.known_as not in other_names - {crate_name(need.name)}
+    return edge.known_as not in other_names - {crate_name(it.name)}
 
 
-def has_to_be_there(need: Need, package: Package, targets: Set[Optional[str]]) -> bool:
-    """Whether the graph has to have an edge for what a package requires, where these targets are
-    active."""
-    kind, target = need.kind
-    is_active = not need.is_optional or (need.other_name or need.name) in package.active
+def has_to_be_there(it: Dependency, package: GraphPackage, targets: Set[Optional[str]]) -> bool:
+    """Returns whether the graph has to have an edge for what a package requires, where these
+    targets are active."""
+    kind, target = it.kind
+    is_active = not it.is_optional or (it.other_name or it.name) in package.active
     is_built = kind != "dev" or package.is_member
     return is_active and is_built and (target is None or target in targets)
 
 
-def active_targets(packages: List[Package]) -> Set[Optional[str]]:
-    """The targets that the graph shows to be active: those that an edge is for alone. An edge for
-    several is there if one of them is active."""
+def active_targets(packages: List[GraphPackage]) -> Set[Optional[str]]:
+    """Returns the targets that the graph shows to be active: those that an edge is for alone. An
+    edge for several is there if one of them is active."""
     edges = (edge for package in packages for edge in package.edges)
     targets_of_each = ({target for _, target in edge.kinds} for edge in edges)
     return {target for targets in targets_of_each if len(targets) == 1 for target in targets}
 
 
-def is_asked_for(version: str, need: Need) -> Optional[bool]:
-    """Whether a version is what is required; None if the requirement isn't read."""
-    if need.requirement == "*" and not need.has_registry:
-        return True
-    return is_met(need.requirement, version, Dialect.CARGO)
+# ---- the lock file
 
 
-# ---- the findings
+class MetadataScheme(CargoScheme):
+    """How Cargo reads what a graph has."""
+
+    def verdict(self, specifier: str, requirement: Requirement) -> Optional[Verdict]:
+        """Returns the verdict on what is found. A path or git without a version lets each in."""
+        if specifier == "*" and not requirement.stated.has_registry:
+            return RIGHT
+        return super().verdict(specifier, requirement)
 
 
-def of_need(
-    package: Package, need: Need, is_required: bool, is_strict: bool, tally: Tally
-) -> Iterator[Finding]:
-    """What there is to say of what a package requires."""
-    finding = Finding(Kind.MISSING, need.requirement, "", package.name, need.name)
-    finding = finding._replace(alias=need.other_name or "", requirer_version=package.version)
-    edges = [edge for edge in package.edges if is_edge_for(edge, need, package)]
-    tally.requirements += bool(edges) or is_required
-    if not edges and is_required:
-        yield finding._replace(is_strict=is_strict, reason="platform" if is_strict else "")
-    for edge in edges:
-        met = is_asked_for(edge.version, need)
-        if not met:
-            kind = Kind.INVALID_RANGE if met is None else Kind.UNSATISFIED
-            yield finding._replace(kind=kind, version=edge.version, package=edge.name)
+class Reader:
+    """Reads a graph. With `--strict` a dependency for any target has to be there."""
+
+    def __init__(self, metadata: Entry, scope: Scope) -> None:
+        self.packages, self.scope = list(packages_at(metadata)), scope
+        self.targets = active_targets(self.packages)
+        each = (it for package in self.packages for it in package.dependencies)
+        self.every_target = {it.kind[1] for it in each}
+
+    def required(self, it: Dependency, package: GraphPackage) -> Iterator[Requirement]:
+        """Yields what a package requires, for each edge that is for it."""
+        is_required = has_to_be_there(it, package, self.targets)
+        is_strict = not is_required and has_to_be_there(it, package, self.every_target)
+        made = Requirement(
+            Requirer(package.name, package.version),
+            it.name,
+            it.requirement,
+            kind=it.kind[0] or "",
+            must_exist=is_required or is_strict,
+            excuse="platform" if is_strict else "",
+            alias=it.other_name or "",
+            stated=it,
+        )
+        edges = [edge for edge in package.edges if is_edge_for(edge, it, package)]
+        yield from (made._replace(found=Package(each.name, each.version)) for each in edges)
+        if not edges:
+            yield made
+
+    def nodes(self, package: GraphPackage, lock: LockFile) -> Iterator[Node]:
+        """Yields a package, what it requires, and the edges that nothing requires."""
+        yield Node(Package(package.name, package.version))
+        for it in package.dependencies:
+            first, *others = self.required(it, package)
+            kept = lock.scoped([first], self.scope)
+            rest = others if kept else ()
+            more = [found for other in rest for found in findings_of(other, METADATA.scheme)]
+            yield Node(None, kept)
+            yield Node(findings=more)
+        requirer = Requirer(package.name, package.version)
+        for edge in package.edges:
+            if not any(is_edge_for(edge, it, package) for it in package.dependencies):
+                found = Package(edge.name, edge.version)
+                yield Node(findings=[NotRequired(Requirement(requirer, edge.name, "", found))])
+
+    def edges(self) -> Iterator[Tuple[str, str]]:
+        """Yields who depends on which package."""
+        for it in self.packages:
+            for edge in it.edges:
+                yield f"{it.name} {it.version}", f"{edge.name} {edge.version}"
+
+    def lock_file(self) -> LockFile:
+        """Returns what the graph has, in the order of its packages."""
+        lock = LockFile([], [], self.edges)
+        lock.package_count = sum(not package.is_member for package in self.packages)
+        lock.nodes = [node for it in self.packages for node in self.nodes(it, lock)]
+        return lock
 
 
-def of_version(package: Package) -> Iterator[Finding]:
-    """What there is to say of a package with a version that Cargo wouldn't take."""
-    if not is_version(package.version, Dialect.CARGO):
-        name, version = package.name, package.version
-        yield Finding(Kind.INVALID_VERSION, "", version, package=name, place=name)
+class Metadata(Tool):
+    """Cargo, of what `cargo metadata` writes."""
+
+    name, scheme = "cargo metadata", MetadataScheme()
+
+    def recognizes(self, file: Input) -> bool:
+        """Returns whether a file is JSON with what only a graph has."""
+        is_json = file.text.lstrip()[:1] == b"{"
+        return is_json and ("workspace_members" in file.json or "resolve" in file.json)
+
+    def read(self, file: Input) -> LockFile:
+        """Returns what a graph has."""
+        return Reader(file.json, file.scope).lock_file()
 
 
-def of_edges(package: Package) -> Iterator[Finding]:
-    """What there is to say of the edges of a package that nothing requires."""
-    for edge in package.edges:
-        if not any(is_edge_for(edge, need, package) for need in package.needs):
-            finding = Finding(Kind.NOT_REQUIRED, "", edge.version, package.name, edge.name)
-            yield finding._replace(package=edge.name, requirer_version=package.version)
-
-
-def findings(metadata: Entry, tally: Tally, scope: Scope) -> Iterator[Finding]:
-    """What there is to say of a graph, in the order of its packages. With `--strict` a dependency
-    for any target has to be there."""
-    packages = list(packages_at(metadata))
-    tally.graph = lambda: {
-        f"{it.name} {it.version}": [f"{edge.name} {edge.version}" for edge in it.edges]
-        for it in packages
-    }
-    tally.packages += sum(not package.is_member for package in packages)
-    targets = active_targets(packages)
-    every_target = {need.kind[1] for package in packages for need in package.needs}
-    for package in packages:
-        yield from of_version(package)
-        for need in package.needs:
-            if need.kind[0] == "dev" and not scope.has_development:
-                tally.left_out += 1
-                continue
-            is_required = has_to_be_there(need, package, targets)
-            is_strict = not is_required and has_to_be_there(need, package, every_target)
-            yield from of_need(package, need, is_required or is_strict, is_strict, tally)
-        yield from of_edges(package)
+METADATA = Metadata()

@@ -3,72 +3,72 @@ isn't used."""
 
 from typing import Iterator, List, Optional
 
-from ..findings import Finding, Kind
-from .packages import Package
+from ..findings import Finding, MissingEntry, NotPatched, NotReplaced, Unreached
+from ..model import Package
+from .packages import source_of
 from .project import Patch
-from .resolution import Resolution, is_at, is_of_patch
+from .resolution import Resolution
 from .sources import PATH, is_from
 
 A_PATCH = "a patch"
 
 
-def of_patches(resolution: Resolution) -> Iterator[Finding]:
-    """What there is to say of the patches of a workspace, and of those that a lock file has."""
+def patch_findings(resolution: Resolution) -> Iterator[Finding]:
+    """Yields the findings of the patches of a workspace, and of those that a lock file has."""
     project, lock = resolution.project, resolution.lock
     for patch in project.patches:
-        used = [it for it in lock.packages if is_of_patch(patch, it)]
-        unused = [it for it in lock.unused if is_of_patch(patch, it)]
-        exchanged = list(of_exchanged(patch, resolution, unused))
-        yield from exchanged
-        if not used and not unused and not exchanged:
+        used = [it for it in lock.packages if resolution.is_of_patch(patch, it)]
+        unused = [it for it in lock.unused if resolution.is_of_patch(patch, it)]
+        others = list(exchanged(patch, resolution, unused))
+        yield from others
+        if not used and not unused and not others:
             version = version_of(patch, resolution) or ""
-            name = patch.need.name
-            yield Finding(Kind.MISSING, "", version, package=name, place=name, reason=A_PATCH)
-    yield from of_replacements(resolution)
+            name = patch.dependency.name
+            yield MissingEntry(Package(name, version or None), "", A_PATCH)
+    yield from replacement_findings(resolution)
     for package in lock.unused:
-        is_known = any(is_of_patch(patch, package) for patch in project.patches)
-        if not package.is_gone and not is_known:
-            yield of_package(package, Kind.NOT_REQUIRED)
+        is_known = any(resolution.is_of_patch(patch, package) for patch in project.patches)
+        if not lock.is_gone(package) and not is_known:
+            yield Unreached(package)
 
 
-def of_replacements(resolution: Resolution) -> Iterator[Finding]:
-    """The packages that [replace] has another one for, at a path and of the same version, which
-    the lock file doesn't have in their place."""
+def replacement_findings(resolution: Resolution) -> Iterator[Finding]:
+    """Yields the packages that [replace] has another one for, at a path and of the same version,
+    which the lock file doesn't have in their place."""
     project = resolution.project
     for need in project.replacements:
         if need.source.kind != PATH:
             continue
         manifest = project.at(need.source.place)
         for package in resolution.lock.by_name.get(manifest.name or "", []):
-            is_meant = package.source is not None and package.version == manifest.version
-            to = [it.to.folder for it in resolution.edges_of(package) if it.to is not None]
+            is_meant = bool(package.source) and package.version == manifest.version
+            edges = (it.to for it in resolution.edges_of(package) if it.to is not None)
+            to = [resolution.lock.directory_of(it) for it in edges]
             if is_meant and need.source.place not in to:
-                finding = of_package(package, Kind.ANOTHER_SOURCE)
-                yield finding._replace(range=need.source.text(project.folder))
+                yield NotPatched(package, need.source.text(project.folder))
+    # A key is NAME:VERSION, perhaps after the URL of the source and `#`.
+    stated = {it.key.rpartition("#")[2].partition(":")[0] for it in project.replacements}
+    for package in resolution.lock.packages:
+        if "replace" in package.entry and package.name not in stated:
+            yield NotReplaced(package)
 
 
 def version_of(patch: Patch, resolution: Resolution) -> Optional[str]:
-    """The version of a patch, if it is at a path."""
-    source = patch.need.source
+    """Returns the version of a patch, if it is at a path."""
+    source = patch.dependency.source
     return resolution.project.at(source.place).version if source.kind == PATH else None
 
 
-def of_exchanged(
+def exchanged(
     patch: Patch, resolution: Resolution, unused: List[Package]
 ) -> Iterator[Finding]:
-    """The packages that a patch replaces, by their version, where the lock file has them from the
-    source that is patched."""
+    """Yields the packages that a patch replaces, by their version, where the lock file has them
+    from the source that is patched."""
     project = resolution.project
     versions = {version_of(patch, resolution), *(it.version for it in unused)}
-    for package in resolution.lock.by_name.get(patch.need.name, []):
-        is_patched = package.source is not None and is_from(patch.source, package.source)
-        is_own = is_at(patch.need.source, package)
+    for package in resolution.lock.by_name.get(patch.dependency.name, []):
+        source = source_of(package.source) if package.source else None
+        is_patched = source is not None and is_from(patch.source, source)
+        is_own = resolution.lock.is_at(patch.dependency.source, package)
         if is_patched and not is_own and package.version in versions:
-            finding = of_package(package, Kind.ANOTHER_SOURCE)
-            yield finding._replace(range=patch.need.source.text(project.folder))
-
-
-def of_package(package: Package, kind: Kind) -> Finding:
-    """What there is to say of a package."""
-    name, version = package.name, package.version
-    return Finding(kind, "", version, package=name, place=name, at=("package", name, version))
+            yield NotPatched(package, patch.dependency.source.text(project.folder))

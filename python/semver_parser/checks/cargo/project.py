@@ -5,7 +5,15 @@ import os
 from typing import Dict, Iterator, List, NamedTuple, Optional
 
 from ..files import Refusal, taking
-from .manifests import MANIFEST, Manifest, Need, inherited_of, need_of, patches_of, read
+from .manifests import (
+    MANIFEST,
+    Dependency,
+    Manifest,
+    dependency_of,
+    inherited_of,
+    patches_of,
+    read,
+)
 from .members import manifest_at, members_at
 from .sources import PATH, Source, patched_source
 
@@ -16,10 +24,10 @@ class Patch(NamedTuple):
     """A package that replaces those of a source, or one of [replace], of which the key has that."""
 
     source: Source
-    need: Need
+    dependency: Dependency
 
 
-class Project:
+class Workspace:
     """The manifests of a project. Those of packages at paths are read where they are needed, by
     their directories."""
 
@@ -28,22 +36,24 @@ class Project:
         self.members = [it for it in members_at(folder) if it.name is not None]
         self.manifests: Dict[str, Optional[Manifest]] = {it.folder: it for it in self.members}
         replacing = list(patches_at(folder))
-        self.patches = [it for it in replacing if it.need.table != REPLACE]
-        self.replacements = [it.need for it in replacing if it.need.table == REPLACE]
+        self.patches = [it for it in replacing if it.dependency.table != REPLACE]
+        self.replacements = [
+            it.dependency for it in replacing if it.dependency.table == REPLACE
+        ]
         self.folders: Dict[str, Dict[str, str]] = {}
         self.find()
 
     def is_member(self, manifest: Manifest) -> bool:
-        """Whether a package is a member of the workspace."""
+        """Returns whether a package is a member of the workspace."""
         return any(it.folder == manifest.folder for it in self.members)
 
     def at(self, folder: str) -> Manifest:
-        """The manifest in a directory, which has to be there."""
+        """Returns the manifest in a directory, which has to be there."""
         found = self.known_at(folder)
         return manifest_at(folder) if found is None else found
 
     def known_at(self, folder: str) -> Optional[Manifest]:
-        """The manifest in a directory, if it is one."""
+        """Returns the manifest in a directory, if it is one."""
         if folder not in self.manifests:
             try:
                 found: Optional[Manifest] = manifest_at(os.path.relpath(folder))
@@ -55,28 +65,28 @@ class Project:
     def find(self) -> None:
         """Finds the packages at paths, all that a manifest or a patch has."""
         left: List[Optional[Manifest]] = list(self.members)
-        needs = [*(patch.need for patch in self.patches), *self.replacements]
+        stated = [*(it.dependency for it in self.patches), *self.replacements]
         seen = set(self.manifests)
-        while left or needs:
+        while left or stated:
             manifest = left.pop() if left else None
             if manifest is not None and manifest.name is not None:
                 self.folders.setdefault(manifest.name, {})[manifest.version] = manifest.folder
-                needs += manifest.needs
-            while needs:
-                source = needs.pop().source
+                stated += manifest.dependencies
+            while stated:
+                source = stated.pop().source
                 if source.kind == PATH and source.place not in seen:
                     seen.add(source.place)
                     left.append(self.known_at(source.place))
 
     def place(self, name: str, version: str) -> Optional[str]:
-        """The directory of a package of the lock file that has no source: Cargo goes by the name
-        where that is one package's alone."""
+        """Returns the directory of a package of the lock file that has no source: Cargo goes by the
+        name where that is one package's alone."""
         places = self.folders.get(name, {})
         return next(iter(places.values())) if len(places) == 1 else places.get(version)
 
 
 def patches_at(folder: str) -> Iterator[Patch]:
-    """The patches and replacements of the workspace or the package in a directory."""
+    """Yields the patches and replacements of the workspace or the package in a directory."""
     path = os.path.join(folder, MANIFEST)
     top = read(path)
     with taking(path, MANIFEST):
@@ -84,4 +94,4 @@ def patches_at(folder: str) -> Iterator[Patch]:
         for table, values in patches_of(top):
             source = patched_source(table[len(OF_PATCH) :] if table != REPLACE else "")
             for key, value in values.items():
-                yield Patch(source, need_of(key, value, table, inherited, folder))
+                yield Patch(source, dependency_of(key, value, table, inherited, folder))

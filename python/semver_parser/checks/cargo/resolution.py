@@ -4,21 +4,20 @@ from typing import Dict, Iterator, List, NamedTuple, Optional, Set, Tuple
 
 from semver_parser import Dialect, Version
 
+from ..model import Package
 from ..satisfaction import is_met, is_version
 from .features import activated_by, features_of
-from .manifests import Manifest, Need
-from .packages import Edge, Lock, Package, edges_of
-from .project import Patch, Project
-from .sources import PATH, Source, is_from, is_patched
-
-PackageKey = Tuple[str, str, str]
+from .manifests import Dependency, Manifest
+from .packages import Edge, Lock, PackageKey, key_of
+from .project import Patch, Workspace
+from .sources import PATH, is_patched
 
 
 class Match(NamedTuple):
     """What a package requires, what of the lock file that is, if anything, and whether it has to be
     there."""
 
-    need: Need
+    dependency: Dependency
     found: Optional[Package]
     is_active: bool
 
@@ -28,13 +27,14 @@ class Resolution:
     package at a path is asked to have, and which of these a package requires whose manifest isn't
     there."""
 
-    def __init__(self, lock: Lock, project: Project) -> None:
+    def __init__(self, lock: Lock, project: Workspace) -> None:
         self.lock, self.project = lock, project
         self.edges: Dict[PackageKey, List[Edge]] = {}
-        self.entries = {it.folder: it for it in lock.packages if it.folder}
-        for it in lock.packages:
-            if it.folder and it.version == project.at(it.folder).version:
-                self.entries[it.folder] = it
+        placed = [(lock.directory_of(it), it) for it in lock.packages]
+        self.entries = {directory: it for directory, it in placed if directory}
+        for directory, it in placed:
+            if directory and it.version == project.at(directory).version:
+                self.entries[directory] = it
         self.asked_by_others: Set[str] = set()
         self.reached: Set[PackageKey] = set()
         self.reach()
@@ -42,26 +42,31 @@ class Resolution:
         self.ask()
 
     def edges_of(self, package: Package) -> List[Edge]:
-        """What a package depends on."""
-        if package.key not in self.edges:
-            self.edges[package.key] = list(edges_of(package, self.lock.by_name))
-        return self.edges[package.key]
+        """Returns what a package depends on."""
+        key = key_of(package)
+        if key not in self.edges:
+            self.edges[key] = list(self.lock.edges_of(package))
+        return self.edges[key]
 
     def entry_of(self, manifest: Manifest) -> Optional[Package]:
-        """The package of the lock file that a manifest is of."""
+        """Returns the package of the lock file that a manifest is of."""
         return self.entries.get(manifest.folder)
 
     def reach(self) -> None:
         """Finds the packages to which something leads from a member."""
         left = [it for it in map(self.entry_of, self.project.members) if it is not None]
-        self.reached.update(it.key for it in left)
+        self.reached.update(map(key_of, left))
         while left:
             package = left.pop()
+            is_own = self.lock.directory_of(package) is not None
             for edge in self.edges_of(package):
-                if edge.to is not None and edge.to.folder and package.folder is None:
-                    self.asked_by_others.add(edge.to.folder)
-                if edge.to is not None and edge.to.key not in self.reached:
-                    self.reached.add(edge.to.key)
+                if edge.to is None:
+                    continue
+                directory = self.lock.directory_of(edge.to)
+                if directory and not is_own:
+                    self.asked_by_others.add(directory)
+                if key_of(edge.to) not in self.reached:
+                    self.reached.add(key_of(edge.to))
                     left.append(edge.to)
 
     def ask(self) -> None:
@@ -72,30 +77,30 @@ class Resolution:
         for manifest in left:
             asked = activated_by(manifest, self.features[manifest.folder])
             for match in self.matches_of(manifest):
-                folder = match.found.folder if match.found is not None else None
+                folder = self.lock.directory_of(match.found) if match.found else None
                 if not match.is_active or folder is None:
                     continue
-                wanted = asked.get(match.need.key, set()).union(match.need.features)
+                wanted = asked.get(match.dependency.key, set()).union(match.dependency.features)
                 if folder not in self.features or not wanted <= self.features[folder]:
                     self.features.setdefault(folder, set()).update(wanted)
                     left.append(self.project.at(folder))
 
     def manifests(self) -> Iterator[Manifest]:
-        """The manifests of the members, and of the packages at paths that are required."""
+        """Yields the manifests of the members, and of the packages at paths that are required."""
         yield from map(self.project.at, self.features)
         for folder in sorted(self.asked_by_others - set(self.features)):
             yield self.project.at(folder)
 
     # ---- what is required
 
-    def needs_of(self, manifest: Manifest) -> Iterator[Tuple[Need, bool]]:
-        """What a manifest may require, and whether it does. What is for development a member alone
-        requires, and an optional dependency is there if a feature requires it: which those may be
-        isn't known if a package asks whose manifest isn't there. A package at a path has to be
-        there."""
+    def dependencies_of(self, manifest: Manifest) -> Iterator[Tuple[Dependency, bool]]:
+        """Yields what a manifest may require, and whether it does. What is for development a member
+        alone requires, and an optional dependency is there if a feature requires it: which those
+        may be isn't known if a package asks whose manifest isn't there. A package at a path has to
+        be there."""
         asked = activated_by(manifest, self.features.get(manifest.folder, set()))
         is_member = self.project.is_member(manifest)
-        for need in manifest.needs:
+        for need in manifest.dependencies:
             if need.is_development and not is_member:
                 continue
             is_active = not need.is_optional or need.key in asked
@@ -105,51 +110,47 @@ class Resolution:
                 yield need, is_active
 
     def matches_of(self, manifest: Manifest) -> Iterator[Match]:
-        """What a manifest requires, each with what of the lock file Cargo takes for it."""
+        """Yields what a manifest requires, each with what of the lock file Cargo takes for it."""
         entry = self.entry_of(manifest)
         edges = [] if entry is None else self.edges_of(entry)
         by_name: Dict[str, List[Package]] = {}
         for edge in edges:
             if edge.to is not None:
                 by_name.setdefault(edge.name, []).append(edge.to)
-        for need, is_active in self.needs_of(manifest):
+        for need, is_active in self.dependencies_of(manifest):
             found = in_order(by_name.get(need.name, []))
             fits = (it for it in found if self.is_met(need, it) and self.is_source(need, it))
             yield Match(need, next(fits, None), is_active)
 
     def version_of(self, package: Package) -> str:
-        """The version of a package: one at a path has that of its manifest."""
-        return self.project.at(package.folder).version if package.folder else package.version
+        """Returns the version of a package: one at a path has that of its manifest."""
+        directory = self.lock.directory_of(package)
+        return self.project.at(directory).version if directory else package.version or ""
 
-    def is_met(self, need: Need, package: Package) -> Optional[bool]:
-        """Whether a package has a version that is required; None if the requirement isn't read. A
-        path or git without a requirement lets each version in."""
+    def is_met(self, need: Dependency, package: Package) -> Optional[bool]:
+        """Returns whether a package has a version that is required; None if the requirement isn't
+        read. A path or git without a requirement lets each version in."""
         if need.requirement == "*" and not need.has_registry:
             return True
         return is_met(need.requirement, self.version_of(package), Dialect.CARGO)
 
-    def is_source(self, need: Need, package: Package) -> bool:
-        """Whether a package is from the source that is required, or from a patch of that."""
-        return is_at(need.source, package) or any(
-            is_patched(need.source, patch.source) and is_of_patch(patch, package)
+    def is_source(self, need: Dependency, package: Package) -> bool:
+        """Returns whether a package is from the source that is required, or from a patch of
+        that."""
+        return self.lock.is_at(need.source, package) or any(
+            is_patched(need.source, patch.source) and self.is_of_patch(patch, package)
             for patch in self.project.patches
         )
 
+    def is_of_patch(self, patch: Patch, package: Package) -> bool:
+        """Returns whether a package is what a patch puts in place."""
+        dependency = patch.dependency
+        return package.name == dependency.name and self.lock.is_at(dependency.source, package)
+
 
 def in_order(packages: List[Package]) -> List[Package]:
-    """Packages of one name in Cargo's order, by which the first that is required is taken."""
-    if len(packages) < 2 or not all(is_version(it.version, Dialect.CARGO) for it in packages):
+    """Returns packages of one name in Cargo's order, by which the first that is required is
+    taken."""
+    if len(packages) < 2 or not all(is_version(it.version or "", Dialect.CARGO) for it in packages):
         return packages
-    return sorted(packages, key=lambda it: Version.parse(it.version, dialect=Dialect.CARGO))
-
-
-def is_at(source: Source, package: Package) -> bool:
-    """Whether a package is from a source."""
-    if source.kind == PATH or package.folder is not None:
-        return source == Source(PATH, package.folder or "")
-    return is_from(source, package.source)
-
-
-def is_of_patch(patch: Patch, package: Package) -> bool:
-    """Whether a package is what a patch puts in place."""
-    return package.name == patch.need.name and is_at(patch.need.source, package)
+    return sorted(packages, key=lambda it: Version.parse(it.version or "", dialect=Dialect.CARGO))

@@ -30,7 +30,7 @@ class Source(NamedTuple):
     reference: str = ""
 
     def text(self, folder: str) -> str:
-        """The source as a finding has it, a directory from another one on."""
+        """Returns the source as a finding has it, a directory from another one on."""
         if self == CRATES_IO:
             return NAMES_OF_CRATES_IO[0]
         if self.kind == PATH:
@@ -40,7 +40,8 @@ class Source(NamedTuple):
 
 
 def canonical(url: str) -> str:
-    """A URL in the form in which Cargo compares it: GitHub takes no notice of upper case."""
+    """Returns a URL in the form in which Cargo compares it: GitHub takes no notice of upper
+    case."""
     bare = url.rstrip("/")
     bare = bare.lower() if "//github.com/" in bare.lower() else bare
     return bare[: -len(".git")] if bare.endswith(".git") else bare
@@ -50,7 +51,7 @@ CRATES_IO = Source(REGISTRY, canonical(INDEX_OF_CRATES_IO))
 
 
 def locked_source(text: str) -> Source:
-    """The source that a lock file has."""
+    """Returns the source that a lock file has."""
     found = LOCKED.fullmatch(text)
     if found is None:
         return Source(NAMED, text)
@@ -61,17 +62,17 @@ def locked_source(text: str) -> Source:
 
 
 def registry_at(index: str) -> Source:
-    """The registry whose index is at a URL."""
+    """Returns the registry whose index is at a URL."""
     return locked_source(index if index.startswith("sparse+") else f"registry+{index}")
 
 
 def registry_of(name: str) -> Source:
-    """The registry of a name. Where that is only the settings of Cargo say."""
+    """Returns the registry of a name. Where that is only the settings of Cargo say."""
     return CRATES_IO if name in NAMES_OF_CRATES_IO else Source(NAMED, name)
 
 
 def source_of(entry: Entry, folder: str) -> Source:
-    """The source of a dependency in a directory's manifest, whose fields are texts."""
+    """Returns the source of a dependency in a directory's manifest, whose fields are texts."""
     if "path" in entry:
         return Source(PATH, directory_at(folder, entry["path"]))
     if "git" in entry:
@@ -83,25 +84,25 @@ def source_of(entry: Entry, folder: str) -> Source:
 
 
 def patched_source(key: str) -> Source:
-    """The source that a key of [patch] is for: a name or a URL."""
+    """Returns the source that a key of [patch] is for: a name or a URL."""
     if "://" not in key:
         return registry_of(key)
     return CRATES_IO if canonical(key) == CRATES_IO.place else Source(NAMED, canonical(key))
 
 
 def directory_at(folder: str, path: str) -> str:
-    """The directory that a path names in another one, as Cargo compares directories."""
+    """Returns the directory that a path names in another one, as Cargo compares directories."""
     return os.path.abspath(os.path.join(folder, path))
 
 
 def is_patched(wanted: Source, key: Source) -> bool:
-    """Whether a key of [patch] is for a source: by its name, or by its URL."""
+    """Returns whether a key of [patch] is for a source: by its name, or by its URL."""
     return key in (wanted, Source(NAMED, wanted.place))
 
 
 def is_from(wanted: Source, found: Optional[Source]) -> bool:
-    """Whether a package is from a source. One of a registry whose place isn't known may be from any
-    but crates.io."""
+    """Returns whether a package is from a source. One of a registry whose place isn't known may be
+    from any but crates.io."""
     if wanted.kind == NAMED and found is not None:
         return found.kind in (REGISTRY, NAMED) and found != CRATES_IO
     return wanted == found

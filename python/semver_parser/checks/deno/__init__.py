@@ -1,1 +1,5 @@
-"""Lock files of Deno: `deno.lock`, of versions 4 and 5."""
+"""Lock files of Deno: `deno.lock`."""
+
+from .tool import DENO
+
+__all__ = ["DENO"]

@@ -2,24 +2,35 @@
 file has of them, and which directories are workspaces."""
 
 import os
-from typing import Dict, Iterator, List, Optional, Set, Tuple
+from typing import Dict, Iterable, Iterator, List, Optional, Set, Tuple
 
-from ..files import Entry, bytes_of, json_object, objects_at, taking, text_at, texts_at
-from .lock import ACCEPTED, ASKS_OF_TOPS, Packages, is_top, with_manifest
-from .workspaces import by_name, is_workspace, patterns_of, places_in
+from ..files import (
+    Entry,
+    Unreadable,
+    WrongShape,
+    bytes_of,
+    json_object,
+    objects_at,
+    taking,
+    text_at,
+    texts_at,
+)
+from ..node.package_json import refuse_twice
+from ..node.workspaces import is_workspace, name_by_directory, patterns_in, patterns_of, places_in
+from .lock import ACCEPTED, KINDS_OF_TOPS, WORKSPACES, Packages, is_top, with_manifest
 
 
 def check_manifest(manifest: Entry) -> None:
-    """Refuses a package.json whose names, versions and requirements aren't texts."""
+    """Rejects a package.json whose names, versions and requirements aren't texts."""
     for key in ("name", "version"):
         text_at(manifest.get(key, ""), key)
-    for kind in (*ASKS_OF_TOPS, ACCEPTED):
+    for kind in (*KINDS_OF_TOPS, ACCEPTED):
         texts_at(manifest.get(kind, {}), kind)
     objects_at(manifest.get("peerDependenciesMeta", {}), "peerDependenciesMeta")
 
 
 def manifest_in(folder: str) -> Optional[Entry]:
-    """The package.json in a folder, where there is one."""
+    """Returns the package.json in a folder, where there is one."""
     path = os.path.join(folder, "package.json")
     if not os.path.exists(path):
         return None
@@ -48,9 +59,10 @@ def read_links(packages: Packages, project: Optional[str]) -> Set[str]:
 
 
 def workspaces_of(packages: Packages, folder: Optional[str], is_there: bool) -> Dict[str, str]:
-    """The places of the project's workspaces by their names: what is in its folder, if its
+    """Returns the places of the project's workspaces by their names: what is in its folder, if its
     package.json is there, and else what the lock file has of them."""
-    patterns = patterns_of(packages.get("", {}))
+    texts = patterns_in(packages.get("", {}).get(WORKSPACES, []), WORKSPACES)
+    patterns = patterns_of(texts)
     if folder is not None and is_there:
         with taking(os.path.join(folder, "package.json"), "package.json"):
             return by_name(list(manifests_at(folder, places_in(patterns, folder))))
@@ -58,8 +70,46 @@ def workspaces_of(packages: Packages, folder: Optional[str], is_there: bool) -> 
 
 
 def manifests_at(folder: str, places: List[str]) -> Iterator[Tuple[str, Entry]]:
-    """The package.json files in places below a folder, each with its place."""
+    """Yields the package.json files in places below a folder, each with its place."""
     for place in places:
         manifest = manifest_in(os.path.join(folder, place))
         if manifest is not None:
             yield place, manifest
+
+
+def by_name(manifests: Iterable[Tuple[str, Entry]]) -> Dict[str, str]:
+    """Returns the places of workspaces by the names in their package.json files."""
+    named = (
+        (text_at(manifest.get("name") or name_by_directory(place), f"{place}: name"), place)
+        for place, manifest in manifests
+    )
+    return refuse_twice(named)
+
+
+def root_around(directory: str) -> Optional[str]:
+    """Returns the nearest directory around another one whose package.json has that for a
+    workspace."""
+    inner = os.path.abspath(directory)
+    outer = os.path.dirname(inner)
+    while outer != os.path.dirname(outer):
+        manifest = unchecked_manifest(outer)
+        try:
+            texts = patterns_in(manifest.get(WORKSPACES, []), WORKSPACES)
+            place = os.path.relpath(inner, outer).replace(os.sep, "/")
+            if is_workspace(patterns_of(texts), place):
+                return os.path.relpath(outer)
+        except WrongShape:
+            return None
+        if os.path.exists(os.path.join(outer, ".git")):
+            return None
+        outer = os.path.dirname(outer)
+    return None
+
+
+def unchecked_manifest(directory: str) -> Entry:
+    """Returns the package.json in a directory; an empty one if it isn't there, or isn't one."""
+    try:
+        with open(os.path.join(directory, "package.json"), "rb") as file:
+            return json_object(file.read())
+    except (OSError, Unreadable, WrongShape, RecursionError):
+        return {}

@@ -1,46 +1,77 @@
 """What `npm ci` leaves as it is, though it doesn't fit: that is listed by `--strict` alone."""
 
-from typing import Optional
+from functools import cached_property
+from typing import Callable, Optional, Set
 
-from ..findings import Finding, Kind
-from .lock import Ask, Packages, folder_round, folders, is_outside, is_top, locked_in
+from semver_parser import Dialect
+
+from ..findings import Finding, InvalidRange, Missing, NoVersion, OfRequirement, Overridden
+from ..findings import Unsatisfied
+from ..model import Requirement
+from ..satisfaction import is_met
+from .lock import Packages, folder_round, folders, inside, is_outside, is_top, locked_in
 from .peers import Peers
 
-UNMET = (Kind.UNSATISFIED, Kind.OVERRIDDEN)
-OF_REQUIREMENTS = (*UNMET, Kind.MISSING, Kind.INVALID_RANGE, Kind.INVALID_VERSION)
+UNMET = (Unsatisfied, Overridden)
+
+
+# What repairs what npm doesn't look at: it looks at what workspaces require, and no further.
+ANEW = "remove it, and have npm write it without the old one"
 
 
 class Leaving:
     """Which findings are of what npm leaves as it is; of peers unless a setting has it refuse
     these."""
 
-    def __init__(self, packages: Packages, peers: Optional[Peers]) -> None:
+    def __init__(
+        self, packages: Packages, peers: Optional[Peers], look: Callable[[], Set[str]]
+    ) -> None:
         self.packages, self.peers, self.locked = packages, peers, locked_in(packages)
+        self.look = look
 
-    def as_npm(self, finding: Finding, ask: Ask) -> Finding:
-        """A finding of what a package requires, which may count by `--strict` alone."""
-        if finding.is_strict or finding.kind not in OF_REQUIREMENTS:
-            return finding
-        reason = self.reason(finding, ask)
-        return finding if reason is None else finding._replace(is_strict=True, reason=reason)
+    @cached_property
+    def looked(self) -> Set[str]:
+        """The places whose requirements npm looks at."""
+        return self.look()
 
-    def reason(self, finding: Finding, ask: Ask) -> Optional[str]:
-        """Why npm leaves what a package requires as it is, if it does."""
-        if is_outside(ask.place):
+    def excuse(self, finding: Finding) -> str:
+        """Returns why npm leaves what a finding is about as it is, if it does."""
+        if not isinstance(finding, (*UNMET, Missing, InvalidRange, NoVersion)):
+            return ""
+        assert isinstance(finding, OfRequirement)
+        it = finding.requirement
+        if is_outside(it.requirer.place):
             return "outside"
-        if self.is_brought_along(ask):
+        if self.is_brought_along(it):
             return "bundled"
-        is_peer = self.peers is not None and finding.kind in UNMET and self.peers.is_left(ask)
-        return "conflicting peer" if is_peer else None
+        if not is_top(it.requirer.place) and it.requirer.place not in self.looked:
+            finding.advised(ANEW, False)
+        if isinstance(finding, Overridden) and self.may_stay(finding):
+            return "override"
+        is_unmet = isinstance(finding, UNMET)
+        is_peer = self.peers is not None and is_unmet and self.peers.is_left(it)
+        return "conflicting peer" if is_peer else ""
 
-    def is_brought_along(self, ask: Ask) -> bool:
-        """Whether a package brings along what it requires, or what is there is from the lock file
-        of another package."""
-        if is_top(ask.place):
+    def may_stay(self, finding: Overridden) -> bool:
+        """Returns whether npm may leave what an override is for: a package further up than what is
+        found is what the override requires."""
+        it, specifier = finding.requirement, finding.specifier
+        if it.found is None or is_top(it.found.place):
             return False
-        bundled = self.packages[ask.place].get("bundleDependencies")
-        if ask.place in self.locked or (isinstance(bundled, list) and ask.name in bundled):
+        around = (inside(at, it.name) for at in folders(folder_round(it.found.place)))
+        places = [at for at in around if at != it.found.place and at in self.packages]
+        versions = (self.packages[at].get("version") for at in places)
+        return any(is_met(specifier, str(version), Dialect.NPM) for version in versions)
+
+    def is_brought_along(self, it: Requirement) -> bool:
+        """Returns whether a package brings along what it requires, or what is there is from the
+        lock file of another package."""
+        place = it.requirer.place
+        if is_top(place):
+            return False
+        bundled = self.packages[place].get("bundleDependencies")
+        if place in self.locked or (isinstance(bundled, list) and it.name in bundled):
             return True
-        if ask.found is None or not self.locked or is_top(ask.found.place):
+        if it.found is None or not self.locked or is_top(it.found.place):
             return False
-        return not self.locked.isdisjoint(folders(folder_round(ask.found.place)))
+        return not self.locked.isdisjoint(folders(folder_round(it.found.place)))

@@ -6,60 +6,29 @@ and nothing for the project itself.
 
 import posixpath
 from functools import lru_cache
-from typing import Dict, Iterator, List, NamedTuple, Optional, Set, Tuple
+from typing import Dict, Iterator, List, Optional, Set, Tuple
 
 from ..files import Entry, WrongShape, objects_at, text_at, texts_at
-from ..findings import Keys, Scope, Tally
-from .archives import archive_at
-from .specs import alias_of
+from ..model import OPTIONAL, PEERS, PROJECT, Keys, Package, Requirement, Requirer, Scope
+from ..node.archives import archive_at
+from ..node.specifiers import alias_of
 
 Packages = Dict[str, Entry]
 
 # The kinds in npm's order: of one name in several of them the last replaces the others.
-PEERS = "peerDependencies"
-ASKS_OF_EACH = (PEERS, "dependencies", "optionalDependencies")
-ASKS_OF_TOPS = (*ASKS_OF_EACH, "devDependencies")
+KINDS_OF_EACH = (PEERS, "dependencies", "optionalDependencies")
+KINDS_OF_TOPS = (*KINDS_OF_EACH, "devDependencies")
 ACCEPTED = "acceptDependencies"
-OPTIONAL = "optionalDependencies"
 WORKSPACES = "workspaces"
-OF_MANIFEST = ("name", "version", "workspaces", *ASKS_OF_TOPS, "peerDependenciesMeta", ACCEPTED)
-
-
-class Package(NamedTuple):
-    """What is found: its place, with its links followed, and its name, its version and where it is
-    from, where it has them. A link that leads nowhere has none of these."""
-
-    place: str
-    name: Optional[str]
-    version: Optional[str]
-    resolved: Optional[str] = None
-
-
-class Ask(NamedTuple):
-    """Who requires what, of which kind, whether that has to be there, what is found, what else
-    would do, and what an override puts in place."""
-
-    place: str
-    name: str
-    spec: str
-    kind: str
-    is_required: bool
-    found: Optional[Package]
-    accepted: Optional[str] = None
-    override: Optional[str] = None
-
-    @property
-    def wanted(self) -> str:
-        """What is required with the override."""
-        return self.spec if self.override is None else self.override
+OF_MANIFEST = ("name", "version", "workspaces", *KINDS_OF_TOPS, "peerDependenciesMeta", ACCEPTED)
 
 
 # ---- places
 
 
 def keys_of(place: str, is_old: bool) -> Keys:
-    """The keys in the file that lead to the package at a place; none to the project of an old file,
-    of lockfileVersion 1."""
+    """Returns the keys in the file that lead to the package at a place; none to the project of an
+    old file, of lockfileVersion 1."""
     if not is_old:
         return "packages", place
     keys: List[str] = []
@@ -69,7 +38,7 @@ def keys_of(place: str, is_old: bool) -> Keys:
 
 
 def folders(place: str) -> Iterator[str]:
-    """The folders from a place upward, itself first, up to the project.
+    """Yields the folders from a place upward, itself first, up to the project.
 
     Of a place outside the project, as `../other`, they end where only `..` is left.
     """
@@ -82,22 +51,23 @@ def folders(place: str) -> Iterator[str]:
 
 
 def inside(folder: str, name: str) -> str:
-    """The place of a name in the `node_modules` of a folder."""
+    """Returns the place of a name in the `node_modules` of a folder."""
     return f"{folder}/node_modules/{name}" if folder else f"node_modules/{name}"
 
 
 def is_top(place: str) -> bool:
-    """Whether a place is the project, a workspace or what else lies below no `node_modules`."""
+    """Returns whether a place is the project, a workspace or what else lies below no
+    `node_modules`."""
     return "node_modules" not in place or "node_modules" not in place.split("/")
 
 
 def is_outside(place: str) -> bool:
-    """Whether a place is outside of the project: npm puts nothing there."""
+    """Returns whether a place is outside of the project: npm puts nothing there."""
     return place.split("/")[0] == ".."
 
 
 def folder_round(place: str) -> str:
-    """The folder whose `node_modules` has the package."""
+    """Returns the folder whose `node_modules` has the package."""
     parts = place.split("/")
     while parts.pop() != "node_modules":
         pass
@@ -105,7 +75,7 @@ def folder_round(place: str) -> str:
 
 
 def name_by_place(place: str) -> str:
-    """The name that a package has where none is written: that of its folder."""
+    """Returns the name that a package has where none is written: that of its folder."""
     if is_top(place):
         return place.rpartition("/")[2]
     return f"/{place}".rpartition("/node_modules/")[2]
@@ -115,8 +85,9 @@ def name_by_place(place: str) -> str:
 
 
 def packages_of(lock: Entry, manifest: Optional[Entry]) -> Packages:
-    """The packages of a lock file, in its order. What the project itself requires is taken from its
-    package.json, where there is one, and else from the file: one of lockfileVersion 1 hasn't it."""
+    """Returns the packages of a lock file, in its order. What the project itself requires is taken
+    from its package.json, where there is one, and else from the file: one of lockfileVersion 1
+    hasn't it."""
     version = lock.get("lockfileVersion")
     if version not in (1, 2, 3) or type(version) is not int:
         raise WrongShape(" of lockfileVersion 1, 2 or 3")
@@ -131,43 +102,45 @@ def packages_of(lock: Entry, manifest: Optional[Entry]) -> Packages:
 
 
 def with_manifest(entry: Entry, manifest: Entry) -> Entry:
-    """A package of a lock file, with what its package.json has in place of the lock file's."""
+    """Returns a package of a lock file, with what its package.json has in place of the lock
+    file's."""
     own = {key: it for key, it in entry.items() if key not in OF_MANIFEST}
     return {**own, **{key: it for key, it in manifest.items() if key in OF_MANIFEST}}
 
 
 def is_left_out(entry: Entry, scope: Scope) -> bool:
-    """Whether a scope leaves out a package: npm marks one that is for development alone."""
+    """Returns whether a scope leaves out a package: npm marks one that is for development alone."""
     return entry.get("dev") is True and not scope.has_development
 
 
-def within(packages: Packages, scope: Scope, tally: Tally) -> Packages:
-    """The packages with what a scope leaves of their requirements."""
-    kinds = set() if scope.has_peers else {PEERS}
-    kinds |= set() if scope.has_development else {"devDependencies"}
-    found = {}
+def within(packages: Packages, scope: Scope) -> Tuple[Packages, int]:
+    """Returns the packages with what a scope leaves of their requirements, and how many it leaves
+    out."""
+    kinds = {it for it in KINDS_OF_TOPS if not scope.has(it)}
+    found, left_out = {}, 0
     for place, entry in packages.items():
-        out = set(ASKS_OF_TOPS) if is_left_out(entry, scope) else kinds
-        tally.left_out += sum(len(entry[it]) for it in out if isinstance(entry.get(it), dict))
+        out = set(KINDS_OF_TOPS) if is_left_out(entry, scope) else kinds
+        left_out += sum(len(entry[it]) for it in out if isinstance(entry.get(it), dict))
         found[place] = {key: it for key, it in entry.items() if key not in out}
-    return found
+    return found, left_out
 
 
 def packages_inside(holder: Entry, place: str) -> Iterator[Tuple[str, Entry]]:
-    """The packages inside a package or the project of lockfileVersion 1, each with its place."""
+    """Yields the packages inside a package or the project of lockfileVersion 1, each with its
+    place."""
     where = f"{place}: dependencies" if place else "dependencies"
     for name, entry in objects_at(holder.get("dependencies", {}), where).items():
         its_place, target = inside(place, name), target_of(entry)
         if target is not None:
             yield its_place, {"link": True, "resolved": target}
         at = its_place if target is None else target
-        yield at, of_this_day(entry, its_place)
+        yield at, modern_entry(entry, its_place)
         yield from packages_inside(entry, at)
 
 
 def target_of(old: Entry) -> Optional[str]:
-    """The place that a package of lockfileVersion 1 is linked from: one at `file:PATH` is, as a
-    workspace, if that is no archive."""
+    """Returns the place that a package of lockfileVersion 1 is linked from: one at `file:PATH` is,
+    as a workspace, if that is no archive."""
     version = old.get("version")
     if not isinstance(version, str) or not version.startswith("file:"):
         return None
@@ -175,9 +148,9 @@ def target_of(old: Entry) -> Optional[str]:
     return None if path.endswith((".tgz", ".tar", ".tar.gz")) else posixpath.normpath(path)
 
 
-def of_this_day(old: Entry, place: str) -> Entry:
-    """A package of lockfileVersion 1 as lockfileVersion 2 and 3 have it. One from an archive of a
-    registry has the version in the name of that."""
+def modern_entry(old: Entry, place: str) -> Entry:
+    """Returns a package of lockfileVersion 1 as lockfileVersion 2 and 3 have it. One from an
+    archive of a registry has the version in the name of that."""
     entry: Entry = {"inBundle": old.get("bundled", False), "dev": old.get("dev", False)}
     requires = old.get("requires", {})
     if not isinstance(requires, bool):
@@ -197,7 +170,7 @@ def of_this_day(old: Entry, place: str) -> Entry:
 
 
 def end_of_links(packages: Packages, place: str) -> Optional[str]:
-    """The place to which the links from a place lead; None where that is nowhere."""
+    """Returns the place to which the links from a place lead; None where that is nowhere."""
     seen = set()
     while packages[place].get("link"):
         seen.add(place)
@@ -207,20 +180,22 @@ def end_of_links(packages: Packages, place: str) -> Optional[str]:
     return place
 
 
-def package_at(packages: Packages, place: str) -> Package:
-    """The package at a place."""
+def package_at(packages: Packages, place: str, is_old: bool) -> Package:
+    """Returns the package at a place, with its links followed. A link that leads nowhere has
+    neither a name nor a version."""
     end = end_of_links(packages, place)
     if end is None:
-        return Package(place, None, None)
+        return Package(None, None, place, keys_of(place, is_old))
     entry = packages[end]
     name = text_at(entry["name"], f"{end}: name") if "name" in entry else name_by_place(end)
     resolved = entry.get("resolved")
-    known = resolved if isinstance(resolved, str) else None
-    return Package(end, name, version_at(entry, place), known)
+    source = resolved if isinstance(resolved, str) else ""
+    version = version_at(entry, place)
+    return Package(name, version, end, keys_of(end, is_old), source, is_top(end))
 
 
 def version_at(entry: Entry, where: str) -> Optional[str]:
-    """The version of a package, where it has one."""
+    """Returns the version of a package, where it has one."""
     version = entry.get("version", "")
     if not isinstance(version, str):
         text_at(version, f"{where}: version")
@@ -228,13 +203,13 @@ def version_at(entry: Entry, where: str) -> Optional[str]:
 
 
 def locked_in(packages: Packages) -> Set[str]:
-    """The places of the packages that have their own lock file."""
+    """Returns the places of the packages that have their own lock file."""
     return {place for place, entry in packages.items() if place and entry.get("hasShrinkwrap")}
 
 
 def pinned_in(packages: Packages) -> Set[str]:
-    """The places of the packages that were put there by one that brings them along, or that has its
-    own lock file."""
+    """Returns the places of the packages that were put there by one that brings them along, or that
+    has its own lock file."""
     locked = locked_in(packages)
     return {
         place
@@ -246,40 +221,53 @@ def pinned_in(packages: Packages) -> Set[str]:
 # ---- what is required
 
 
-def asks_at(
-    place: str, entry: Entry, found: Dict[str, Package], workspaces: Dict[str, str]
-) -> Iterator[Ask]:
-    """What the package at a place requires, in the order of the file, beside what is found at each
-    place, and the workspaces of the project, which it has under their names whatever else it asks
-    for."""
-    asked = [] if entry.get("link") else asked_at(place, entry)
+def requirements_at(
+    place: str, entry: Entry, found: Dict[str, Package], workspaces: Dict[str, str], is_old: bool
+) -> Iterator[Requirement]:
+    """Yields what the package at a place requires, in the order of the file, with what is found at
+    each place. The project has its workspaces under their names, whatever else it requires by
+    these."""
+    stated = [] if entry.get("link") else stated_at(place, entry)
     own = {} if place or entry.get("link") else workspaces
-    if not asked and not own:
+    if not stated and not own:
         return
     accepted: Dict[str, str] = {}
     if ACCEPTED in entry:
-        accepted = texts_at(entry[ACCEPTED], f"{place or 'the project'}: {ACCEPTED}")
+        accepted = texts_at(entry[ACCEPTED], f"{place or PROJECT}: {ACCEPTED}")
+    requirer = Requirer(place or PROJECT, "", place, keys_of(place, is_old))
     is_apart = PEERS in entry and not is_top(place)
     around = around_of(place)
     of_peers = around_of(folder_round(place)) if is_apart else around
-    for kind, name, spec in asked:
+    for kind, name, spec in stated:
         if name not in own:
             package = nearest(name, of_peers if kind == PEERS else around, found)
-            is_required = package is None and has_to_be_there(place, entry, kind, name)
-            yield Ask(place, name, spec, kind, is_required, package, accepted.get(name))
+            other = accepted.get(name) if accepted else None
+            it = Requirement(requirer, name, spec, package, kind, True, "", (), False, other)
+            yield it if package is not None else missing(it, entry)
     for name, directory in own.items():
         if is_linked(name, directory, found):
-            yield Ask(place, name, f"file:{directory}", WORKSPACES, True, found[inside("", name)])
+            package = found[inside("", name)]
+            yield Requirement(requirer, name, f"file:{directory}", package, WORKSPACES)
+
+
+def missing(it: Requirement, entry: Entry) -> Requirement:
+    """Returns a requirement for which nothing is there. It counts by `--strict` only if it may be
+    missing: npm wrote files of lockfileVersion 2 and 3 without what packages require optionally."""
+    place = it.requirer.place
+    is_required = has_to_be_there(place, entry, it.kind, it.name)
+    is_optional = it.kind == OPTIONAL and not is_outside(place)
+    excuse = "" if is_required else "may be optional"
+    return it._replace(must_exist=is_required or is_optional, excuse=excuse)
 
 
 def is_linked(name: str, directory: str, found: Dict[str, Package]) -> bool:
-    """Whether the project's `node_modules` has a link to a directory under a name."""
+    """Returns whether the project's `node_modules` has a link to a directory under a name."""
     package = found.get(inside("", name))
     return package is not None and package.place == directory
 
 
 def around_of(place: str) -> Tuple[str, ...]:
-    """What is before a name in the `node_modules` around a place, the nearest first."""
+    """Returns what is before a name in the `node_modules` around a place, the nearest first."""
     outer, slash, last = place.rpartition("/")
     if last in ("", ".."):
         return (inside(place, ""),)
@@ -292,7 +280,7 @@ around_again = lru_cache(maxsize=None)(around_of)
 
 
 def nearest(name: str, around: Tuple[str, ...], found: Dict[str, Package]) -> Optional[Package]:
-    """The first package of a name in some folders."""
+    """Returns the first package of a name in some folders."""
     for folder in around:
         package = found.get(folder + name)
         if package is not None:
@@ -300,10 +288,10 @@ def nearest(name: str, around: Tuple[str, ...], found: Dict[str, Package]) -> Op
     return None
 
 
-def asked_at(place: str, entry: Entry) -> List[Tuple[str, str, str]]:
-    """What the package at a place requires: in which way, for which name, and for what."""
+def stated_at(place: str, entry: Entry) -> List[Tuple[str, str, str]]:
+    """Returns what the package at a place requires: in which way, for which name, and for what."""
     where = place or "the project"
-    named = ASKS_OF_TOPS if is_top(place) else ASKS_OF_EACH
+    named = KINDS_OF_TOPS if is_top(place) else KINDS_OF_EACH
     kinds = [kind for kind in named if kind in entry]
     specs = {kind: texts_at(entry[kind], f"{where}: {kind}") for kind in kinds}
     if len(kinds) < 2:
@@ -319,20 +307,22 @@ def asked_at(place: str, entry: Entry) -> List[Tuple[str, str, str]]:
 
 
 def is_of_what_is_there(lock: Entry) -> bool:
-    """Whether a file is that in node_modules, which has what is there and no project: what is
-    optional may be for another platform."""
+    """Returns whether a file is that in node_modules, which has what is there and no project: what
+    is optional may be for another platform."""
     packages = lock.get("packages")
     return isinstance(packages, dict) and "" not in packages
 
 
-def without_optional(asks: List[Ask]) -> List[Ask]:
-    """What a package requires, of which what is optional doesn't have to be there."""
-    return [it._replace(is_required=False) if it.kind == OPTIONAL else it for it in asks]
+def without_optional(requirements: List[Requirement]) -> List[Requirement]:
+    """Returns what a package requires, of which what is optional doesn't have to be there."""
+    return [
+        it._replace(excuse="may be optional") if it.kind == OPTIONAL else it for it in requirements
+    ]
 
 
 def has_to_be_there(place: str, entry: Entry, kind: str, name: str) -> bool:
-    """Whether what a package requires in a way has to be in the file. Of what is optional only that
-    of the project, its workspaces and linked directories has to: npm adds that."""
+    """Returns whether what a package requires in a way has to be in the file. Of what is optional
+    only that of the project, its workspaces and linked directories has to: npm adds that."""
     if is_outside(place):
         return False
     if kind != PEERS:

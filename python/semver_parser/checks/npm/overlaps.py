@@ -19,7 +19,7 @@ class Overlaps:
             self.levels.append([one if other is None else one | other for one, other in pairs])
 
     def first(self, wanted: Range) -> Optional[int]:
-        """The number of the first one that has versions in common with a range."""
+        """Returns the number of the first one that has versions in common with a range."""
         top = self.levels[-1]
         if not top or top[0].isdisjoint(wanted):
             return None
@@ -31,7 +31,7 @@ class Overlaps:
         return number
 
     def having(self, version: str) -> Iterator[int]:
-        """The numbers of those that have a version, in their order."""
+        """Yields the numbers of those that have a version, in their order."""
         pending = [(len(self.levels) - 1, 0)]
         while pending:
             level, number = pending.pop()

@@ -1,5 +1,9 @@
 """The overrides of a project of npm, and which of them is for what is required.
 
+This imitates npm 10.8.2 (`override-set.js` and `edge.js` of its Arborist), and nothing else depends
+on how: `rules_of` reads package.json, and `put_overrides` puts them in place. What this release
+may leave as it is counts by `--strict` alone (`leaving`).
+
 A rule is a key of the overrides with what is there. It is for packages of its name, and of its
 range of versions, and what it has inside for all that these require, directly and through others.
 Of one name the innermost goes first.
@@ -19,10 +23,9 @@ from semver_parser import Dialect, Range
 
 from ..files import Entry, WrongShape, object_at, text_at
 from ..satisfaction import is_met, is_range, is_version, range_in
+from ..model import PEERS, Package, Requirement
+from ..node.specifiers import alias_of, git_range_of, name_and_rest, range_of, reason_of
 from .lock import (
-    PEERS,
-    Ask,
-    Package,
     Packages,
     folder_round,
     folders,
@@ -32,7 +35,6 @@ from .lock import (
     pinned_in,
 )
 from .overlaps import Overlaps
-from .specs import alias_of, git_range_of, name_and_rest, range_of, reason_of
 
 ANY = "*"
 
@@ -74,15 +76,15 @@ class Rule:
         return key if own is None else key | own
 
     def around(self) -> Iterator["Rule"]:
-        """This rule and those round it, the innermost first."""
+        """Yields this rule and those round it, the innermost first."""
         at: Optional[Rule] = self
         while at is not None:
             yield at
             at = at.outer
 
     def having(self, name: str, version: str) -> Iterator["Rule"]:
-        """The rules of a name whose key or replacement has a version, and that are for what a
-        package with this one requires, the innermost first. Of one key the innermost counts."""
+        """Yields the rules of a name whose key or replacement has a version, and that are for what
+        a package with this one requires, the innermost first. Of one key the innermost counts."""
         passed: List[RulesOfName] = []
         for at in self.around():
             inside = [at.by_name[name]] if name in at.by_name else []
@@ -110,8 +112,8 @@ class RulesOfName:
         return Overlaps([Range(it, dialect=Dialect.NPM, pre_releases="included") for it in texts])
 
     def first(self, spec: str) -> Optional[Rule]:
-        """The first that is for what is required: with a range it is if both have versions in
-        common. Of what has no range that can't be told, and git without one is for none."""
+        """Returns the first that is for what is required: with a range it is if both have versions
+        in common. Of what has no range that can't be told, and git without one is for none."""
         number = self.of_any
         if not is_git_without_range(spec):
             wanted = range_in(range_of(spec), Dialect.NPM, "included")
@@ -125,12 +127,12 @@ class RulesOfName:
         return Overlaps([it.versions for it in self.rules])
 
     def having(self, version: str) -> Iterator[Rule]:
-        """Those whose key or replacement has a version, in their order."""
+        """Returns those whose key or replacement has a version, in their order."""
         return (self.rules[number] for number in self.versions.having(version))
 
 
 def is_git_without_range(spec: str) -> bool:
-    """Whether a repository is required, and no range of its versions."""
+    """Returns whether a repository is required, and no range of its versions."""
     return git_range_of(spec) is None and alias_of(spec) is None and reason_of(spec) == "git"
 
 
@@ -138,7 +140,7 @@ def is_git_without_range(spec: str) -> bool:
 
 
 def rules_of(manifest: Entry) -> Rule:
-    """The rules of a package.json, inside one that has no name."""
+    """Returns the rules of a package.json, inside one that has no name."""
     outermost = Rule()
     overrides = object_at(manifest.get("overrides", {}), "overrides")
     add_rules(outermost, overrides, "overrides", manifest)
@@ -159,7 +161,7 @@ def add_rules(outer: Rule, overrides: Entry, where: str, manifest: Entry) -> Non
 
 
 def name_and_range(key: str, where: str) -> Tuple[str, str]:
-    """The name and the range of a key."""
+    """Returns the name and the range of a key."""
     name, within = name_and_rest(key)
     within = within.strip() or ANY
     if not name:
@@ -170,8 +172,8 @@ def name_and_range(key: str, where: str) -> Tuple[str, str]:
 
 
 def replacement(spec: str, manifest: Entry) -> Optional[str]:
-    """What an override puts in place of what is required. `*` puts nothing there, as npm has it,
-    and `$NAME` what the project itself requires of that name."""
+    """Returns what an override puts in place of what is required. `*` puts nothing there, as npm
+    has it, and `$NAME` what the project itself requires of that name."""
     if not spec.startswith("$"):
         return None if spec == ANY else spec
     kinds = ("devDependencies", "optionalDependencies", "dependencies", "peerDependencies")
@@ -186,7 +188,8 @@ def replacement(spec: str, manifest: Entry) -> Optional[str]:
 
 
 def rule_for(here: Rule, name: str, spec: str) -> Rule:
-    """The rule for what a package with a rule requires, and that one if there is no other."""
+    """Returns the rule for what a package with a rule requires, and that one if there is no
+    other."""
     if (name, spec) not in here.chosen:
         rules = (first_at(at, name, spec) for at in here.around())
         here.chosen[name, spec] = next((it for it in rules if it is not None), here)
@@ -194,21 +197,22 @@ def rule_for(here: Rule, name: str, spec: str) -> Rule:
 
 
 def first_at(rule: Rule, name: str, spec: str) -> Optional[Rule]:
-    """The first rule inside another one that is for what is required, or that one if it is."""
+    """Returns the first rule inside another one that is for what is required, or that one if it
+    is."""
     found = rule.by_name[name].first(spec) if name in rule.by_name else None
     return rule.alone.first(spec) if found is None and rule.name == name else found
 
 
 def rule_within(here: Rule, name: str, version: str) -> Rule:
-    """The rule of a package in a folder whose package has a rule: the first of the name whose key
-    or replacement has the version, and that one if there is none."""
+    """Returns the rule of a package in a folder whose package has a rule: the first of the name
+    whose key or replacement has the version, and that one if there is none."""
     return next(here.having(name, version), here) if is_version(version, Dialect.NPM) else here
 
 
-def put_in_place(rule: Optional[Rule], ask: Ask) -> str:
-    """What is required, or what a rule puts in its place."""
+def put_in_place(rule: Optional[Rule], ask: Requirement) -> str:
+    """Returns what is required, or what a rule puts in its place."""
     if rule is None or rule.name != ask.name or rule.spec is None:
-        return ask.spec
+        return ask.specifier
     return rule.spec
 
 
@@ -219,7 +223,7 @@ def put_in_place(rule: Optional[Rule], ask: Ask) -> str:
 class Edge:
     """What a package requires, the rule for that, if it has one, and the place that it leads to."""
 
-    ask: Ask
+    ask: Requirement
     rule: Optional[Rule] = None
     target: str = ""
 
@@ -233,11 +237,11 @@ class Edges:
 
     def add(self, edge: Edge) -> None:
         """Adds an edge."""
-        insort(self.by_place, (edge.ask.place, len(self.all)))
+        insort(self.by_place, (edge.ask.requirer.place, len(self.all)))
         self.all.append(edge)
 
     def inside(self, folder: str) -> List[Edge]:
-        """Those of the package in a folder, and of what is inside it."""
+        """Returns those of the package in a folder, and of what is inside it."""
         if not folder:
             return self.all
         found: List[int] = []
@@ -257,7 +261,7 @@ class Reading:
         self.edges: Dict[str, Edges] = {}
         self.read: Set[str] = set()
 
-    def add(self, place: str, asks: List[Ask]) -> None:
+    def add(self, place: str, asks: List[Requirement]) -> None:
         """Reads the package at a place: edges that were read may lead there now, and its own begin
         there."""
         self.read.add(place)
@@ -283,7 +287,7 @@ class Reading:
 
     def choose(self, edge: Edge) -> None:
         """Chooses the rule for an edge, by what the rule before puts in place."""
-        rule = self.rules.get(edge.ask.place)
+        rule = self.rules.get(edge.ask.requirer.place)
         if rule is not None and edge.ask.name in self.named:
             rule = rule_for(rule, edge.ask.name, put_in_place(edge.rule, edge.ask))
         edge.rule = rule
@@ -298,13 +302,15 @@ class Reading:
 
 
     def put_late(self, edge: Edge) -> Optional[str]:
-        """What an override puts in place of what an edge requires, where npm sees that only after
-        its package has been read. What is found doesn't fit then, so npm puts something else inside
-        the package, chooses the rule anew, and takes what it found after all if that has the same
-        rule, fits by it, and is newer than anything that was required."""
-        ask, here = edge.ask, self.rules.get(edge.ask.place)
+        """Returns what an override puts in place of what an edge requires, where npm sees that only
+        after its package has been read. What is found doesn't fit then, so npm puts something else
+        inside the package, chooses the rule anew, and takes what it found after all if that has the
+        same rule, fits by it, and is newer than anything that was required."""
+        ask, here = edge.ask, self.rules.get(edge.ask.requirer.place)
         asked, found = put_in_place(edge.rule, ask), ask.found
-        if here is None or found is None or ask.kind == PEERS or not are_beside(ask.place, found):
+        if here is None or found is None or ask.kind == PEERS:
+            return None
+        if not are_beside(ask.requirer.place, found):
             return None
         rule, version = rule_for(here, ask.name, asked), found.version or ""
         wanted, spec = range_in(asked, Dialect.NPM, "included"), put_in_place(rule, ask)
@@ -317,20 +323,23 @@ class Reading:
 
 
 def are_beside(place: str, found: Package) -> bool:
-    """Whether what is found is in the same directory as the package at a place."""
+    """Returns whether what is found is in the same directory as the package at a place."""
     is_inside = not is_top(place) and not is_top(found.place)
     return is_inside and folder_round(place) == folder_round(found.place)
 
 
 def names_in(rule: Rule) -> Set[str]:
-    """The names that the rules inside a rule are for."""
+    """Returns the names that the rules inside a rule are for."""
     return {it.name for it in rule.inner}.union(*(names_in(it) for it in rule.inner))
 
 
 def reading_of(
-    packages: Packages, found: Dict[str, Package], asks: Dict[str, List[Ask]], outermost: Rule
+    packages: Packages,
+    found: Dict[str, Package],
+    asks: Dict[str, List[Requirement]],
+    outermost: Rule,
 ) -> Reading:
-    """What npm has read of a lock file, if there are overrides. It reads links after all
+    """Returns what npm has read of a lock file, if there are overrides. It reads links after all
     packages."""
     reading = Reading(found, outermost)
     for is_link in (False, True) if outermost.inner else ():
@@ -340,16 +349,16 @@ def reading_of(
     return reading
 
 
-def refused(reading: Reading) -> Iterator[Tuple[Ask, str]]:
-    """What the project itself requires, where an override puts something else in its place: npm
-    refuses that, also if a version satisfies both."""
+def refused(reading: Reading) -> Iterator[Tuple[Requirement, str]]:
+    """Yields what the project itself requires, where an override puts something else in its place:
+    npm refuses that, also if a version satisfies both."""
     for edge in (it for edges in reading.edges.values() for it in edges.all):
         spec = put_in_place(edge.rule, edge.ask)
-        if not edge.ask.place and spec != edge.ask.spec:
+        if not edge.ask.requirer.place and spec != edge.ask.specifier:
             yield edge.ask, spec
 
 
-def put_overrides(packages: Packages, asks: Dict[str, List[Ask]], reading: Reading) -> None:
+def put_overrides(packages: Packages, asks: Dict[str, List[Requirement]], reading: Reading) -> None:
     """Puts overrides in place of what packages require, but for the project itself, and for what
     was put where it is by another package."""
     pinned = pinned_in(packages) if reading.read else set()
@@ -358,7 +367,10 @@ def put_overrides(packages: Packages, asks: Dict[str, List[Ask]], reading: Readi
     for edge in (it for each in edges for it in each):
         ask, spec = edge.ask, reading.put_late(edge) or put_in_place(edge.rule, edge.ask)
         is_pinned = ask.found is not None and ask.found.place in pinned
-        if ask.place and spec != ask.spec and not is_pinned:
-            replaced.setdefault(ask.place, {})[ask.name] = spec
+        if ask.requirer.place and spec != ask.specifier and not is_pinned:
+            replaced.setdefault(ask.requirer.place, {})[ask.name] = spec
     for place, specs in replaced.items():
-        asks[place] = [it._replace(override=specs.get(it.name)) for it in asks[place]]
+        asks[place] = [
+            it._replace(specifier=specs[it.name], is_override=True) if it.name in specs else it
+            for it in asks[place]
+        ]

@@ -10,93 +10,102 @@ directory that is no workspace.
 from functools import cached_property
 from typing import Callable, Dict, Iterable, Iterator, List, Set
 
-from .lock import PEERS, Ask, folders, inside, is_top
-from .specs import is_elsewhere, is_no_range, may_overlap, range_of
+from ..model import PEERS, Requirement
+from ..node.specifiers import is_elsewhere, is_no_range, may_overlap, range_of
+from .lock import folders, inside, is_top
 
 
 class Peers:
     """What the packages of a lock file require, which of that fits, and who requires each."""
 
     def __init__(
-        self, asks: Dict[str, List[Ask]], fits: Callable[[Ask], bool], tops: Iterable[str]
+        self,
+        required: Dict[str, List[Requirement]],
+        fits: Callable[[Requirement], bool],
+        tops: Iterable[str],
     ) -> None:
-        self.asks, self.fits, self.tops = asks, fits, {"", *tops}
-        self.known: Dict[str, List[Ask]] = {}
+        self.required, self.fits, self.tops = required, fits, {"", *tops}
+        self.known: Dict[str, List[Requirement]] = {}
 
     @cached_property
-    def into(self) -> Dict[str, List[Ask]]:
+    def into(self) -> Dict[str, List[Requirement]]:
         """What requires the package at each place."""
-        found: Dict[str, List[Ask]] = {}
-        for each in self.asks.values():
+        found: Dict[str, List[Requirement]] = {}
+        for each in self.required.values():
             for ask in each:
                 if ask.found is not None:
                     found.setdefault(ask.found.place, []).append(ask)
         return found
 
-    def fitting(self, place: str) -> List[Ask]:
-        """What requires the package at a place and is for it."""
+    def fitting(self, place: str) -> List[Requirement]:
+        """Returns what requires the package at a place and is for it."""
         if place not in self.known:
             self.known[place] = [it for it in self.into.get(place, ()) if self.fits(it)]
         return self.known[place]
 
-    def is_left(self, ask: Ask) -> bool:
-        """Whether npm leaves a peer that doesn't fit as it is: no version is for that and for
-        others that need what is there."""
-        if ask.kind != PEERS or ask.found is None or ask.place in self.tops:
+    def is_left(self, ask: Requirement) -> bool:
+        """Returns whether npm leaves a peer that doesn't fit as it is: no version is for that and
+        for others that need what is there."""
+        if ask.kind != PEERS or ask.found is None or ask.requirer.place in self.tops:
             return False
-        if is_elsewhere(ask.wanted):
+        if is_elsewhere(ask.specifier):
             return False
-        others = self.others(self.first_folder(ask.place, ask.name), ask, ask.found.place)
-        is_needed = any(is_apart(it.wanted, ask.wanted) for it in others)
-        return is_needed and (is_top(ask.place) or not self.is_of_project(ask.place))
+        place = ask.requirer.place
+        others = self.others(self.first_folder(place, ask.name), ask, ask.found.place)
+        is_needed = any(is_apart(it.specifier, ask.specifier) for it in others)
+        return is_needed and (is_top(place) or not self.is_of_project(place))
 
     def first_folder(self, place: str, name: str) -> str:
-        """The first of a place and the folders round it whose package has no peer of a name."""
-        around = (it for it in folders(place) if it in self.asks)
+        """Returns the first of a place and the folders round it whose package has no peer of a
+        name."""
+        around = (it for it in folders(place) if it in self.required)
         return next((it for it in around if not it or not self.has_peer(it, name)), "")
 
     def has_peer(self, place: str, name: str) -> bool:
-        """Whether a package has a peer of a name."""
-        return any(it.kind == PEERS and it.name == name for it in self.asks[place])
+        """Returns whether a package has a peer of a name."""
+        return any(it.kind == PEERS and it.name == name for it in self.required[place])
 
     def is_of_project(self, place: str) -> bool:
-        """Whether the project or a workspace requires a package, or who has it for a peer."""
-        own = (it.place in self.tops and it.kind != PEERS for it in self.into.get(place, ()))
-        return any(own) or any(it.place in self.tops for it in self.entries(place))
+        """Returns whether the project or a workspace requires a package, or who has it for a
+        peer."""
+        into = self.into.get(place, ())
+        own = (it.requirer.place in self.tops and it.kind != PEERS for it in into)
+        return any(own) or any(it.requirer.place in self.tops for it in self.entries(place))
 
-    def entries(self, place: str) -> Iterator[Ask]:
-        """What fits and leads to a package, or by peers alone to who has it for a peer, but is no
-        peer of these itself."""
+    def entries(self, place: str) -> Iterator[Requirement]:
+        """Yields what fits and leads to a package, or by peers alone to who has it for a peer, but
+        is no peer of these itself."""
         for each in self.having(place):
             for ask in self.fitting(each):
-                if ask.kind != PEERS or is_top(ask.place):
+                if ask.kind != PEERS or is_top(ask.requirer.place):
                     yield ask
 
     def having(self, place: str) -> Set[str]:
-        """A package and those that have it for a peer, directly or by others."""
+        """Returns a package and those that have it for a peer, directly or by others."""
         found: Set[str] = set()
         left = [place]
         while left:
             at = left.pop()
             if at not in found:
                 found.add(at)
-                left += [it.place for it in self.fitting(at) if it.kind == PEERS]
+                left += [it.requirer.place for it in self.fitting(at) if it.kind == PEERS]
         return found
 
-    def others(self, folder: str, peer: Ask, there: str) -> List[Ask]:
-        """What keeps a peer from a place in a folder, if no version is for both: what else leads to
-        what is there, from the folder on if that is further up, and else if the package of the
-        folder is among it or brings along who has it for a peer."""
+    def others(self, folder: str, peer: Requirement, there: str) -> List[Requirement]:
+        """Returns what keeps a peer from a place in a folder, if no version is for both: what else
+        leads to what is there, from the folder on if that is further up, and else if the package of
+        the folder is among it or brings along who has it for a peer."""
         into = self.fitting(there)
         if there != inside(folder, peer.name):
-            return [it for it in into if folder in folders(it.place)]
-        entries = self.entries(there)
-        own = [it.found for it in entries if self.first_folder(it.place, it.name) == folder]
+            return [it for it in into if folder in folders(it.requirer.place)]
+        entries = ((it.requirer.place, it.name, it.found) for it in self.entries(there))
+        own = [found for at, name, found in entries if self.first_folder(at, name) == folder]
         return [it for it in into if peer.found in own or it.kind == PEERS] if own else []
 
 
 def is_apart(spec: str, other: str) -> bool:
-    """Whether no version is for both of what is required. One at a URL or a path is for that."""
+    """Returns whether no version is for both of what is required. One at a URL or a path is for
+    that."""
     if is_elsewhere(spec):
         return True
     return not is_no_range(spec) and not may_overlap(range_of(spec), range_of(other))

@@ -3,17 +3,17 @@
 from typing import Iterator, Optional
 
 from ..closing import error_of
-from ..findings import NOTES
 from ..program import visible
 from ..reports import Results
+from ..repository import in_repository
 from .text import grouped, told
 
 
 def lines(results: Results) -> Iterator[str]:
-    """An annotation for each finding and each error."""
+    """Yields an annotation for each finding and each error."""
     for report in results.reports:
         for finding in grouped(report.listed):
-            level = "notice" if finding.kind in NOTES else "error"
+            level = "notice" if finding.is_note else "error"
             message = "\n".join(told(report, finding))
             yield annotation(*report.position(finding), message, level)
         error = error_of(report)
@@ -26,16 +26,17 @@ def lines(results: Results) -> Iterator[str]:
 
 
 def annotation(file: str, line: Optional[int], message: str, level: str = "error") -> str:
-    """The line of an annotation."""
+    """Returns the line of an annotation."""
     where = f",line={line}" if line is not None else ""
-    return f"::{level} file={in_property(file)}{where}::{in_message(message)}"
+    path = in_property(in_repository(file))
+    return f"::{level} file={path}{where}::{in_message(message)}"
 
 
 def in_message(text: str) -> str:
-    """A text with GitHub's escapes, and without other control characters."""
+    """Returns a text with GitHub's escapes, and without other control characters."""
     return visible(text.replace("%", "%25").replace("\r", "%0D").replace("\n", "%0A"))
 
 
 def in_property(text: str) -> str:
-    """A text with GitHub's escapes for a property."""
+    """Returns a text with GitHub's escapes for a property."""
     return in_message(text).replace(":", "%3A").replace(",", "%2C")

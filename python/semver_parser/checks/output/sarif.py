@@ -2,76 +2,95 @@
 
 import hashlib
 import json
+from itertools import islice
 from typing import Any, Dict, Iterator, List, Optional
 from urllib.parse import quote
 
 from ... import __version__
 from ..closing import error_of
-from ..findings import NOTES, Kind
+from ..findings import CLASSES
 from ..program import visible
 from ..reports import Results
+from ..repository import in_repository
 from .text import grouped, told
 
 Object = Dict[str, Any]
 
 SCHEMA = "https://json.schemastore.org/sarif-2.1.0.json"
+# How many results of a run GitHub takes, and how deep they are in the object.
+MOST = 25000
+INDENT = " " * 8
+
 REFUSED, NO_LONGER_APPLIES = "refused", "no-longer-applies"
 
-# The rules by their names: the kinds of findings, a file that is refused, and a known finding that
+# The rules by their names: the kinds of findings, a file that is rejected, and a known finding that
 # is there no more; and what those say whose names don't.
-RULES = [*(it.value for it in Kind), REFUSED, NO_LONGER_APPLIES]
 DESCRIPTIONS = {
-    Kind.UNSATISFIED.value: "A version does not satisfy what is required",
-    Kind.OVERRIDDEN.value: "A version does not satisfy what an override requires",
-    Kind.CONFLICT.value: "An override is not what the project requires",
-    Kind.ANOTHER_PACKAGE.value: "There is another package than is required",
-    Kind.ANOTHER_VERSION.value: "An entry has two versions",
-    Kind.ANOTHER_SOURCE.value: "A package comes from another source than is required",
-    Kind.INVALID_VERSION.value: "A version is invalid",
-    Kind.INVALID_RANGE.value: "A range is invalid",
-    Kind.MISSING.value: "A required package is missing",
-    Kind.NOT_REQUIRED.value: "Nothing requires a package",
-    Kind.STALE.value: "The lock file was written for something else",
-    Kind.NOT_CHECKED.value: "A requirement is not checked",
-    Kind.DUPLICATE.value: "A package is there in several versions",
-    Kind.DIFFERENT_RANGE.value: "Workspaces require a package by different ranges",
+    **{it.kind: it.title for it in CLASSES},
     REFUSED: "A file cannot be checked",
     NO_LONGER_APPLIES: "A known finding is there no more",
 }
+RULES = list(DESCRIPTIONS)
 
 
 def lines(results: Results) -> Iterator[str]:
-    """The lines of the object."""
+    """Yields the lines of the object, one result after the other, since there may be many. What is
+    more than GitHub takes is left out, and a notification says so."""
+    count = count_of(results)
     has_errors = bool(results.refusals) or any(map(error_of, results.reports))
-    run = {
-        "tool": {
-            "driver": {
-                "name": "check-lock-file",
-                "semanticVersion": __version__,
-                "rules": [rule(it) for it in RULES],
-            }
-        },
-        "invocations": [{"executionSuccessful": not has_errors}],
-        "results": list(all_results(results)),
+    invocation: Object = {"executionSuccessful": not has_errors}
+    if count > MOST:
+        text = f"{MOST:,} of {count:,} results are listed, since GitHub takes no more"
+        message = {"level": "warning", "message": {"text": text}}
+        invocation["toolExecutionNotifications"] = [message]
+    driver = {
+        "name": "check-lock-file",
+        "semanticVersion": __version__,
+        "rules": [rule(it) for it in RULES],
     }
+    run = {"tool": {"driver": driver}, "invocations": [invocation], "results": []}
     whole = {"$schema": SCHEMA, "version": "2.1.0", "runs": [run]}
-    yield from map(visible, json.dumps(whole, indent=2, ensure_ascii=False).split("\n"))
+    *before, last, third, second, first = text_of(whole).split("\n")
+    yield from before
+    yield last[:-1] if count else last
+    for number, it in enumerate(islice(all_results(results), MOST), 1):
+        comma = "," if number < min(count, MOST) else ""
+        yield from (INDENT + line for line in f"{text_of(it)}{comma}".split("\n"))
+    if count:
+        yield f"{INDENT[2:]}]"
+    yield from (third, second, first)
+
+
+def text_of(value: Object) -> str:
+    """Returns an object as it is printed."""
+    return visible_lines(json.dumps(value, indent=2, ensure_ascii=False))
+
+
+def visible_lines(text: str) -> str:
+    """Returns lines in which control characters are written as JSON may write them."""
+    return "\n".join(map(visible, text.split("\n")))
+
+
+def count_of(results: Results) -> int:
+    """Returns how many results there are."""
+    listed = sum(len(it.listed) + (error_of(it) is not None) for it in results.reports)
+    return listed + len(results.refusals) + len(results.unused)
 
 
 def rule(name: str) -> Object:
-    """A rule. What there is to say of one is in the manual."""
-    text = {"text": DESCRIPTIONS.get(name, name.replace("-", " ").capitalize())}
+    """Returns a rule. What there is to say of one is in the manual."""
+    text = {"text": DESCRIPTIONS[name]}
     help_text = {"text": f"See {name} in the manual check-lock-file(1)."}
     return {"id": name, "shortDescription": text, "fullDescription": text, "help": help_text}
 
 
 def all_results(results: Results) -> Iterator[Object]:
-    """Each finding, each error, and each known finding that is there no more."""
+    """Yields each finding, each error, and each known finding that is there no more."""
     for report in results.reports:
         for it in grouped(report.listed):
             path, line = report.position(it)
-            level = "note" if it.is_strict or it.kind in NOTES else "error"
-            yield result(it.kind.value, level, path, line, "\n".join(told(report, it)))
+            level = "note" if it.excuse or it.is_note else "error"
+            yield result(it.kind, level, path, line, "\n".join(told(report, it)))
         error = error_of(report)
         if error is not None:
             yield result(REFUSED, "error", error.path, None, error.why)
@@ -82,7 +101,8 @@ def all_results(results: Results) -> Iterator[Object]:
 
 
 def result(name: str, level: str, path: str, line: Optional[int], text: str) -> Object:
-    """A result. GitHub requires a line of it, and knows it again by a hash."""
+    """Returns a result. GitHub requires a line of it, and knows it again by a hash."""
+    path = in_repository(path)
     known: List[str] = [name, path, text]
     digest = hashlib.sha256("\0".join(known).encode("utf-8", "backslashreplace")).hexdigest()
     address = quote(path, errors="surrogateescape")

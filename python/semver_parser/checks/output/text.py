@@ -5,18 +5,18 @@ from typing import Dict, Iterator, List
 from ..findings import Finding
 from ..program import escaped, visible
 from ..reports import Report, Results
-from ..sentences import PACKAGE, RANGE, VERSION, Paint, plain, quoted, sentence
+from ..wording import PACKAGE, RANGE, VERSION, Paint, plain, quoted
 
 LOOKS = {PACKAGE: "1", VERSION: "31", RANGE: "32"}
 
 
 def colored(text: str, part: str) -> str:
-    """A part of a sentence as terminals show it: bold, red or green."""
+    """Returns a part of a sentence as terminals show it: bold, red or green."""
     return f"\x1b[{LOOKS[part]}m{text}\x1b[0m"
 
 
 def lines(results: Results, is_colored: bool = False) -> Iterator[str]:
-    """The lines of all files."""
+    """Yields the lines of all files."""
     paint: Paint = colored if is_colored else plain
     for report in results.reports:
         before = report.before if results.is_several else ""
@@ -28,16 +28,19 @@ def lines(results: Results, is_colored: bool = False) -> Iterator[str]:
 
 
 def told(report: Report, finding: Finding, paint: Paint = plain) -> Iterator[str]:
-    """The sentence of a finding, and below it the path to what requires it, if that is wanted."""
-    yield sentence(finding, paint)
+    """Yields the sentence of a finding, and below it the path to what requires it, if that is
+    wanted, with where a manifest states a direct requirement."""
+    yield finding.sentence(paint)
     if report.paths is not None:
-        yield f"  path: {' > '.join(map(escaped, report.paths.path_to(finding)))}"
+        path, stated = report.paths.path_to(finding), report.statement(finding)
+        where = f" ({quoted(stated.path)}, line {stated.line})" if stated is not None else ""
+        yield f"  path: {' > '.join(map(escaped, path))}{where}"
 
 
 def grouped(findings: List[Finding]) -> Iterator[Finding]:
-    """The findings, those of one package together, in the order of the first of each."""
+    """Yields the findings, those of one package together, in the order of the first of each."""
     groups: Dict[str, List[Finding]] = {}
     for finding in findings:
-        groups.setdefault(finding.package or finding.dependency, []).append(finding)
+        groups.setdefault(finding.group, []).append(finding)
     for group in groups.values():
         yield from group

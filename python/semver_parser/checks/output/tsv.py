@@ -2,7 +2,7 @@
 
 from typing import Iterator, List
 
-from ..findings import Finding, Kind
+from ..findings import Finding, Unsatisfied
 from ..program import joined
 from ..reports import Results
 
@@ -10,7 +10,7 @@ NO_LONGER_APPLIES = "no-longer-applies"
 
 
 def lines(results: Results) -> Iterator[str]:
-    """The lines of all files."""
+    """Yields the lines of all files."""
     for report in results.reports:
         before = [report.name] if results.is_several else []
         for finding in report.listed:
@@ -20,10 +20,12 @@ def lines(results: Results) -> Iterator[str]:
 
 
 def fields_of(finding: Finding) -> List[str]:
-    """The fields of a finding: what is required, what is found, who requires it, and its kind if
-    there is more to know."""
-    alias = f" as {finding.alias}" if finding.alias else ""
-    requirement = f"{finding.who} requires {finding.dependency}{alias}"
-    found = finding.package if finding.kind == Kind.ANOTHER_PACKAGE else finding.version
-    kind = [] if finding.kind == Kind.UNSATISFIED else [finding.kind.value]
-    return [finding.range, found, requirement if finding.requirer else finding.place, *kind]
+    """Returns the fields of a finding: what is required, what is found, who requires it, and its
+    kind if there is more to know."""
+    it = finding.record
+    alias = f" as {it.alias}" if it.alias else ""
+    who = f"{it.requirer} {it.requirer_version or ''}".rstrip()
+    where = it.place or "" if it.requirer is None else f"{who} requires {it.dependency}{alias}"
+    found = it.package if finding.is_wrong_package else it.version
+    kind = [] if finding.kind == Unsatisfied.kind else [finding.kind]
+    return [it.range or "", found or "", where, *kind]

@@ -1,1 +1,5 @@
-"""Lock files of pnpm: `pnpm-lock.yaml`, of lockfileVersion 5, 6 and 9."""
+"""Lock files of pnpm: `pnpm-lock.yaml`."""
+
+from .tool import PNPM
+
+__all__ = ["PNPM"]

@@ -7,7 +7,8 @@ from typing import Dict, Iterator, List, NamedTuple, Optional, Tuple
 from semver_parser import Dialect
 
 from ..files import Entry, objects_at, text_at, texts_at
-from ..findings import Finding, Kind
+from ..findings import Finding, Missing, MissingEntry
+from ..model import Package, Requirement, Requirer
 from ..satisfaction import is_version
 
 LINK = "link:"
@@ -32,7 +33,7 @@ class Entries(NamedTuple):
     form: str
 
     def key_of(self, text: str, name: str) -> str:
-        """The key of the entry to which a version of a name leads."""
+        """Returns the key of the entry to which a version of a name leads."""
         before = text.partition("(")[0]
         if self.form == "9":
             at, colon = before.find("@"), before.find(":")
@@ -43,13 +44,13 @@ class Entries(NamedTuple):
         return f"/{name}@{text}" if self.form == "6" else f"/{name}/{text}"
 
     def has(self, text: str, name: str) -> bool:
-        """Whether a version of a name has an entry."""
+        """Returns whether a version of a name has an entry."""
         return self.key_of(text, name) in self.snapshots
 
 
 def called_by(text: str) -> Optional[Tuple[str, str]]:
-    """The name and the version in what a package is called. One that is at an address or a path has
-    none, as `github.com/user/numbers/0123` and `example.org/numbers/0123`."""
+    """Returns the name and the version in what a package is called. One that is at an address or a
+    path has none, as `github.com/user/numbers/0123` and `example.org/numbers/0123`."""
     called = CALLED.fullmatch(text)
     if called is None or ":" in text[: called.end("version")]:
         return None
@@ -60,7 +61,7 @@ def called_by(text: str) -> Optional[Tuple[str, str]]:
 
 
 def entries_of(lock: Entry) -> Entries:
-    """What packages have in a file."""
+    """Returns what packages have in a file."""
     form = text_at(lock.get("lockfileVersion"), "lockfileVersion").partition(".")[0]
     packages = objects_at(lock.get("packages") or {}, "packages")
     if form != "9":
@@ -69,23 +70,23 @@ def entries_of(lock: Entry) -> Entries:
 
 
 def depends_of(key: str, entry: Entry) -> Dict[str, str]:
-    """What a package depends on: names, each with its version."""
+    """Returns what a package depends on: names, each with its version."""
     kinds = ("optionalDependencies", "dependencies")
     each = (texts_at(entry.get(kind) or {}, f"{key}: {kind}") for kind in kinds)
     return {name: text for them in each for name, text in them.items()}
 
 
-def without_entry(entries: Entries, tops: List[str]) -> Iterator[Finding]:
-    """What there is to say of packages that have no entry, or only one of its two halves, of those
-    to which some keys lead."""
+def missing_entries(entries: Entries, tops: List[str]) -> Iterator[Finding]:
+    """Yields what there is to say of packages that have no entry, or only one of its two halves, of
+    those to which some keys lead."""
     seen, left = set(tops), list(tops)
     for key in left:
         own = key.partition("(")[0]
         name, version = called_by(key) or (own, "")
         if own not in entries.packages and key not in entries.packages:
-            reason = "of which the file has only a snapshot"
-            finding = Finding(Kind.MISSING, "", version, package=name, place=key)
-            yield finding._replace(at=("snapshots", key), reason=reason)
+            package = Package(name, version or None, key, ("snapshots", key))
+            yield MissingEntry(package, "", "of which the file has only a snapshot")
+        at = ("snapshots" if entries.form == "9" else "packages", key)
         for dependency, text in depends_of(key, entries.snapshots[key]).items():
             inner = entries.key_of(text, dependency)
             if text.startswith(LINK) or inner in seen:
@@ -93,6 +94,5 @@ def without_entry(entries: Entries, tops: List[str]) -> Iterator[Finding]:
             if inner in entries.snapshots:
                 seen.add(inner)
                 left.append(inner)
-                continue
-            finding = Finding(Kind.MISSING, text, "", name, dependency, requirer_version=version)
-            yield finding._replace(at=("snapshots" if entries.form == "9" else "packages", key))
+            else:
+                yield Missing(Requirement(Requirer(name, version, "", at), dependency, text))

@@ -3,7 +3,7 @@ package.json and of its .npmrc, beside what the lock file was written with.
 `pnpm install --frozen-lockfile` refuses one that differs: ERR_PNPM_LOCKFILE_CONFIG_MISMATCH."""
 
 import os
-from typing import Any, Dict, Iterator, NamedTuple, Optional, Tuple
+from typing import Any, Dict, Iterator, List, NamedTuple, Optional, Tuple
 
 from ..files import (
     Entry,
@@ -17,10 +17,11 @@ from ..files import (
     texts_at,
     yaml_object,
 )
-from ..findings import Finding, Kind
-from ..npm.settings import COMMENT, LINE_ENDS, unquoted
-from ..npm.specs import CATALOG, name_and_rest
-from .specs import parent_and_name
+from ..findings import Finding, StaleSetting
+from ..model import Keys
+from ..node.npmrc import COMMENT, LINE_ENDS, unquoted
+from ..node.specifiers import CATALOG, name_and_rest
+from .specifiers import parent_and_name
 
 WORKSPACE_FILE, MANIFEST, NPMRC = "pnpm-workspace.yaml", "package.json", ".npmrc"
 
@@ -53,7 +54,8 @@ class Settings(NamedTuple):
     npmrc: Dict[str, str]
 
     def table(self, name: str) -> Tuple[str, Any]:
-        """What a setting has, after the file that has it: pnpm-workspace.yaml comes first."""
+        """Returns what a setting has, after the file that has it: pnpm-workspace.yaml comes
+        first."""
         if name in self.workspace:
             return WORKSPACE_FILE, self.workspace[name]
         own = object_at(self.manifest.get("pnpm") or {}, "pnpm").get(name)
@@ -63,7 +65,7 @@ class Settings(NamedTuple):
         return MANIFEST, own
 
     def switch(self, name: str) -> Tuple[str, str]:
-        """Whether a setting is on, after the file that says so."""
+        """Returns whether a setting is on, after the file that says so."""
         other_name, by_default = SWITCHES[name]
         if name in self.workspace:
             return WORKSPACE_FILE, str(self.workspace[name])
@@ -73,7 +75,7 @@ class Settings(NamedTuple):
 
 
 def workspace_file(top: str) -> Optional[Entry]:
-    """The pnpm-workspace.yaml of a project, if it is there."""
+    """Returns the pnpm-workspace.yaml of a project, if it is there."""
     path = os.path.join(top, WORKSPACE_FILE)
     with taking(path, WORKSPACE_FILE):
         if not is_there(path):
@@ -83,7 +85,7 @@ def workspace_file(top: str) -> Optional[Entry]:
 
 
 def npmrc_of(top: str) -> Dict[str, str]:
-    """What the .npmrc of a project has."""
+    """Returns what the .npmrc of a project has."""
     path = os.path.join(top, NPMRC)
     with taking(path, NPMRC):
         text = bytes_of(path).decode("utf-8", "replace") if is_there(path) else ""
@@ -92,12 +94,12 @@ def npmrc_of(top: str) -> Dict[str, str]:
 
 
 def settings_of(top: str, manifest: Entry) -> Settings:
-    """The settings of a project, beside its package.json."""
+    """Returns the settings of a project, beside its package.json."""
     return Settings(workspace_file(top) or {}, manifest, npmrc_of(top))
 
 
 def catalogs_of(workspace: Entry) -> Dict[str, Dict[str, str]]:
-    """The catalogs of a pnpm-workspace.yaml by their names."""
+    """Returns the catalogs of a pnpm-workspace.yaml by their names."""
     named = objects_at(workspace.get("catalogs") or {}, "catalogs")
     found = {name: texts_at(it, f"catalogs: {name}") for name, it in named.items()}
     if workspace.get("catalog"):
@@ -106,8 +108,8 @@ def catalogs_of(workspace: Entry) -> Dict[str, Dict[str, str]]:
 
 
 def overrides_of(settings: Settings) -> Place:
-    """The overrides of a project as a lock file has them: `$NAME` is what the project requires, and
-    `catalog:` the range of that."""
+    """Returns the overrides of a project as a lock file has them: `$NAME` is what the project
+    requires, and `catalog:` the range of that."""
     file, found = settings.table("overrides")
     manifest, catalogs = settings.manifest, catalogs_of(settings.workspace)
     required = {
@@ -128,8 +130,8 @@ def overrides_of(settings: Settings) -> Place:
 
 
 def patches_of(value: Any) -> Dict[str, str]:
-    """The files of patches by what they are for. A lock file has their sums, too, or these alone,
-    which count as no file."""
+    """Returns the files of patches by what they are for. A lock file has their sums, too, or these
+    alone, which count as no file."""
     found = {}
     for key, it in object_at(value or {}, "patchedDependencies").items():
         path = it.get("path", "") if isinstance(it, dict) else it
@@ -140,30 +142,29 @@ def patches_of(value: Any) -> Dict[str, str]:
 # ---- what differs
 
 
-def of_texts(name: str, locked: Dict[str, str], place: Place) -> Iterator[Finding]:
-    """What there is to say of texts that a lock file and a file of settings have."""
+def stale_texts(name: str, locked: Dict[str, str], place: Place) -> Iterator[Finding]:
+    """Yields the findings of texts that a lock file and a file of settings have."""
     file, texts = place
     for key in {**locked, **texts}:
         if locked.get(key) != texts.get(key):
-            finding = Finding(Kind.STALE, texts.get(key, ""), locked.get(key, ""), reason=file)
-            yield finding._replace(place=f"{name}.{key}", at=(name, key))
+            own, there = texts.get(key, ""), locked.get(key, "")
+            yield StaleSetting(f"{name}.{key}", own, there, file, (name, key))
 
 
-def of_catalogs(lock: Entry, settings: Settings) -> Iterator[Finding]:
-    """What there is to say of ranges that the lock file has of catalogs. It has those alone that
+def stale_catalogs(lock: Entry, settings: Settings) -> Iterator[Finding]:
+    """Yields the findings of ranges that the lock file has of catalogs. It has those alone that
     something takes."""
     catalogs = catalogs_of(settings.workspace)
     for catalog, entries in objects_at(lock.get("catalogs") or {}, "catalogs").items():
         for name, entry in objects_at(entries, f"catalogs: {catalog}").items():
             locked, now = str(entry.get("specifier")), catalogs.get(catalog, {}).get(name, "")
             if locked != now:
-                finding = Finding(Kind.STALE, now, locked, reason=WORKSPACE_FILE)
                 at = ("catalogs", catalog, name)
-                yield finding._replace(place=f"catalogs.{catalog}.{name}", at=at)
+                yield StaleSetting(".".join(at), now, locked, WORKSPACE_FILE, at)
 
 
-def of_patches(lock: Entry, settings: Settings) -> Iterator[Finding]:
-    """What there is to say of patches. A lock file of pnpm 11 has no paths."""
+def stale_patches(lock: Entry, settings: Settings) -> Iterator[Finding]:
+    """Yields the findings of patches. A lock file of pnpm 11 has no paths."""
     name = "patchedDependencies"
     locked = lock.get(name) or {}
     file, found = settings.table(name)
@@ -171,41 +172,68 @@ def of_patches(lock: Entry, settings: Settings) -> Iterator[Finding]:
     is_of_paths = any(isinstance(it, dict) for it in object_at(locked, name).values())
     if locked and not is_of_paths:
         locked, patches = dict.fromkeys(locked, "patch"), dict.fromkeys(patches, "patch")
-    yield from of_texts(name, patches_of(locked), (file, patches))
+    yield from stale_texts(name, patches_of(locked), (file, patches))
 
 
-def of_switches(lock: Entry, settings: Settings) -> Iterator[Finding]:
-    """What there is to say of settings that are on or off."""
+def stale_switches(lock: Entry, settings: Settings) -> Iterator[Finding]:
+    """Yields the findings of settings that are on or off."""
     locked = object_at(lock.get("settings") or {}, "settings")
     for name in SWITCHES:
         file, now = settings.switch(name)
         there = locked.get(name, "false" if name == IF_ON else now)
         if there != now:
-            finding = Finding(Kind.STALE, now, str(there), reason=file)
-            yield finding._replace(place=f"settings.{name}", at=("settings", name))
+            at = ("settings", name)
+            yield StaleSetting(f"settings.{name}", now, str(there), file, at)
 
 
 def ignored_in(lists: Any) -> Dict[str, str]:
-    """The patterns of the optional dependencies that pnpm leaves out."""
+    """Returns the patterns of the optional dependencies that pnpm leaves out."""
     return {text_at(it, IGNORED): "ignored" for it in list_at(lists or [], IGNORED)}
 
 
-def of_extensions(lock: Entry, settings: Settings) -> Iterator[Finding]:
-    """What there is to say of what is put into packages, of which a lock file has the sum."""
+def stale_extensions(lock: Entry, settings: Settings) -> Iterator[Finding]:
+    """Yields the findings of what is put into packages, of which a lock file has the sum."""
     file, own = settings.table(EXTENSIONS)
     locked = str(lock.get(f"{EXTENSIONS}Checksum") or "")
     if bool(own) != bool(locked):
-        finding = Finding(Kind.STALE, "set" if own else "", locked, reason=file)
-        yield finding._replace(place=EXTENSIONS, at=(f"{EXTENSIONS}Checksum",))
+        at = (f"{EXTENSIONS}Checksum",)
+        yield StaleSetting(EXTENSIONS, "set" if own else "", locked, file, at)
 
 
-def findings(lock: Entry, settings: Settings) -> Iterator[Finding]:
-    """What there is to say of settings that aren't those of the lock file."""
-    yield from of_catalogs(lock, settings)
+def stale_settings(lock: Entry, settings: Settings) -> Iterator[Finding]:
+    """Yields the findings of settings that aren't those of the lock file."""
+    yield from stale_catalogs(lock, settings)
     locked = texts_at(lock.get("overrides") or {}, "overrides")
-    yield from of_texts("overrides", locked, overrides_of(settings))
+    yield from stale_texts("overrides", locked, overrides_of(settings))
     file, ignored = settings.table(IGNORED)
-    yield from of_texts(IGNORED, ignored_in(lock.get(IGNORED)), (file, ignored_in(ignored)))
-    yield from of_extensions(lock, settings)
-    yield from of_patches(lock, settings)
-    yield from of_switches(lock, settings)
+    yield from stale_texts(IGNORED, ignored_in(lock.get(IGNORED)), (file, ignored_in(ignored)))
+    yield from stale_extensions(lock, settings)
+    yield from stale_patches(lock, settings)
+    yield from stale_switches(lock, settings)
+
+
+# ---- where they are stated
+
+
+def keys_of_setting(at: Keys, file: str) -> List[Keys]:
+    """Returns the keys that may lead to a setting in a file, by those in the lock file: to it, or
+    to the list or the table that it is in."""
+    name, *inner = at
+    keys: List[Keys]
+    if name == "settings":
+        keys = [tuple(inner)]
+    elif name == "catalogs":
+        keys = keys_of_catalog(*inner)
+    else:
+        table = name.removesuffix("Checksum")
+        keys = [(table, *inner), (table,)]
+    if file != MANIFEST:
+        return keys
+    resolutions: List[Keys] = [("resolutions", *it[1:]) for it in keys if it[0] == "overrides"]
+    return [("pnpm", *keys[0]), *resolutions[:1], *(("pnpm", *it) for it in keys[1:])]
+
+
+def keys_of_catalog(catalog: str, name: str) -> List[Keys]:
+    """Returns the keys that may lead to an entry of a catalog."""
+    keys: List[Keys] = [("catalogs", catalog, name)]
+    return keys + ([("catalog", name)] if catalog == "default" else [])

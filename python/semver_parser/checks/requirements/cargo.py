@@ -22,21 +22,21 @@ class Beside(NamedTuple):
 
 
 def text_of(value: Any) -> str:
-    """What is no requirement, as a text."""
+    """Returns what is no requirement, as a text."""
     return json.dumps(value, ensure_ascii=False, sort_keys=True, default=str)
 
 
-def of_rust(entry: Entry, table: str) -> Iterator[Beside]:
-    """The Rust that a package needs, or that its workspace has for its members: that one or a later
-    one."""
+def rust_versions(entry: Entry, table: str) -> Iterator[Beside]:
+    """Yields the Rust that a package needs, or that its workspace has for its members: that one or
+    a later one."""
     if RUST in entry:
         needed = entry[RUST]
         is_own = isinstance(needed, str)
         yield Beside(table, RUST, needed if is_own else text_of(needed), f">={needed}" * is_own)
 
 
-def of_features(table: str, values: Dict[str, Any]) -> Iterator[Beside]:
-    """The features that a table of dependencies requires."""
+def feature_lists(table: str, values: Dict[str, Any]) -> Iterator[Beside]:
+    """Yields the features that a table of dependencies requires."""
     for name, value in values.items():
         for key in OF_FEATURES:
             if isinstance(value, dict) and key in value:
@@ -44,11 +44,11 @@ def of_features(table: str, values: Dict[str, Any]) -> Iterator[Beside]:
 
 
 def beside_requirements(entry: Entry) -> Iterator[Beside]:
-    """What a Cargo.toml has beside its requirements."""
-    yield from of_rust(object_at(entry.get("package", {}), "package"), "package")
+    """Yields what a Cargo.toml has beside its requirements."""
+    yield from rust_versions(object_at(entry.get("package", {}), "package"), "package")
     workspace = object_at(entry.get("workspace", {}), "workspace")
     shared = object_at(workspace.get("package", {}), "workspace: package")
-    yield from of_rust(shared, "workspace.package")
+    yield from rust_versions(shared, "workspace.package")
     for name, value in object_at(entry.get("features", {}), "features").items():
         yield Beside("features", name, text_of(value))
     tables: Tuple[Tuple[str, Dict[str, Any]], ...] = (
@@ -56,4 +56,4 @@ def beside_requirements(entry: Entry) -> Iterator[Beside]:
         ("workspace.dependencies", workspace_table(entry)),
     )
     for table, values in tables:
-        yield from of_features(table, values)
+        yield from feature_lists(table, values)

@@ -42,7 +42,7 @@ WHOLE = Change._fields[6:]
 
 
 def changes(old: Manifest, new: Manifest, dialect: Dialect) -> Iterator[Change]:
-    """What changed, in the order of the old manifest, and then what was added."""
+    """Yields what changed, in the order of the old manifest, and then what was added."""
     moved = moves(old, new)
     for key, requirement in old.requirements.items():
         new_key = moved.get(key, key)
@@ -58,7 +58,7 @@ def changes(old: Manifest, new: Manifest, dialect: Dialect) -> Iterator[Change]:
 
 
 def moves(old: Manifest, new: Manifest) -> Dict[Key, Key]:
-    """The requirements that moved from one kind of dependencies to another one."""
+    """Returns the requirements that moved from one kind of dependencies to another one."""
     added = gone_from(new, old)
     return {
         key: other
@@ -68,7 +68,8 @@ def moves(old: Manifest, new: Manifest) -> Dict[Key, Key]:
 
 
 def gone_from(one: Manifest, other: Manifest) -> Dict[str, List[Key]]:
-    """The keys of dependencies that one manifest has and the other one lacks, by their names."""
+    """Returns the keys of dependencies that one manifest has and the other one lacks, by their
+    names."""
     found: Dict[str, List[Key]] = {}
     for key in one.requirements:
         if key not in other.requirements and is_kind(key[0]):
@@ -77,8 +78,8 @@ def gone_from(one: Manifest, other: Manifest) -> Dict[str, List[Key]]:
 
 
 def change(key: Key, new_key: Key, old: Requirement, new: Requirement, dialect: Dialect) -> Change:
-    """What a changed requirement loses and gains. A tag, a URL or a path has no versions, and those
-    of two packages aren't compared."""
+    """Returns what a changed requirement loses and gains. A tag, a URL or a path has no versions,
+    and those of two packages aren't compared."""
     note, ranges = comparison(old, new, dialect)
     new_table = None if new_key == key else new_key[0]
     return Change(key[1], key[0], new_table, old.text, new.text, note, *ranges)
@@ -87,7 +88,7 @@ def change(key: Key, new_key: Key, old: Requirement, new: Requirement, dialect: 
 def comparison(
     old: Requirement, new: Requirement, dialect: Dialect
 ) -> Tuple[str, List[Optional[str]]]:
-    """The note of a change, and its versions, if there are any."""
+    """Returns the note of a change, and its versions, if there are any."""
     if None not in (old.name, new.name) and old.name != new.name:
         return ANOTHER, []
     if old.text == new.text:

@@ -6,7 +6,7 @@ from typing import Any, Dict, Iterator, NamedTuple, Optional, Tuple
 
 from semver_parser import Dialect
 
-from ..cargo.manifests import Need, by_table
+from ..cargo.manifests import Dependency, by_table
 from ..files import (
     Entry,
     WrongShape,
@@ -19,8 +19,15 @@ from ..files import (
     yaml_object,
 )
 from ..satisfaction import is_met, is_range
-from ..npm.specs import alias_of, git_range_of, is_elsewhere, is_no_range, name_and_rest, range_of
-from ..pnpm.specs import parent_and_name
+from ..node.specifiers import (
+    alias_of,
+    git_range_of,
+    is_elsewhere,
+    is_no_range,
+    name_and_rest,
+    range_of,
+)
+from ..pnpm.specifiers import parent_and_name
 from ..yarn.resolutions import STEP
 from .cargo import beside_requirements
 
@@ -65,33 +72,34 @@ NOWHERE = Manifest({}, None)
 
 
 def manifest_of(text: bytes) -> Manifest:
-    """The manifest that a text is: JSON is npm's, YAML pnpm's, TOML Cargo's."""
+    """Returns the manifest that a text is: JSON is npm's, YAML pnpm's, TOML Cargo's."""
     if text.lstrip()[:1] == b"{":
-        return Manifest(dict(of_package_json(json_object(text))), Dialect.NPM)
+        return Manifest(dict(package_json_requirements(json_object(text))), Dialect.NPM)
     if OF_PNPM.search(text):
-        return Manifest(dict(of_pnpm_workspace(yaml_object(text))), Dialect.NPM)
-    return Manifest(dict(of_cargo_toml(toml_object(text))), Dialect.CARGO)
+        return Manifest(dict(pnpm_workspace_requirements(yaml_object(text))), Dialect.NPM)
+    return Manifest(dict(cargo_toml_requirements(toml_object(text))), Dialect.CARGO)
 
 
 def is_kind(table: str) -> bool:
-    """Whether a table has what a package depends on, so a requirement may move to another one."""
+    """Returns whether a table has what a package depends on, so a requirement may move to another
+    one."""
     return table in KINDS_OF_NPM or KINDS_OF_CARGO.fullmatch(table) is not None
 
 
 # ---- one requirement
 
 
-def of_cargo(need: Need) -> Requirement:
-    """A requirement of a Cargo.toml."""
+def cargo_requirement(need: Dependency) -> Requirement:
+    """Returns a requirement of a Cargo.toml."""
     wanted = need.requirement if need.has_registry else None
     package = f'package = "{need.name}"' if need.other_name is not None else ""
     text = ", ".join(filter(None, (wanted, package, need.stated_source)))
     return Requirement(text, need.name, need.stated_source, wanted)
 
 
-def of_npm(name: str, spec: str) -> Requirement:
-    """A requirement of npm, yarn or pnpm. What is at a URL has its name there."""
-    wanted_spec = of_workspace(spec)
+def npm_requirement(name: str, spec: str) -> Requirement:
+    """Returns a requirement of npm, yarn or pnpm. What is at a URL has its name there."""
+    wanted_spec = workspace_specifier(spec)
     alias, at_git, wanted = alias_of(wanted_spec), git_range_of(spec), range_of(wanted_spec)
     is_none = is_met(wanted, "0.0.0", Dialect.NPM) is None and is_no_range(wanted_spec)
     own_name = None if is_elsewhere(wanted_spec) else name if alias is None else alias[0]
@@ -99,9 +107,9 @@ def of_npm(name: str, spec: str) -> Requirement:
     return Requirement(spec, own_name, source, None if is_none else wanted)
 
 
-def of_workspace(spec: str) -> str:
-    """What `workspace:RANGE` and `workspace:NAME@RANGE` require of a workspace; any other spec is
-    its own, as one with a path, or by a version that isn't in the manifest."""
+def workspace_specifier(spec: str) -> str:
+    """Returns what `workspace:RANGE` and `workspace:NAME@RANGE` require of a workspace; any other
+    spec is its own, as one with a path, or by a version that isn't in the manifest."""
     if not spec.startswith(WORKSPACE):
         return spec
     rest = spec[len(WORKSPACE) :]
@@ -111,22 +119,22 @@ def of_workspace(spec: str) -> str:
     return rest if rest and is_range(rest, Dialect.NPM) else spec
 
 
-def of_override(key: str, spec: str) -> Requirement:
-    """What an override puts in place of a requirement. `-` removes it, and `$NAME` is for what the
-    project requires."""
+def override_requirement(key: str, spec: str) -> Requirement:
+    """Returns what an override puts in place of a requirement. `-` removes it, and `$NAME` is for
+    what the project requires."""
     is_other = spec == "-" or spec.startswith("$")
-    return Requirement(spec) if is_other else of_npm(name_and_rest(key)[0], spec)
+    return Requirement(spec) if is_other else npm_requirement(name_and_rest(key)[0], spec)
 
 
-def of_object(value: Any) -> Requirement:
-    """What is no requirement, and is compared as a text."""
+def object_requirement(value: Any) -> Requirement:
+    """Returns what is no requirement, and is compared as a text."""
     return Requirement(json.dumps(value, ensure_ascii=False, sort_keys=True))
 
 
-def of_cargo_toml(entry: Entry) -> Iterator[Tuple[Key, Requirement]]:
-    """The requirements of a Cargo.toml, and what is beside them."""
+def cargo_toml_requirements(entry: Entry) -> Iterator[Tuple[Key, Requirement]]:
+    """Yields the requirements of a Cargo.toml, and what is beside them."""
     for key, need in by_table(entry).items():
-        yield key, of_cargo(need)
+        yield key, cargo_requirement(need)
     for it in beside_requirements(entry):
         yield (it.table, it.key), Requirement(it.text, range=it.range or None)
 
@@ -134,57 +142,59 @@ def of_cargo_toml(entry: Entry) -> Iterator[Tuple[Key, Requirement]]:
 # ---- the tables of npm, yarn, pnpm and Bun
 
 
-def of_package_json(entry: Entry) -> Iterator[Tuple[Key, Requirement]]:
-    """The requirements of a package.json. What says that it is another file is none."""
+def package_json_requirements(entry: Entry) -> Iterator[Tuple[Key, Requirement]]:
+    """Yields the requirements of a package.json. What says that it is another file is none."""
     for key in ("lockfileVersion", "workspace_members"):
         if key in entry:
             raise WrongShape(f": it has {key}")
     for table in (*KINDS_OF_NPM, *ALSO_OF_NPM):
-        yield from of_table(entry, table, table)
+        yield from table_requirements(entry, table, table)
     # npm had a list of engines once, which it ignores.
     if isinstance(entry.get("engines"), dict):
-        yield from of_table(entry, "engines", "engines")
+        yield from table_requirements(entry, "engines", "engines")
     for table in METAS:
         for name, meta in objects_at(entry.get(table, {}), table).items():
-            yield (table, name), of_object(meta)
-    yield from of_overrides(object_at(entry.get("overrides", {}), "overrides"), "", "overrides")
+            yield (table, name), object_requirement(meta)
+    overrides = object_at(entry.get("overrides", {}), "overrides")
+    yield from override_requirements(overrides, "", "overrides")
     pnpm = object_at(entry.get("pnpm", {}), "pnpm")
     for name, spec in texts_at(pnpm.get("overrides", {}), "pnpm.overrides").items():
-        yield ("pnpm.overrides", name), of_override(parent_and_name(name)[1], spec)
-    yield from of_catalogs(entry, "")
+        yield ("pnpm.overrides", name), override_requirement(parent_and_name(name)[1], spec)
+    yield from catalog_requirements(entry, "")
     if isinstance(entry.get("workspaces"), dict):
-        yield from of_catalogs(entry["workspaces"], "workspaces.")
+        yield from catalog_requirements(entry["workspaces"], "workspaces.")
 
 
-def of_pnpm_workspace(entry: Entry) -> Iterator[Tuple[Key, Requirement]]:
-    """The requirements of a pnpm-workspace.yaml."""
-    yield from of_catalogs(entry, "")
+def pnpm_workspace_requirements(entry: Entry) -> Iterator[Tuple[Key, Requirement]]:
+    """Yields the requirements of a pnpm-workspace.yaml."""
+    yield from catalog_requirements(entry, "")
     for name, spec in texts_at(entry.get("overrides") or {}, "overrides").items():
-        yield ("overrides", name), of_override(parent_and_name(name)[1], spec)
+        yield ("overrides", name), override_requirement(parent_and_name(name)[1], spec)
 
 
-def of_table(entry: Entry, key: str, table: str) -> Iterator[Tuple[Key, Requirement]]:
-    """The requirements of a table of names, in resolutions after paths of names."""
+def table_requirements(entry: Entry, key: str, table: str) -> Iterator[Tuple[Key, Requirement]]:
+    """Yields the requirements of a table of names, in resolutions after paths of names."""
     for path, spec in texts_at(entry.get(key) or {}, table).items():
         is_path = table == "resolutions"
         name = name_and_rest(STEP.findall(path)[-1])[0] if is_path and path.strip("/") else path
-        yield (table, path), of_npm(name, spec)
+        yield (table, path), npm_requirement(name, spec)
 
 
-def of_catalogs(entry: Entry, outer: str) -> Iterator[Tuple[Key, Requirement]]:
-    """The requirements of catalogs."""
-    yield from of_table(entry, "catalog", f"{outer}catalog")
+def catalog_requirements(entry: Entry, outer: str) -> Iterator[Tuple[Key, Requirement]]:
+    """Yields the requirements of catalogs."""
+    yield from table_requirements(entry, "catalog", f"{outer}catalog")
     catalogs = object_at(entry.get("catalogs") or {}, f"{outer}catalogs")
     for name in catalogs:
-        yield from of_table(catalogs, name, f"{outer}catalogs.{name}")
+        yield from table_requirements(catalogs, name, f"{outer}catalogs.{name}")
 
 
-def of_overrides(entry: Entry, path: str, where: str) -> Iterator[Tuple[Key, Requirement]]:
-    """The overrides of npm, each by the keys that lead to it."""
+def override_requirements(entry: Entry, path: str, where: str) -> Iterator[Tuple[Key, Requirement]]:
+    """Yields the overrides of npm, each by the keys that lead to it."""
     for key, value in entry.items():
         inner = f"{path} > {key}" if path else key
         if isinstance(value, dict):
-            yield from of_overrides(value, inner, f"{where}: {key}")
+            yield from override_requirements(value, inner, f"{where}: {key}")
         else:
             name = path.rpartition(" > ")[2] if key == "." else key
-            yield ("overrides", inner), of_override(name, text_at(value, f"{where}: {key}"))
+            text = text_at(value, f"{where}: {key}")
+            yield ("overrides", inner), override_requirement(name, text)

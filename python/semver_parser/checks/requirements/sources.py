@@ -5,7 +5,7 @@ from typing import Callable, Iterator, List, NamedTuple, Optional, Tuple
 
 from semver_parser import Dialect
 
-from ..discovery import is_among, named_below
+from ..directories import is_among, named_below
 from ..files import Refusal, bytes_of, taking, unmarked
 from ..git import below_in_revision, changed_below, in_revision
 from ..program import Misuse, Options
@@ -23,8 +23,8 @@ class Side(NamedTuple):
     may_lack: bool
 
     def text(self, place: str = "") -> Optional[bytes]:
-        """What the file at a place below the path holds, or at the path itself; None if it isn't
-        there and may be missing."""
+        """Returns what the file at a place below the path holds, or at the path itself; None if it
+        isn't there and may be missing."""
         path = path_of(self, place)
         if self.revision is not None:
             text = in_revision(self.revision, path)
@@ -36,7 +36,7 @@ class Side(NamedTuple):
             return bytes_of(path)
 
     def manifest(self, place: str, text: Optional[bytes]) -> Manifest:
-        """The manifest that the text of the file at a place is."""
+        """Returns the manifest that the text of the file at a place is."""
         if text is None:
             return NOWHERE
         path = path_of(self, place)
@@ -44,7 +44,7 @@ class Side(NamedTuple):
             return manifest_of(text)
 
     def places(self) -> List[str]:
-        """The places of the manifests below the path."""
+        """Returns the places of the manifests below the path."""
         if self.revision is None:
             return named_below(self.path, NAMES) if os.path.isdir(self.path) else []
         found = below_in_revision(self.revision, self.path)
@@ -52,7 +52,7 @@ class Side(NamedTuple):
 
 
 def path_of(side: Side, place: str) -> str:
-    """The path of a place of a side."""
+    """Returns the path of a place of a side."""
     return os.path.normpath(os.path.join(side.path, place)) if place else side.path
 
 
@@ -67,7 +67,7 @@ class Pair(NamedTuple):
 
 
 def sides_of(options: Options) -> Tuple[Side, Side]:
-    """The two sides that are compared."""
+    """Returns the two sides that are compared."""
     if "--git" not in options.given:
         old, new = options.files
         return Side(old, None, False), Side(new, None, False)
@@ -83,7 +83,8 @@ def sides_of(options: Options) -> Tuple[Side, Side]:
 
 
 def is_of_directories(old: Side, new: Side) -> bool:
-    """Whether all manifests below directories are compared. One of a revision may be gone now."""
+    """Returns whether all manifests below directories are compared. One of a revision may be gone
+    now."""
     if old.revision is None and new.revision is None:
         found = [os.path.isdir(it.path) for it in (old, new)]
         if found[0] != found[1]:
@@ -95,7 +96,7 @@ def is_of_directories(old: Side, new: Side) -> bool:
 
 
 def pair_of(old: Side, new: Side, place: str, file: Optional[str]) -> Optional[Pair]:
-    """Two manifests at a place of both sides. Below directories None if nothing changed."""
+    """Returns two manifests at a place of both sides. Below directories None if nothing changed."""
     text, other_text = old.text(place), new.text(place)
     if file is not None and text == other_text:
         return None
@@ -109,7 +110,8 @@ def pair_of(old: Side, new: Side, place: str, file: Optional[str]) -> Optional[P
 
 
 def places_of(old: Side, new: Side) -> List[str]:
-    """The places below two directories that are compared: those where something may differ."""
+    """Returns the places below two directories that are compared: those where something may
+    differ."""
     before, after = set(old.places()), set(new.places())
     if not before | after:
         raise Refusal(new.path, "it is a directory without a manifest")
@@ -120,7 +122,8 @@ def places_of(old: Side, new: Side) -> List[str]:
 
 
 def pairs_of(options: Options, refuse: Callable[[Refusal], None]) -> Iterator[Pair]:
-    """The manifests that are compared. Of those below directories each is refused by itself."""
+    """Yields the manifests that are compared. Of those below directories each is refused by
+    itself."""
     old, new = sides_of(options)
     is_several = is_of_directories(old, new)
     for place in places_of(old, new) if is_several else [""]:

@@ -1,1 +1,6 @@
-"""Lock files of yarn: `yarn.lock`, of yarn 1 (classic) and of later ones (berry)."""
+"""Lock files of yarn: those of yarn 1, and of yarn 2 and later."""
+
+from .berry import BERRY
+from .classic import CLASSIC
+
+__all__ = ["BERRY", "CLASSIC"]

@@ -1,4 +1,4 @@
-"""The findings of a `yarn.lock` of yarn 2 and later.
+"""yarn 2 and later.
 
 WHO REQUIRES. Each package requires its `dependencies` and `optionalDependencies`, also a workspace,
 by its package.json, where that is there. A key that no package requires the project does: by a
@@ -10,113 +10,171 @@ the version in its `resolution` is installed. A resolution that has a key is fou
 NOT IN THE FILE. Who provides a peer, the version of a workspace, and which key a catalog is for.
 """
 
-from typing import Dict, Iterator, List, Optional, Set
+from typing import Dict, Iterator, List, Optional, Set, Tuple
 
-from ..findings import Finding, Kind, Scope, Tally
-from ..manifests import KINDS_OF_BERRY, Project, name_in, version_in
-from ..manifests import needs_of as needs_of_manifest
-from ..npm.specs import name_and_rest
-from .edges import (
-    Ask,
-    ByKey,
-    Edge,
-    bare,
-    graph_of,
-    in_scope,
-    key_for,
-    of_edges,
-    of_package,
-    of_version,
-    packages_by_key,
-    wanted_of,
+from ..findings import Finding, TwoVersions, Unreached
+from ..model import PROJECT, LockFile, Node, Package, Requirement, Requirer
+from ..node.package_json import (
+    KINDS_OF_BERRY,
+    Project,
+    compared_in,
+    missing_workspace,
+    name_in,
+    requirements_in,
+    version_in,
 )
-from .lock import Package, needs_of
-from .resolutions import Resolutions, of_yarn, specs_for
+from ..node.specifiers import alias_of, is_elsewhere, is_no_range, name_and_rest, reason_of
+from ..tool import Input
+from .family import YarnScheme, YarnTool
+from .lock import PATCH, YarnFile, bare, requirements_of, source_of
+from .resolutions import Resolutions, without_protocol, specs_for
 
-# What the key of a workspace has before its folder.
+# What the key of a workspace has before its directory.
 OWN = "workspace:"
 
 
-def folder_of(package: Package) -> str:
-    """The directory of a workspace; empty for another package."""
-    spec = name_and_rest(package.resolution)[1] if OWN in package.resolution else ""
+class BerryScheme(YarnScheme):
+    """How yarn 2 and later read specifiers."""
+
+    def npm_form(self, specifier: str, requirement: Requirement) -> str:
+        """Returns a specifier as npm has it: a range with the name of its package, also inside
+        `patch:`."""
+        name, spec = requirement.name, specifier
+        if PATCH in spec:
+            name, spec = name_and_rest(source_of(f"{name}@{spec}"))
+        spec = without_protocol(spec)
+        return spec if alias_of(spec) is not None or is_elsewhere(spec) else f"npm:{name}@{spec}"
+
+
+def directory_of(package: Package) -> str:
+    """Returns the directory of a workspace; an empty text for another package."""
+    resolution = str(package.entry.get("resolution", ""))
+    spec = name_and_rest(resolution)[1] if OWN in resolution else ""
     return spec[len(OWN) :] if spec.startswith(OWN) else ""
 
 
-def asks_of(package: Package, project: Project) -> Iterator[Ask]:
-    """What a package requires: a workspace by its package.json, where that is there."""
-    manifest = project.get(folder_of(package))
-    by_manifest = needs_of_manifest(manifest or {}, KINDS_OF_BERRY)
-    for need in needs_of(package) if manifest is None else by_manifest:
-        yield Ask(package, need.name, need.spec, is_development=need.is_development)
+class Reader:
+    """Reads a lock file beside the package.json files of its project."""
 
-
-def asks_of_project(package: Package, used: Set[Optional[str]]) -> Iterator[Ask]:
-    """The keys of a package that no package requires: the project does, by a catalog, a resolution
-    or a patch. A workspace's own key is required by none."""
-    for pattern in package.patterns:
-        if bare(pattern) not in used:
-            name, spec = name_and_rest(pattern)
-            if not spec.startswith(OWN):
-                yield Ask(None, name, spec)
-
-
-def edge_of(ask: Ask, by_key: ByKey, resolutions: Resolutions) -> Edge:
-    """What is found for what is required: that by a resolution that has a key first."""
-    resolved: List[str] = []
-    if ask.package is not None and ask.name in resolutions:
-        name, place = name_and_rest(ask.package.resolution)
-        resolved = specs_for(resolutions, ask.name, ask.spec, [name], of_yarn(place))
-    spec = (*resolved, ask.spec)[0]
-    written = {wanted_of(ask.name, spec): spec} if resolved else {}
-    return Edge(ask, spec, written, key_for(ask.name, spec, by_key), True)
-
-
-def with_keys(resolutions: Resolutions, by_key: ByKey) -> Resolutions:
-    """The resolutions that have a key in the file."""
-    return {
-        name: {
-            group: [it for it in found if key_for(name, it.spec, by_key) is not None]
-            for group, found in groups.items()
+    def __init__(self, lock: YarnFile, project: Project, resolutions: Resolutions) -> None:
+        self.lock, self.project = lock, project
+        self.used: Set[Optional[str]] = set()
+        self.resolutions = {
+            name: {
+                group: [it for it in found if lock.found(name, it.spec) is not None]
+                for group, found in groups.items()
+            }
+            for name, groups in resolutions.items()
         }
-        for name, groups in resolutions.items()
-    }
+
+    def stated(self, package: Package) -> Iterator[Requirement]:
+        """Yields what a package states: a workspace by its package.json, where that is there."""
+        directory = directory_of(package)
+        requirer = self.lock.requirer(package)._replace(place=directory)
+        manifest = self.project.manifests.get(directory)
+        if manifest is None:
+            yield from requirements_of(package, requirer)
+        else:
+            yield from requirements_in(manifest, requirer, KINDS_OF_BERRY)
+
+    def required(self, package: Package) -> Iterator[Requirement]:
+        """Yields what a package requires, with what is found: that by a resolution that has a key
+        first."""
+        name, place = name_and_rest(str(package.entry.get("resolution", "")))
+        for it in self.stated(package):
+            resolved: List[str] = []
+            if it.name in self.resolutions:
+                names = [name]
+                at = without_protocol(place)
+                resolved = specs_for(self.resolutions, it.name, it.specifier, names, at)
+            self.used.add(self.lock.key_for(it.name, (*resolved, it.specifier)[0]))
+            yield self.looked_up(it._replace(is_override=bool(resolved)), *resolved[:1])
+
+    def looked_up(self, it: Requirement, specifier: Optional[str] = None) -> Requirement:
+        """Returns a requirement by a specifier with what is found. A tag, a path or a URL may have
+        been written in another way, and without a package.json resolutions aren't known."""
+        found = self.lock.found(it.name, it.specifier if specifier is None else specifier)
+        if found is not None:
+            is_replaced = specifier is not None and not found.is_own
+            spec = specifier if specifier and is_replaced else it.specifier
+            return it._replace(specifier=spec, found=found, must_exist=True)
+        wanted = BERRY_SCHEME.npm_form(it.specifier, it)
+        excuse = reason_of(wanted) if is_no_range(wanted) else ""
+        if not self.project.manifests:
+            excuse = excuse or "no package.json"
+        return it._replace(must_exist=True, excuse=excuse)
+
+    def of_project(self, package: Package) -> Iterator[Requirement]:
+        """Yields the keys of a package that no package requires: the project does, by a catalog, a
+        resolution or a patch. A workspace's own key is required by none."""
+        requirer = Requirer(PROJECT)
+        for pattern in self.lock.patterns[package.at[0]]:
+            if bare(pattern) not in self.used:
+                name, spec = name_and_rest(pattern)
+                if not spec.startswith(OWN):
+                    yield self.looked_up(Requirement(requirer, name, spec))
+
+    def workspaces(self) -> Iterator[Finding]:
+        """Yields what there is to say of the workspaces that the file lacks, and of those that are
+        gone. Those are known if the project has its package.json files below it."""
+        known: Dict[str, List[Package]] = {}
+        for package in self.lock.packages:
+            if directory_of(package):
+                known.setdefault(directory_of(package), []).append(package)
+        manifests = self.project.manifests
+        for directory, manifest in manifests.items():
+            name = name_in(manifest)
+            found = (str(it.entry.get("resolution")) for it in known.get(directory, []))
+            if name is not None and name not in [name_and_rest(it)[0] for it in found]:
+                yield missing_workspace(name, version_in(manifest), name)
+        for directory, gone in known.items() if len(manifests) > 1 else ():
+            if directory not in manifests:
+                yield from (Unreached(self.lock.keyed(it)) for it in gone)
+
+    def edges(self, required: List[List[Requirement]]) -> Iterator[Tuple[str, str]]:
+        """Yields who leads to which package."""
+        for it in (it for each in required for it in each):
+            if it.found is not None:
+                yield it.requirer.label, self.lock.requirer(it.found).label
+
+    def lock_file(self, file: Input) -> LockFile:
+        """Returns what the lock file has."""
+        packages = self.lock.packages
+        required = [list(self.required(it)) for it in packages]
+        # A key has what a resolution put there.
+        own = [list(self.of_project(it)) for it in packages]
+        lock = LockFile([], self.lock.own(), lambda: self.edges([*own, *required]))
+        lock.package_count = len(lock.packages)
+        lock.stated = lambda: compared_in(self.project.manifests.items())
+        lock.nodes = [Node(findings=list(self.workspaces()))]
+        for package, of_keys, each in zip(packages, own, required):
+            it = self.lock.keyed(package)
+            requirements = [*of_keys, *lock.scoped(each, file.scope)]
+            lock.nodes.append(Node(it, requirements, entry_findings(it)))
+        return lock
 
 
-def of_workspaces(packages: List[Package], project: Project) -> Iterator[Finding]:
-    """What there is to say of the workspaces that the file lacks, and of those that are gone. Those
-    are known if the project has its package.json files below it."""
-    known: Dict[str, List[Package]] = {}
-    for package in packages:
-        if folder_of(package):
-            known.setdefault(folder_of(package), []).append(package)
-    for folder, manifest in project.items():
-        name = name_in(manifest)
-        found = known.get(folder, [])
-        if name is not None and name not in [name_and_rest(it.resolution)[0] for it in found]:
-            version = version_in(manifest) or ""
-            yield Finding(Kind.MISSING, "", version, package=name, place=name)
-    for folder, gone in known.items() if len(project) > 1 else ():
-        if folder not in project:
-            yield from (of_package(it, Kind.NOT_REQUIRED) for it in gone)
+def entry_findings(package: Package) -> Iterator[Finding]:
+    """Yields what there is to say of an entry that has another version than yarn installs. Build
+    metadata isn't compared: yarn writes `version` without it."""
+    version, other = package.version or "", str(package.entry["version"])
+    if not package.is_own and version.partition("+")[0] != other.partition("+")[0]:
+        yield TwoVersions(package, other)
 
 
-def findings(
-    packages: List[Package], resolutions: Resolutions, project: Project, tally: Tally, scope: Scope
-) -> Iterator[Finding]:
-    """What there is to say of a lock file, in its order, after its workspaces."""
-    by_key = packages_by_key(packages)
-    known = with_keys(resolutions, by_key)
-    edges = [
-        [edge_of(ask, by_key, known) for ask in asks_of(package, project)]
-        for package in packages
-    ]
-    used = {edge.key for each in edges for edge in each}
-    # A key has what a resolution put there.
-    own = [[edge_of(it, by_key, {}) for it in asks_of_project(each, used)] for each in packages]
-    tally.graph = lambda: graph_of((it for each in (*own, *edges) for it in each), by_key)
-    yield from of_workspaces(packages, project)
-    for package, of_keys, its_edges in zip(packages, own, edges):
-        yield from of_version(package)
-        all_edges = [*of_keys, *in_scope(its_edges, scope, tally)]
-        yield from of_edges(all_edges, by_key, bool(project), tally)
+BERRY_SCHEME = BerryScheme()
+
+
+class Berry(YarnTool):
+    """yarn 2 and later."""
+
+    scheme = BERRY_SCHEME
+    is_berry = True
+
+    def read(self, file: Input) -> LockFile:
+        """Returns what a lock file has, beside the package.json files of the project."""
+        project, resolutions = self.project_of(file)
+        return Reader(self.lock_of(file), project, resolutions).lock_file(file)
+
+
+BERRY = Berry()

@@ -1,4 +1,4 @@
-"""The findings of a `yarn.lock` of yarn 1.
+"""yarn 1.
 
 WHO REQUIRES. The project and its workspaces, by their package.json files, and for each resolution
 the project, too; and each package that is found for something requires its `dependencies` and
@@ -14,203 +14,291 @@ that of the resolution, and refuses the file if the project itself requires the 
 package or a workspace that does, or beside itself, if it has workspaces.
 """
 
-from typing import Any, Dict, Iterable, Iterator, List, Optional
+import os
+from typing import Dict, Iterable, Iterator, List, Optional, Tuple
 
 from semver_parser import Dialect
 
-from ..findings import Finding, Kind, Scope, Tally
-from ..manifests import KINDS, TOP, Project, name_in, version_in
-from ..manifests import needs_of as needs_of_manifest
-from ..npm.archives import archive_at, without_build
-from ..npm.specs import alias_of, is_elsewhere, name_and_rest, verdict_on
-from ..satisfaction import is_range
-from .edges import (
-    Ask,
-    Edge,
-    graph_of,
-    in_scope,
-    key_for,
-    of_edges,
-    of_package,
-    of_version,
-    packages_by_key,
+from ..files import Entry, taking
+from ..findings import (
+    Conflict,
+    Finding,
+    InvalidRange,
+    Missing,
+    Overridden,
+    OwnConflict,
+    TwoVersions,
 )
-from .lock import Package, name_of, needs_of
+from ..judge import INVALID_RANGE, RIGHT, UNSATISFIED, Verdict
+from ..model import PEERS, PROJECT, LockFile, Node, Package, Requirement, Requirer
+from ..node.archives import archive_at, without_build
+from ..node.package_json import (
+    KINDS,
+    MANIFEST,
+    TOP,
+    Project,
+    compared_in,
+    manifest_path,
+    name_in,
+    refuse_twice,
+    requirements_in,
+    requirer_of,
+    version_in,
+)
+from ..node.specifiers import alias_of, directory_at, is_elsewhere, name_and_rest, verdict_on
+from ..node.workspaces import patterns_in
+from ..satisfaction import is_range, is_version
+from ..tool import Input
+from .family import YarnScheme, YarnTool
+from .lock import YarnFile, bare, own_name, requirements_of
 from .resolutions import Resolution, Resolutions, resolutions_for
 
 TRIVIAL = ("", "*")
 
+# What to change if a directory is gone.
+GONE = "put the directory there, or remove what requires it"
 
-class File:
-    """A lock file, and what is put in place of requirements."""
 
-    def __init__(self, packages: List[Package], resolutions: Resolutions) -> None:
-        self.packages, self.resolutions = packages, resolutions
-        self.by_key = packages_by_key(packages)
-        self.edges: Dict[str, List[Edge]] = {}
+class ClassicScheme(YarnScheme):
+    """How yarn 1 reads specifiers."""
 
-    def edge_of(self, ask: Ask) -> Optional[Edge]:
-        """What is found for what is required; None if a resolution decides, as it doesn't of what
-        the project itself requires."""
-        if ask.package is None and ask.folder == TOP:
-            return self.own_edge_of(ask)
-        edge = self.own_edge_of(ask)
-        is_right = self.is_met(edge) and self.replacing(edge) is None
-        return edge if is_right or not self.resolved_for(ask) else None
+    def npm_form(self, specifier: str, requirement: Requirement) -> str:
+        """Returns a specifier as npm has it: `npm:NAME` without a range is for the tag `latest`."""
+        name, rest = alias_of(specifier) or ("", specifier)
+        return f"npm:{name}@latest" if name and not rest else specifier
 
-    def own_edge_of(self, ask: Ask) -> Edge:
-        """What is found for what is required without resolutions."""
-        return Edge(ask, ask.spec, {}, key_for(ask.name, ask.spec, self.by_key), False)
+    def verdict(self, specifier: str, requirement: Requirement) -> Optional[Verdict]:
+        """Returns the verdict on what is found. To yarn 1 an empty text is no range, and each
+        version is right. Of an invalid range it takes any version."""
+        version = requirement.found.version if requirement.found else None
+        if not specifier and version is not None and is_version(version, Dialect.NPM):
+            return RIGHT
+        verdict = super().verdict(specifier, requirement)
+        return Verdict(InvalidRange, "invalid range") if verdict == INVALID_RANGE else verdict
 
-    def is_met(self, edge: Edge) -> bool:
-        """Whether what is found is what is required."""
-        return edge.key is not None and edge.verdict(self.by_key[edge.key].version) is None
 
-    def resolved_for(self, ask: Ask) -> List[Resolution]:
-        """The resolutions that may be for what is required."""
-        if ask.name not in self.resolutions:
+class Reader:
+    """Reads a lock file beside the package.json files of its project, and what resolutions put in
+    place of requirements."""
+
+    def __init__(self, lock: YarnFile, project: Project, resolutions: Resolutions) -> None:
+        self.lock, self.project, self.resolutions = lock, project, resolutions
+        self.known: Dict[str, List[Requirement]] = {}
+
+    def found(self, it: Requirement) -> Optional[Requirement]:
+        """Returns a requirement with what is found for it; None if a resolution decides, as it
+        doesn't of what the project itself requires."""
+        own = self.own_found(it)
+        if it.requirer.name == PROJECT:
+            return own
+        is_right = self.is_met(own) and self.replacing(own) is None
+        return own if is_right or not self.resolved_for(it) else None
+
+    def own_found(self, it: Requirement) -> Requirement:
+        """Returns a requirement with what is found for it without resolutions. Without a
+        package.json these aren't known, and of what only workspaces and packages require yarn asks
+        the registry."""
+        if not self.project.manifests:
+            excuse = "no package.json"
+        else:
+            excuse = "" if it.requirer.name == PROJECT else "the registry is asked"
+        found = self.lock.found(it.name, it.specifier)
+        return it._replace(found=found, must_exist=True, excuse=excuse)
+
+    def is_met(self, it: Requirement) -> bool:
+        """Returns whether what is found is what is required."""
+        return it.found is not None and CLASSIC.scheme.verdict(it.specifier, it) is RIGHT
+
+    def resolved_for(self, it: Requirement) -> List[Resolution]:
+        """Returns the resolutions that may be for what is required."""
+        if it.name not in self.resolutions:
             return []
-        names = [ask.asker] if ask.package is None else map(name_of, ask.package.patterns)
-        return resolutions_for(self.resolutions, ask.name, ask.spec, names)
+        if it.requirer.at:
+            names = [name_and_rest(each)[0] for each in self.lock.patterns[it.requirer.at[0]]]
+        else:
+            manifest = self.project.manifests.get(it.requirer.place, {})
+            names = ["" if it.requirer.name == PROJECT else name_in(manifest) or ""]
+        return resolutions_for(self.resolutions, it.name, it.specifier, names)
 
-    def replacing(self, edge: Edge) -> Optional[str]:
-        """What a resolution puts in place of what is found, if it is known to be for that and has
-        another archive."""
-        found = [it for it in self.resolved_for(edge.ask) if is_taken(it.spec)][:1]
-        spec = next((it.spec for it in found if it.is_anywhere), None)
-        key = None if spec is None else key_for(edge.ask.name, spec, self.by_key)
-        if key is None or edge.key is None:
+    def replacing(self, it: Requirement) -> Optional[str]:
+        """Returns what a resolution puts in place of what is found, if it is known to be for that
+        and has another archive."""
+        found = [each for each in self.resolved_for(it) if is_taken(each.spec)][:1]
+        spec = next((each.spec for each in found if each.is_anywhere), None)
+        other = None if spec is None else self.lock.found(it.name, spec)
+        if other is None or it.found is None:
             return None
-        archives = {str(self.by_key[it].fields.get("resolved", "")) for it in (key, edge.key)}
+        archives = {str(each.entry.get("resolved", "")) for each in (other, it.found)}
         return spec if len(archives) > 1 and "" not in archives else None
 
-    def edges_of(self, package: Package) -> List[Edge]:
-        """What is found for what a package requires."""
-        if package.key not in self.edges:
-            found = map(self.edge_of, asks_of(package))
-            self.edges[package.key] = [it for it in found if it is not None]
-        return self.edges[package.key]
+    def required_by(self, package: Package) -> List[Requirement]:
+        """Returns what a package requires, with what is found for it."""
+        key = package.at[0]
+        if key not in self.known:
+            requirer = self.lock.requirer(package)
+            found = map(self.found, requirements_of(package, requirer))
+            self.known[key] = [it for it in found if it is not None]
+        return self.known[key]
 
-    def reached(self, edges: Iterable[Edge]) -> List[Package]:
-        """The packages that are found for something, in the order of the file."""
-        found: Dict[str, Package] = {}
-        left = list(edges)
+    def reached(self, required: Iterable[Requirement]) -> List[Package]:
+        """Returns the packages that are found for something, in the order of the file."""
+        found = set()
+        left = list(required)
         while left:
-            key = left.pop().key
-            package = None if key is None else self.by_key[key]
-            if package is not None and package.key not in found:
-                found[package.key] = package
-                left += self.edges_of(package)
-        return [it for it in self.packages if it.key in found]
+            package = left.pop().found
+            if package is not None and package.at not in found:
+                found.add(package.at)
+                left += self.required_by(package)
+        return [it for it in self.lock.packages if it.at in found]
+
+    # ---- what the project requires
+
+    def stated(self) -> Iterator[Requirement]:
+        """Yields what the project and its workspaces require, except for each other."""
+        versions = {name: version_in(it) for name, it in self.project.by_name().items()}
+        for directory, manifest in self.project.manifests.items():
+            for it in requirements_in(manifest, requirer_of(directory)):
+                version, spec = versions.get(it.name), specifier_in(manifest, it)
+                if version is None or verdict_on(version, spec) is not RIGHT:
+                    yield it._replace(specifier=spec)
+
+    def of_resolutions(self) -> Iterator[Requirement]:
+        """Yields what the project requires by resolutions. yarn warns of a tag, and ignores it."""
+        for name, groups in self.resolutions.items():
+            for spec in dict.fromkeys(it.spec for group in groups.values() for it in group):
+                if is_taken(spec):
+                    yield Requirement(Requirer(PROJECT), name, spec)
+
+    def of_keys(self) -> Iterator[Requirement]:
+        """Yields the keys of packages that no package requires."""
+        required = (it for package in self.lock.packages for it in self.required_by(package))
+        used = {self.lock.key_for(it.name, it.specifier) for it in required}
+        for pattern in (it for each in self.lock.patterns.values() for it in each):
+            if bare(pattern) not in used:
+                yield Requirement(Requirer(PROJECT), *name_and_rest(pattern))
+
+    def dropped(
+        self, stated: List[Requirement], reached: List[Package]
+    ) -> Iterator[Finding]:
+        """Yields what there is to say of what the project requires, if others require the same, and
+        yarn drops that from the file for a resolution. The root of workspaces is one of the others
+        itself."""
+        own = {(it.name, it.specifier): it for it in stated if it.requirer.name == PROJECT}
+        is_root = has_workspaces(self.project.top)
+        others = [it for it in stated if it.requirer.name != PROJECT or is_root]
+        inner = (it for each in reached for it in requirements_of(each, self.lock.requirer(each)))
+        for it in (*others, *inner):
+            found = self.own_found(it)
+            is_right = (it.name, it.specifier) in own and self.is_met(found)
+            spec = self.replacing(found) if is_right else None
+            if spec is not None and found.found is not None:
+                mine = self.own_found(own.pop((it.name, it.specifier)))
+                if verdict_on(found.found.version, spec) == UNSATISFIED:
+                    yield Overridden(mine, found.found, spec)
+                else:
+                    conflict = Conflict(mine, spec)
+                    conflict.at = found.found.at
+                    yield conflict
+
+    def gone_directories(self, stated: List[Requirement]) -> Iterator[Finding]:
+        """Yields what the project and its workspaces require from directories that aren't there:
+        yarn reads their package.json."""
+        for it in stated:
+            path = directory_at(it.specifier, "") if it.specifier.startswith("file:") else None
+            is_known = path is not None and self.project.directory is not None and it.requirer.place
+            if is_known and self.lock.found(it.name, it.specifier) is not None:
+                if not os.path.isdir(os.path.join(self.project.directory or "", path or "")):
+                    yield Missing(it).advised(GONE, True)
+
+    def not_private(self) -> Iterator[Finding]:
+        """Yields the project if it has workspaces and isn't private: yarn rejects that."""
+        top = self.project.top
+        patterns = patterns_in(top.get("workspaces", []), "workspaces")
+        if patterns and not top.get("private"):
+            package = Package(name_in(top), None, PROJECT, is_own=True)
+            yield OwnConflict(package, "", "has workspaces, and is not private")
+
+    def lock_file(self, file: Input) -> LockFile:
+        """Returns what the lock file has. First comes what the project requires."""
+        stated = list(self.stated() if self.project.manifests else self.of_keys())
+        found = [it for it in map(self.found, stated) if it is not None]
+        outside = [*found, *map(self.own_found, self.of_resolutions())]
+        reached = self.reached(outside) if self.project.manifests else self.lock.packages
+        lock = LockFile([], self.lock.own(), lambda: self.edges(outside, reached))
+        lock.package_count, lock.stated = len(lock.packages), lambda: compared_in(self.project.manifests.items())
+        shown = [it for it in stated if file.scope.has(it.kind)]
+        dropped = self.dropped(shown, reached) if self.resolutions else ()
+        lock.nodes = [Node(None, lock.scoped(outside, file.scope)), Node(findings=dropped)]
+        lock.nodes.append(Node(findings=[*self.gone_directories(shown), *self.not_private()]))
+        for it in map(self.lock.keyed, reached):
+            lock.nodes.append(Node(it, self.required_by(it), archive_findings(it)))
+        return lock
+
+    def edges(
+        self, outside: List[Requirement], reached: List[Package]
+    ) -> Iterator[Tuple[str, str]]:
+        """Yields who leads to which package."""
+        inner = (it for package in reached for it in self.required_by(package))
+        for it in (*outside, *inner):
+            if it.found is not None:
+                yield it.requirer.label, self.lock.requirer(it.found).label
 
 
-def asks_of(package: Package) -> Iterator[Ask]:
-    """What a package requires."""
-    return (Ask(package, need.name, need.spec) for need in needs_of(package))
+def with_workspaces(project: Project, path: str) -> Project:
+    """Returns a project with what yarn 1 takes for its workspaces: those with a name and a version.
+    It rejects two of one name."""
+    with taking(path, MANIFEST):
+        found = {TOP: project.top} if project.manifests else {}
+        for place, it in project.manifests.items():
+            if name_in(it) and version_in(it):
+                found[place] = it
+        inner = ((name_in(it) or "", place) for place, it in found.items() if place != TOP)
+        refuse_twice(inner)
+    return project._replace(manifests=found)
 
 
-# ---- what the project requires
-
-
-def asks_of_folders(project: Project) -> Iterator[Ask]:
-    """What the project and its workspaces require, but for each other."""
-    versions = {name_in(it): version_in(it) for it in project.values()}
-    for folder, manifest in project.items():
-        for need in needs_of_manifest(manifest):
-            version = versions.get(need.name)
-            spec = spec_of(manifest, need.name, need.spec)
-            if version is None or verdict_on(version, spec) is not None:
-                asker = "" if folder == TOP else name_in(manifest) or ""
-                yield Ask(None, need.name, spec, folder, need.is_development, asker)
-
-
-def has_workspaces(manifest: Dict[str, Any]) -> bool:
-    """Whether yarn takes the project for one of its workspaces, also if it names no other."""
+def has_workspaces(manifest: Entry) -> bool:
+    """Returns whether yarn takes the project for one of its workspaces, also if it names no
+    other."""
     named = manifest.get("workspaces")
     return "packages" in named if isinstance(named, dict) else named is not None
 
 
-def spec_of(manifest: Dict[str, Any], name: str, spec: str) -> str:
-    """What a package.json requires by a name: of several kinds the first that isn't `*` or
+def specifier_in(manifest: Entry, it: Requirement) -> str:
+    """Returns what a package.json requires by a name: of several kinds the first that isn't `*` or
     empty."""
-    specs = (manifest.get(kind, {}).get(name, "") for kind in (*KINDS, "peerDependencies"))
-    return next((it for it in specs if it not in TRIVIAL), spec) if spec in TRIVIAL else spec
-
-
-def asks_of_resolutions(resolutions: Resolutions) -> Iterator[Ask]:
-    """What the project requires by resolutions. yarn warns of a tag, and ignores it."""
-    for name, groups in resolutions.items():
-        for spec in dict.fromkeys(it.spec for group in groups.values() for it in group):
-            if is_taken(spec):
-                yield Ask(None, name, spec)
+    if it.specifier not in TRIVIAL:
+        return it.specifier
+    specs = (manifest.get(kind, {}).get(it.name, "") for kind in (*KINDS, PEERS))
+    return next((each for each in specs if each not in TRIVIAL), it.specifier)
 
 
 def is_taken(spec: str) -> bool:
-    """Whether yarn takes a resolution for one."""
+    """Returns whether yarn takes a resolution for one."""
     is_any = is_range(spec, Dialect.NPM) or is_elsewhere(spec)
     return is_any or alias_of(spec) is not None
 
 
-def asks_of_keys(file: File) -> Iterator[Ask]:
-    """The keys of packages that no package requires."""
-    used = {edge.key for package in file.packages for edge in file.edges_of(package)}
-    for package in file.packages:
-        for pattern in package.patterns:
-            if pattern.partition("::")[0] not in used:
-                yield Ask(None, *name_and_rest(pattern))
-
-
-# ---- the findings
-
-
-def of_archive(package: Package) -> Iterator[Finding]:
-    """What there is to say of a package whose archive at a registry is that of another version."""
-    url = str(package.fields.get("resolved", "")).partition("#")[0]
-    archive = archive_at(url) if package.name else None
-    version = without_build(package.version)
+def archive_findings(package: Package) -> Iterator[Finding]:
+    """Yields what there is to say of a package whose archive at a registry is that of another
+    version."""
+    url = package.source.partition("#")[0]
+    archive = archive_at(url) if own_name(package.entry) is not None else None
+    version = without_build(package.version or "")
     if archive is not None and version is not None and archive.version != version:
-        yield of_package(package, Kind.ANOTHER_VERSION)._replace(range=url)
+        yield TwoVersions(package, url)
 
 
-def of_dropped(
-    file: File, asks: List[Ask], reached: List[Package], is_root: bool
-) -> Iterator[Finding]:
-    """What there is to say of what the project requires, if others require the same, and yarn drops
-    that from the file for a resolution. The root of workspaces is one of the others itself."""
-    own = {(it.name, it.spec): it for it in asks if it.folder == TOP}
-    others = [it for it in asks if it.folder != TOP or is_root]
-    for ask in [*others, *(it for package in reached for it in asks_of(package))]:
-        edge = file.own_edge_of(ask)
-        is_right = (ask.name, ask.spec) in own and file.is_met(edge)
-        spec = file.replacing(edge) if is_right else None
-        if spec is None or edge.key is None:
-            continue
-        found = file.by_key[edge.key]
-        finding = own.pop((ask.name, ask.spec)).finding._replace(range=spec, at=(found.key,))
-        if verdict_on(found.version, spec) == Kind.UNSATISFIED:
-            name = found.name or ask.name
-            yield finding._replace(kind=Kind.OVERRIDDEN, version=found.version, package=name)
-        else:
-            yield finding._replace(kind=Kind.CONFLICT, version=ask.spec)
+class Classic(YarnTool):
+    """yarn 1."""
+
+    scheme = ClassicScheme()
+
+    def read(self, file: Input) -> LockFile:
+        """Returns what a lock file has, beside the package.json files of the project."""
+        project, resolutions = self.project_of(file)
+        project = with_workspaces(project, manifest_path(file, file.directory) or "")
+        return Reader(self.lock_of(file), project, resolutions).lock_file(file)
 
 
-def findings(
-    packages: List[Package], resolutions: Resolutions, project: Project, tally: Tally, scope: Scope
-) -> Iterator[Finding]:
-    """What there is to say of a lock file. First comes what the project requires."""
-    file = File(packages, resolutions)
-    asks = list(asks_of_folders(project) if project else asks_of_keys(file))
-    edges = [*map(file.edge_of, asks), *map(file.own_edge_of, asks_of_resolutions(resolutions))]
-    outside = [it for it in edges if it is not None]
-    reached = file.reached(outside) if project else packages
-    inner = (edge for package in reached for edge in file.edges_of(package))
-    tally.graph = lambda: graph_of([*outside, *inner], file.by_key)
-    yield from of_edges(in_scope(outside, scope, tally), file.by_key, bool(project), tally)
-    if resolutions:
-        shown = [it for it in asks if scope.has_development or not it.is_development]
-        is_root = has_workspaces(project.get(TOP, {}))
-        yield from of_dropped(file, shown, reached, is_root)
-    for package in reached:
-        yield from of_version(package)
-        yield from of_archive(package)
-        yield from of_edges(file.edges_of(package), file.by_key, bool(project), tally)
+CLASSIC = Classic()

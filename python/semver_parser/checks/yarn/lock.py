@@ -6,12 +6,12 @@ a line has a key, and then a value or, on the lines below, an object.
 import json
 import re
 from sys import intern
-from typing import Dict, Iterator, List, NamedTuple, Optional, Tuple, Union
+from typing import Any, Dict, Iterator, List, Optional, Tuple, Union
 from urllib.parse import unquote
 
-from ..files import Unreadable, WrongShape
-from ..manifests import Need
-from ..npm.specs import name_and_rest
+from ..files import Unreadable, WrongShape, utf8
+from ..model import OPTIONAL, USUAL, Package, Requirement, Requirer
+from ..node.specifiers import name_and_rest
 
 Tree = Dict[str, Union[str, "Tree"]]
 
@@ -26,22 +26,14 @@ NAME_AT = re.compile(r"/((?:@[^/]+/)?[^/]+)/-/")
 # Before the source of a package that berry patches, in which `:` is `%3A`.
 PATCH = "patch:"
 
-OPTIONAL = "optionalDependencies"
-MET_BY = ("dependencies", OPTIONAL)
+MET_BY = (USUAL, OPTIONAL)
 
+# What only a file of yarn has.
+MARK = re.compile(rb"yarn lockfile v1|\n__metadata:")
+METADATA = "__metadata"
 
-class Package(NamedTuple):
-    """A package of the file: its key, the requirements that it is for, as `numbers@^1.0.0`, the
-    version that yarn installs, that of its entry, its fields, by what it is resolved, if the file
-    is berry's, and its own name, which yarn 1 has only in a URL."""
-
-    key: str
-    patterns: List[str]
-    version: str
-    entry_version: str
-    fields: Tree
-    resolution: str
-    name: str
+# The version that a workspace of the project has in a lock file.
+WORKSPACE = "0.0.0-use.local"
 
 
 # A line as nearly all are: its indent, a key, and then a colon alone or a value. A quoted text has
@@ -53,7 +45,7 @@ USUAL = re.compile(
 
 
 def lines_of(text: str) -> Iterator[Tuple[int, int, str, str, bool]]:
-    """The lines of a file: of each its number, indent, key and value, and whether an object
+    """Yields the lines of a file: of each its number, indent, key and value, and whether an object
     follows. Berry writes a key of more than 1,024 characters after `? `, and its colon on the next
     line."""
     key = ""
@@ -78,11 +70,11 @@ def lines_of(text: str) -> Iterator[Tuple[int, int, str, str, bool]]:
         raise Unreadable(f"it isn't a yarn.lock: line {number}")
 
 
-def tree_of(text: str) -> Tree:
-    """What the lines of a file have, by their indents."""
+def tree_of(text: bytes) -> Tree:
+    """Returns what the lines of a file have, by their indents."""
     tree: Tree = {}
     open_trees: List[Tuple[int, Tree]] = [(-1, tree)]
-    for _, depth, key, value, has_more in lines_of(text):
+    for _, depth, key, value, has_more in lines_of(utf8(text)):
         while open_trees[-1][0] >= depth:
             open_trees.pop()
         if has_more:
@@ -95,8 +87,9 @@ def tree_of(text: str) -> Tree:
 
 
 def cut(line: str, number: int) -> Tuple[str, str, bool]:
-    """The key of a line, its value, and whether an object follows it. Several keys of one package
-    are joined by a line feed: yarn 1 has each in quotes of its own, and later ones all in one."""
+    """Returns the key of a line, its value, and whether an object follows it. Several keys of one
+    package are joined by a line feed: yarn 1 has each in quotes of its own, and later ones all in
+    one."""
     keys: List[str] = []
     at = 0
     while True:
@@ -121,14 +114,14 @@ def cut(line: str, number: int) -> Tuple[str, str, bool]:
 
 
 def after_blanks(line: str, at: int) -> int:
-    """Where the blanks of a line end that may begin at a place."""
+    """Returns where the blanks of a line end that may begin at a place."""
     found = BLANKS.match(line, at)
     assert found is not None
     return found.end()
 
 
 def unquoted(word: str, number: int) -> str:
-    """The text that a word is for."""
+    """Returns the text that a word is for."""
     if not word.startswith('"'):
         return word
     try:
@@ -139,29 +132,88 @@ def unquoted(word: str, number: int) -> str:
     return text
 
 
-def packages_of(tree: Tree) -> Iterator[Package]:
-    """The packages of a file, in its order."""
-    between = ", " if "__metadata" in tree else "\n"
-    for key, fields in tree.items():
-        if key == "__metadata":
-            continue
-        if not isinstance(fields, dict):
-            raise WrongShape(f": {key} isn't an object")
-        version = fields.get("version")
-        if not isinstance(version, str):
-            raise WrongShape(f": {key}: version isn't a text")
-        resolution = str(fields.get("resolution", ""))
-        name, reference = name_and_rest(source_of(resolution))
-        name_at = NAME_AT.search(str(fields["resolved"])) if "resolved" in fields else None
-        name = name if name_at is None else unquote(name_at.group(1))
-        # A name alone is for the tag `latest`, as yarn 1 has it.
-        patterns = [it if "@" in it[1:] else f"{it}@latest" for it in key.split(between)]
-        installed = version_of(reference) or version
-        yield Package(key, patterns, installed, version, fields, resolution, name)
+class YarnFile:
+    """A yarn.lock: its packages, the requirements that the keys of each are for, and by each of
+    these its package."""
+
+    def __init__(self, tree: Tree) -> None:
+        self.is_berry = METADATA in tree
+        self.packages: List[Package] = []
+        self.patterns: Dict[str, List[str]] = {}
+        self.by_pattern: Dict[str, Package] = {}
+        between = ", " if self.is_berry else "\n"
+        for key, fields in tree.items():
+            if key != METADATA:
+                # A name alone is for the tag `latest`, as yarn 1 has it.
+                patterns = [it if "@" in it[1:] else f"{it}@latest" for it in key.split(between)]
+                package = package_of(key, fields, patterns)
+                self.packages.append(package)
+                self.patterns[key] = patterns
+                self.by_pattern.update((bare(it), package) for it in patterns)
+
+    def name_of(self, package: Package) -> str:
+        """Returns the name of the first key of a package, which need not be its own name."""
+        return name_and_rest(self.patterns[package.at[0]][0])[0]
+
+    def keyed(self, package: Package) -> Package:
+        """Returns a package under the name of its first key."""
+        name = self.name_of(package)
+        return package if name == package.name else package._replace(name=name)
+
+    def requirer(self, package: Package) -> Requirer:
+        """Returns a package as what requires something."""
+        return Requirer(self.name_of(package), package.version or "", "", package.at)
+
+    def key_for(self, name: str, spec: str) -> Optional[str]:
+        """Returns the key that is for what is required. yarn 2 and later write `npm:` before a
+        range."""
+        key = f"{name}@{bare(spec) if '::' in spec else spec}"
+        if key not in self.by_pattern:
+            key = f"{name}@npm:{spec}"
+        return key if key in self.by_pattern else None
+
+    def found(self, name: str, spec: str) -> Optional[Package]:
+        """Returns the package whose key is for what is required."""
+        key = self.key_for(name, spec)
+        return None if key is None else self.by_pattern[key]
+
+    def own(self) -> List[Package]:
+        """Returns the packages except for workspaces."""
+        return [it for it in self.packages if not it.is_own]
+
+
+def bare(pattern: str) -> str:
+    """Returns what is required, without the place that a link or a patch belongs to."""
+    return pattern.partition("::")[0]
+
+
+def package_of(key: str, fields: Any, patterns: List[str]) -> Package:
+    """Returns a package, with the version that yarn installs. Without a name of its own it has that
+    of its first key."""
+    if not isinstance(fields, dict):
+        raise WrongShape(f": {key} isn't an object")
+    version = fields.get("version")
+    if not isinstance(version, str):
+        raise WrongShape(f": {key}: version isn't a text")
+    name = own_name(fields) or name_and_rest(patterns[0])[0]
+    _, reference = name_and_rest(source_of(str(fields.get("resolution", ""))))
+    installed = version_of(reference) or version
+    if installed == WORKSPACE:
+        return Package(name, None, name, (key,), "", True, fields)
+    return Package(name, installed, "", (key,), str(fields.get("resolved", "")), False, fields)
+
+
+def own_name(fields: Tree) -> Optional[str]:
+    """Returns the name of a package itself, which yarn 1 has only in a URL, if it is known."""
+    name_at = NAME_AT.search(str(fields["resolved"])) if "resolved" in fields else None
+    if name_at is not None:
+        return unquote(name_at.group(1))
+    return name_and_rest(source_of(str(fields.get("resolution", ""))))[0] or None
 
 
 def source_of(text: str) -> str:
-    """The `NAME@REST` that is patched, in `NAME@patch:SOURCE#PATCH`; any other is its own."""
+    """Returns the `NAME@REST` that is patched, in `NAME@patch:SOURCE#PATCH`; any other is its
+    own."""
     rest = spec_of(text) if PATCH in text else ""
     while rest.startswith(PATCH):
         text = unquote(rest[len(PATCH) :].partition("#")[0])
@@ -170,31 +222,24 @@ def source_of(text: str) -> str:
 
 
 def version_of(reference: str) -> Optional[str]:
-    """The version in the reference of what a package is resolved by, if that is of a registry."""
+    """Returns the version in the reference of what a package is resolved by, if that is of a
+    registry."""
     bare = reference.partition("::")[0]
     return bare[4:] if bare.startswith("npm:") else None
 
 
-def needs_of(package: Package) -> Iterator[Need]:
-    """What a package requires."""
-    metas = package.fields.get("dependenciesMeta", {})
+def requirements_of(package: Package, requirer: Requirer) -> Iterator[Requirement]:
+    """Yields what a package requires."""
     for kind in MET_BY:
-        asked = package.fields.get(kind, {})
-        if not isinstance(asked, dict):
-            raise WrongShape(f": {package.patterns[0]}: {kind} isn't an object")
-        for name, spec in asked.items():
+        stated = package.entry.get(kind, {})
+        if not isinstance(stated, dict):
+            raise WrongShape(f": {requirer.name}: {kind} isn't an object")
+        for name, spec in stated.items():
             if not isinstance(spec, str):
-                raise WrongShape(f": {package.patterns[0]}: {kind}: {name} isn't a text")
-            meta = metas.get(name) if metas and isinstance(metas, dict) else None
-            is_optional = isinstance(meta, dict) and meta.get("optional") == "true"
-            yield Need(name, spec, is_optional or kind == OPTIONAL)
-
-
-def name_of(pattern: str) -> str:
-    """The name that a pattern requires."""
-    return name_and_rest(pattern)[0]
+                raise WrongShape(f": {requirer.name}: {kind}: {name} isn't a text")
+            yield Requirement(requirer, name, spec, kind=kind)
 
 
 def spec_of(pattern: str) -> str:
-    """What a pattern requires."""
+    """Returns what a pattern requires."""
     return name_and_rest(pattern)[1]

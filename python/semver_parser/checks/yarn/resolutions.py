@@ -4,7 +4,7 @@ import re
 from typing import Dict, Iterable, List, NamedTuple, Tuple
 
 from ..files import Entry, texts_at
-from ..npm.specs import name_and_rest
+from ..node.specifiers import name_and_rest
 
 # A step of the path of a resolution: a name, and perhaps a range.
 STEP = re.compile(r"(?:@[^/]+/)?[^/]+")
@@ -25,7 +25,7 @@ the place that this has, and what it requires, each empty if it may be any."""
 
 
 def resolutions_of(manifest: Entry) -> Resolutions:
-    """The resolutions of a package.json. A step with `*` may be any package."""
+    """Returns the resolutions of a package.json. A step with `*` may be any package."""
     resolutions: Resolutions = {}
     texts = texts_at(manifest.get("resolutions", {}), "resolutions")
     for number, (path, spec) in enumerate(texts.items()):
@@ -36,28 +36,28 @@ def resolutions_of(manifest: Entry) -> Resolutions:
         is_anywhere = is_known and not place and not within
         if "*" in parent:
             parent = place = ""
-        group = (parent, of_yarn(place), of_yarn(within))
+        group = (parent, without_protocol(place), without_protocol(within))
         found = resolutions.setdefault(name, {}).setdefault(group, [])
         found.append(Resolution(number, spec, is_anywhere))
     return resolutions
 
 
-def of_yarn(spec: str) -> str:
-    """What is required without the `npm:` that berry writes before a range."""
+def without_protocol(spec: str) -> str:
+    """Returns what is required without the `npm:` that berry writes before a range."""
     return spec[4:] if spec.startswith("npm:") and "@" not in spec[5:] else spec
 
 
 def resolutions_for(
     resolutions: Resolutions, name: str, spec: str, parents: Iterable[str], place: str = ""
 ) -> List[Resolution]:
-    """The resolutions for what a package requires, of one of these names and perhaps at a place, in
-    the order of the file: the first of those that are for the same."""
+    """Returns the resolutions for what a package requires, of one of these names and perhaps at a
+    place, in the order of the file: the first of those that are for the same."""
     groups = resolutions.get(name)
     if groups is None:
         return []
     wanted = [("", "", "")]
     wanted += [(parent, at, "") for parent in dict.fromkeys(parents) for at in {"", place}]
-    wanted += [(parent, at, of_yarn(spec)) for parent, at, _ in wanted]
+    wanted += [(parent, at, without_protocol(spec)) for parent, at, _ in wanted]
     found = {it for group in wanted for it in groups.get(group, ())[:1]}
     return sorted(found)
 
@@ -65,6 +65,6 @@ def resolutions_for(
 def specs_for(
     resolutions: Resolutions, name: str, spec: str, parents: Iterable[str], place: str = ""
 ) -> List[str]:
-    """What is put in place of what a package requires."""
+    """Returns what is put in place of what a package requires."""
     found = resolutions_for(resolutions, name, spec, parents, place)
     return list(dict.fromkeys(it.spec for it in found))

@@ -1,0 +1,102 @@
+"""What Cargo rejects in a Cargo.toml, as far as a line each says it. cargo 1.95.0 decides. Of the
+rest of a manifest nothing is checked."""
+
+import os
+import re
+from typing import Any, Dict, Iterator, List
+
+from semver_parser import Dialect
+
+from ..files import Entry, WrongShape
+from ..satisfaction import is_version
+
+EDITIONS, RESOLVERS = ("2015", "2018", "2021", "2024"), ("1", "2", "3")
+NAME = re.compile(r"[^\W\d][\w-]*")
+
+# A target: the name of one, or an expression, of which the brackets are compared.
+TARGET = re.compile(r"[\w.-]*|cfg\(.+\)", re.S)
+
+# What a manifest without a package may not have.
+OF_PACKAGE = (
+    "dependencies", "dev-dependencies", "build-dependencies", "features", "target", "lib", "bin",
+)  # fmt: skip
+
+# Of each the dependency may have one at most.
+APART = (("git", "path"), ("git", "registry"), ("registry", "registry-index"))
+REFERENCES = ("branch", "tag", "rev")
+PLACES = ("version", "path", "git", "workspace")
+
+
+def wrong_in_package(package: Entry, directory: str) -> Iterator[str]:
+    """Yields what Cargo rejects in the table of a package."""
+    name, version, edition = (package.get(it) for it in ("name", "version", "edition"))
+    if isinstance(name, str) and not NAME.fullmatch(name):
+        yield f"{name} is no name of a package"
+    if isinstance(version, str) and not is_version(version, Dialect.CARGO):
+        yield f"version {version} is invalid"
+    if edition is not None and not isinstance(edition, dict) and edition not in EDITIONS:
+        yield f"edition {edition} is unknown"
+    has_build = "build" in package or os.path.isfile(os.path.join(directory, "build.rs"))
+    if "links" in package and not has_build:
+        yield "links is there without a build script"
+    named = package.get("workspace")
+    if isinstance(named, str) and not os.path.isfile(os.path.join(directory, named, "Cargo.toml")):
+        yield f"workspace {named} isn't there"
+
+
+def wrong_in_workspace(entry: Entry, package: Entry) -> Iterator[str]:
+    """Yields what Cargo rejects in the other tables of a manifest."""
+    workspace = entry.get("workspace")
+    resolver = (workspace or {}).get("resolver", package.get("resolver", RESOLVERS[0]))
+    if resolver not in RESOLVERS:
+        yield f"resolver {resolver} is unknown"
+    if not package and workspace is not None:
+        yield from (f"{it} is there without a package" for it in OF_PACKAGE if it in entry)
+    if workspace is not None and "workspace" in package:
+        yield "it has a workspace and names another one"
+    if "replace" in entry and "patch" in entry:
+        yield "replace and patch are both there"
+    for target in entry.get("target", {}):
+        is_even = target.count("(") == target.count(")")
+        if not TARGET.fullmatch(target) or not is_even:
+            yield f"target {target} is invalid"
+
+
+def wrong_in_dependency(table: str, value: Any) -> Iterator[str]:
+    """Yields what Cargo rejects in a dependency."""
+    if not isinstance(value, dict):
+        return
+    references = [it for it in REFERENCES if it in value]
+    if not any(it in value for it in PLACES):
+        yield "it has neither a version nor a place"
+    if "git" not in value:
+        yield from (f"{it} is there without git" for it in references)
+    elif len(references) > 1:
+        yield f"{' and '.join(references)} are both there"
+    for one, other in APART:
+        if one in value and other in value:
+            yield f"{one} and {other} are both there"
+    if table.endswith("dev-dependencies") and value.get("optional") is True:
+        yield "it is for development and optional"
+    features: List[Any] = value.get("features", [])
+    yield from (f"feature {it} has a slash or dep:" for it in features if is_no_feature(it))
+
+
+def is_no_feature(name: Any) -> bool:
+    """Returns whether a text is no name of a feature, which a dependency may have."""
+    return isinstance(name, str) and ("/" in name or name.startswith("dep:"))
+
+
+def refuse_invalid(
+    entry: Entry, package: Entry, tables: Dict[str, Entry], directory: str
+) -> None:
+    """Rejects a manifest that Cargo rejects."""
+    wrong = [*wrong_in_workspace(entry, package), *wrong_in_package(package, directory)]
+    for table, values in tables.items():
+        for key, value in values.items():
+            wrong += (f"{table}: {key}: {it}" for it in wrong_in_dependency(table, value))
+    for name, values in entry.get("features", {}).items():
+        wrong += [f"features: {name} has a slash or dep:"] if is_no_feature(name) else []
+        wrong += [f"features: {name} requires itself"] if name in values else []
+    if wrong:
+        raise WrongShape(f": {wrong[0]}")

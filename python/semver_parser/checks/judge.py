@@ -1,0 +1,159 @@
+"""The judge: what a lock file has, held against what is required.
+
+It knows no tool. How versions, ranges and other specifiers are read is a `Scheme`.
+"""
+
+from typing import Iterator, List, NamedTuple, Optional, Tuple, Type
+
+from semver_parser import Dialect
+
+from .findings import (
+    AnotherPackage,
+    Finding,
+    InvalidRange,
+    InvalidVersion,
+    Missing,
+    NotChecked,
+    NotRequired,
+    NoVersion,
+    OfFound,
+    Overridden,
+    Stale,
+    Unsatisfied,
+)
+from .model import LockFile, Node, Package, Requirement
+from .satisfaction import is_met, is_version
+
+
+class Verdict(NamedTuple):
+    """The class of what there is to say of what is found, why it isn't checked or only counts with
+    `--strict`, and what is printed instead of the specifier, if not that."""
+
+    finding: Type[OfFound]
+    excuse: str = ""
+    printed: str = ""
+
+
+RIGHT: Optional[Verdict] = None
+UNSATISFIED, INVALID_RANGE = Verdict(Unsatisfied), Verdict(InvalidRange)
+NO_VERSION = Verdict(NoVersion)
+
+
+class Scheme:
+    """How a tool reads versions and specifiers: by the ranges of a dialect alone."""
+
+    dialect = Dialect.NPM
+
+    def is_version(self, package: Package) -> bool:
+        """Returns whether the version of a package is valid."""
+        return package.version is None or is_version(package.version, self.dialect)
+
+    def has_name(self, specifier: str, requirement: Requirement) -> bool:
+        """Returns whether the package that is found has the name that a specifier requires."""
+        return True
+
+    def verdict(self, specifier: str, requirement: Requirement) -> Optional[Verdict]:
+        """Returns the verdict on the package that is found, by a specifier."""
+        version = requirement.found.version if requirement.found else None
+        met = is_met(specifier, version or "", self.dialect)
+        if met is None:
+            return INVALID_RANGE
+        return RIGHT if met else UNSATISFIED if version is not None else NO_VERSION
+
+    def missing(self, requirement: Requirement) -> Finding:
+        """Returns what there is to say of a requirement for which nothing is there."""
+        return Missing(requirement).excused(requirement.excuse)
+
+
+def is_plainly_met(it: Requirement, dialect: Dialect) -> bool:
+    """Returns whether a range is required, as nearly always, and the package has a version in that
+    range and no other name: then there is no more to say."""
+    found, specifier = it.found, it.specifier
+    if found is None or found.version is None or ":" in specifier or it.stated is not None:
+        return False
+    if it.replaced_by or it.locked is not None or found.name not in (None, it.name):
+        return False
+    return is_met(specifier, found.version, dialect) is True
+
+
+def best_of(it: Requirement, scheme: Scheme) -> Tuple[str, Optional[Verdict]]:
+    """Returns the specifier that counts, and the verdict by it. What replaces a requirement counts
+    if the version doesn't satisfy that: the first that is right, or else isn't checked."""
+    verdict = scheme.verdict(it.specifier, it)
+    is_wrong = verdict is not None and verdict.finding is not NotChecked
+    if not is_wrong or not it.replaced_by:
+        is_over = it.is_override and verdict == UNSATISFIED
+        return it.specifier, Verdict(Overridden) if is_over else verdict
+    verdicts = [(each, scheme.verdict(each, it)) for each in it.replaced_by]
+    for wanted in (None, NotChecked):
+        for specifier, found in verdicts:
+            if (None if found is None else found.finding) is wanted:
+                return specifier, found
+    specifier, first = verdicts[0]
+    return specifier, Verdict(Overridden) if first == UNSATISFIED else first
+
+
+def findings_of(it: Requirement, scheme: Scheme) -> Iterator[Finding]:
+    """Yields what there is to say of a requirement."""
+    if it.found is None:
+        if it.must_exist:
+            yield scheme.missing(it)
+        return
+    specifier, verdict = best_of(it, scheme)
+    specifiers = (it.specifier, *it.replaced_by)
+    if it.found.name is not None and not any(scheme.has_name(each, it) for each in specifiers):
+        yield AnotherPackage(it, it.found, it.specifier)
+    if verdict is not None:
+        printed = verdict.printed or specifier
+        yield verdict.finding(it, it.found, printed).excused(verdict.excuse)
+
+
+def stale_findings(it: Requirement) -> Iterator[Finding]:
+    """Yields what there is to say of a requirement for which the lock file wasn't written: tools
+    compare specifiers as strings."""
+    locked = it.locked
+    if locked is None:
+        return
+    if locked.stated_kind is None or not locked.same:
+        yield NotRequired(it)
+    elif locked.kind != locked.stated_kind:
+        yield Stale(it, locked.stated_kind, locked.kind, locked.manifest)
+    elif locked.specifier not in locked.same:
+        yield Stale(it, locked.stated, locked.specifier, locked.manifest)
+
+
+def judged(node: Node, scheme: Scheme) -> Iterator[Finding]:
+    """Yields what there is to say of a node, without what its tool leaves as it is."""
+    if node.package is not None and not scheme.is_version(node.package):
+        yield InvalidVersion(node.package)
+    yield from node.findings
+    dialect = scheme.dialect
+    for it in node.requirements:
+        if is_plainly_met(it, dialect):
+            continue
+        found = [] if it.is_gone else list(findings_of(it, scheme))
+        yield from found
+        if it.locked is not None and all(each.excuse for each in found):
+            yield from stale_findings(it)
+
+
+class Judgement(NamedTuple):
+    """What there is to say of a lock file, and how many requirements it has."""
+
+    findings: List[Finding]
+    requirements: int
+
+
+def judge(lock: LockFile, scheme: Scheme) -> Judgement:
+    """Returns what there is to say of a lock file, in its order."""
+    findings: List[Finding] = []
+    requirements = 0
+    for node in lock.nodes:
+        for finding in judged(node, scheme):
+            if not finding.excuse:
+                finding.excused(lock.excuse(finding))
+            findings.append(finding)
+        requirements += sum(it.found is not None or it.is_counted for it in node.requirements)
+    if not findings:
+        findings += lock.if_right()
+    return Judgement(findings, requirements)

@@ -1,0 +1,195 @@
+"""What lock files have, the same for each tool: packages, and requirements that lead to them.
+
+A tool reads its lock file and its manifests into a `LockFile`. `judge` checks that.
+"""
+
+from dataclasses import dataclass, field
+from typing import (
+    TYPE_CHECKING,
+    Any,
+    Callable,
+    Dict,
+    Iterable,
+    List,
+    NamedTuple,
+    Optional,
+    Sequence,
+    Tuple,
+)
+
+if TYPE_CHECKING:
+    from .findings import Finding
+
+PROJECT = "the project"
+"""The name of the project itself, if it requires something."""
+
+Keys = Tuple[str, ...]
+"""The keys that lead to an entry of a file."""
+
+Graph = Dict[str, List[str]]
+"""What the project, its workspaces and each package lead to, by their labels."""
+
+Entry = Dict[str, Any]
+
+# The kinds of requirements, by the tables of a package.json.
+USUAL, FOR_DEVELOPMENT = "dependencies", "devDependencies"
+OPTIONAL, PEERS = "optionalDependencies", "peerDependencies"
+DEVELOPMENT_KINDS = (FOR_DEVELOPMENT, "dev-dependencies", "dev")
+
+
+class Scope(NamedTuple):
+    """Which requirements are checked: whether peers are, and what is for development."""
+
+    has_peers: bool = True
+    has_development: bool = True
+
+    def has(self, kind: str) -> bool:
+        """Returns whether requirements of a kind are checked."""
+        if kind == PEERS:
+            return self.has_peers
+        return self.has_development or kind not in DEVELOPMENT_KINDS
+
+
+class Package(NamedTuple):
+    """A package of a lock file.
+
+    The name and the version are None if the file doesn't have them. The place is its path, as the
+    tool writes it, and `at` has the keys of its entry. `source` is the URL that it is from. A
+    workspace, or another directory of the project, is its own.
+    """
+
+    name: Optional[str]
+    version: Optional[str]
+    place: str = ""
+    at: Keys = ()
+    source: str = ""
+    is_own: bool = False
+    entry: Entry = {}
+
+    @property
+    def label(self) -> str:
+        """The name and the version, as a graph has them."""
+        return f"{self.name or ''} {self.version or ''}".strip()
+
+
+class Requirer(NamedTuple):
+    """Who requires something: its name, its version if findings print that, the place by which its
+    tool knows it, and the keys of its entry."""
+
+    name: str
+    version: str = ""
+    place: str = ""
+    at: Keys = ()
+
+    @property
+    def label(self) -> str:
+        """The name with the version, if it has one."""
+        return f"{self.name} {self.version}" if self.version else self.name
+
+
+class Locked(NamedTuple):
+    """What a lock file was written for: a kind and a specifier. And what the manifest states now: a
+    kind, which is None if it has no such requirement; the specifiers that are the same to the tool;
+    that which is printed; and its file."""
+
+    kind: str
+    specifier: str
+    stated_kind: Optional[str]
+    same: Tuple[str, ...]
+    stated: str
+    manifest: str = "package.json"
+
+
+class Requirement(NamedTuple):
+    """Who requires which name, by which specifier, and the package that the lock file has for it.
+
+    - `kind` is the table of the manifest.
+    - `must_exist` says that it is missing if the lock file has no package. With an `excuse` that is
+      only listed with `--strict`.
+    - `replaced_by` has the specifiers of overrides that may count instead. If the specifier is
+      itself that of an override, `is_override` says so.
+    - `accepted` is a specifier that is right, too.
+    - `alias` is the name that the manifest gives to the package.
+    - `locked` is what the lock file was written for, if it has that.
+    - `stated` is what the manifest states besides, for the scheme of its tool.
+    """
+
+    requirer: Requirer
+    name: str
+    specifier: str
+    found: Optional[Package] = None
+    kind: str = USUAL
+    must_exist: bool = True
+    excuse: str = ""
+    replaced_by: Tuple[str, ...] = ()
+    is_override: bool = False
+    accepted: Optional[str] = None
+    alias: str = ""
+    locked: Optional[Locked] = None
+    stated: Any = None
+
+    @property
+    def is_gone(self) -> bool:
+        """Whether only the lock file has it, and the manifest no longer."""
+        return self.locked is not None and self.locked.stated_kind is None
+
+    @property
+    def is_counted(self) -> bool:
+        """Whether it is one of the requirements that the closing line counts."""
+        return (self.found is not None or self.must_exist) and not self.is_gone
+
+
+@dataclass
+class Node:
+    """A package or a manifest of a lock file: the package whose version is checked, what requires
+    something, and what its tool finds besides."""
+
+    package: Optional[Package] = None
+    requirements: Sequence[Requirement] = ()
+    findings: Iterable["Finding"] = ()
+
+
+def no_excuse(_: "Finding") -> str:
+    """Returns no reason to leave anything as it is."""
+    return ""
+
+
+@dataclass
+class LockFile:
+    """A lock file as a graph, beside the manifests of its project.
+
+    - `nodes` are in the order in which findings are listed.
+    - `packages` are all packages of the file except for the project's own.
+    - `edges` returns who leads to what, if to anything, by labels, for the paths of `--why`.
+    - `stated` returns what the project and its workspaces require, for `--duplicates`.
+    - `excuse` returns why the tool leaves what a finding is about as it is, if it does.
+    - `if_right` returns what only counts if nothing else is listed.
+    - `scheme` is that of the file, if it isn't that of its tool.
+    - `left_out` counts what the scope leaves out, and `from_lock` the workspaces and links whose
+      manifests aren't there.
+    """
+
+    nodes: List[Node]
+    packages: List[Package] = field(default_factory=list)
+    edges: Callable[[], Iterable[Tuple[str, Optional[str]]]] = tuple
+    stated: Callable[[], Iterable[Requirement]] = tuple
+    excuse: Callable[["Finding"], str] = no_excuse
+    if_right: Callable[[], Iterable["Finding"]] = tuple
+    left_out: int = 0
+    from_lock: int = 0
+    package_count: int = 0
+    scheme: Any = None
+
+    def graph(self) -> Graph:
+        """Returns what each requirer leads to."""
+        graph: Graph = {}
+        for requirer, found in self.edges():
+            graph.setdefault(requirer, []).extend([] if found is None else [found])
+        return graph
+
+    def scoped(self, requirements: Iterable[Requirement], scope: Scope) -> List[Requirement]:
+        """Returns the requirements that a scope has, and counts the others."""
+        each = list(requirements)
+        kept = [it for it in each if scope.has(it.kind)]
+        self.left_out += len(each) - len(kept)
+        return kept

@@ -1,0 +1,129 @@
+"""Patterns of workspaces, as minimatch reads them: what they match, and the directories that they
+find below the project, as npm and yarn find them, none in a `node_modules`.
+
+A link isn't followed for `**`, since links may lead round in circles.
+"""
+
+import os
+import re
+from functools import lru_cache
+from typing import Iterator, List, Pattern
+
+from ..files import WrongShape
+
+BRACES = re.compile(r"\{([^{},]*(?:,[^{},]*)+)\}")
+MAGIC = re.compile(r"[*?\[(]")
+ANYWHERE = "**"
+MODULES = "node_modules"
+
+# How many patterns one with braces may be for.
+MOST = 1000
+
+# The parts of a pattern without braces.
+PART = re.compile(r"(?:\A|(?<=/))\*\*(?:/|\Z)|[?*+@!]\([^()]*\)|\[[!^]?\]?[^\]/]*\]|.", re.S)
+
+# What a list matches, by what is before it.
+TIMES = {"?": "?", "*": "*", "+": "+", "@": ""}
+
+NOTHING = re.compile(r"(?!)")
+
+
+# ---- what they match
+
+
+def alternatives(pattern: str) -> List[str]:
+    """Returns the patterns that one with braces is for: `{a,b}/*` is for `a/*` and `b/*`."""
+    patterns = [pattern]
+    while any(BRACES.search(it) for it in patterns):
+        patterns = [inner for it in patterns for inner in without_braces(it)]
+        if len(patterns) > MOST:
+            raise WrongShape(f": workspaces: a pattern is for more than {MOST:,} others")
+    return patterns
+
+
+def without_braces(pattern: str) -> List[str]:
+    """Returns the patterns that one is for by its first braces."""
+    found = BRACES.search(pattern)
+    if found is None:
+        return [pattern]
+    before, after = pattern[: found.start()], pattern[found.end() :]
+    return [before + it + after for it in found.group(1).split(",")]
+
+
+@lru_cache(maxsize=None)
+def expression(pattern: str) -> Pattern[str]:
+    """Returns the expression that a pattern without braces is. One with `[z-a]` matches nothing."""
+    parts = (matched(it.group(), it.start(), pattern) for it in PART.finditer(pattern))
+    try:
+        return re.compile("".join(parts), re.S)
+    except re.error:
+        return NOTHING
+
+
+def matched(part: str, at: int, pattern: str) -> str:
+    """Returns what a part of a pattern matches. A name that begins with a dot is matched only by
+    one."""
+    no_dot = r"(?!\.)" if at == 0 or pattern[at - 1] == "/" else ""
+    if part == "**/":
+        return r"(?:(?!\.)[^/]+/)*"
+    if part == ANYWHERE:
+        return r"(?:(?!\.)[^/]+(?:/(?!\.)[^/]+)*)?"
+    if part[1:2] == "(":
+        return with_a_list(part, no_dot)
+    if len(part) > 1:
+        inside = re.sub(r"([\\\[&|~])", r"\\\1", part[1:-1])
+        return f"{no_dot}[^{inside[1:]}]" if inside[0] in "!^" else f"{no_dot}[{inside}]"
+    return {"*": f"{no_dot}[^/]*", "?": f"{no_dot}[^/]"}.get(part, re.escape(part))
+
+
+def with_a_list(part: str, no_dot: str) -> str:
+    """Returns what a part with a list of patterns matches, as `@(a|b)` and `!(c)`."""
+    listed = "|".join(expression(it).pattern for it in part[2:-1].split("|"))
+    if part[0] == "!":
+        return rf"{no_dot}(?!(?:{listed})(?:/|\Z))[^/]*"
+    return f"(?:{listed}){TIMES[part[0]]}"
+
+
+# ---- what they find
+
+
+def places_at(pattern: str, top: str) -> List[str]:
+    """Returns the directories below another one that a pattern finds."""
+    if "\0" in pattern:
+        raise WrongShape(": workspaces: no folder has such a name")
+    parts = map(parts_of, alternatives(pattern))
+    found = (place for it in parts for place in places_below(top, "", it))
+    places = {os.path.normpath(place).replace(os.sep, "/") for place in found}
+    return sorted(places - {"."})
+
+
+def parts_of(pattern: str) -> List[str]:
+    """Returns the parts of a pattern. Several `**` one after another are as one."""
+    parts = [it for it in pattern.split("/") if it not in ("", ".")]
+    if ".." in parts and ANYWHERE in parts:
+        raise WrongShape(f": workspaces: {pattern} is for directories outside of the project")
+    return [it for it, after in zip(parts, [*parts[1:], ""]) if (it, after) != (ANYWHERE,) * 2]
+
+
+def places_below(top: str, place: str, parts: List[str]) -> Iterator[str]:
+    """Yields the places that the parts of a pattern find from one on."""
+    if not parts:
+        yield place
+        return
+    first, *rest = parts
+    if first == ANYWHERE:
+        yield from places_below(top, place, rest)
+        rest = parts
+    for name in names_in(top, place, first) if MAGIC.search(first) else [first]:
+        inner = f"{place}/{name}" if place else name
+        if name != MODULES and os.path.isdir(os.path.join(top, inner)):
+            yield from places_below(top, inner, rest)
+
+
+def names_in(top: str, place: str, part: str) -> List[str]:
+    """Returns the names of the directories in one that a part of a pattern matches."""
+    is_deep = part == ANYWHERE
+    matches = expression("*" if is_deep else part).fullmatch
+    with os.scandir(os.path.join(top, place) or ".") as entries:
+        found = [it.name for it in entries if it.is_dir(follow_symlinks=not is_deep)]
+    return [name for name in found if matches(name)]

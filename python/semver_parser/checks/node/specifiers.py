@@ -1,0 +1,169 @@
+"""Specifiers of the tools of npm's registry: ranges, tags, URLs and paths, and what each says of a
+version."""
+
+import posixpath
+import re
+from functools import lru_cache
+from typing import Optional, Tuple
+from urllib.parse import unquote
+
+from semver_parser import Dialect
+
+from ..findings import NotChecked
+from ..judge import INVALID_RANGE, NO_VERSION, RIGHT, UNSATISFIED, Scheme, Verdict
+from ..model import Requirement
+from ..satisfaction import is_met, range_in
+
+# What npm takes for an address or a path.
+ELSEWHERE = re.compile(r"(?!npm:)(?:git\+)?[a-z]+:|\.|.*/|.*\.(?:tgz|tar|tar\.gz)\Z", re.I | re.S)
+
+# A tag to npm is what is no range and has only characters that a URL has as they are. npm reads
+# some of these loosely as a version or a range, as `01.2.3` and `1.2.3beta`.
+TAG = re.compile(r"[\w.!~*'()-]+", re.A)
+PART = r"(?:\d+|[xX*])"
+PRE = r"-?[\dA-Za-z-]+(?:\.[\dA-Za-z-]+)*"
+LOOSE = re.compile(rf"~?v*{PART}(?:\.{PART}(?:\.{PART}(?:{PRE})?)?)?", re.A)
+
+# An address of git, and the range that it has.
+GIT_RANGE = re.compile(r"(?!file:|[./~])([^#]*[/:][^#]*)#(?:.*::)?semver:([^:]*)(?:::.*)?", re.S)
+
+# The path of a directory, from where it is required.
+DIRECTORY = re.compile(r"(?:file:(?!/|~/)|(?=\.))(.*)", re.S)
+
+# What is required by the range of a catalog begins so, of which npm has none.
+CATALOG = "catalog:"
+
+# Why what is no range isn't checked, by how it begins or ends; the first that fits.
+REASONS = (
+    ("workspace", re.compile(r"workspace:", re.I)),
+    ("catalog", re.compile(r"catalog:", re.I)),
+    ("patch", re.compile(r"patch:", re.I)),
+    ("link", re.compile(r"link:|portal:", re.I)),
+    ("path", re.compile(r"file:|\.|/|~/|(?![^/]*:).*\.(?:tgz|tar|tar\.gz)\Z", re.I | re.S)),
+    ("git", re.compile(r"git[+:@]|ssh:|(?:github|gitlab|bitbucket|gist):", re.I)),
+    ("git", re.compile(r"https?:[^#]*\.git(?:#|\Z)|(?![^/]*:).*/", re.I | re.S)),
+    ("URL", re.compile(r"https?:", re.I)),
+    ("protocol", re.compile(r"(?!npm:)[a-z]+:", re.I)),
+)
+
+
+def name_and_rest(text: str) -> Tuple[str, str]:
+    """Returns the name in `NAME@REST`, which may begin with `@`, and the rest, which may be
+    missing."""
+    at = text.find("@", 1)
+    return (text, "") if at < 0 else (text[:at], text[at + 1 :])
+
+
+def alias_of(spec: str) -> Optional[Tuple[str, str]]:
+    """Returns the name and the range of `npm:NAME@RANGE`, which is empty where there is none; None
+    where it is no alias."""
+    if ":" not in spec or spec[:4].lower() != "npm:" or len(spec) == 4:
+        return None
+    return name_and_rest(spec[4:])
+
+
+def has_name(name: str, spec: str) -> bool:
+    """Returns whether a package has the name that is required, if that is an alias."""
+    alias = alias_of(spec)
+    return alias is None or alias[0] == name
+
+
+@lru_cache(maxsize=None)
+def is_any(spec: str) -> bool:
+    """Returns whether npm takes each package for what is required, also without a valid version."""
+    alias = alias_of(spec)
+    wanted = spec if alias is None else alias[1]
+    return not wanted or wanted.strip() == "*"
+
+
+def git_range_of(spec: str) -> Optional[Tuple[str, str]]:
+    """Returns the address and the range of `ADDRESS#semver:RANGE`; None where it is no such
+    address."""
+    found = GIT_RANGE.fullmatch(spec) if alias_of(spec) is None else None
+    return None if found is None else (found.group(1), unquote(found.group(2)))
+
+
+def range_of(spec: str) -> str:
+    """Returns what comes in place of the range in what is required."""
+    named = alias_of(spec) or (git_range_of(spec) if "#" in spec else None)
+    return spec if named is None else named[1]
+
+
+def is_archive(spec: str) -> bool:
+    """Returns whether what is required is an archive at a URL."""
+    return spec.startswith(("http:", "https:")) and spec.endswith((".tgz", ".tar", ".tar.gz"))
+
+
+def directory_at(spec: str, place: str) -> Optional[str]:
+    """Returns the place of the directory that is required from another place; None if it is none,
+    or if its path begins at the root or at the user's home."""
+    found = DIRECTORY.fullmatch(spec)
+    if found is None or spec.endswith((".tgz", ".tar", ".tar.gz")):
+        return None
+    path = posixpath.normpath(posixpath.join(place, unquote(found.group(1))))
+    return "" if path == "." else path
+
+
+def is_elsewhere(spec: str) -> bool:
+    """Returns whether npm takes what is required for an address or a path. An alias is none."""
+    return alias_of(spec) is None and ELSEWHERE.match(spec) is not None
+
+
+def is_no_range(spec: str) -> bool:
+    """Returns whether npm takes what is required, which isn't read as a range, for something else:
+    a tag, an address or a path. An alias has a range or a tag, and an address of git may have a
+    range."""
+    if git_range_of(spec) is not None:
+        return False
+    wanted = range_of(spec).strip()
+    is_tag = TAG.fullmatch(wanted) is not None and LOOSE.fullmatch(wanted) is None
+    return is_tag or is_elsewhere(spec)
+
+
+def reason_of(spec: str) -> str:
+    """Returns why what is required isn't checked, in a word: it is a tag, if it is none of the
+    others."""
+    return next((reason for reason, begins in REASONS if begins.match(spec)), "tag")
+
+
+@lru_cache(maxsize=None)
+def may_overlap(spec: str, within: str) -> bool:
+    """Returns whether two ranges have a version in common, or may have one, since one of them isn't
+    read."""
+    one, other = (range_in(it, Dialect.NPM) for it in (spec, within))
+    return one is None or other is None or not one.isdisjoint(other)
+
+
+def verdict_on(version: Optional[str], spec: str) -> Optional[Verdict]:
+    """Returns the verdict on the version of a package, if it has one, by a specifier. What is at a
+    URL may have none."""
+    met = is_met(range_of(spec), version or "", Dialect.NPM)
+    if met is None:
+        return Verdict(NotChecked, reason_of(spec)) if is_no_range(spec) else INVALID_RANGE
+    if version is None:
+        return Verdict(NotChecked, "no version") if is_elsewhere(spec) else NO_VERSION
+    return RIGHT if met else UNSATISFIED
+
+
+class NodeScheme(Scheme):
+    """How tools of npm's registry read specifiers. One may have npm's form of each."""
+
+    dialect = Dialect.NPM
+
+    def npm_form(self, specifier: str, requirement: Requirement) -> str:
+        """Returns a specifier as npm has it."""
+        return specifier
+
+    def has_name(self, specifier: str, requirement: Requirement) -> bool:
+        """Returns whether the package has the name that an alias requires."""
+        name = requirement.found.name if requirement.found else None
+        return has_name(name or "", self.npm_form(specifier, requirement))
+
+    def verdict(self, specifier: str, requirement: Requirement) -> Optional[Verdict]:
+        """Returns the verdict on the package that is found. What has no version isn't checked."""
+        wanted = self.npm_form(specifier, requirement)
+        found = requirement.found
+        if found is not None and found.version is None:
+            why = "workspace" if found.is_own else "no version"
+            return Verdict(NotChecked, reason_of(specifier) if is_no_range(specifier) else why)
+        return verdict_on(found.version if found else None, wanted)

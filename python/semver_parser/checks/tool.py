@@ -1,0 +1,92 @@
+"""What stands for a tool: how its lock files are recognized, read, located and repaired.
+
+A tool is a package of its own, with an object of a class below `Tool`. The list in `tools` names
+each; nothing else does.
+"""
+
+import os
+from typing import Any, Callable, Dict, Iterator, List, NamedTuple, Optional, Set, Tuple, TypeVar
+
+from .files import STANDARD_INPUT, Entry, json_object
+from .findings import Finding
+from .judge import Scheme
+from .model import Keys, LockFile, Scope
+
+Offsets = Iterator[Tuple[Keys, int]]
+"""Entries of a file, each with the offset where it begins."""
+
+Value = TypeVar("Value")
+
+
+class Input:
+    """A lock file that is read: its path and content, the package.json that is named beside it,
+    and which of its requirements are checked."""
+
+    def __init__(self, path: str, text: bytes, named: Optional[str], scope: Scope) -> None:
+        self.path, self.text, self.named, self.scope = path, text, named, scope
+        self.known: Dict[Callable[[bytes], Any], Any] = {}
+
+    def parsed(self, parse: Callable[[bytes], Value]) -> Value:
+        """Returns the content as a function parses it, once."""
+        if parse not in self.known:
+            self.known[parse] = parse(self.text)
+        value: Value = self.known[parse]
+        return value
+
+    @property
+    def json(self) -> Entry:
+        """The content as an object of JSON."""
+        return self.parsed(json_object)
+
+    @property
+    def directory(self) -> Optional[str]:
+        """The directory of the file; None for standard input."""
+        return None if self.path == STANDARD_INPUT else os.path.dirname(self.path)
+
+
+class Statement(NamedTuple):
+    """Where a manifest may state a requirement or a setting: its path, and keys of which the first
+    that is there counts."""
+
+    path: str
+    keys: List[Keys]
+
+
+class Tool:
+    """A tool that writes lock files.
+
+    - `name` is printed for it, and `repair` is the command that writes a lock file anew.
+    - `lock_files` has the names of its lock files, and `manifests` those of what they are for.
+    - `scheme` is how it reads versions and specifiers.
+    """
+
+    name = ""
+    lock_files: Tuple[str, ...] = ()
+    manifests: Tuple[str, ...] = ()
+    repair = ""
+    scheme = Scheme()
+    takes_package_json = False
+
+    def recognizes(self, file: Input) -> bool:
+        """Returns whether the tool wrote a file, by its content."""
+        raise NotImplementedError
+
+    def read(self, file: Input) -> LockFile:
+        """Returns what a lock file has, beside the manifests of its project."""
+        raise NotImplementedError
+
+    def offsets(self, text: bytes, wanted: Set[Keys]) -> Offsets:
+        """Yields the entries of a file that are wanted, with their offsets, and perhaps others."""
+        return iter(())
+
+    def statement(self, finding: Finding, file: Input) -> Optional[Statement]:
+        """Returns where a manifest may state what a finding is about."""
+        return None
+
+    def advise(self, finding: Finding) -> None:
+        """Says of a finding what to change, if the command of the tool doesn't repair it."""
+
+    def read_instead(self, path: str, is_named: bool) -> Optional[str]:
+        """Returns why the tool doesn't read the lock file at a path, if it reads another one, as
+        the end of a note. A file that is named is read, unless the tool can't."""
+        return None

@@ -1,0 +1,230 @@
+"""The modules of the checkers: the judge, findings, what tools share, and the small functions of
+each tool."""
+
+import os
+import tempfile
+import unittest
+from typing import List, Optional
+from unittest.mock import patch
+
+from semver_parser import Dialect
+from semver_parser.checks import judge, repository, tools
+from semver_parser.checks.cargo.demands import is_reached
+from semver_parser.checks.cargo.validity import refuse_invalid
+from semver_parser.checks.files import WrongShape, toml_object
+from semver_parser.checks.findings import CLASSES, NotChecked, Overridden, Unsatisfied
+from semver_parser.checks.judge import Scheme, Verdict
+from semver_parser.checks.locating import (
+    DEPENDENCIES,
+    json_offsets,
+    lines_at,
+    toml_offsets,
+    yaml_offsets,
+)
+from semver_parser.checks.model import (
+    Locked,
+    LockFile,
+    Node,
+    Package,
+    Requirement,
+    Requirer,
+    Scope,
+)
+from semver_parser.checks.node.package_json import refuse_twice
+from semver_parser.checks.node.specifiers import NodeScheme, reason_of
+from semver_parser.checks.node.workspaces import directories_of, is_workspace, patterns_of
+from semver_parser.checks.npm.lock import folders, name_by_place
+from semver_parser.checks.paths import Paths
+from semver_parser.checks.tool import Input
+from semver_parser.checks.yarn.lock import tree_of
+
+PROJECT = Requirer("the project", "", "", ("top",))
+
+
+def required(specifier: str, version: Optional[str], **more: object) -> Requirement:
+    """A requirement of `part`, of which there is a version, or nothing."""
+    found = None if version is None else Package("part", version, "", ("part",))
+    return Requirement(PROJECT, "part", specifier, found)._replace(**more)
+
+
+def sentences(*requirements: Requirement, scheme: Optional[Scheme] = None) -> List[str]:
+    """What the judge says of requirements."""
+    lock = LockFile([Node(None, requirements)])
+    return [it.sentence() for it in judge.judge(lock, scheme or NodeScheme()).findings]
+
+
+class Judge(unittest.TestCase):
+    """The judge goes from the model to findings."""
+
+    def test_a_version_is_held_against_a_range(self) -> None:
+        self.assertEqual(sentences(required("^1.0.0", "1.2.0")), [])
+        wrong = ["part 2.0.0 does not satisfy ^1.0.0, required by the project"]
+        self.assertEqual(sentences(required("^1.0.0", "2.0.0")), wrong)
+
+    def test_the_scheme_is_a_parameter(self) -> None:
+        cargo = Scheme()
+        cargo.dialect = Dialect.CARGO
+        self.assertEqual(sentences(required("1.0", "1.9.0"), scheme=cargo), [])
+        self.assertEqual(len(sentences(required("1.0 || 2", "1.9.0"), scheme=cargo)), 1)
+        self.assertEqual(len(sentences(required("1.0", "1.9.0"))), 1)
+
+    def test_what_is_missing_may_have_an_excuse(self) -> None:
+        lock = LockFile([Node(None, [required("1", None, excuse="peer"), required("2", None)])])
+        found = judge.judge(lock, NodeScheme())
+        self.assertEqual([it.excuse for it in found.findings], ["peer", ""])
+        self.assertEqual(found.requirements, 2)
+        self.assertEqual(sentences(required("1", None, must_exist=False)), [])
+
+    def test_what_replaces_a_requirement_counts_if_that_is_wrong(self) -> None:
+        self.assertEqual(sentences(required("^1.0.0", "2.0.0", replaced_by=("^2.0.0",))), [])
+        self.assertEqual(sentences(required("^1.0.0", "1.0.0", replaced_by=("^2.0.0",))), [])
+        wrong = "part 3.0.0 does not satisfy the override ^2.0.0, required by the project"
+        self.assertEqual(sentences(required("^1.0.0", "3.0.0", replaced_by=("^2.0.0",))), [wrong])
+
+    def test_a_manifest_is_held_against_the_lock_file(self) -> None:
+        same = Locked("dependencies", "^1.0.0", "dependencies", ("^1.0.0",), "^1.0.0")
+        self.assertEqual(sentences(required("^1.0.0", "1.0.0", locked=same)), [])
+        other = same._replace(same=("^1.0.1",), stated="^1.0.1")
+        wrong = "part is ^1.0.1 in package.json, and ^1.0.0 in the lock file"
+        found = sentences(required("^1.0.1", "1.0.1", locked=other))
+        self.assertEqual(found, [f"{wrong}, required by the project"])
+        gone = same._replace(stated_kind=None, same=())
+        wrong = "part 1.0.0 is in the graph, but not required by the project"
+        self.assertEqual(sentences(required("^1.0.0", "1.0.0", locked=gone)), [wrong])
+
+    def test_what_only_counts_if_all_else_is_right(self) -> None:
+        extra = Unsatisfied(required("1", "2.0.0"), None, "1")
+        for version, count in (("1.0.0", 1), ("3.0.0", 1)):
+            lock = LockFile([Node(None, [required("^1.0.0", version)])], if_right=lambda: [extra])
+            found = judge.judge(lock, NodeScheme()).findings
+            self.assertEqual(len(found), count)
+            self.assertEqual(found[0] is extra, version == "1.0.0")
+
+    def test_the_scope_leaves_requirements_out(self) -> None:
+        lock = LockFile([])
+        kept = lock.scoped([required("1", None, kind="devDependencies")], Scope(True, False))
+        self.assertEqual((kept, lock.left_out), ([], 1))
+
+    def test_an_override_is_named(self) -> None:
+        it = required("^1.0.0", "2.0.0", is_override=True)
+        self.assertEqual(judge.best_of(it, NodeScheme()), ("^1.0.0", Verdict(Overridden)))
+        git = required("github:user/part", "2.0.0")
+        self.assertEqual(judge.best_of(git, NodeScheme())[1], Verdict(NotChecked, "git"))
+
+
+class Findings(unittest.TestCase):
+    """Each kind of finding has a word, a title and a sentence."""
+
+    def test_each_kind_is_there_once(self) -> None:
+        kinds = [it.kind for it in CLASSES]
+        self.assertEqual(len(kinds), len(set(kinds)))
+        self.assertTrue(all(it.title and it.text for it in CLASSES))
+
+    def test_braces_in_a_name_are_plain(self) -> None:
+        it = Requirement(Requirer("{who}"), "{part}", "{1}", Package("{part}", "{2}"))
+        finding = Unsatisfied(it, it.found, "{1}")
+        self.assertEqual(finding.sentence(), "{part} {2} does not satisfy {1}, required by {who}")
+
+    def test_a_finding_leads_to_its_package_or_to_the_requirer(self) -> None:
+        it = required("1", "2.0.0")
+        self.assertEqual(Unsatisfied(it, it.found, "1").at, ("part",))
+        self.assertEqual(Unsatisfied(it, None, "1").at, ("top",))
+
+
+class Locating(unittest.TestCase):
+    """Locating rejects nothing."""
+
+    def test_json(self) -> None:
+        text = b'{"a": {"x": 1},\n"b": {"x": 2}}'
+        wanted = {("b", "x"), ("a",)}
+        found = lines_at(text, json_offsets(text, wanted), wanted)
+        self.assertEqual(found, {("b", "x"): 2, ("a",): 1})
+
+    def test_what_is_broken_has_no_lines(self) -> None:
+        for text in (b"", b"{", b'{"a"', b'{"a": \xff, "x": 1, "x": ', b'{"x": {"x":' * 5000):
+            for offsets in (json_offsets, yaml_offsets):
+                wanted = {("x", "x"), ("x",)}
+                self.assertIsInstance(lines_at(text, offsets(text, wanted), wanted), dict)
+        for tool in tools.TOOLS:
+            for text in (b"\xff\n<<<<<<< a\n", b'a@1:\n  "\\', b'[[package]]\nname = "<<<<<<< "\n'):
+                wanted = {("package", "a", "b")}
+                self.assertIsInstance(lines_at(text, tool.offsets(text, wanted), wanted), dict)
+
+    def test_toml(self) -> None:
+        text = b'[package]\nname = "a"\n[dependencies]\na = "1"\n[target.x.dependencies.b]\n'
+        wanted = {("a",), ("b",)}
+        found = lines_at(text, toml_offsets(text, wanted, DEPENDENCIES), wanted)
+        self.assertEqual(found, {("a",): 4, ("b",): 5})
+
+
+class Shared(unittest.TestCase):
+    """What tools share."""
+
+    def test_specifiers(self) -> None:
+        for text, reason in (("latest", "tag"), ("user/part", "git"), ("file:../a", "path")):
+            self.assertEqual(reason_of(text), reason)
+
+    def test_workspaces(self) -> None:
+        with tempfile.TemporaryDirectory() as top:
+            for name in ("a", "b", "node_modules"):
+                os.makedirs(os.path.join(top, "packages", name))
+            found = directories_of(["packages/*", "!packages/b"], top)
+        self.assertEqual(found, ["packages/a"])
+        patterns = patterns_of(["packages/*", "!packages/b"])
+        self.assertTrue(is_workspace(patterns, "packages/a"))
+        self.assertFalse(is_workspace(patterns, "packages/b"))
+        self.assertRaises(WrongShape, refuse_twice, [("a", "one"), ("a", "two")])
+
+    def test_paths(self) -> None:
+        paths = Paths({"the project": ["a 1.0.0"], "a 1.0.0": ["b 1.0.0"]})
+        it = Requirement(Requirer("b", "1.0.0"), "c", "1", None)
+        found = paths.path_to(Unsatisfied(it, None, "1"))
+        self.assertEqual(found, ["the project", "a 1.0.0", "b 1.0.0", "c"])
+
+    def test_paths_of_the_repository(self) -> None:
+        with tempfile.TemporaryDirectory() as top, patch.dict(os.environ, GITHUB_WORKSPACE=top):
+            forget_paths()
+            path = os.path.join(top, "package.json")
+            open(path, "w").close()
+            self.assertEqual(repository.in_repository(path), "package.json")
+            self.assertEqual(repository.in_repository("/"), "/")
+        forget_paths()
+
+
+def forget_paths() -> None:
+    """Has the root of the repository looked for again."""
+    repository.roots.cache_clear()
+    repository.in_repository.cache_clear()
+
+
+class Tools(unittest.TestCase):
+    """Each tool recognizes its own files, and has what the list needs."""
+
+    def test_each_file_has_one_tool(self) -> None:
+        texts = {
+            b'{"lockfileVersion": 3}': "npm",
+            b'{"resolve": null}': "cargo metadata",
+            b'{"lockfileVersion": 1, "workspaces": {': "Bun",
+            b'{"version": "5", "npm": {}}': "Deno",
+            b"# yarn lockfile v1\n": "yarn",
+            b"lockfileVersion: '9.0'\n": "pnpm",
+            b"version = 4\n": "Cargo",
+        }
+        for text, name in texts.items():
+            self.assertEqual(tools.tool_for(Input("lock", text, None, Scope())).name, name)
+
+    def test_npm(self) -> None:
+        around = list(folders("a/node_modules/b"))
+        self.assertEqual(around, ["a/node_modules/b", "a", ""])
+        self.assertEqual(name_by_place("node_modules/a/node_modules/@of/b"), "@of/b")
+
+    def test_yarn(self) -> None:
+        self.assertEqual(tree_of(b'a@1:\n  version "1.0.0"\n'), {"a@1": {"version": "1.0.0"}})
+
+    def test_cargo(self) -> None:
+        self.assertTrue(is_reached("a", {"a": ["b"], "b": ["a"]}))
+        self.assertFalse(is_reached("a", {"a": ["b"], "b": ["b"]}))
+        for line in ('edition = "2099"', 'name = "1a"', 'version = "1"', 'links = "z"'):
+            package = toml_object(line.encode())
+            self.assertRaises(WrongShape, refuse_invalid, {}, package, {}, "/nowhere")
+        refuse_invalid({}, {"name": "a", "edition": "2024"}, {}, "/nowhere")
