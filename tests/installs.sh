@@ -190,7 +190,7 @@ from semver_parser.checks import discovery
 
 with open(sys.argv[1] + "/.pre-commit-hooks.yaml") as file:
     hook = yaml.safe_load(file)[0]
-names = [*discovery.NAMES, *discovery.FOR, ".yarnrc", ".yarnrc.yml", ".pnpmfile.cjs", "bunfig.toml"]
+names = [*discovery.LOCK_FILES, *discovery.FOR, ".yarnrc", ".yarnrc.yml", ".pnpmfile.cjs", "bunfig.toml"]
 others = ["a.lock", "xpackage.json", "package.json.md", "Cargo.lock/a"]
 lacks = [it for name in names for it in (name, f"a/{name}") if not re.search(hook["files"], it)]
 has = [it for it in others if re.search(hook["files"], it)]
