@@ -181,22 +181,23 @@ for_pre_commit() {
 
 # The hook runs for each file that check-lock-file knows by its name, and for settings of the tools.
 for_each_name() {
-    has_yaml 'which files the hook is for' || return 0
-    "$python" - "$clone" << 'END' > "$work/log" || fails 'the hook runs for other files'
+    has_yaml 'which files the hook is for' && [ -e "$work/environment" ] || return 0
+    ends 0 "$work/environment/bin/python" -c 'from semver_parser.checks import discovery
+print(*discovery.LOCK_FILES, *discovery.FOR)'
+    "$python" - "$clone/.pre-commit-hooks.yaml" "$work/output" << 'END' > "$work/log" ||
 import re, sys, yaml
-sys.dont_write_bytecode = True
-sys.path.insert(0, sys.argv[1] + "/python")
-from semver_parser.checks import discovery
 
-with open(sys.argv[1] + "/.pre-commit-hooks.yaml") as file:
+with open(sys.argv[1]) as file:
     hook = yaml.safe_load(file)[0]
-names = [*discovery.LOCK_FILES, *discovery.FOR, ".yarnrc", ".yarnrc.yml", ".pnpmfile.cjs", "bunfig.toml"]
+with open(sys.argv[2]) as file:
+    names = [*file.read().split(), ".yarnrc", ".yarnrc.yml", ".pnpmfile.cjs", "bunfig.toml"]
 others = ["a.lock", "xpackage.json", "package.json.md", "Cargo.lock/a"]
 lacks = [it for name in names for it in (name, f"a/{name}") if not re.search(hook["files"], it)]
 has = [it for it in others if re.search(hook["files"], it)]
 print(lacks, has)
 sys.exit(bool(lacks or has))
 END
+        fails 'the hook runs for other files'
 }
 
 # has_yaml: whether python3 has PyYAML, which the tests of settings in YAML need.

@@ -3,17 +3,18 @@ import { callWith, numberAt } from './calls.mjs'
 import { reasonOf, sentenceOf } from './names.mjs'
 import { field } from './options.mjs'
 
-/** The index in a string of the character at an offset in bytes. */
-export function indexOf(string, offset) {
-  let count = 0
+/** What returns the index in a string of the character at an offset in bytes. */
+export function indicesIn(string) {
+  const indices = []
   let index = 0
   for (const character of string) {
-    if (count >= offset) break
     const code = character.codePointAt(0)
-    count += code < 0x80 ? 1 : code < 0x800 ? 2 : code < 0x10000 ? 3 : 4
+    const length = code < 0x80 ? 1 : code < 0x800 ? 2 : code < 0x10000 ? 3 : 4
+    for (let at = 0; at < length; at += 1) indices.push(index)
     index += character.length
   }
-  return index
+  indices.push(index)
+  return (offset) => indices[Number(offset)]
 }
 
 /** Where and why a string is refused, by a call; null if it isn't. */
@@ -21,7 +22,7 @@ export function explained(call, string, { dialect }) {
   const number = callWith(call, string, dialect)
   if (number === 0) return null
   if (number < 0) throw new RangeError('out of memory')
-  const offset = indexOf(string, numberAt(0))
+  const offset = indicesIn(string)(numberAt(0))
   return { offset, reason: reasonOf(number), sentence: sentenceOf(number) }
 }
 

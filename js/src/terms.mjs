@@ -1,6 +1,6 @@
 // The terms of a range, as they are written.
 import { readTerms, stringAt } from './calls.mjs'
-import { indexOf, invalidRange, noString } from './errors.mjs'
+import { indicesIn, invalidRange, noString } from './errors.mjs'
 import { meaningOf } from './options.mjs'
 
 // A component by its kind and its number: null if it isn't written.
@@ -48,6 +48,6 @@ export function terms(range, options) {
   const read = readTerms(range, meaning.dialect)
   if (read === null) throw invalidRange(range, meaning)
   const isAscii = read.length === range.length
-  const indexAt = (offset) => (isAscii ? Number(offset) : indexOf(range, Number(offset)))
+  const indexAt = isAscii ? Number : indicesIn(range)
   return read.terms.map((numbers) => termOf(numbers, range, meaning, indexAt))
 }

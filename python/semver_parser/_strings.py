@@ -1,6 +1,7 @@
 """Strings of versions and ranges, and those that the library makes."""
 
 import ctypes
+from itertools import accumulate
 from typing import Any, Callable, List, Union
 
 from ._interface import CString
@@ -39,6 +40,15 @@ def index_of(string: String, offset: int) -> int:
     if isinstance(string, bytes):
         return offset
     return len(encoded(string)[:offset].decode("utf-8", "surrogatepass"))
+
+
+def indices_in(string: String) -> Callable[[int], int]:
+    """Returns what returns the index in a string of what is at an offset in its bytes. It takes
+    time once, and not for each offset."""
+    if isinstance(string, bytes) or string.isascii():
+        return int
+    begins = (byte & 0xC0 != 0x80 for byte in encoded(string))
+    return list(accumulate(begins, initial=0)).__getitem__
 
 
 def printed(function: Callable[..., int], *arguments: Any) -> str:

@@ -2,13 +2,13 @@
 
 import ctypes
 from dataclasses import dataclass
-from typing import List, Literal, Optional, Union
+from typing import Callable, List, Literal, Optional, Union
 
 from ._errors import RangeError
 from ._interface import INVALID_RANGE, NUMBER_TOO_LARGE, CComponent, CPartialVersion, CTerm
 from ._library import LIBRARY, check
 from ._options import AnyDialect, Dialect, dialect_of
-from ._strings import String, c_string, encoded, index_of
+from ._strings import String, c_string, indices_in
 
 Component = Union[int, Literal["x"]]
 """A component of a version in a range: a number, or "x" for a wildcard."""
@@ -86,29 +86,30 @@ def terms_of(range: String, dialect: Dialect) -> List[Term]:
             string, dialect._number, found, len(found), count, None
         )
     )
-    return [_term(range, term) for term in found]
+    index_at = indices_in(range)
+    return [_term(term, index_at) for term in found]
 
 
-def _term(range: String, term: CTerm) -> Term:
+def _term(term: CTerm, index_at: Callable[[int], int]) -> Term:
     """The term that the library read."""
     sign = LIBRARY.semver_parser_operator_sign(term.op)
     return Term(
         term.range,
         sign.decode("ascii"),
-        index_of(range, term.start),
-        index_of(range, term.end),
-        _version(range, term.version),
-        _version(range, term.upper) if term.op == _HYPHEN else None,
+        index_at(term.start),
+        index_at(term.end),
+        _version(term.version, index_at),
+        _version(term.upper, index_at) if term.op == _HYPHEN else None,
     )
 
 
-def _version(range: String, version: CPartialVersion) -> PartialVersion:
+def _version(version: CPartialVersion, index_at: Callable[[int], int]) -> PartialVersion:
     """The version that the library read."""
     major = _component(version.major)
     assert major is not None  # a version has at least one component
     return PartialVersion(
-        index_of(range, version.start),
-        index_of(range, version.end),
+        index_at(version.start),
+        index_at(version.end),
         version.has_v,
         major,
         _component(version.minor),

@@ -97,8 +97,8 @@ INVALID: List[Tuple[String, Dialect, int, str]] = [
     ("1 || 2", CARGO, 2, "cargo-bars"),
     (b"1 || 2", CARGO, 2, "cargo-bars"),
     ("", CARGO, 0, "empty"),
-    ("^1 || <9007199254740992", NPM, 23, "npm-too-large"),
-    ("=18446744073709551616", CRATE_NPM, 21, "too-large"),
+    ("^1 || <9007199254740992", NPM, 7, "npm-too-large"),
+    ("=18446744073709551616", CRATE_NPM, 1, "too-large"),
     ("\u00a0\u00a01.2.03", NPM, 7, "leading-zero"),
     ("\u00a0\u00a01.2.03".encode(), NPM, 9, "leading-zero"),
 ]

@@ -97,8 +97,8 @@ impl Error {
     }
 
     /// Returns the offset in bytes of the first character that can't be there, or the length of the
-    /// string if something is missing at its end. If a number is too large, it is the end of the
-    /// first term with such a number. Returns `None` if an allocation failed.
+    /// string if something is missing at its end. If a number of a range is too large, it is
+    /// the offset of the first such number. Returns `None` if an allocation failed.
     ///
     /// ```
     /// use semver_parser::{check_version, Dialect};

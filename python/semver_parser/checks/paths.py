@@ -35,5 +35,6 @@ class Paths:
             path.append(at)
             at = self.before.get(at)
         path.reverse()
-        is_required = isinstance(finding, OfRequirement)
-        return [*path, finding.requirement.name] if is_required else path
+        if isinstance(finding, OfRequirement):
+            path.append(finding.requirement.name)
+        return path

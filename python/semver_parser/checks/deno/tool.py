@@ -17,9 +17,10 @@ from ..files import Entry, Unreadable, list_at, object_at, objects_at, text_at, 
 from ..judge import RIGHT, Verdict
 from ..locating import json_offsets
 from ..model import PROJECT, Keys, LockFile, Node, Package, Requirement, Requirer
+from ..node.package_json import MANIFEST
 from ..node.specifiers import NodeScheme, name_and_rest
 from ..tool import Input, Offsets, Tool
-from .manifests import CONFIGS, MANIFEST, stale_lists
+from .manifests import CONFIGS, stale_lists
 
 VERSIONS = ("4", "5")
 JSR, NPM = "jsr", "npm"

@@ -22,7 +22,7 @@ is checked by what the override requires.
 import os
 from typing import Dict, Iterable, Iterator, List, Optional, Set, Tuple
 
-from ..files import STANDARD_INPUT, Entry, json_object, taking, text_at
+from ..files import STANDARD_INPUT, Entry, bytes_of, json_object, taking, text_at
 from ..findings import (
     Conflict,
     Finding,
@@ -51,7 +51,6 @@ from ..node.npmrc import LEGACY_PEERS, STRICT_PEERS, is_set
 from ..node.package_json import (
     MANIFEST,
     advise,
-    bytes_of,
     compared_in,
     manifest_path,
     missing_workspace,
@@ -140,7 +139,7 @@ class NpmScheme(NodeScheme):
         if requirement.found is None:
             return False
         verdict = self.verdict(requirement.specifier, requirement)
-        return verdict is RIGHT or verdict.finding is NotChecked
+        return verdict is not None and (verdict is RIGHT or verdict.finding is NotChecked)
 
 
 NPM_SCHEME = NpmScheme()

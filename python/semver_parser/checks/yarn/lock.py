@@ -39,7 +39,7 @@ WORKSPACE = "0.0.0-use.local"
 # A line as nearly all are: its indent, a key, and then a colon alone or a value. A quoted text has
 # nothing that is escaped.
 QUOTED = r'"([^"\\\x00-\x1f]*)"'
-USUAL = re.compile(
+COMMON_LINE = re.compile(
     rf'( *)(?:{QUOTED}|([^\s,":#?][^\s,":]*))(?:(:)|:? +(?:{QUOTED}|([^\s"](?:.*\S)?)))'
 )
 
@@ -50,7 +50,7 @@ def lines_of(text: str) -> Iterator[Tuple[int, int, str, str, bool]]:
     line."""
     key = ""
     for number, line in enumerate(text.splitlines(), 1):
-        usual = None if key else USUAL.fullmatch(line)
+        usual = None if key else COMMON_LINE.fullmatch(line)
         if usual is not None:
             indent, quoted_key, bare_key, colon, quoted_value, bare_value = usual.groups()
             name, value = intern(bare_key or quoted_key), quoted_value or bare_value or ""

@@ -52,7 +52,7 @@ impl<'text> Terms<'text> {
     ///
     /// # Errors
     ///
-    /// Those of [`check_range`](crate::proved::range_terms::check_range), without a string: `NotARange` if and only if
+    /// Those of `check_range`, without a string: `NotARange` if and only if
     /// the string isn't a range of the dialect, and `NumberTooLarge` if and only if it is one, and a
     /// number that it states or a bound that is raised by one is above the dialect's limit.
     ///
