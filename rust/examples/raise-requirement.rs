@@ -47,7 +47,7 @@ pub fn raised(range: &str, version: &str, dialect: Dialect) -> Result<Option<Str
 
 /// Returns the version as it replaces one that is written in a range as `string`.
 fn rewritten(version: &VersionRef<'_>, written: &PartialVersion<'_>, string: &str) -> String {
-    let wildcard = string.matches(['x', 'X', '*']).next().unwrap_or("x");
+    let mut wildcards = string.matches(['x', 'X', '*']);
     let numbers = [version.major(), version.minor(), version.patch()];
     let components = [Some(written.major), written.minor, written.patch];
     let parts: Vec<String> = components
@@ -56,7 +56,7 @@ fn rewritten(version: &VersionRef<'_>, written: &PartialVersion<'_>, string: &st
         .zip(numbers)
         .map(|(component, number)| match component {
             Component::Number(_) => number.to_string(),
-            Component::Wildcard => wildcard.to_string(),
+            Component::Wildcard => wildcards.next().unwrap_or("x").to_string(),
         })
         .collect();
     let v = if written.has_v { "v" } else { "" };

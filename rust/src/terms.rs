@@ -69,7 +69,7 @@ impl Display for Operator {
 }
 
 impl Display for Component {
-    /// Writes the number, or `x`.
+    /// Writes the number, or `x` for a wildcard, however it is written in the range.
     fn fmt(&self, f: &mut Formatter<'_>) -> fmt::Result {
         match self {
             Component::Number(number) => number.fmt(f),

@@ -47,6 +47,7 @@ static void write_version(
     const char *string) {
     const semver_parser_component components[] = {written->major, written->minor, written->patch};
     const uint64_t numbers[] = {version->major, version->minor, version->patch};
+    const char *rest = string;
     int stated = 0;
     fputs(written->has_v ? "v" : "", to);
     for (int at = 0; at < 3 && components[at].kind != SEMVER_PARSER_COMPONENT_NONE; at++) {
@@ -55,7 +56,8 @@ static void write_version(
             fprintf(to, "%" PRIu64, numbers[at]);
             stated++;
         } else {
-            fputc(string[strcspn(string, "xX*")], to);
+            rest += strcspn(rest, "xX*");
+            fputc(*rest++, to);
         }
     }
     if (stated == 3 && version->pre.length > 0) {

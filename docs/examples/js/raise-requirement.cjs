@@ -34,10 +34,10 @@ function raised(range, version, dialect) {
 
 // The version as it replaces one that is written in a range as `string`.
 function rewritten(version, written, string) {
-  const wildcard = [...string].find((it) => 'xX*'.includes(it))
+  const wildcards = [...string].filter((it) => 'xX*'.includes(it))
   const numbers = [version.major, version.minor, version.patch]
   const components = [written.major, written.minor, written.patch]
-  const parts = numbers.map((number, at) => (components[at] === 'x' ? wildcard : String(number)))
+  const parts = numbers.map((number, at) => (components[at] === 'x' ? wildcards.shift() : number))
   const count = components.filter((it) => it !== null).length
   const isExact = count === 3 && !components.includes('x')
   const pre = isExact && version.prerelease.length > 0 ? `-${version.prerelease.join('.')}` : ''

@@ -41,11 +41,11 @@ def raised(range: str, version: str, dialect: Dialect) -> Optional[str]:
 
 def rewritten(version: Version, written: PartialVersion, string: str) -> str:
     """Returns the version as it replaces one that is written in a range as `string`."""
-    wildcard = next((it for it in string if it in "xX*"), "x")
+    wildcards = (it for it in string if it in "xX*")
     components = [written.major, written.minor, written.patch]
     numbers = [version.major, version.minor, version.patch]
     parts = [
-        wildcard if component == "x" else str(number)
+        next(wildcards) if component == "x" else str(number)
         for component, number in zip(components, numbers)
         if component is not None
     ]

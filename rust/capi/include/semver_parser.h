@@ -433,6 +433,7 @@ semver_parser_status semver_parser_comparators_to_string(
 
 /* ---- terms: what a range has, as it is written */
 
+/* The numbers differ from those of semver_parser_op. */
 typedef int32_t semver_parser_operator;
 enum {
     /* Nothing: `1.2` */
@@ -498,8 +499,8 @@ typedef struct {
 
 /* Reads the terms of a range in their order: `^1.2 || 3.x` has two. `count` is how many there are;
  * as many of them as `capacity` are written to `terms`, which may be null if `capacity` is 0.
- * Another version of the dialect may replace the bytes of one, and the string is a range again.
- * INVALID_RANGE, NUMBER_TOO_LARGE. */
+ * Another partial version of the dialect's grammar may replace the bytes of one, and the string is in
+ * the grammar again; in Cargo's dialect it must state a number. INVALID_RANGE, NUMBER_TOO_LARGE. */
 SEMVER_PARSER_CHECKED(5)
 semver_parser_status semver_parser_terms_of_range(
     semver_parser_string range, semver_parser_dialect dialect, semver_parser_term *terms,

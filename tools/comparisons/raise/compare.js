@@ -48,12 +48,12 @@ const identifiers = () => list([1, 1, 2], () => random.of(IDENTIFIERS)).join('.'
 // The components of a version in a range, as they are written. In Cargo's dialect only wildcards
 // follow one, and the first component is a number.
 function components (dialect) {
-  const sign = random.of(['x', '*', 'X'])
-  const parts = list([1, 2, 2, 3, 3, 3], () => random.below(6) ? String(number()) : sign)
+  const wildcard = () => random.of(['x', '*', 'X'])
+  const parts = list([1, 2, 2, 3, 3, 3], () => random.below(6) ? String(number()) : wildcard())
   if (!isOfCargo(dialect)) return parts
-  const first = parts.indexOf(sign, 1)
-  const later = (it, at) => first > 0 && at > first ? sign : it
-  return parts.map((it, at) => at === 0 ? it.replace(sign, '1') : later(it, at))
+  if (!isNumber(parts[0])) parts[0] = '1'
+  const first = parts.findIndex((it) => !isNumber(it))
+  return parts.map((it, at) => first >= 0 && at > first && isNumber(it) ? wildcard() : it)
 }
 
 // A version in a range: `v`, its components, and what follows three of them.
