@@ -812,6 +812,7 @@ pub fn begun(all: &[Strings]) -> Strings {
     /// assert_eq!(range.lowest_of(&[b"1.1.0", b"1.10.0", b"v1.2.0"]), Some(2));
     /// # Ok::<(), semver_parser::Error>(())
     /// ```
+    #[must_use]
     pub fn lowest_of(&self, versions: &[&[u8]]) -> Option<usize> {
         best_index(self, versions, true)
 ''',
@@ -830,6 +831,7 @@ pub fn begun(all: &[Strings]) -> Strings {
     /// assert_eq!(range.lowest_of(&[b"1.1.0", b"1.10.0", b"v1.2.0"]), Some(2));
     /// # Ok::<(), semver_parser::Error>(())
     /// ```
+    #[must_use]
 
     pub fn highest_of(&self, versions: &[&[u8]]) -> Option<usize> {
         best_index(self, versions, false)
