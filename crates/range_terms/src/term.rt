@@ -89,6 +89,14 @@ impl Operator {
 }
 
 /// A part of a partial version.
+///
+/// ```
+/// use semver_parser::{terms, Component, Dialect};
+///
+/// let version = terms("^1.*", Dialect::Npm)?.next().unwrap().version;
+/// assert_eq!((version.major, version.minor), (Component::Number(1), Some(Component::Wildcard)));
+/// # Ok::<(), semver_parser::Error>(())
+/// ```
 #[derive(Clone, Copy, PartialEq, Eq, Hash, Debug)]
 pub enum Component {
     /// A number. One above 2^64 - 1, which can only be after a wildcard, is 2^64 - 1.
@@ -98,6 +106,15 @@ pub enum Component {
 }
 
 /// Where something is in a string: from a byte to the byte after it.
+///
+/// ```
+/// use semver_parser::{terms, Dialect, Span};
+///
+/// let term = terms("<1 || ^1.2", Dialect::Npm)?.last().unwrap();
+/// assert_eq!(term.span, Span { start: 6, end: 10 });
+/// assert_eq!(term.version.span, Span { start: 7, end: 10 });
+/// # Ok::<(), semver_parser::Error>(())
+/// ```
 #[derive(Clone, Copy, PartialEq, Eq, Hash, Debug)]
 pub struct Span {
     /// The offset of its first byte.
