@@ -99,6 +99,7 @@ programs_run() {
     OPENED=yes tests/release-filter-runs.sh "$programs/release-filter"
     OPENED=yes tests/compare-ranges-runs.sh "$programs/compare-ranges"
     tests/raise-runs.sh "$programs/examples/raise-requirement"
+    tools/draw-boundaries.py "$programs/compare-ranges" | cmp - docs/boundaries.svg
 }
 
 cargo_tests() {

@@ -1,26 +1,38 @@
 #!/usr/bin/env python3
-"""Draws docs/boundaries.svg anew: one line of versions, and the boundaries of one range text on it. tools/draw-boundaries.py
+"""Draws docs/boundaries.svg: one line of versions, and the boundaries of a range on it for each rule for pre-releases.
 
-Where the boundaries are comes from tools/range_meaning.py: the places at which being meant by the text changes.
+tools/draw-boundaries.py COMPARE_RANGES > docs/boundaries.svg
+
+The argument is the program compare-ranges, which says where the boundaries are.
 """
 
-from pathlib import Path
+import json
+import subprocess
+import sys
 
-from range_meaning import meets, places, precedence, ranges, shown
+RANGE = "^1.2.3-b || 3.x"
+ROWS = (
+    ("releases", "means"),
+    ("pre-releases by default", "means_pre_releases"),
+    ("pre-releases, included", "means_pre_releases", "--include-prerelease"),
+)
+LEFT, STEP, TOP, HIGH = 190, 84, 64, 56
 
-TEXT = "^1.2.3-b || 3.x"
-ROWS = (("releases, by each rule", False, "releases"), ("pre-releases, as stated", True, "stated"), ("pre-releases, by own meaning", True, "mean"))
-LEFT, STEP, TOP, HIGH = 210, 84, 64, 56
+
+def boundaries(field, *options):
+    """The bounds of what the program prints, in ascending order: of each interval its beginning and its end."""
+    command = [sys.argv[1], "--dialect", "npm", "--json", *options, RANGE]
+    printed = json.loads(subprocess.run(command, capture_output=True, text=True, check=True).stdout)[field]
+    bounds = [bound for interval in printed.split(" || ") for bound in interval.split(" ")]
+    for at, bound in enumerate(bounds):
+        assert bound.startswith(">=" if at % 2 == 0 else "<"), f"{bound} isn't a bound of this kind"
+    return [bound.lstrip("<>=") for bound in bounds]
 
 
-def boundaries(read, is_pre_release, rule):
-    """The places of a kind at which being in the set changes, from the least on."""
-    found, is_in = [], False
-    for it in places(read):
-        if bool(it[1]) == is_pre_release and meets(it, read, rule) != is_in:
-            found.append(it)
-            is_in = not is_in
-    return found
+def precedence(version):
+    numbers, _, pre_release = version.partition("-")
+    identifiers = [(1, it) if not it.isdigit() else (0, int(it)) for it in pre_release.split(".")]
+    return [int(it) for it in numbers.split(".")], pre_release == "", identifiers
 
 
 def text(x, y, words, anchor="middle", size=13):
@@ -32,24 +44,32 @@ def line(x, y, to, color, width):
     return f'<line x1="{x}" y1="{y}" x2="{to}" y2="{y}" stroke="{color}" stroke-width="{width}"/>'
 
 
+def row(y, name, found, at, end):
+    """The elements of one row: its name, the line, the intervals on it, and a circle at each boundary."""
+    parts = [text(10, y + 5, name, "start"), line(LEFT, y, end, "#999", 1)]
+    parts += [line(at[start], y, at[stop], "#1f6f8b", 7) for start, stop in zip(found[::2], found[1::2])]
+    fills = ["#1f6f8b", "#fff"] * (len(found) // 2)
+    parts += [
+        f'<circle cx="{at[it]}" cy="{y}" r="7" fill="{fill}" stroke="#1f6f8b" stroke-width="2"/>' for it, fill in zip(found, fills)
+    ]
+    return parts
+
+
 def drawn():
-    read = ranges(TEXT, "npm")
-    rows = [(name, boundaries(read, is_pre_release, rule)) for name, is_pre_release, rule in ROWS]
+    rows = [(name, boundaries(*arguments)) for name, *arguments in ROWS]
     axis = sorted({it for _, found in rows for it in found}, key=precedence)
     at = {it: LEFT + STEP * (place + 1) for place, it in enumerate(axis)}
     end, low = LEFT + STEP * (len(axis) + 1), TOP + HIGH * len(rows)
-    parts = [text(10, 26, f"{TEXT}: the boundaries of its set, and what is in it (thick)", "start", 15)]
+    parts = ['<rect width="100%" height="100%" fill="#fff"/>']
+    parts.append(text(10, 26, f"The versions that npm finds in {RANGE} (thick), and their boundaries", "start", 15))
     for it in axis:
-        parts += [f'<line x1="{at[it]}" y1="{TOP - 16}" x2="{at[it]}" y2="{low - 22}" stroke="#bbb" stroke-dasharray="2 4"/>', text(at[it], low, shown(it))]
+        dashes = f'x1="{at[it]}" y1="{TOP - 16}" x2="{at[it]}" y2="{low - 22}"'
+        parts += [f'<line {dashes} stroke="#bbb" stroke-dasharray="2 4"/>', text(at[it], low, it)]
     for place, (name, found) in enumerate(rows):
-        y = TOP + HIGH * place + 8
-        parts += [text(10, y + 5, name, "start"), line(LEFT, y, end, "#999", 1)]
-        for start, stop in zip(found[::2], [*found[1::2], None]):
-            parts.append(line(at[start], y, at[stop] if stop else end, "#1f6f8b", 7))
-        parts += [f'<circle cx="{at[it]}" cy="{y}" r="7" fill="{"#1f6f8b" if turn % 2 == 0 else "#fff"}" stroke="#1f6f8b" stroke-width="2"/>' for turn, it in enumerate(found)]
+        parts += row(TOP + HIGH * place + 8, name, found, at, end)
     size = f'width="{end + 20}" height="{low + 20}" viewBox="0 0 {end + 20} {low + 20}"'
-    body = "\n".join(["<rect width=\"100%\" height=\"100%\" fill=\"#fff\"/>", *parts])
+    body = "\n".join(parts)
     return f'<svg xmlns="http://www.w3.org/2000/svg" {size} font-family="sans-serif">\n{body}\n</svg>\n'
 
 
-(Path(__file__).resolve().parents[1] / "docs" / "boundaries.svg").write_text(drawn())
+sys.stdout.write(drawn())

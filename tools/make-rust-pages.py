@@ -40,7 +40,8 @@ PASSAGES = {
         ("`cargo::rewrite` and `npm::rewrite` return comparators",
          "[`comparators`](crate::comparators) returns comparators"),
         (" (`specs/CargoMeaning`, by the rule `Included`)", ""),
-        (" The picture is of `^1.2.3-b || 3.x`. A filled ring begins what is in the set, an empty one ends it.", ""),
+        (" The picture is of `^1.2.3-b || 3.x` in npm's dialect, as `compare-ranges` prints it. An interval"
+         " begins at a filled circle, which is in it, and ends before an empty one.", ""),
         ("A `VersionSet` has", "A [`VersionSet`](crate::sets::VersionSet) has"),
     ],
     "GRAMMAR": [
