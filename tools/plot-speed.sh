@@ -21,8 +21,10 @@ rows() {
     ' "$tables"
 }
 
-# Rows that have a ratio to both crates; the last row of the table is drawn at the bottom.
-rows 'ns a text' | awk -F '\t' '$5 != "none" { print NR "\t" $1 "\t" $5 "\t" $6 }' | sort -rn > "$work/ratios"
+# Rows that have a ratio to both crates; the last row of the table is drawn at the bottom. A star is at those whose texts
+# `semver` rejects.
+rows 'ns a text' | awk -F '\t' '$5 != "none" { print NR "\t" $1 ($7 ~ /^0 of/ ? " *" : "") "\t" $5 "\t" $6 }' |
+    sort -rn > "$work/ratios"
 rows 'instructions for a text of' > "$work/growth"
 [ -s "$work/ratios" ] && [ -s "$work/growth" ] || {
     echo "plotting: $tables has not both tables" >&2
@@ -31,17 +33,18 @@ rows 'instructions for a text of' > "$work/growth"
 
 # A line of the picture for each row: its size in elements, its instructions.
 tab=$(printf '\t')
-lines=
+lines= count=0
 while IFS="$tab" read -r name few _ thousand _ ten _ hundred _; do
     printf '10\t%s\n1000\t%s\n10000\t%s\n100000\t%s\n' "$few" "$thousand" "$ten" "$hundred" > "$work/$name"
-    lines="$lines${lines:+, }'$work/$name' with linespoints lw 2 pt 7 title '$name'"
+    count=$((count + 1))
+    lines="$lines${lines:+, }'$work/$name' with linespoints lw 2 pt $((count <= 8 ? 7 : 4)) title '$name'"
 done < "$work/growth"
 
 gnuplot << PLOT
 set terminal svg size 900,420 font 'sans-serif,13' background 'white'
 set datafile separator '\t'
 set output '$folder/ratios.svg'
-set title 'time of a call here over that of each crate (1: as fast)'
+set title 'relative time of a call compared with each crate (below 1 is faster)'
 set logscale x 10
 set xrange [0.05:300]
 set xtics ('0.1' 0.1, '0.2' 0.2, '0.5' 0.5, '1' 1, '2' 2, '5' 5, '10' 10, '20' 20, '50' 50, '100' 100)
@@ -51,14 +54,14 @@ set key outside bottom center horizontal
 set arrow from 1, graph 0 to 1, graph 1 nohead lw 2 lc rgb '#888888'
 set style fill solid noborder
 plot '$work/ratios' using 3:(\$0 + 0.2):(0.05):3:(\$0 + 0.02):(\$0 + 0.38):ytic(2) with boxxyerror lc rgb '#33668c' title 'of semver-parser', \\
-    '' using 4:(\$0 - 0.2):(0.05):4:(\$0 - 0.38):(\$0 - 0.02) with boxxyerror lc rgb '#cc7733' title 'of semver'
+    '' using 4:(\$0 - 0.2):(0.05):4:(\$0 - 0.38):(\$0 - 0.02) with boxxyerror lc rgb '#cc7733' title 'of semver, which rejects the texts marked *'
 reset
 set datafile separator '\t'
 set output '$folder/growth.svg'
 set title 'instructions of a call (both axes logarithmic: a line of slope 1 is linear)'
 set logscale xy 10
 set xrange [7:140000]
-set xtics ('10' 10, '1,000' 1000, '10,000' 10000, '100,000' 100000)
+set xtics ('10' 10, '100' 100, '1,000' 1000, '10,000' 10000, '100,000' 100000)
 set format y '10^{%L}'
 set grid xtics ytics
 set key outside right center
