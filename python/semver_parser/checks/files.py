@@ -152,7 +152,7 @@ def yaml_objects(text: bytes) -> List[Entry]:
     try:
         import yaml
     except ImportError:
-        raise Unreadable("it is YAML: install PyYAML (Debian: python3-yaml)") from None
+        raise Unreadable("it is YAML, and reading that needs PyYAML (Debian: python3-yaml)") from None
     whole = utf8(text)
     try:
         try:
