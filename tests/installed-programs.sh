@@ -325,6 +325,7 @@ what_it_proves() {
     stub rt "shows() {
     for turn in \$(seq 300); do ! grep -q \"\$1\" '$work/stdout' '$work/stderr' || return 0; sleep 0.1; done
 }
+sleep 0.1 # Then it isn't of the same tick of the clock as the beginning.
 mkdir -p ../a/out && : > ../a/out/begun && shows 'crate 1 of 2: a'
 echo 'so far: 2 of 3 functions checked'
 [ -z \"\$AT_TERMINAL\" ] || shows '2 of 3'

@@ -139,7 +139,7 @@ class NpmScheme(NodeScheme):
         if requirement.found is None:
             return False
         verdict = self.verdict(requirement.specifier, requirement)
-        return verdict is not None and (verdict is RIGHT or verdict.finding is NotChecked)
+        return verdict is None or verdict.finding is NotChecked
 
 
 NPM_SCHEME = NpmScheme()
