@@ -1,8 +1,8 @@
 -- serves: range_terms::terms::TermsIterator::next
 -- Pairs of bars and blanks, as a loop goes over them.
 use Rattle.std.proofs.Common.{◌≡◌, ℕ, suc, ◌+◌, ◌≤◌, Bool, true, [], ◌∷◌, length, refl, ap, ◌∙◌, ◌&&◌}
-use Rattle.std.proofs.Common.{Some, None, arith}
-use Rattle.std.proofs.lemmas.Bool.{and_parts, eqb-true, not-true, not_from_false}
+use Rattle.std.proofs.Common.{Some, arith}
+use Rattle.std.proofs.lemmas.Bool.{and_parts, eqb-true, not_from_false}
 use Rattle.semver_texts.specs.Texts.{Text}
 use Rattle.semver_texts.specs.declared.grammar.Grammar.{Grammar}
 use Rattle.semver_texts.proofs.Lists.{by_test}

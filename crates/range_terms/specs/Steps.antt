@@ -4,18 +4,17 @@ use Prim.Native.Char.{code}
 use Rattle.std.specs.Prelude.{◌≡◌, ℕ, zero, suc, ◌-◌, ◌+◌, Bool, ◌&&◌, ◌==◌, if◌then◌else◌}
 use Rattle.std.specs.Prelude.{Option, Some, None, option_map, List, [], ◌∷◌, length}
 use Rattle.std.specs.Borrow.{Bor}
-use Rattle.std.specs.List.{join_with_byte}
 use Rattle.semver_texts.specs.Texts.{Text, begins_with}
 use Rattle.semver_texts.specs.declared.grammar.Grammar.{Grammar}
-use Rattle.semver_ranges.specs.RangeTree.{Form, PartialTree, build_parts, is_blank, pre_parts}
+use Rattle.semver_ranges.specs.RangeTree.{Form, PartialTree, is_blank}
 use Rattle.semver_ranges.specs.Steps.Reading.{after_blanks, after_v, component, is_bar, operator}
 use Rattle.semver_ranges.specs.Steps.Reading.{with_first}
 use Rattle.range_terms.specs.declared.term.Operator.{Operator}
 use Rattle.range_terms.specs.declared.term.Operator.TheVariants.{Hyphen}
 use Rattle.range_terms.specs.declared.term.PartialVersion.{PartialVersion}
 use Rattle.range_terms.specs.declared.term.Span.{Span}
-use Rattle.range_terms.specs.WrittenTerms.{WrittenTerm, WrittenVersion, major_of, minor_of}
-use Rattle.range_terms.specs.WrittenTerms.{operator_of, patch_of, version_value}
+use Rattle.range_terms.specs.WrittenTerms.{WrittenTerm, WrittenVersion, operator_of}
+use Rattle.range_terms.specs.WrittenTerms.{version_of, version_value}
 
 -- how many pairs of bars are at the front of a text between blanks, and what follows
 abbrev pub one_more : ℕ × Text → ℕ × Text
@@ -30,30 +29,13 @@ after_ranges d (b ∷ c ∷ t) =
 
 -- the version of a partial between two rests of a text of n bytes
 abbrev pub word_between : ℕ → PartialTree → Text → Text → WrittenVersion
-word_between n p t rest =
-    record {
-      span = record { start = n - length t; end = n - length rest };
-      has_v = begins_with (code "v") t;
-      major = major_of p;
-      minor = minor_of p;
-      patch = patch_of p;
-      pre = join_with_byte (code ".") (pre_parts p);
-      build = join_with_byte (code ".") (build_parts p);
-    }
+word_between n p t rest = version_of (record { start = n - length t; end = n - length rest })
+    (begins_with (code "v") t)
+    p
 
 -- the version that was made of a partial
 abbrev pub IsVersionOf : Span → Bool → PartialTree → PartialVersion → Type 0
-IsVersionOf span has_v p v =
-    version_value v
-    ≡ record {
-      span = span;
-      has_v = has_v;
-      major = major_of p;
-      minor = minor_of p;
-      patch = patch_of p;
-      pre = join_with_byte (code ".") (pre_parts p);
-      build = join_with_byte (code ".") (build_parts p);
-    }
+IsVersionOf span has_v p v = version_value v ≡ version_of span has_v p
 
 -- what was found, and what follows it
 abbrev pub IsFound : Option (WrittenVersion × Text) → Option (PartialVersion × Bor Text) → Type 0

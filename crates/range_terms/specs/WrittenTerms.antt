@@ -91,18 +91,24 @@ patch_of (one a) = None
 patch_of (two a b) = None
 patch_of (three a b c pre build) = Some (component_of c)
 
--- the version of a partial, whose word is these bytes from an offset on
-abbrev pub word_at : ℕ → PartialTree → Text → WrittenVersion
-word_at offset p word =
+-- the version of a partial, whose word is at a span, and begins with a `v` or not
+abbrev pub version_of : Span → Bool → PartialTree → WrittenVersion
+version_of span has_v p =
     record {
-      span = record { start = offset; end = offset + length word };
-      has_v = begins_with (code "v") word;
+      span = span;
+      has_v = has_v;
       major = major_of p;
       minor = minor_of p;
       patch = patch_of p;
       pre = join_with_byte (code ".") (pre_parts p);
       build = join_with_byte (code ".") (build_parts p);
     }
+
+-- the same, of a word that is these bytes from an offset on
+abbrev pub word_at : ℕ → PartialTree → Text → WrittenVersion
+word_at offset p word = version_of (record { start = offset; end = offset + length word })
+    (begins_with (code "v") word)
+    p
 
 -- the operator of what is before a partial
 abbrev pub operator_of : Form → Operator

@@ -73,14 +73,15 @@ impl<'text> Terms<'text> {
     // Answer: law answer_laws::ranges::one_terms.
     /// Checks a range string of a dialect, and returns its terms.
     ///
-    /// Another version of the grammar may replace the one at the span of a version: the result is a
-    /// range of the dialect. To Cargo it has to state a number. Its numbers may be too large.
+    /// Another partial version of the dialect's grammar may replace the one at the span of a version,
+    /// and the string is in the grammar again. In Cargo's dialect it must state a number. Check the
+    /// string all the same, since one of its numbers may be too large.
     ///
     /// # Errors
     ///
-    /// Those of `check_range`, without a string: `NotARange` if and only if
-    /// the string isn't a range of the dialect, and `NumberTooLarge` if and only if it is one, and a
-    /// number that it states or a bound that is raised by one is above the dialect's limit.
+    /// Those of `check_range`, without a string: `NotARange` if and only if the string isn't a range
+    /// of the dialect, and `NumberTooLarge` if and only if it is one, and a number that it states or
+    /// a bound that is raised by one is above the dialect's limit.
     ///
     /// ```
     /// use semver_parser::{Dialect, RangeError, Terms};
