@@ -223,8 +223,8 @@ export declare function validRange(range: unknown, options?: OptionsOrLoose<Dial
 export declare function toComparators(range: AnyRange, options?: OptionsOrLoose<Dialect>): string[][]
 /** Where and why a string is no range; null if it is one. */
 export declare function explainRange(range: AnyRange, options?: OptionsOrLoose<Dialect>): Explanation | null
-/** A component of a version as a term states it: `'x'` is a wildcard. */
-export type TermComponent<D extends Dialect = 'npm'> = NumberOf<D> | 'x'
+/** A component of a version as a term states it: a number, or a wildcard as it is written. */
+export type TermComponent<D extends Dialect = 'npm'> = NumberOf<D> | 'x' | 'X' | '*'
 
 /** A version as a term of a range states it. Its indices are those of the range's string. */
 export interface TermVersion<D extends Dialect = 'npm'> {
@@ -264,6 +264,13 @@ export interface Term<D extends Dialect = 'npm'> {
 /** The terms of a range, as they are written and where. Throws a `SemverError` if the range is invalid. */
 export declare function terms(range: string, options?: WithoutDialect): Term[]
 export declare function terms<D extends Dialect = 'npm'>(range: string, options: OptionsOrLoose<D>): Term<D>[]
+/**
+ * A range in which a version of a term has the numbers of another version. Its form is kept: how many
+ * components it has, its wildcards and its `v`. The pre-release of the other version is written if
+ * three numbers are stated, and its build metadata isn't. Throws a `SemverError` if the range or the
+ * version is invalid, and a `TypeError` if no version of the range begins where the written one does.
+ */
+export declare function replaceVersion(range: string, written: Pick<TermVersion<Dialect>, 'start'>, version: AnyVersion, options?: OptionsOrLoose<Dialect>): string
 /** The lowest version that satisfies a range; null if none does. */
 export declare function minVersion<D extends Dialect = 'npm'>(range: RangeOf<D>, options?: WithoutDialect): SemVer<D> | null
 export declare function minVersion<D extends Dialect = 'npm'>(range: AnyRange, options: OptionsOrLoose<D>): SemVer<D> | null

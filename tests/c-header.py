@@ -110,7 +110,7 @@ def constants_in_rust():
         yield 'OP_' + operators[name], number
     kinds = re.search(r'impl Component \{.*?\n\}', read('rust/capi/src/types.rs'), re.S)[0]
     yield 'COMPONENT_NONE', '0' if 'None => Component::default()' in kinds else '?'
-    for name, number in re.findall(r'Component::(\w+)(?:\(number\))?\) => Component \{ kind: (\d)', kinds):
+    for name, number in re.findall(r'Component::(\w+)(?:\(\w+\))?\) => Component \{ kind: (\d)', kinds):
         yield f'COMPONENT_{name.upper()}', number
     yield 'REASON_NONE', '0'
     for path, kind, function, prefix in (

@@ -218,6 +218,18 @@ export function readTerms(range, dialect) {
   return { terms, length }
 }
 
+/**
+ * Makes a range in which the version that begins at an offset has the numbers of another one.
+ * Returns 0 if it was made, 1 if no version of the range begins there, or else a negative number.
+ */
+export function replaceOnce(range, start, version, dialect) {
+  const { range_replaced: call } = calls()
+  const rangeLength = hold(range)
+  const length = write(rangeLength, version)
+  const { begin } = buffer
+  return call(begin, rangeLength, start, begin + rangeLength, length, dialect)
+}
+
 /** A string of ASCII that is in the memory. */
 export function stringAt(begin, length) {
   return decoder.decode(bytes.subarray(begin, begin + length))

@@ -13,4 +13,4 @@ export {
   compareRanges, explainRange, filter, gtr, intersects, ltr, maxSatisfying, minSatisfying,
   minVersion, outside, satisfies, simplifyRange, subset, toComparators, validRange,
 } from './selections.mjs'
-export { terms } from './terms.mjs'
+export { replaceVersion, terms } from './terms.mjs'

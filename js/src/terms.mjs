@@ -1,12 +1,14 @@
 // The terms of a range, as they are written.
-import { readTerms, stringAt } from './calls.mjs'
-import { indicesIn, invalidRange, noString } from './errors.mjs'
-import { meaningOf } from './options.mjs'
+import { OUT_OF_MEMORY, readTerms, replaceOnce, stringAt, stringBack } from './calls.mjs'
+import { indicesIn, invalidRange, invalidVersion, noString } from './errors.mjs'
+import { checkDialect, meaningOf } from './options.mjs'
+import { stringOf } from './versions.mjs'
 
-// A component by its kind and its number: null if it isn't written.
+// A component by its kind and its number, which for a wildcard is that of its character: null if it
+// isn't written.
 function componentOf(kind, number, meaning) {
   if (kind === 0n) return null
-  if (kind === 2n) return 'x'
+  if (kind === 2n) return String.fromCharCode(Number(number))
   return meaning.isOfNpm ? Number(number) : number
 }
 
@@ -50,4 +52,21 @@ export function terms(range, options) {
   const isAscii = read.length === range.length
   const indexAt = isAscii ? Number : indicesIn(range)
   return read.terms.map((numbers) => termOf(numbers, range, meaning, indexAt))
+}
+
+// How many bytes the beginning of a string has, up to an index.
+const bytesBefore = (string, index) => new TextEncoder().encode(string.slice(0, index)).length
+
+/** A range in which a version of a term has the numbers of another version, in its form. */
+export function replaceVersion(range, written, version, options) {
+  const meaning = meaningOf(options)
+  checkDialect(meaning, version)
+  if (typeof range !== 'string') throw noString('range', range)
+  const string = stringOf(version)
+  const begin = bytesBefore(range, written.start)
+  const made = replaceOnce(range, begin, string, meaning.dialect)
+  if (made === 0) return stringBack()
+  if (made === 1) throw new TypeError(`no version of the range begins at index ${written.start}`)
+  if (made === OUT_OF_MEMORY) throw new RangeError('out of memory')
+  throw made === -1 ? invalidVersion(string, meaning) : invalidRange(range, meaning)
 }

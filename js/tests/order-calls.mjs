@@ -194,6 +194,7 @@ const KINDS = {
   operator: (random) =>
     random.of(['===', '!==', '', '=', '==', '!=', '>', '>=', '<', '<=', '~', UNDEFINED]),
   side: (random) => random.of(['<', '>', '<', '>', '', UNDEFINED]),
+  written: (random) => ({ is: 'getters', fields: { start: random.below(4) } }),
   flag: (random) => random.of([UNDEFINED, true, false]),
   part: (random) => random.of([...IDENTIFIERS, 0, 1, 10]),
   comparator: (random, pool) =>
@@ -239,6 +240,7 @@ export const CALLS = {
   toComparators: 'range options',
   explainRange: 'range options',
   terms: 'range options',
+  replaceVersion: 'range written version options',
   minVersion: 'range options',
   intersects: 'range range options',
   subset: 'range range options',

@@ -187,7 +187,7 @@ test('the terms of a range are what is written, and where', () => {
     { range: 2, operator: '-', start: 31, end: 40, version: version(31, 34, [1, 2]), upper: version(37, 40, [2, 'x']) },
   ])
   assert.deepEqual(semver.terms('>= 1.*, <2', cargo), [
-    { range: 0, operator: '>=', start: 0, end: 6, version: version(3, 6, [1n, 'x']), upper: null },
+    { range: 0, operator: '>=', start: 0, end: 6, version: version(3, 6, [1n, '*']), upper: null },
     { range: 0, operator: '<', start: 8, end: 10, version: version(9, 10, [2n]), upper: null },
   ])
   // Indices count as JavaScript does, and an empty range has no term.
@@ -195,6 +195,24 @@ test('the terms of a range are what is written, and where', () => {
   assert.deepEqual(semver.terms(''), [])
   assert.throws(() => semver.terms('1 || 2', cargo), { name: 'SemverError', kind: 'range', argument: 0, offset: 2 })
   assert.throws(() => semver.terms(5), /Invalid range\. Must be a string\. Got type "number"/)
+})
+
+test('a version of a range has the numbers of another one', () => {
+  const replaced = (range, version, options) => semver.terms(range, options)
+    .flatMap((term) => [term.version, term.upper])
+    .filter((written) => written !== null)
+    .map((written) => semver.replaceVersion(range, written, version, options))
+  const version = '3.1.4-rc.1+b5'
+  assert.deepEqual(replaced('v1.2 || >= 1.2.3-a+b', version), ['v3.1 || >= 1.2.3-a+b', 'v1.2 || >= 3.1.4-rc.1'])
+  assert.deepEqual(replaced('1.X - 2.*.x', new semver.SemVer(version)), ['3.X - 2.*.x', '1.X - 3.*.x'])
+  assert.deepEqual(replaced('\u00a0^1.2.x-a', version), ['\u00a0^3.1.x'])
+  assert.deepEqual(replaced('>=1.2.0, <2', version, cargo), ['>=3.1.4-rc.1, <2', '>=1.2.0, <3'])
+  const [{ version: written }] = semver.terms('^1.2')
+  assert.throws(() => semver.replaceVersion('^1.02', written, '2.0.0'), { name: 'SemverError', kind: 'range', input: '^1.02' })
+  assert.throws(() => semver.replaceVersion('^1.2', written, '2.0'), { name: 'SemverError', kind: 'version', input: '2.0' })
+  assert.throws(() => semver.replaceVersion('1.2', written, '2.0.0'), { name: 'TypeError', message: 'no version of the range begins at index 1' })
+  assert.throws(() => semver.replaceVersion(5, written, '2.0.0'), /Invalid range\. Must be a string/)
+  assert.throws(() => semver.replaceVersion('^1.2', written, 5), /Invalid version\. Must be a string/)
 })
 
 test('filter keeps the versions that satisfy a range, in order', () => {

@@ -40,7 +40,7 @@ if TYPE_CHECKING:
     from ._ranges import Invalid, Range
     from ._satisfying import satisfies
     from ._strings import String
-    from ._terms import Component, PartialVersion, Term, terms
+    from ._terms import Component, PartialVersion, Term, replace_version, terms
     from ._versions import AnyVersion, Identifier, Version, precedence
 
 __version__ = "1.0.0"
@@ -70,6 +70,7 @@ __all__ = [
     "compare_ranges",
     "crate_comparators",
     "precedence",
+    "replace_version",
     "satisfies",
     "terms",
 ]

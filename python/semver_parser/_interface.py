@@ -7,6 +7,7 @@ OK = 0
 INVALID_RANGE = 1
 NUMBER_TOO_LARGE = 2
 INVALID_VERSION = 3
+INVALID_ARGUMENT = 5
 OUT_OF_MEMORY = 4
 DIFFERENT_DIALECTS = 6
 DIFFERENT_PRE_RELEASES = 7
@@ -116,6 +117,7 @@ def _status_functions() -> Dict[str, List[Any]]:
         "range_to_string": [address, flag, printed],
         "comparators_of_range": [one, number, flag, made, error],
         "comparators_to_string": [address, printed],
+        "replace_version": [one, size, one, number, printed, error],
         "terms_of_range": [one, number, to(CTerm), size, to(size), error],
     }
 

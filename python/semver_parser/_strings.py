@@ -42,6 +42,11 @@ def index_of(string: String, offset: int) -> int:
     return len(encoded(string)[:offset].decode("utf-8", "surrogatepass"))
 
 
+def offset_of(string: String, index: int) -> int:
+    """Returns the offset in the bytes of a string of what is at an index in it."""
+    return len(encoded(string[:index]))
+
+
 def indices_in(string: String) -> Callable[[int], int]:
     """Returns what returns the index in a string of what is at an offset in its bytes. It takes
     time once, and not for each offset."""

@@ -2,18 +2,21 @@
 
 import ctypes
 from dataclasses import dataclass
-from typing import Callable, List, Literal, Optional, Union
+from typing import Callable, Dict, List, Literal, Optional, Union
 
-from ._errors import RangeError
-from ._interface import INVALID_RANGE, NUMBER_TOO_LARGE, CComponent, CPartialVersion, CTerm
+from ._errors import RangeError, VersionError
+from ._interface import INVALID_ARGUMENT, INVALID_RANGE, INVALID_VERSION, NUMBER_TOO_LARGE
+from ._interface import CComponent, CPartialVersion, CTerm
 from ._library import LIBRARY, check
 from ._options import AnyDialect, Dialect, dialect_of
-from ._strings import String, c_string, indices_in
+from ._strings import String, c_string, indices_in, offset_of
+from ._versions import Version
 
-Component = Union[int, Literal["x"]]
-"""A component of a version in a range: a number, or "x" for a wildcard."""
+Component = Union[int, Literal["x", "X", "*"]]
+"""A component of a version in a range: a number, or a wildcard as it is written."""
 
 _NUMBER, _WILDCARD, _HYPHEN = 1, 2, 8
+_WILDCARDS: Dict[int, Literal["x", "X", "*"]] = {ord("x"): "x", ord("X"): "X", ord("*"): "*"}
 
 
 @dataclass(frozen=True)
@@ -22,7 +25,8 @@ class PartialVersion:
 
     - `start`, `end`: where it is in the string of the range, with its `v`.
     - `has_v`: whether it begins with `v`.
-    - `major`, `minor`, `patch`: its components. A wildcard is "x", and one that isn't written None.
+    - `major`, `minor`, `patch`: its components. A wildcard is "x", "X" or "*", as it is written, and
+      a component that isn't written is None.
     - `pre`, `build`: the pre-release and the build metadata, without `-` and `+`; or empty strings.
     """
 
@@ -62,13 +66,9 @@ def terms(range: String, *, dialect: AnyDialect) -> List[Term]:
     >>> [(term.range, term.operator, term.version.major) for term in found]
     [(0, '~', 1), (1, '>=', 2), (1, '<', 4)]
 
-    Another version may replace a version, and the string is a range again:
+    `replace_version` replaces the version of a term.
 
-    >>> version = found[0].version
-    >>> "~1.2 || >=2.0.0-rc.1 <4"[: version.start] + "1.4" + "~1.2 || >=2.0.0-rc.1 <4"[version.end :]
-    '~1.4 || >=2.0.0-rc.1 <4'
-
-    Raises `RangeError` if it is no range of the dialect.
+    Raises `RangeError` if the string isn't a range of the dialect.
     """
     return terms_of(range, dialect_of(dialect))
 
@@ -88,6 +88,47 @@ def terms_of(range: String, dialect: Dialect) -> List[Term]:
     )
     index_at = indices_in(range)
     return [_term(term, index_at) for term in found]
+
+
+def replace_version(
+    range: String, written: PartialVersion, version: Union[String, Version], *, dialect: AnyDialect
+) -> str:
+    """Returns a range in which a version of a term has the numbers of another version.
+
+    Its form is kept: how many components it has, its wildcards and its `v`. The pre-release of the
+    other version is written if three numbers are stated, and its build metadata isn't.
+
+    >>> range = "~1.2 || ^2.x"
+    >>> last = terms(range, dialect="npm")[-1]
+    >>> replace_version(range, last.version, "3.1.4", dialect="npm")
+    '~1.2 || ^3.x'
+
+    Raises `RangeError` if the string isn't a range of the dialect, `VersionError` if the version
+    isn't one, and `ValueError` if no version of the range begins where the written one does. The
+    result may be invalid if the version is at one of the dialect's limits.
+    """
+    dialect = dialect_of(dialect)
+    other = str(version) if isinstance(version, Version) else version
+    replaced = ctypes.c_char_p()
+    status = LIBRARY.semver_parser_replace_version(
+        c_string(range),
+        offset_of(range, written.start),
+        c_string(other),
+        dialect._number,
+        replaced,
+        None,
+    )
+    if status in (INVALID_RANGE, NUMBER_TOO_LARGE):
+        raise RangeError(range, dialect)
+    if status == INVALID_VERSION:
+        raise VersionError(other, dialect)
+    if status == INVALID_ARGUMENT:
+        raise ValueError(f"no version of the range begins at index {written.start}")
+    check(status)
+    try:
+        return (replaced.value or b"").decode("utf-8")
+    finally:
+        LIBRARY.semver_parser_free(replaced)
 
 
 def _term(term: CTerm, index_at: Callable[[int], int]) -> Term:
@@ -123,4 +164,4 @@ def _component(component: CComponent) -> Optional[Component]:
     """The component that the library read."""
     if component.kind == _NUMBER:
         return int(component.number)
-    return "x" if component.kind == _WILDCARD else None
+    return _WILDCARDS[component.number] if component.kind == _WILDCARD else None

@@ -185,6 +185,7 @@ TEMPLATES: List[str] = [
     *["crate_comparators({range}, dialect={dialect})"] * 2,
     *["terms({range}, dialect={dialect})"] * 2,
     "Term(0, {op}, 0, 1, PartialVersion(0, 1, False, {number}, None, None, '', ''), None)",
+    "replace_version({range}, terms({range}, dialect={dialect})[-1].version, {version}, dialect={dialect})",
     "precedence({version}, dialect={dialect})",
     "precedence({Version})",
     *(maker for makers in OBJECTS.values() for maker in makers),

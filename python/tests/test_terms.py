@@ -12,6 +12,9 @@ from semver_parser import (
     RangeError,
     String,
     Term,
+    Version,
+    VersionError,
+    replace_version,
     terms,
 )
 
@@ -83,13 +86,24 @@ PARTS: List[Tuple[str, _Parts]] = [
     (">1.2.3-rc.1+b.5", (1, 2, 3, "rc.1", "b.5")),
     ("1.2.3+b.5", (1, 2, 3, "", "b.5")),
     ("1.2.3--a.-+-", (1, 2, 3, "-a.-", "-")),
-    ("1.X.3", (1, "x", 3, "", "")),
+    ("1.X.3", (1, "X", 3, "", "")),
     ("x", ("x", None, None, "", "")),
-    ("*.X.x", ("x", "x", "x", "", "")),
+    ("*.X.x", ("*", "X", "x", "", "")),
     ("0.0.0", (0, 0, 0, "", "")),
     # A number after a wildcard doesn't count. The first one is 2**64 - 1, and the second one above.
     ("1.x.18446744073709551615", (1, "x", 2**64 - 1, "", "")),
     ("1.x.18446744073709551616", (1, "x", 2**64 - 1, "", "")),
+]
+
+# A range, and it with the numbers of 3.1.4-rc.1+b5 in place of each of its versions.
+REPLACED: List[Tuple[String, Dialect, List[str]]] = [
+    ("~1", NPM, ["~3"]),
+    ("v1.2 || >= 1.2.3-a+b", NPM, ["v3.1 || >= 1.2.3-a+b", "v1.2 || >= 3.1.4-rc.1"]),
+    ("1.X - 2.*.x", NPM, ["3.X - 2.*.x", "1.X - 3.*.x"]),
+    ("\u00a0^1.2.x-a", NPM, ["\u00a0^3.1.x"]),
+    ("\u00a0^1".encode(), NPM, ["\u00a0^3"]),
+    (">=1.2.0, <2", CARGO, [">=3.1.4-rc.1, <2", ">=1.2.0, <3"]),
+    ("* || 1.0.0", CRATE_NPM, ["* || 1.0.0", "* || 3.1.4-rc.1"]),
 ]
 
 # A range that is invalid in a dialect, and where and why.
@@ -143,7 +157,7 @@ class Terms(unittest.TestCase):
             ],
         )
         lower = PartialVersion(0, 3, False, 1, 2, None, "", "")
-        upper = PartialVersion(6, 10, True, 2, "x", None, "", "")
+        upper = PartialVersion(6, 10, True, 2, "*", None, "", "")
         self.assertEqual(terms("1.2 - v2.*", dialect="npm"), [Term(0, "-", 0, 10, lower, upper)])
 
     def test_parts(self) -> None:
@@ -181,6 +195,35 @@ class Terms(unittest.TestCase):
                     self.assertEqual(len(again), len(expected))
                     [changed] = [each for each in again if each.version.pre == "rc"]
                     self.assertEqual((changed.range, changed.operator), (it.range, it.operator))
+
+    def test_replace_version(self) -> None:
+        """The numbers of another version, in the form of each version that is written."""
+        new = "3.1.4-rc.1+b5"
+        for string, dialect, replaced in REPLACED:
+            found = terms(string, dialect=dialect)
+            written = [it for term in found for it in (term.version, term.upper) if it is not None]
+            for version in (new, new.encode(), Version.parse(new, dialect=dialect)):
+                made = [replace_version(string, it, version, dialect=dialect) for it in written]
+                self.assertEqual(made, replaced, string)
+
+    def test_no_replaced_version(self) -> None:
+        [term] = terms("^1.2", dialect="npm")
+        with self.assertRaises(RangeError) as range_error:
+            replace_version("^1.02", term.version, "2.0.0", dialect="npm")
+        self.assertEqual(range_error.exception.string, "^1.02")
+        with self.assertRaises(VersionError) as version_error:
+            replace_version("^1.2", term.version, "2.0", dialect="npm")
+        self.assertEqual(version_error.exception.string, "2.0")
+        with self.assertRaisesRegex(ValueError, "no version of the range begins at index 1"):
+            replace_version("1.2", term.version, "2.0.0", dialect="npm")
+        largest = "9007199254740991.0.0"
+        too_large = replace_version("^1.2", term.version, largest, dialect="npm")
+        self.assertEqual(too_large, "^9007199254740991.0")
+        with self.assertRaises(RangeError):
+            terms(too_large, dialect="npm")
+        for wrong in (None, 1, term.version):
+            with self.assertRaises(TypeError):
+                replace_version("^1.2", term.version, wrong, dialect="npm")
 
     def test_invalid(self) -> None:
         for string, dialect, offset, reason in INVALID:

@@ -5,14 +5,14 @@ use proved::{Dialect, Operator, PreReleases, Reason};
 use std::{env, fs};
 
 const OPERATORS: [Operator; 9] = [
-    Operator::Bare,
-    Operator::Equal,
     Operator::Less,
     Operator::LessOrEqual,
     Operator::Greater,
     Operator::GreaterOrEqual,
+    Operator::Equal,
     Operator::Tilde,
     Operator::Caret,
+    Operator::Bare,
     Operator::Hyphen,
 ];
 

@@ -14,9 +14,7 @@
 //! can't be raised like this, for example if its last term is `<2` or a hyphen range, and 2 if an
 //! argument is invalid.
 
-use semver_parser::{
-    satisfies, terms, Component, Dialect, Error, Operator, PartialVersion, VersionRef,
-};
+use semver_parser::{satisfies, terms, Dialect, Error, Operator, VersionRef};
 use std::process::ExitCode;
 
 /// Returns a range that contains the version: the range itself if it does, or else the range with
@@ -37,35 +35,12 @@ pub fn raised(range: &str, version: &str, dialect: Dialect) -> Result<Option<Str
         return Ok(None);
     };
     let to = VersionRef::parse(version, dialect)?;
-    let span = last.version.span.range();
     let mut raised = range.to_string();
-    raised.replace_range(span.clone(), &rewritten(&to, &last.version, &range[span]));
+    let new = last.version.with_version(&to).to_string();
+    raised.replace_range(last.version.span.range(), &new);
     // The new range is invalid if the version is at one of the dialect's limits.
     let contains = satisfies(version, &raised, dialect).unwrap_or(false);
     Ok(contains.then_some(raised))
-}
-
-/// Returns the version as it replaces one that is written in a range as `string`.
-fn rewritten(version: &VersionRef<'_>, written: &PartialVersion<'_>, string: &str) -> String {
-    let mut wildcards = string.matches(['x', 'X', '*']);
-    let numbers = [version.major(), version.minor(), version.patch()];
-    let components = [Some(written.major), written.minor, written.patch];
-    let parts: Vec<String> = components
-        .into_iter()
-        .flatten()
-        .zip(numbers)
-        .map(|(component, number)| match component {
-            Component::Number(_) => number.to_string(),
-            Component::Wildcard => wildcards.next().unwrap_or("x").to_string(),
-        })
-        .collect();
-    let v = if written.has_v { "v" } else { "" };
-    let states_all = components.iter().all(|it| matches!(it, Some(Component::Number(_))));
-    let pre = match version.pre() {
-        pre if states_all && !pre.is_empty() => format!("-{pre}"),
-        _ => String::new(),
-    };
-    format!("{v}{}{pre}", parts.join("."))
 }
 
 fn main() -> ExitCode {

@@ -1,7 +1,8 @@
 //! Calls for the layers for C and JavaScript: their errors are plain values and copy no string.
 
 use crate::proved::{invalid_strings, tool_ranges};
-use crate::{AllocError, Dialect, RangeError, RangeSet};
+use crate::version::Outline;
+use crate::{AllocError, Dialect, PartialVersion, RangeError, RangeSet, Terms};
 
 pub use crate::proved::invalid_strings::refusals::Refusal as VersionRefusal;
 pub use crate::proved::tool_ranges::refusals::Refusal as RangeRefusal;
@@ -76,4 +77,35 @@ pub fn check_range(range: &str, dialect: Dialect) -> Result<(), RangeError> {
 /// ```
 pub fn comparators(range: &str, dialect: Dialect) -> Result<RangeSet, RangeError> {
     tool_ranges::dialect::rewrite(dialect, range)
+}
+
+/// Returns what is before the version that begins at an offset of a range string, that version with
+/// the numbers of another one ([`PartialVersion::with_version`]), and what is after it. Returns
+/// `None` if no version of a term begins there. It does not allocate.
+///
+/// # Errors
+///
+/// Those of [`check_range`].
+///
+/// ```
+/// use semver_parser::layers::replace_version;
+/// use semver_parser::{Dialect, VersionRef};
+///
+/// let to = VersionRef::parse("3.1.4", Dialect::Npm).unwrap();
+/// let (before, version, after) = replace_version("~1.2 || ^2.x", 9, &to, Dialect::Npm)?.unwrap();
+/// assert_eq!(format!("{before}{version}{after}"), "~1.2 || ^3.x");
+/// # Ok::<(), semver_parser::RangeError>(())
+/// ```
+pub fn replace_version<'a>(
+    range: &'a str,
+    start: usize,
+    version: &Outline<'a>,
+    dialect: Dialect,
+) -> Result<Option<(&'a str, PartialVersion<'a>, &'a str)>, RangeError> {
+    let mut versions = Terms::try_parse(range, dialect)?
+        .flat_map(|term| [Some(term.version), term.upper])
+        .flatten();
+    Ok(versions.find(|it| it.span.start == start).map(|written| {
+        (&range[..start], written.with_version(version), &range[written.span.end..])
+    }))
 }

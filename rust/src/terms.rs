@@ -67,13 +67,3 @@ impl Display for Operator {
         f.pad(self.sign())
     }
 }
-
-impl Display for Component {
-    /// Writes the number, or `x` for a wildcard, however it is written in the range.
-    fn fmt(&self, f: &mut Formatter<'_>) -> fmt::Result {
-        match self {
-            Component::Number(number) => number.fmt(f),
-            Component::Wildcard => f.pad("x"),
-        }
-    }
-}

@@ -1,7 +1,8 @@
 //! The terms of ranges: what is written, and where. The expected values are read off the strings.
 
 use semver_parser::Component::{Number, Wildcard};
-use semver_parser::{terms, Component, Dialect, Error, Operator, RangeError, Span, Terms};
+use semver_parser::{layers, terms, Component, Dialect, Error, Operator, RangeError, Span, Terms};
+use semver_parser::VersionRef;
 
 /// What is written of a term: the index of its range, its operator, its string, and of each version
 /// the string.
@@ -71,11 +72,12 @@ fn a_version_has_its_components() -> Result<(), Error> {
     assert_eq!(parts("1.2.3")?, (one, two, three, "", ""));
     assert_eq!(parts(">1.2.3-rc.1+b.5")?, (one, two, three, "rc.1", "b.5"));
     assert_eq!(parts("1.2.3+b.5")?, (one, two, three, "", "b.5"));
-    assert_eq!(parts("1.X.3")?, (one, Some(Wildcard), three, "", ""));
-    assert_eq!(parts("x")?, (Wildcard, None, None, "", ""));
+    assert_eq!(parts("1.X.3")?, (one, Some(Wildcard('X')), three, "", ""));
+    assert_eq!(parts("x")?, (Wildcard('x'), None, None, "", ""));
+    assert_eq!(parts("1.2.*-x.y")?, (one, two, Some(Wildcard('*')), "x.y", ""));
     // A number after a wildcard doesn't count. This one is 2^64.
     let largest = Some(Number(u64::MAX));
-    assert_eq!(parts("1.x.18446744073709551616")?, (one, Some(Wildcard), largest, "", ""));
+    assert_eq!(parts("1.x.18446744073709551616")?, (one, Some(Wildcard('x')), largest, "", ""));
     Ok(())
 }
 
@@ -96,5 +98,46 @@ fn iterators_are_cloned_and_end() -> Result<(), Error> {
     assert_eq!(found.next().map(|term| term.span), Some(Span { start: 9, end: 10 }));
     assert_eq!((found.next(), found.next()), (None, None));
     assert_eq!(again.count(), 2);
+    Ok(())
+}
+
+#[test]
+fn a_version_takes_the_form_of_another() -> Result<(), Error> {
+    let to = VersionRef::parse("3.1.4-rc.1+b5", Dialect::Npm)?;
+    let rewritten = |range| {
+        let version = terms(range, Dialect::Npm)?.next().unwrap().version;
+        Ok::<_, Error>((version.to_string(), version.with_version(&to).to_string()))
+    };
+    for (range, written, new) in [
+        ("^1", "1", "3"),
+        ("~> 1.2", "1.2", "3.1"),
+        ("v1.2.0", "v1.2.0", "v3.1.4-rc.1"),
+        ("=1.2.3-a.b+c.d", "1.2.3-a.b+c.d", "3.1.4-rc.1"),
+        ("1.2.3+c", "1.2.3+c", "3.1.4-rc.1"),
+        ("1.X", "1.X", "3.X"),
+        ("1.*.x", "1.*.x", "3.*.x"),
+        ("1.2.x-a", "1.2.x-a", "3.1.x"),
+        ("x.1.2", "x.1.2", "x.1.4"),
+        ("*", "*", "*"),
+    ] {
+        assert_eq!(rewritten(range)?, (written.to_string(), new.to_string()), "{range}");
+    }
+    let raised = terms("1 - v2.x", Dialect::Npm)?.next().unwrap().upper.unwrap();
+    assert_eq!(raised.with_version(&to).span, Span { start: 4, end: 8 });
+    Ok(())
+}
+
+#[test]
+fn a_version_of_a_range_is_replaced() -> Result<(), Error> {
+    let to = VersionRef::parse("3.1.4", Dialect::Npm)?;
+    let replaced = |range, start| {
+        layers::replace_version(range, start, &to, Dialect::Npm)
+            .map(|it| it.map(|(before, version, after)| format!("{before}{version}{after}")))
+    };
+    assert_eq!(replaced("1 - v2.x || ~3.0", 4), Ok(Some("1 - v3.x || ~3.0".to_string())));
+    assert_eq!(replaced("1 - v2.x || ~3.0", 13), Ok(Some("1 - v2.x || ~3.1".to_string())));
+    assert_eq!(replaced("1 - v2.x || ~3.0", 12), Ok(None));
+    assert_eq!(replaced("", 0), Ok(None));
+    assert_eq!(replaced("1 |", 0), Err(RangeError::NotARange));
     Ok(())
 }

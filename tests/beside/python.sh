@@ -48,7 +48,7 @@ terms("1", dialect="npm")[0].version.major + 1
 terms("1", dialect="npm")[0].upper.start
 END
     ! MYPYPATH=. mypy --config-file ../pyproject.toml --cache-dir "$work/types" "$work/wrong.py" > "$work/wrong" || refuse 'mypy finds no error'
-    [ "$(grep -c ': error: ' "$work/wrong")" = 12 ] || refuse "mypy finds other errors: $(cat "$work/wrong")"
+    [ "$(grep -c ': error: ' "$work/wrong")" = 14 ] || refuse "mypy finds other errors: $(cat "$work/wrong")"
 else
     echo 'mypy: skipped, since it is not there (Debian: apt-get install mypy python3-typeshed)'
 fi

@@ -561,6 +561,16 @@ static void terms(const call *it, text *to) {
     }
 }
 
+/* A range with a version of another string at an offset, which is mostly no version's. */
+static void replaced(const call *it, text *to) {
+    semver_parser_error error = before;
+    char *string = NULL;
+    semver_parser_status status = semver_parser_replace_version(
+        second_of(it), it->index % 4, first_of(it), it->dialect, &string, &error);
+    say_error(to, status, &error);
+    say_made(to, status, string);
+}
+
 /* Some are there more than once, and are called more often. */
 static const struct {
     const char *name;
@@ -587,6 +597,7 @@ static const struct {
     {"comparators_of_range", comparators},
     {"comparators_get and to_string", kept_comparators},
     {"terms_of_range and operator_sign", terms},
+    {"replace_version", replaced},
 };
 
 size_t functions_count(void) {

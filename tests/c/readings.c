@@ -511,6 +511,42 @@ static void parts_are(const char *bytes, bool has_v, const semver_parser_compone
           "another build", bytes);
 }
 
+/* A range, and it with 3.1.4-rc.1+b5 in place of the version at an offset. */
+static void replaced_is(
+    semver_parser_dialect dialect, const char *range, size_t start, const char *wanted) {
+    char *made = NULL;
+    semver_parser_status status = semver_parser_replace_version(
+        semver_parser_str(range), start, semver_parser_str("3.1.4-rc.1+b5"), dialect, &made, NULL);
+    check(status == SEMVER_PARSER_OK && strcmp(made, wanted) == 0, "another replacement", range);
+    semver_parser_free(made);
+}
+
+/* What is no version of the range, or no range, or no version. */
+static void not_replaced(
+    const char *range, size_t start, const char *version, semver_parser_status wanted,
+    size_t wanted_index) {
+    char *made = NULL;
+    semver_parser_error error;
+    memset(&error, 0, sizeof error);
+    semver_parser_status status = semver_parser_replace_version(
+        semver_parser_str(range), start, semver_parser_str(version), NPM, &made, &error);
+    check(status == wanted && error.status == wanted && error.index == wanted_index && made == NULL,
+          "another error of a replacement", range);
+}
+
+static void replaced(void) {
+    replaced_is(NPM, "v1.2 || >= 1.2.3-a+b", 0, "v3.1 || >= 1.2.3-a+b");
+    replaced_is(NPM, "v1.2 || >= 1.2.3-a+b", 11, "v1.2 || >= 3.1.4-rc.1");
+    replaced_is(NPM, "1.X - 2.*.x", 0, "3.X - 2.*.x");
+    replaced_is(NPM, "1.X - 2.*.x", 6, "1.X - 3.*.x");
+    replaced_is(CARGO, ">=1.2.0, <2", 10, ">=1.2.0, <3");
+    not_replaced("^1.2", 0, "2.0.0", SEMVER_PARSER_INVALID_ARGUMENT, 0);
+    not_replaced("^1.2", 5, "2.0.0", SEMVER_PARSER_INVALID_ARGUMENT, 0);
+    not_replaced("^1.02", 1, "2.0.0", SEMVER_PARSER_INVALID_RANGE, 0);
+    not_replaced("^9007199254740992", 1, "2.0.0", SEMVER_PARSER_NUMBER_TOO_LARGE, 0);
+    not_replaced("^1.2", 1, "2.0", SEMVER_PARSER_INVALID_VERSION, 1);
+}
+
 static void terms(void) {
     static const wanted_term of_npm[] = {
         {0, SEMVER_PARSER_OPERATOR_CARET, "^ v1.2", "v1.2", NULL},
@@ -534,9 +570,9 @@ static void terms(void) {
     parts_are("~10", false, one, "", "");
     /* 2^64 after a wildcard, where a number doesn't count. */
     static const semver_parser_component after[] = {
-        {NUMBER, 1}, {SEMVER_PARSER_COMPONENT_WILDCARD, 0}, {NUMBER, UINT64_MAX}};
+        {NUMBER, 1}, {SEMVER_PARSER_COMPONENT_WILDCARD, 'x'}, {NUMBER, UINT64_MAX}};
     parts_are("1.x.18446744073709551616", false, after, "", "");
-    static const char *const signs[] = {"", "=", "<", "<=", ">", ">=", "~", "^", "-"};
+    static const char *const signs[] = {"<", "<=", ">", ">=", "=", "~", "^", "", "-"};
     for (int at = 0; at < 9; at++) {
         check(strcmp(semver_parser_operator_sign(at), signs[at]) == 0, "another sign", signs[at]);
     }
@@ -553,5 +589,6 @@ int main(void) {
     long_identifiers();
     comparators();
     terms();
+    replaced();
     return finish("readings");
 }

@@ -186,6 +186,11 @@ static semver_parser_status terms(const arguments *with, outputs *to) {
         with->strings[1], with->options.dialect, found, 4, &to->index, with->error);
 }
 
+static semver_parser_status replace(const arguments *with, outputs *to) {
+    return semver_parser_replace_version(
+        with->strings[1], 1, with->strings[0], with->options.dialect, &to->string, with->error);
+}
+
 static semver_parser_status print_list(const arguments *with, outputs *to) {
     return semver_parser_comparators_to_string(with->list, &to->string);
 }
@@ -205,6 +210,7 @@ static const struct {
     {parse, "parse_version", NOTHING, false, true},
     {order, "compare_versions", NOTHING, false, true},
     {terms, "terms_of_range", NOTHING, false, true},
+    {replace, "replace_version", STRING, true, true},
     {make_set, "range_parse", SET, true, true},
     {contains, "range_contains", NOTHING, false, true},
     {contains_each, "range_contains_each", NOTHING, false, false},

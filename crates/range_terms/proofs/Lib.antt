@@ -4,6 +4,7 @@ pub mod FoundWords
 pub mod FoundTerms
 pub mod FoundComparators
 pub mod Bars
+pub mod Dots
 pub mod MadeVersions
 pub mod LowBytes
 pub mod Places

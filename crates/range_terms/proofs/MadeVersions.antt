@@ -1,6 +1,7 @@
 -- serves: range_terms::terms::TermsIterator::next
 -- The version that is made of components is that of their partial.
-use Rattle.std.proofs.Common.{◌≡◌, true, List, refl, sym, ap, ◌∙◌}
+use Rattle.std.proofs.Common.{◌≡◌, true, List, ◌∷◌, ◌++◌, append_assoc, refl, sym, ap, ◌∙◌}
+use Rattle.std.proofs.lemmas.Bool.{and_parts}
 use Rattle.std.proofs.Common.{Option, Some, None}
 use Rattle.std.specs.Prelude.{nat_lt}
 use Rattle.std.specs.Bool.{then_some}
@@ -9,7 +10,7 @@ use Rattle.semver_texts.specs.Texts.{Text, cut_at_dots, is_part}
 use Rattle.semver_texts.specs.declared.grammar.Grammar.{Grammar}
 use Rattle.semver_texts.proofs.PartRuns.{joined_cut}
 use Rattle.semver_ranges.specs.declared.partial.Components.{Components}
-use Rattle.semver_ranges.specs.RangeTree.{PartialTree, SpellsPartial, build_parts, one, three, two}
+use Rattle.semver_ranges.specs.RangeTree.{PartialTree, SpellsPartial, build_parts, is_component, one, qualifier, three, two}
 use Rattle.semver_ranges.specs.Steps.PartialViews.{AreWritten, IsComponentOf}
 use Rattle.semver_ranges.specs.Steps.Reading.{after_v, component, with_first}
 use Rattle.semver_ranges.proofs.ReadingPieces.{PartialAt, component_sound, first_sound}
@@ -43,24 +44,38 @@ pub record Made (p : PartialTree) (first : Component) (second third : Option Com
   pub minor : second ≡ minor_of p
   pub patch : third ≡ patch_of p
 
-pub components_made : (p : PartialTree) (c : Components) → AreWritten p c → (first second third : Component)
-    → ((t : Text) → IsComponentOf t c.major → first ≡ component_of t)
-    → ((t : Text) → IsComponentOf t c.minor → second ≡ component_of t)
-    → ((t : Text) → IsComponentOf t c.patch → third ≡ component_of t)
-    → (minor patch : Option Component) → minor ≡ then_some (nat_lt 1 c.count) second → patch ≡ then_some (nat_lt 2 c.count) third
-    → Made p first minor patch
-components_made (one a) c w first second third f g h minor patch m n = record {
-  major = f a w.stand.0;
+-- the pieces of a text that begins with a partial, each after a dot, are its components
+pub components_made : (p : PartialTree) (c : Components) → AreWritten p c → (word rest text second third : Text)
+    → SpellsPartial p word → text ≡ word ++ rest
+    → ((x r : Text) → is_component x ≡ true → text ≡ x ++ (46 ∷ r) → second ≡ r)
+    → ((x r : Text) → is_component x ≡ true → second ≡ x ++ (46 ∷ r) → third ≡ r)
+    → (a b c' : Component)
+    → ((x r : Text) → IsComponentOf x c.major → text ≡ x ++ r → a ≡ component_of x)
+    → ((x r : Text) → IsComponentOf x c.minor → second ≡ x ++ r → b ≡ component_of x)
+    → ((x r : Text) → IsComponentOf x c.patch → third ≡ x ++ r → c' ≡ component_of x)
+    → (minor patch : Option Component) → minor ≡ then_some (nat_lt 1 c.count) b → patch ≡ then_some (nat_lt 2 c.count) c'
+    → Made p a minor patch
+components_made (one x) c w word rest text second third spelled whole next last a b c' f g h minor patch m n = record {
+  major = f x rest w.stand.0 (rw (whole, spelled.2) (simp append_assoc));
   minor = m ∙ rw w.count refl;
   patch = n ∙ rw w.count refl;
 }
-components_made (two a b) c w first second third f g h minor patch m n = record {
-  major = f a w.stand.0;
-  minor = m ∙ rw w.count (ap Some (g b w.stand.1));
-  patch = n ∙ rw w.count refl;
-}
-components_made (three a b d pre build) c w first second third f g h minor patch m n = record {
-  major = f a w.stand.0;
-  minor = m ∙ rw w.count (ap Some (g b w.stand.1));
-  patch = n ∙ rw w.count (ap Some (h d w.stand.2));
-}
+components_made (two x y) c w word rest text second third spelled whole next last a b c' f g h minor patch m n =
+    let each = and_parts (is_component x) _ spelled.0 in
+    let all : text ≡ x ++ (46 ∷ (y ++ rest)) = rw (whole, spelled.2) (simp append_assoc) in
+    record {
+      major = f x (46 ∷ (y ++ rest)) w.stand.0 all;
+      minor = m ∙ rw w.count (ap Some (g y rest w.stand.1 (next x (y ++ rest) each.0 all)));
+      patch = n ∙ rw w.count refl;
+    }
+components_made (three x y z pre build) c w word rest text second third spelled whole next last a b c' f g h minor patch m n =
+    let first = and_parts (is_component x) _ spelled.0 in
+    let other = and_parts (is_component y) _ first.1 in
+    let back = qualifier (three x y z pre build) ++ rest in
+    let all : text ≡ x ++ (46 ∷ (y ++ (46 ∷ (z ++ back)))) = rw (whole, spelled.2) (simp append_assoc) in
+    let after = next x (y ++ (46 ∷ (z ++ back))) first.0 all in
+    record {
+      major = f x (46 ∷ (y ++ (46 ∷ (z ++ back)))) w.stand.0 all;
+      minor = m ∙ rw w.count (ap Some (g y (46 ∷ (z ++ back)) w.stand.1 after));
+      patch = n ∙ rw w.count (ap Some (h z back w.stand.2 (last y (z ++ back) other.0 after)));
+    }

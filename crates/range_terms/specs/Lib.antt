@@ -1,4 +1,6 @@
 pub mod OperatorTable
 pub mod WrittenTerms
+pub mod WrittenTexts
+pub mod Rewriting
 pub mod Replacing
 pub mod Steps

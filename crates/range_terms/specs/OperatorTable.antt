@@ -6,16 +6,16 @@ use Rattle.range_terms.specs.declared.term.Operator.TheVariants.{Bare, Equal, Le
 use Rattle.range_terms.specs.declared.term.Operator.TheVariants.{Greater, GreaterOrEqual, Tilde}
 use Rattle.range_terms.specs.declared.term.Operator.TheVariants.{Caret, Hyphen}
 
--- its number in C, Python and JavaScript
+-- its number in C: the operators of comparators have the numbers that they have there
 abbrev pub number_of : Operator → ℤ
-number_of Bare = pos 0
-number_of Equal = pos 1
-number_of Less = pos 2
-number_of LessOrEqual = pos 3
-number_of Greater = pos 4
-number_of GreaterOrEqual = pos 5
-number_of Tilde = pos 6
-number_of Caret = pos 7
+number_of Less = pos 0
+number_of LessOrEqual = pos 1
+number_of Greater = pos 2
+number_of GreaterOrEqual = pos 3
+number_of Equal = pos 4
+number_of Tilde = pos 5
+number_of Caret = pos 6
+number_of Bare = pos 7
 number_of Hyphen = pos 8
 
 -- how it is written; `~>` is the same as `~`

@@ -2,7 +2,7 @@
 -- grammar cuts the text.
 use Prim.Native.Char.{code}
 use Rattle.std.specs.Prelude.{ℕ, ◌+◌, ◌-◌, ◌^◌, suc, Bool, if◌then◌else◌, Option, Some, None}
-use Rattle.std.specs.Prelude.{option_map, List, [], ◌∷◌, ◌++◌, length}
+use Rattle.std.specs.Prelude.{option_map, List, [], ◌∷◌, ◌++◌, length, slice_index}
 use Rattle.std.specs.Str.Parse.{digits_value}
 use Rattle.std.specs.List.{join_with_byte}
 use Rattle.semver_texts.specs.Texts.{Text, begins_with}
@@ -69,10 +69,11 @@ term_value t =
 
 -- ---- what is written in a word
 
--- the component that a text is: a wildcard, or the value of its digits, at most 2^64 - 1
+-- the component that a text is: a wildcard, which is one byte, or the value of its digits, at most
+-- 2^64 - 1
 abbrev pub component_of : Text → Component
 component_of c =
-    if is_wildcard c then Wildcard
+    if is_wildcard c then Wildcard (slice_index c 0)
     else Number (if fits_u64 (digits_value 10 c) then digits_value 10 c else 2 ^ 64 - 1)
 
 -- those of a partial, which has one to three

@@ -1,7 +1,14 @@
 //! A term of a range text, as it is written.
 
-ghost use Rattle.std.specs.Prelude.{◌≡◌};
+ghost use Rattle.std.specs.Prelude.{◌≡◌, option_map};
+ghost use Rattle.std.specs.Fmt.{WritesOnOk};
 ghost use Rattle.range_terms.specs.OperatorTable.{number_of, sign_of};
+ghost use Rattle.range_terms.specs.Rewriting.{component_with, states_three, with_version};
+ghost use Rattle.range_terms.specs.WrittenTerms.{version_value};
+ghost use Rattle.range_terms.specs.WrittenTexts.{dot_text, part_text};
+
+use semver_versions::version::Outline;
+use std::fmt;
 
 /// What a term begins with, or that it is a hyphen range.
 ///
@@ -37,26 +44,27 @@ pub enum Operator {
 
 impl Operator {
     // Answer: equation.
-    /// Returns its number in C, Python and JavaScript.
+    /// Returns its number in the C API. The operators of comparators have the numbers that they have
+    /// there.
     ///
     /// ```
     /// use semver_parser::Operator;
     ///
-    /// assert_eq!((Operator::Bare.number(), Operator::Hyphen.number()), (0, 8));
+    /// assert_eq!((Operator::Less.number(), Operator::Hyphen.number()), (0, 8));
     /// ```
     #[must_use]
     pub fn number(self) -> i32
         ensures { result ≡ number_of self }
     {
         match self {
-            Operator::Bare => 0,
-            Operator::Equal => 1,
-            Operator::Less => 2,
-            Operator::LessOrEqual => 3,
-            Operator::Greater => 4,
-            Operator::GreaterOrEqual => 5,
-            Operator::Tilde => 6,
-            Operator::Caret => 7,
+            Operator::Less => 0,
+            Operator::LessOrEqual => 1,
+            Operator::Greater => 2,
+            Operator::GreaterOrEqual => 3,
+            Operator::Equal => 4,
+            Operator::Tilde => 5,
+            Operator::Caret => 6,
+            Operator::Bare => 7,
             Operator::Hyphen => 8,
         }
     }
@@ -94,15 +102,33 @@ impl Operator {
 /// use semver_parser::{terms, Component, Dialect};
 ///
 /// let version = terms("^1.*", Dialect::Npm)?.next().unwrap().version;
-/// assert_eq!((version.major, version.minor), (Component::Number(1), Some(Component::Wildcard)));
+/// assert_eq!(version.major, Component::Number(1));
+/// assert_eq!(version.minor, Some(Component::Wildcard('*')));
 /// # Ok::<(), semver_parser::Error>(())
 /// ```
 #[derive(Clone, Copy, PartialEq, Eq, Hash, Debug)]
 pub enum Component {
     /// A number. One above 2^64 - 1, which can only be after a wildcard, is 2^64 - 1.
     Number(u64),
-    /// `x`, `X` or `*`.
-    Wildcard,
+    /// A wildcard: `x`, `X` or `*`, as it is written.
+    Wildcard(char),
+}
+
+// Answer: equation.
+impl fmt::Display for Component {
+    ghost use Rattle.std.specs.Prelude.{Some};
+    ghost use Rattle.range_terms.specs.WrittenTexts.{component_text};
+
+    ghost output = { λ component. Some (component_text component) };
+
+    /// Writes the number, or the wildcard as it is written. It does not allocate, and its only error
+    /// is the writer's.
+    fn fmt<W: fmt::Write>(&self, f: &mut fmt::Formatter<W>) -> fmt::Result {
+        match self {
+            Component::Number(number) => write!(f, "{number}"),
+            Component::Wildcard(character) => write!(f, "{character}"),
+        }
+    }
 }
 
 /// Where something is in a string: from a byte to the byte after it.
@@ -132,7 +158,7 @@ pub struct Span {
 /// let version = term.version;
 /// assert_eq!((version.span, version.has_v), (Span { start: 3, end: 7 }, true));
 /// assert_eq!(version.major, Component::Number(1));
-/// assert_eq!((version.minor, version.patch), (Some(Component::Wildcard), None));
+/// assert_eq!((version.minor, version.patch), (Some(Component::Wildcard('x')), None));
 /// # Ok::<(), semver_parser::Error>(())
 /// ```
 #[derive(Clone, Copy, PartialEq, Eq, Hash, Debug)]
@@ -151,6 +177,122 @@ pub struct PartialVersion<'text> {
     pub pre: &'text str,
     /// The build metadata after three components, without its `+`; empty if there is none.
     pub build: &'text str,
+}
+
+impl<'text> PartialVersion<'text> {
+    // Answer: equation.
+    /// Returns the numbers of another version in the form of this one: with as many components, with
+    /// its wildcards, and with a `v` if it has one. The pre-release of the other version is kept if
+    /// three numbers are stated here, and its build metadata is left out. The span stays that of this
+    /// version, whose string the result may replace.
+    ///
+    /// ```
+    /// use semver_parser::{terms, Dialect, VersionRef};
+    ///
+    /// let mut range = String::from(">=1.2 || v1.x");
+    /// let written = terms(&range, Dialect::Npm)?.last().unwrap().version;
+    /// let version = VersionRef::parse("3.1.4-rc.1", Dialect::Npm)?;
+    /// let (span, raised) = (written.span, written.with_version(&version).to_string());
+    /// assert_eq!(raised, "v3.x");
+    /// range.replace_range(span.range(), &raised);
+    /// assert_eq!(range, ">=1.2 || v3.x");
+    /// # Ok::<(), semver_parser::Error>(())
+    /// ```
+    #[must_use]
+    pub fn with_version<'version>(&self, version: &Outline<'version>) -> PartialVersion<'version>
+        ensures { version_value result ≡ with_version (version_value self.now) version.now }
+    {
+        PartialVersion {
+            span: self.span,
+            has_v: self.has_v,
+            major: with_number(self.major, version.major()),
+            minor: with_number_if_written(self.minor, version.minor()),
+            patch: with_number_if_written(self.patch, version.patch()),
+            pre: if self.states_three() {
+                version.pre()
+            } else {
+                ""
+            },
+            build: "",
+        }
+    }
+
+    /// Whether it states three numbers.
+    fn states_three(&self) -> bool
+        ensures { result ≡ states_three (version_value self.now) }
+    {
+        matches!(
+            (self.major, self.minor, self.patch),
+            (
+                Component::Number(_),
+                Some(Component::Number(_)),
+                Some(Component::Number(_))
+            )
+        )
+    }
+}
+
+/// A component with another number; a wildcard stays as it is.
+fn with_number(component: Component, number: u64) -> Component
+    ensures { result ≡ component_with number component }
+{
+    match component {
+        Component::Number(_) => Component::Number(number),
+        Component::Wildcard(character) => Component::Wildcard(character),
+    }
+}
+
+/// The same, if it is written.
+fn with_number_if_written(component: Option<Component>, number: u64) -> Option<Component>
+    ensures { result ≡ option_map (component_with number) component }
+{
+    match component {
+        Some(component) => Some(with_number(component, number)),
+        None => None,
+    }
+}
+
+// Answer: equation.
+impl<'text> fmt::Display for PartialVersion<'text> {
+    ghost use Rattle.std.specs.Prelude.{Some};
+    ghost use Rattle.range_terms.specs.WrittenTerms.{version_value};
+    ghost use Rattle.range_terms.specs.WrittenTexts.{version_text};
+
+    ghost output = { λ version. Some (version_text (version_value version)) };
+
+    /// Writes the version as it is in the range. It does not allocate, and its only error is the
+    /// writer's.
+    fn fmt<W: fmt::Write>(&self, f: &mut fmt::Formatter<W>) -> fmt::Result {
+        let (v, major) = (if self.has_v { "v" } else { "" }, self.major);
+        write!(f, "{v}{major}")?;
+        write_component(f, self.minor)?;
+        write_component(f, self.patch)?;
+        write_part(f, "-", self.pre)?;
+        write_part(f, "+", self.build)
+    }
+}
+
+/// Writes a component after a dot, if it is written.
+fn write_component<W: fmt::Write>(
+    f: &mut fmt::Formatter<W>,
+    component: Option<Component>,
+) -> fmt::Result
+    ensures { WritesOnOk W.write_str_gives f.old result (dot_text component) f.new }
+{
+    match component {
+        Some(component) => write!(f, ".{component}"),
+        None => Ok(()),
+    }
+}
+
+/// Writes a part after its mark, if there is one.
+fn write_part<W: fmt::Write>(f: &mut fmt::Formatter<W>, mark: &str, part: &str) -> fmt::Result
+    ensures { WritesOnOk W.write_str_gives f.old result (part_text mark.now part.now) f.new }
+{
+    if part.is_empty() {
+        return Ok(());
+    }
+    write!(f, "{mark}{part}")
 }
 
 /// A term of a range, as it is written.

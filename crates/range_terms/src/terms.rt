@@ -1,10 +1,11 @@
 //! The terms of a range text, one after the other. Nothing here allocates.
 
-ghost use Rattle.std.specs.Prelude.{◌≡◌, ◌≢◌, ◌≤◌, ◌<◌, ◌+◌, true, Err, IfOk, IfSome};
-ghost use Rattle.std.specs.Prelude.{length, option_map};
+ghost use Rattle.std.specs.Prelude.{◌≡◌, ◌≢◌, ◌≤◌, ◌<◌, ◌+◌, ◌++◌, true, Err, IfOk, IfSome};
+ghost use Rattle.std.specs.Prelude.{[], ◌∷◌, length, option_map, slice_index};
 ghost use Rattle.std.specs.List.{AllByRecursion, list_all};
-ghost use Rattle.semver_texts.specs.Texts.{Text, cut_at_dots, is_part};
-ghost use Rattle.semver_ranges.specs.RangeTree.{PartialTree};
+ghost use Rattle.semver_texts.specs.Texts.{Text, begins_with, cut_at_dots, is_part};
+ghost use Rattle.semver_ranges.specs.RangeTree.{PartialTree, SpellsPartial, is_component};
+ghost use Rattle.semver_ranges.specs.RangeTree.{is_wildcard};
 ghost use Rattle.semver_ranges.specs.Steps.CursorViews.{form_of};
 ghost use Rattle.semver_ranges.specs.Steps.PartialViews.{AreWritten, IsComponentOf};
 ghost use Rattle.tool_ranges.specs.Dialects.{RefusesAs, SpellsAs, TreeOf};
@@ -20,7 +21,7 @@ use semver_ranges::grammar::{
     Form, after_bars, after_blanks, after_v, read_components, read_operator,
 };
 use semver_ranges::partial::{self, Components};
-use semver_texts::dotted::{strip_mark, text_of_parts};
+use semver_texts::dotted::{split_at_dot, strip_mark, text_of_parts};
 use semver_texts::grammar::Grammar;
 use std::marker::Model;
 use tool_ranges::dialect::Dialect;
@@ -215,38 +216,78 @@ fn read_version(text: &[u8], grammar: Grammar, len: usize) -> Option<(PartialVer
     ensures found { IsFound (version_in grammar len text.now) result }
     ensures fewer { IfSome result (λ found. length found.1.now < length text.now) }
 {
-    let (written, rest) = read_components(after_v(text, grammar))?;
+    let word = after_v(text, grammar);
+    let (written, rest) = read_components(word)?;
     let span = Span {
         start: len - text.len(),
         end: len - rest.len(),
     };
-    Some((version(span, matches!(text, [b'v', ..]), &written), rest))
+    Some((version(span, begins_with_v(text), word, &written), rest))
 }
 
-/// The version of some components.
-fn version<'text>(span: Span, has_v: bool, written: &Components<'text>) -> PartialVersion<'text>
+/// Whether a text begins with `v`.
+fn begins_with_v(text: &[u8]) -> bool
+    ensures { result ≡ begins_with 118 text.now }
+{
+    matches!(text, [b'v', ..])
+}
+
+/// The version of the components that are at the front of a text.
+fn version<'text>(
+    span: Span,
+    has_v: bool,
+    text: &[u8],
+    written: &Components<'text>,
+) -> PartialVersion<'text>
     requires { (p : PartialTree) × AreWritten p written.now
         × (list_all is_part (cut_at_dots written.now.build.now) ≡ true) }
-    ensures { (p : PartialTree) → AreWritten p written.now → IsVersionOf span has_v p result }
+    ensures { (p : PartialTree) (word rest : Text) → SpellsPartial p word → text.now ≡ word ++ rest
+        → AreWritten p written.now → IsVersionOf span has_v p result }
 {
+    let second = after_dot(text);
+    let third = after_dot(second);
     PartialVersion {
         span,
         has_v,
-        major: component(written.major),
-        minor: (written.count > 1).then_some(component(written.minor)),
-        patch: (written.count > 2).then_some(component(written.patch)),
+        major: component(written.major, text),
+        minor: (written.count > 1).then_some(component(written.minor, second)),
+        patch: (written.count > 2).then_some(component(written.patch, third)),
         pre: text_of_parts(written.pre),
         build: text_of_parts(written.build),
     }
 }
 
-/// The component that was read.
-fn component(read: partial::Component) -> Component
-    ensures { (t : Text) → IsComponentOf t read → result ≡ component_of t }
+/// What follows the first dot of a text: nothing if there is none.
+fn after_dot(text: &[u8]) -> &[u8]
+    ensures { (word rest : Text) → is_component word ≡ true → text.now ≡ word ++ (46 ∷ rest)
+        → result.now ≡ rest }
+{
+    match split_at_dot(text) {
+        (_, Some(after)) => after,
+        (_, None) => &[],
+    }
+}
+
+/// The component that was read at the front of a text.
+fn component(read: partial::Component, text: &[u8]) -> Component
+    ensures { (word rest : Text) → IsComponentOf word read → text.now ≡ word ++ rest
+        → result ≡ component_of word }
 {
     match read {
         partial::Component::Number(number) => Component::Number(number.unwrap_or(u64::MAX)),
-        partial::Component::Wildcard => Component::Wildcard,
+        partial::Component::Wildcard => Component::Wildcard(wildcard(text)),
+    }
+}
+
+/// The wildcard at the front of a text.
+fn wildcard(text: &[u8]) -> char
+    ensures { (word rest : Text) → is_wildcard word ≡ true → text.now ≡ word ++ rest
+        → result ≡ slice_index word 0 }
+{
+    match text {
+        [b'X', ..] => 'X',
+        [b'*', ..] => '*',
+        _ => 'x',
     }
 }
 

@@ -48,7 +48,7 @@ no_dot_in_digits : (t : Text) → all_ascii_digits t ≡ true → AllByRecursion
 no_dot_in_digits [] e = tt
 no_dot_in_digits (b ∷ t) e = (grind (arith, nat_tests), no_dot_in_digits t (grind arith))
 
-no_dot : (t : Text) → is_component t ≡ true → AllByRecursion (λ b. is_dot b ≡ false) t
+pub no_dot : (t : Text) → is_component t ≡ true → AllByRecursion (λ b. is_dot b ≡ false) t
 no_dot [] e = tt
 no_dot (b ∷ []) e = (grind (arith, nat_tests), tt)
 no_dot (b ∷ c ∷ t) e = no_dot_in_digits (b ∷ c ∷ t) (grind arith)

@@ -11,9 +11,7 @@
  * The status is 0 if the range that is printed contains the version. It is 1 if the requirement
  * can't be raised like this, for example if its last term is `<2` or a hyphen range, and 2 if an
  * argument is invalid, an allocation failed, or the output can't be written. */
-#define _POSIX_C_SOURCE 200809L
 #include <errno.h>
-#include <inttypes.h>
 #include <semver_parser.h>
 #include <stdio.h>
 #include <stdlib.h>
@@ -41,94 +39,38 @@ static semver_parser_status read_last(
     return status;
 }
 
-/* Writes the version as it replaces one that is written in a range as `string`. */
-static void write_version(
-    FILE *to, const semver_parser_version *version, const semver_parser_partial_version *written,
-    const char *string) {
-    const semver_parser_component components[] = {written->major, written->minor, written->patch};
-    const uint64_t numbers[] = {version->major, version->minor, version->patch};
-    const char *rest = string;
-    int stated = 0;
-    fputs(written->has_v ? "v" : "", to);
-    for (int at = 0; at < 3 && components[at].kind != SEMVER_PARSER_COMPONENT_NONE; at++) {
-        fputs(at > 0 ? "." : "", to);
-        if (components[at].kind == SEMVER_PARSER_COMPONENT_NUMBER) {
-            fprintf(to, "%" PRIu64, numbers[at]);
-            stated++;
-        } else {
-            rest += strcspn(rest, "xX*");
-            fputc(*rest++, to);
-        }
-    }
-    if (stated == 3 && version->pre.length > 0) {
-        fputc('-', to);
-        fwrite(version->pre.data, 1, version->pre.length, to);
-    }
-}
-
-/* Makes a range whose last term has another version. */
-static semver_parser_status with_version(
-    const char *range, semver_parser_string version, semver_parser_dialect dialect,
-    const semver_parser_partial_version *written, char **made) {
-    semver_parser_version parsed;
-    semver_parser_status status = semver_parser_parse_version(version, dialect, &parsed, NULL);
-    if (status != SEMVER_PARSER_OK) {
-        return status;
-    }
-    size_t length;
-    FILE *to = open_memstream(made, &length);
-    if (to == NULL) {
-        return SEMVER_PARSER_OUT_OF_MEMORY;
-    }
-    fwrite(range, 1, written->start, to);
-    write_version(to, &parsed, written, range + written->start);
-    fputs(range + written->end, to);
-    bool is_whole = !ferror(to);
-    if (fclose(to) == 0 && is_whole) {
-        return SEMVER_PARSER_OK;
-    }
-    free(*made);
-    *made = NULL;
-    return SEMVER_PARSER_OUT_OF_MEMORY;
-}
-
 static bool is_raised(semver_parser_operator op) {
     return op == SEMVER_PARSER_OPERATOR_BARE || op == SEMVER_PARSER_OPERATOR_EQUAL
         || op == SEMVER_PARSER_OPERATOR_TILDE || op == SEMVER_PARSER_OPERATOR_CARET;
 }
 
-/* Makes a range that contains the version, which the caller frees: the range itself if it does, or
- * else the range with another version in its last term. `made` is null if there is no such range.
- * After an error that isn't OUT_OF_MEMORY, `error` says what is wrong with which of the two. */
-static semver_parser_status raised(
-    const char *range, const char *version, semver_parser_dialect dialect, char **made,
-    semver_parser_error *error) {
-    const semver_parser_string strings[] = {semver_parser_str(version), semver_parser_str(range)};
+/* Whether a range contains a version; if it doesn't, makes a range that does, with another version in
+ * the last term. semver_parser_free frees it. `made` is null if there is no such range. After an
+ * error that isn't OUT_OF_MEMORY, `error` says what is wrong with which of the two. */
+static semver_parser_status raise_to(
+    semver_parser_string range, semver_parser_string version, semver_parser_dialect dialect,
+    bool *contains, char **made, semver_parser_error *error) {
     const semver_parser_options options = semver_parser_options_of(dialect);
-    bool contains;
     *made = NULL;
-    semver_parser_status status
-        = semver_parser_satisfies(strings[0], strings[1], options, &contains, error);
-    if (status != SEMVER_PARSER_OK) {
+    semver_parser_status status = semver_parser_satisfies(version, range, options, contains, error);
+    if (status != SEMVER_PARSER_OK || *contains) {
         return status;
-    }
-    if (contains) {
-        *made = strdup(range);
-        return *made == NULL ? SEMVER_PARSER_OUT_OF_MEMORY : SEMVER_PARSER_OK;
     }
     semver_parser_term last;
     size_t count;
-    status = read_last(strings[1], dialect, &last, &count);
+    status = read_last(range, dialect, &last, &count);
     if (status != SEMVER_PARSER_OK || count == 0 || !is_raised(last.op)) {
         return status;
     }
-    status = with_version(range, strings[0], dialect, &last.version, made);
+    status = semver_parser_replace_version(
+        range, last.version.start, version, dialect, made, NULL);
+    bool is_in = false;
     if (status == SEMVER_PARSER_OK) {
         status = semver_parser_satisfies(
-            strings[0], semver_parser_str(*made), options, &contains, NULL);
+            version, semver_parser_str(*made), options, &is_in, NULL);
     }
-    if (status != SEMVER_PARSER_OK || !contains) {
-        free(*made);
+    if (!is_in) {
+        semver_parser_free(*made);
         *made = NULL;
     }
     /* The new range is invalid if the version is at one of the dialect's limits. */
@@ -161,19 +103,22 @@ int main(int count, char **arguments) {
         fprintf(stderr, "raise-requirement RANGE VERSION [npm|cargo|crate-npm|crate-cargo]\n");
         return 2;
     }
+    bool contains;
     char *made;
     semver_parser_error error = {0};
-    semver_parser_status status = raised(arguments[1], arguments[2], dialects[at], &made, &error);
+    semver_parser_status status = raise_to(
+        semver_parser_str(arguments[1]), semver_parser_str(arguments[2]), dialects[at], &contains,
+        &made, &error);
     if (status != SEMVER_PARSER_OK) {
         report(status, &error, error.index == 0 ? arguments[2] : arguments[1]);
         return 2;
     }
-    if (made == NULL) {
+    if (!contains && made == NULL) {
         fprintf(stderr, "the range can't be raised so that it contains %s\n", arguments[2]);
         return 1;
     }
-    bool is_written = puts(made) != EOF && fflush(stdout) == 0;
-    free(made);
+    bool is_written = puts(contains ? arguments[1] : made) != EOF && fflush(stdout) == 0;
+    semver_parser_free(made);
     if (!is_written) {
         fprintf(stderr, "the output can't be written: %s\n", strerror(errno));
         return 2;

@@ -13,7 +13,7 @@
 // argument is invalid.
 'use strict'
 
-const { satisfies, SemVer, terms } = require('semver-parser-proved')
+const { replaceVersion, satisfies, terms } = require('semver-parser-proved')
 
 /**
  * Returns a range that contains the version: the range itself if it does, or else the range with
@@ -22,26 +22,11 @@ const { satisfies, SemVer, terms } = require('semver-parser-proved')
  */
 function raised(range, version, dialect) {
   const options = { dialect }
-  const parsed = new SemVer(version, options)
   const last = terms(range, options).at(-1)
   if (satisfies(version, range, options)) return range
   if (last === undefined || !['', '=', '~', '^'].includes(last.operator)) return null
-  const { start, end } = last.version
-  const replacement = rewritten(parsed, last.version, range.slice(start, end))
-  const result = range.slice(0, start) + replacement + range.slice(end)
+  const result = replaceVersion(range, last.version, version, options)
   return satisfies(version, result, options) ? result : null
-}
-
-// The version as it replaces one that is written in a range as `string`.
-function rewritten(version, written, string) {
-  const wildcards = [...string].filter((it) => 'xX*'.includes(it))
-  const numbers = [version.major, version.minor, version.patch]
-  const components = [written.major, written.minor, written.patch]
-  const parts = numbers.map((number, at) => (components[at] === 'x' ? wildcards.shift() : number))
-  const count = components.filter((it) => it !== null).length
-  const isExact = count === 3 && !components.includes('x')
-  const pre = isExact && version.prerelease.length > 0 ? `-${version.prerelease.join('.')}` : ''
-  return (written.hasV ? 'v' : '') + parts.slice(0, count).join('.') + pre
 }
 
 function main(range, version, dialect = 'npm', ...more) {

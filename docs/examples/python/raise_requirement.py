@@ -15,8 +15,7 @@ invalid.
 import sys
 from typing import Optional
 
-from semver_parser import Dialect, PartialVersion, RangeError, SemverError, Version
-from semver_parser import satisfies, terms
+from semver_parser import Dialect, RangeError, SemverError, replace_version, satisfies, terms
 
 
 def raised(range: str, version: str, dialect: Dialect) -> Optional[str]:
@@ -30,29 +29,11 @@ def raised(range: str, version: str, dialect: Dialect) -> Optional[str]:
     found = terms(range, dialect=dialect)
     if not found or found[-1].operator not in ("", "=", "~", "^"):
         return None
-    last = found[-1].version
-    new = rewritten(Version.parse(version, dialect=dialect), last, range[last.start : last.end])
-    result = range[: last.start] + new + range[last.end :]
+    result = replace_version(range, found[-1].version, version, dialect=dialect)
     try:
         return result if satisfies(version, result, dialect=dialect) else None
     except RangeError:  # the version is at one of the dialect's limits
         return None
-
-
-def rewritten(version: Version, written: PartialVersion, string: str) -> str:
-    """Returns the version as it replaces one that is written in a range as `string`."""
-    wildcards = (it for it in string if it in "xX*")
-    components = [written.major, written.minor, written.patch]
-    numbers = [version.major, version.minor, version.patch]
-    parts = [
-        next(wildcards) if component == "x" else str(number)
-        for component, number in zip(components, numbers)
-        if component is not None
-    ]
-    result = ("v" if written.has_v else "") + ".".join(parts)
-    if version.is_prerelease and all(isinstance(it, int) for it in components):
-        result += "-" + ".".join(map(str, version.pre))
-    return result
 
 
 def main() -> int:

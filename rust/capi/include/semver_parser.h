@@ -433,25 +433,25 @@ semver_parser_status semver_parser_comparators_to_string(
 
 /* ---- terms: what a range has, as it is written */
 
-/* The numbers differ from those of semver_parser_op. */
+/* The operators of comparators have the numbers of semver_parser_op. */
 typedef int32_t semver_parser_operator;
 enum {
-    /* Nothing: `1.2` */
-    SEMVER_PARSER_OPERATOR_BARE = 0,
-    /* `=` */
-    SEMVER_PARSER_OPERATOR_EQUAL = 1,
     /* `<` */
-    SEMVER_PARSER_OPERATOR_LESS = 2,
+    SEMVER_PARSER_OPERATOR_LESS = 0,
     /* `<=` */
-    SEMVER_PARSER_OPERATOR_LESS_OR_EQUAL = 3,
+    SEMVER_PARSER_OPERATOR_LESS_OR_EQUAL = 1,
     /* `>` */
-    SEMVER_PARSER_OPERATOR_GREATER = 4,
+    SEMVER_PARSER_OPERATOR_GREATER = 2,
     /* `>=` */
-    SEMVER_PARSER_OPERATOR_GREATER_OR_EQUAL = 5,
+    SEMVER_PARSER_OPERATOR_GREATER_OR_EQUAL = 3,
+    /* `=` */
+    SEMVER_PARSER_OPERATOR_EQUAL = 4,
     /* `~`, or `~>` */
-    SEMVER_PARSER_OPERATOR_TILDE = 6,
+    SEMVER_PARSER_OPERATOR_TILDE = 5,
     /* `^` */
-    SEMVER_PARSER_OPERATOR_CARET = 7,
+    SEMVER_PARSER_OPERATOR_CARET = 6,
+    /* Nothing: `1.2` */
+    SEMVER_PARSER_OPERATOR_BARE = 7,
     /* The hyphen between two versions: `1.2 - 2.3` */
     SEMVER_PARSER_OPERATOR_HYPHEN = 8
 };
@@ -466,8 +466,8 @@ enum {
     SEMVER_PARSER_COMPONENT_WILDCARD = 2
 };
 
-/* A component of a version. `number` is 0 unless the kind is NUMBER. One above 2^64 - 1, which can
- * only be after a wildcard, is 2^64 - 1. */
+/* A component of a version. `number` is the number; one above 2^64 - 1, which can only be after a
+ * wildcard, is 2^64 - 1. For a WILDCARD it is the character 'x', 'X' or '*', and for NONE it is 0. */
 typedef struct {
     semver_parser_component_kind kind;
     uint64_t number;
@@ -506,7 +506,19 @@ semver_parser_status semver_parser_terms_of_range(
     semver_parser_string range, semver_parser_dialect dialect, semver_parser_term *terms,
     size_t capacity, size_t *count, semver_parser_error *error);
 
-/* Returns how an operator is written, an empty string for BARE; null if there is no such number. */
+/* Makes the string of a range in which a version has the numbers of another one. The version is the
+ * one of a term that begins at `start`. Its form is kept: how many components it has, its wildcards
+ * and its `v`. The pre-release of the other version is written if three numbers are stated, and its
+ * build metadata isn't: `^1.x || v2` becomes `^1.x || v3` by 3.1.4 at offset 8. Check the result with
+ * semver_parser_check_range, since a raised bound may be too large. semver_parser_free frees it.
+ * INVALID_RANGE, NUMBER_TOO_LARGE, INVALID_VERSION; INVALID_ARGUMENT if no version begins there. */
+SEMVER_PARSER_CHECKED(5)
+semver_parser_status semver_parser_replace_version(
+    semver_parser_string range, size_t start, semver_parser_string version,
+    semver_parser_dialect dialect, char **replaced, semver_parser_error *error);
+
+/* Returns how an operator is written, an empty string for BARE; null if there is no such number.
+ * It may be the operator of a term or of a comparator. */
 const char *semver_parser_operator_sign(semver_parser_operator op);
 
 #ifdef __cplusplus

@@ -63,6 +63,22 @@ pub fn terms(range: &[u8], number: i32) -> Answer<'_, Terms<'_>> {
     Terms::try_parse(range, dialect).map_err(refused(range, dialect, 0))
 }
 
+/// A range with another version at an offset, at which one of a term begins.
+pub fn replace_version<'a>(
+    range: &'a [u8],
+    start: usize,
+    bytes: &'a [u8],
+    number: i32,
+) -> Answer<'a, *mut c_char> {
+    let dialect = dialect(number)?;
+    let range = text(range, 0)?;
+    let version = version(bytes, dialect, 1)?;
+    let replaced = layers::replace_version(range, start, &version, dialect);
+    let (before, version, after) =
+        replaced.map_err(refused(range, dialect, 0))?.ok_or(Problem::Argument)?;
+    printed(format_args!("{before}{version}{after}"))
+}
+
 pub fn parse_version(bytes: &[u8], number: i32) -> Answer<'_, Version> {
     let outline = version(bytes, dialect(number)?, 0)?;
     let (major, minor, patch) = (outline.major(), outline.minor(), outline.patch());

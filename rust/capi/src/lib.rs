@@ -96,6 +96,9 @@ functions! {
     semver_parser_compare_versions(version: StringView, other: StringView, dialect: i32)
         -> order: i32, error = calls::compare_versions;
 
+    semver_parser_replace_version(range: StringView, start: usize, version: StringView, dialect: i32)
+        -> replaced: *mut c_char, error = calls::replace_version;
+
     semver_parser_range_parse(string: StringView, options: Options)
         -> range: *mut Range, error = calls::parse_range;
     semver_parser_range_free(range: *mut Range) = heap::free_value;

@@ -92,7 +92,7 @@ impl Component {
         match component {
             None => Component::default(),
             Some(proved::Component::Number(number)) => Component { kind: 1, number },
-            Some(proved::Component::Wildcard) => Component { kind: 2, number: 0 },
+            Some(proved::Component::Wildcard(it)) => Component { kind: 2, number: it.into() },
         }
     }
 }

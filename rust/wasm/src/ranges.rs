@@ -80,7 +80,7 @@ impl Write for Growing<'_> {
 }
 
 /// Hands back what is displayed as a string. Returns 0, or the status that memory ran out.
-fn show(shown: impl fmt::Display) -> i32 {
+pub fn show(shown: impl fmt::Display) -> i32 {
     state::with(|state| {
         state.text.clear();
         if write!(Growing(&mut state.text), "{shown}").is_err() {

@@ -1,8 +1,9 @@
 //! The terms of a range, as they are written.
 
-use crate::{bytes, state, status};
+use crate::versions::outline;
+use crate::{bytes, ranges, state, status};
 use core::str::from_utf8;
-use semver_parser::{Component, Dialect, PartialVersion, Term, Terms};
+use semver_parser::{layers, Component, Dialect, PartialVersion, Term, Terms};
 
 /// How many numbers a term consists of.
 const NUMBERS: usize = 32;
@@ -77,11 +78,43 @@ fn numbers_of_version(version: &PartialVersion<'_>, begin: usize) -> [u64; 13] {
     ]
 }
 
-/// The kind of a component and its number: 0 if it isn't written, 1 of a number, 2 of a wildcard.
+/// The kind of a component and its number: 0 if it isn't written, 1 of a number, and 2 of a wildcard,
+/// whose number is that of its character.
 fn numbers_of_component(component: Option<Component>) -> [u64; 2] {
     match component {
         None => [0, 0],
         Some(Component::Number(number)) => [1, number],
-        Some(Component::Wildcard) => [2, 0],
+        Some(Component::Wildcard(it)) => [2, it.into()],
+    }
+}
+
+/// Hands back a range in which the version of a term that begins at an offset has the numbers of
+/// another one. Returns 0, or 1 if no version of a term begins there, or a status.
+///
+/// # Safety
+/// There are so many bytes at the addresses.
+#[no_mangle]
+pub unsafe extern "C" fn range_replaced(
+    range: *const u8,
+    range_len: usize,
+    start: usize,
+    at: *const u8,
+    len: usize,
+    dialect: i32,
+) -> i32 {
+    let (Some(known), Ok(range)) =
+        (Dialect::from_number(dialect), from_utf8(unsafe { bytes(range, range_len) }))
+    else {
+        return status::INVALID_RANGE;
+    };
+    let Some(version) = outline(unsafe { bytes(at, len) }, dialect) else {
+        return status::INVALID_VERSION;
+    };
+    match layers::replace_version(range, start, &version, known) {
+        Ok(Some((before, version, after))) => {
+            ranges::show(format_args!("{before}{version}{after}"))
+        }
+        Ok(None) => 1,
+        Err(_) => status::INVALID_RANGE,
     }
 }

@@ -8,7 +8,7 @@ use crate::proved::semver_ranges::grammar::{
     Form, after_bars, after_blanks, after_v, read_components, read_operator,
 };
 use crate::proved::semver_ranges::partial::{self, Components};
-use crate::proved::semver_texts::dotted::{strip_mark, text_of_parts};
+use crate::proved::semver_texts::dotted::{split_at_dot, strip_mark, text_of_parts};
 use crate::proved::semver_texts::grammar::Grammar;
 use crate::proved::tool_ranges::dialect::Dialect;
 use crate::proved::tool_ranges::meaning::{Meaning, check};
@@ -155,32 +155,62 @@ fn after_ranges(text: &[u8], grammar: Grammar) -> (usize, &[u8]) {
 
 /// The version at the front of what is left of a text of some length, and what follows it.
 fn read_version(text: &[u8], grammar: Grammar, len: usize) -> Option<(PartialVersion<'_>, &[u8])> {
-    let (written, rest) = read_components(after_v(text, grammar))?;
+    let word = after_v(text, grammar);
+    let (written, rest) = read_components(word)?;
     let span = Span {
         start: len - text.len(),
         end: len - rest.len(),
     };
-    Some((version(span, matches!(text, [b'v', ..]), &written), rest))
+    Some((version(span, begins_with_v(text), word, &written), rest))
 }
 
-/// The version of some components.
-fn version<'text>(span: Span, has_v: bool, written: &Components<'text>) -> PartialVersion<'text> {
+/// Whether a text begins with `v`.
+fn begins_with_v(text: &[u8]) -> bool {
+    matches!(text, [b'v', ..])
+}
+
+/// The version of the components that are at the front of a text.
+fn version<'text>(
+    span: Span,
+    has_v: bool,
+    text: &[u8],
+    written: &Components<'text>,
+) -> PartialVersion<'text> {
+    let second = after_dot(text);
+    let third = after_dot(second);
     PartialVersion {
         span,
         has_v,
-        major: component(written.major),
-        minor: (written.count > 1).then_some(component(written.minor)),
-        patch: (written.count > 2).then_some(component(written.patch)),
+        major: component(written.major, text),
+        minor: (written.count > 1).then_some(component(written.minor, second)),
+        patch: (written.count > 2).then_some(component(written.patch, third)),
         pre: text_of_parts(written.pre),
         build: text_of_parts(written.build),
     }
 }
 
-/// The component that was read.
-fn component(read: partial::Component) -> Component {
+/// What follows the first dot of a text: nothing if there is none.
+fn after_dot(text: &[u8]) -> &[u8] {
+    match split_at_dot(text) {
+        (_, Some(after)) => after,
+        (_, None) => &[],
+    }
+}
+
+/// The component that was read at the front of a text.
+fn component(read: partial::Component, text: &[u8]) -> Component {
     match read {
         partial::Component::Number(number) => Component::Number(number.unwrap_or(u64::MAX)),
-        partial::Component::Wildcard => Component::Wildcard,
+        partial::Component::Wildcard => Component::Wildcard(wildcard(text)),
+    }
+}
+
+/// The wildcard at the front of a text.
+fn wildcard(text: &[u8]) -> char {
+    match text {
+        [b'X', ..] => 'X',
+        [b'*', ..] => '*',
+        _ => 'x',
     }
 }
 

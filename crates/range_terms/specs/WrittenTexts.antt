@@ -1,0 +1,29 @@
+-- The text of a version as it is written in a range.
+use Prim.Native.Char.{code}
+use Rattle.std.specs.Prelude.{if◌then◌else◌, Option, Some, None, [], ◌∷◌, ◌++◌, decimal, codes}
+use Rattle.std.specs.Prelude.{encode_utf8}
+use Rattle.semver_texts.specs.Texts.{Text}
+use Rattle.range_terms.specs.declared.term.Component.{Component}
+use Rattle.range_terms.specs.declared.term.Component.TheVariants.{Number, Wildcard}
+use Rattle.range_terms.specs.WrittenTerms.{WrittenVersion}
+
+-- a component, and one after a dot, if there is one
+abbrev pub component_text : Component → Text
+component_text (Number n) = decimal n
+component_text (Wildcard c) = encode_utf8 c
+
+abbrev pub dot_text : Option Component → Text
+dot_text None = []
+dot_text (Some c) = code "." ∷ component_text c
+
+-- a part after its mark, if there is one
+abbrev pub part_text : Text → Text → Text
+part_text mark [] = []
+part_text mark (b ∷ t) = mark ++ (b ∷ t)
+
+-- a version: its `v`, its components separated by dots, the pre-release and the build
+abbrev pub version_text : WrittenVersion → Text
+version_text v =
+    (if v.has_v then codes "v" else [])
+    ++ (component_text v.major ++ (dot_text v.minor ++ (dot_text v.patch
+    ++ (part_text (codes "-") v.pre ++ part_text (codes "+") v.build))))
