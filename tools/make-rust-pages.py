@@ -30,19 +30,19 @@ PASSAGES = {
          "is the original Rust crate [`semver-parser`](https://docs.rs/semver-parser/0.10.3), whose"),
     ],
     "MEANING": [
-        ("In Rattle, a `Meaning` is a dialect and a rule for pre-releases: `meaning::read` of `tool_ranges`",
-         "A [`Meaning`](crate::Meaning) is a dialect and a rule for pre-releases: [`sets::parse`](crate::sets::parse)"),
-        ("and `meaning::satisfies` checks", "and [`satisfies`](crate::satisfies) checks"),
+        ("In Rattle, a `Meaning` is a dialect and a rule for pre-releases. The function `meaning::read` of `tool_ranges`",
+         "A [`Meaning`](crate::Meaning) is a dialect and a rule for pre-releases. The function"
+         " [`sets::parse`](crate::sets::parse)"),
+        ("The function `meaning::satisfies` checks", "The function [`satisfies`](crate::satisfies) checks"),
         ("(SemVer 2.0.0, section 11)", f"({SEMVER}, section 11)"),
         (" (`laws::precedence_is_total`)", ""),
-        (" in `specs/CargoMeaning` and `specs/NpmMeaning`", ""),
-        ("`meaning::read` returns these sets exactly.", "`sets::parse` returns these sets exactly."),
-        ("`cargo::rewrite` and `npm::rewrite` return comparators",
-         "[`comparators`](crate::comparators) returns comparators"),
-        (" (`specs/CargoMeaning`, by the rule `Included`)", ""),
+        ("It is the one in `specs/CargoMeaning` and `specs/NpmMeaning`, and it doesn't mention comparators.",
+         "It doesn't mention comparators."),
+        ("`cargo::rewrite` and `npm::rewrite` return a range", "[`comparators`](crate::comparators) returns a range"),
+        (" (`specs/CargoMeaning`, for the rule `Included`)", ""),
         (" The picture is of `^1.2.3-b || 3.x` in npm's dialect, as `compare-ranges` prints it. An interval"
          " begins at a filled circle, which is in it, and ends before an empty one.", ""),
-        ("A `VersionSet` has", "A [`VersionSet`](crate::sets::VersionSet) has"),
+        ("A `VersionSet` holds", "A [`VersionSet`](crate::sets::VersionSet) holds"),
     ],
     "GRAMMAR": [
         (" The definitions are in `crates/*/specs`: `ToolVersions`, `CargoGrammar`, `NpmGrammar`, `Prefixes`,"
