@@ -45,22 +45,22 @@ PASSAGES = {
         ("A `VersionSet` holds", "A [`VersionSet`](crate::sets::VersionSet) holds"),
     ],
     "GRAMMAR": [
-        (" The definitions are in `crates/*/specs`: `ToolVersions`, `CargoGrammar`, `NpmGrammar`, `Prefixes`,"
-         " `Reasons`, `RangeReasons` and `TooLarge`.", ""),
-        ("No string has two versions or trees by one grammar (`laws::one_version_in`, `one_tree`).",
-         "It is proved that no string has two versions or trees by one grammar."),
+        (" The definitions are the files `ToolVersions`, `CargoGrammar`, `NpmGrammar`, `Prefixes`, `Reasons`,"
+         " `RangeReasons` and `TooLarge` in `crates/*/specs`. In each grammar, a string has at most one version or"
+         " one tree (`laws::one_version_in`, `one_tree`).",
+         " It is proved that in each grammar a string has at most one version or one tree."),
         ("SemVer 2.0.0 (semver.org, sections 2, 9 and 10)", f"{SEMVER} (sections 2, 9 and 10)"),
         ("`version::outline_in` reads", "[`version::outline_in`](crate::version::outline_in) reads"),
-        ("By laws of `semver_texts` a version", "It is proved that a version"),
-        ("`invalid_strings::refusals::explain` returns an offset and a reason.",
-         "An [`Error`](crate::Error) of a version has an offset and a reason."),
-        ("`tool_ranges::refusals::refused` returns the error of a string, a reason",
-         "An [`Error`](crate::Error) of a range has a kind, a reason"),
+        ("Two laws of `semver_texts` relate the dialects.", "Two laws, which are proved, relate the dialects."),
+        ("The function `invalid_strings::refusals::explain` returns an offset and a reason:",
+         "An [`Error`](crate::Error) of a version has an offset and a reason:"),
+        ("The function `tool_ranges::refusals::refused` returns three things for a string: its error, a reason",
+         "An [`Error`](crate::Error) of a range has three parts: its kind, a reason"),
         ("([the list](../crates/invalid_strings/specs/ReasonTable.antt))", "([`Reason`](crate::Reason))"),
-        (" The definition counts the terms before that one that state a number, and then as many such words of"
-         " the string. That these are the same terms is tested.", ""),
-        ("`tools/compare.sh` found no other ([PROVED](PROVED.md#what-was-set-beside-it));",
-         "Comparisons of many strings found no other;"),
+        (" The definition finds the term by counting. It counts the terms before it that state a number, and skips as"
+         " many words of the string that begin with a number. That this finds the right term is tested, not proved.", ""),
+        ("These are all the differences in reading that `tools/compare.sh` found ([PROVED](PROVED.md#what-was-set-beside-it)).",
+         "Comparisons of many strings found no other differences in reading than these."),
     ],
     "CRATE": [
         ("The Rust crate `semver-parser` 0.10.3, of which `crates/semver_parser` is the port:",
