@@ -59,7 +59,7 @@ PASSAGES = {
         ("([the list](../crates/invalid_strings/specs/ReasonTable.antt))", "([`Reason`](crate::Reason))"),
         (" The definition finds the term by counting. It counts the terms before it that state a number, and skips as"
          " many words of the string that begin with a number. That this finds the right term is tested, not proved.", ""),
-        ("These are all the differences in reading that `tools/compare.sh` found ([PROVED](PROVED.md#what-was-set-beside-it)).",
+        ("These are all the differences in reading that `tools/compare.sh` found ([PROVED](PROVED.md#what-it-was-compared-with)).",
          "Comparisons of many strings found no other differences in reading than these."),
     ],
     "CRATE": [
