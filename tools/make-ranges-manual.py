@@ -11,7 +11,7 @@ import sys
 HEAD = r"""'\" t
 .TH SEMVER\-RANGES 7 @DATE@ "semver\-parser @VERSION@" "Miscellaneous Information"
 .SH NAME
-semver\-ranges \- which versions a range of Cargo or npm means
+semver\-ranges \- which versions a range of Cargo or npm contains
 .SH DESCRIPTION
 """
 FOOT = r""".SH SEE ALSO
@@ -35,7 +35,9 @@ def escape(text):
 
 def styled(text):
     """A text with its code and strong words in bold, and its quotes."""
-    text = re.sub(r'(?<!`)"([^"`]*)"', r"\\(lq\1\\(rq", escape(text).replace("`\"", "`\\(dq").replace("\"`", "\\(dq`"))
+    pieces = re.split(r"(`[^`]*`)", escape(text))
+    pieces[1::2] = [it.replace('"', "\\(dq") for it in pieces[1::2]]
+    text = re.sub(r'"([^"`]*)"', r"\\(lq\1\\(rq", "".join(pieces))
     return re.sub(r"`([^`]*)`|\*\*([^*]*)\*\*", r"\\fB\1\2\\fP", text)
 
 

@@ -22,12 +22,12 @@ SEMVER = "[SemVer 2.0.0](https://semver.org/spec/v2.0.0.html)"
 PASSAGES = {
     "RANGES": [
         ("(SemVer 2.0.0, section 11)", f"({SEMVER}, section 11)"),
-        ("the Rust crate `semver`, and npm's those of node-semver 7",
+        ("the Rust crate `semver`, and npm's are those of node-semver 7",
          "the Rust crate [`semver`](https://docs.rs/semver) (see the [Cargo book]"
-         "(https://doc.rust-lang.org/cargo/reference/specifying-dependencies.html)), and npm's those of"
+         "(https://doc.rust-lang.org/cargo/reference/specifying-dependencies.html)), and npm's are those of"
          " [node-semver](https://github.com/npm/node-semver) 7"),
-        ('is the Rust crate `semver-parser`, whose',
-         "is the original Rust crate [`semver-parser`](https://docs.rs/semver-parser/0.10.3), whose"),
+        ("is the Rust crate `semver-parser`. Its modes",
+         "is the original Rust crate [`semver-parser`](https://docs.rs/semver-parser/0.10.3). Its modes"),
     ],
     "MEANING": [
         ("In Rattle, a `Meaning` is a dialect and a rule for pre-releases. The function `meaning::read` of `tool_ranges`",
