@@ -27,7 +27,7 @@ def releases(string: str, dialect: Dialect) -> str:
     try:
         printed = Range(string, dialect=dialect).printed_releases
     except RangeError:
-        return "refused"
+        return "invalid"
     return "every release" if printed == "*" else printed
 
 
@@ -50,8 +50,8 @@ def is_read(string: str, dialect: Dialect) -> str:
     try:
         Version.parse(string, dialect=dialect)
     except VersionError:
-        return "refused"
-    return "read"
+        return "invalid"
+    return "valid"
 
 
 class Manual(unittest.TestCase):
@@ -76,7 +76,7 @@ class Manual(unittest.TestCase):
                 self.assertEqual(found, wanted, (string, version, dialect))
 
     def test_versions(self) -> None:
-        rows = [row for row in table("version") if set(row[1:]) <= {"read", "refused"}]
+        rows = [row for row in table("version") if set(row[1:]) <= {"valid", "invalid"}]
         self.assertEqual(len(rows), 4)
         for first, *wanted in rows:
             for string in first.split(", "):
