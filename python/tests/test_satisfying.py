@@ -69,7 +69,7 @@ BY_DIALECT = [
     ("^1.2.3-beta", "1.3.0-rc", (False, False, False, False)),
 ]
 
-# Of docs/man/semver-ranges.7 and docs/MEANING.md ("Three rules"): range, version, and by which rules it
+# Of docs/man/semver-ranges.7 and docs/MEANING.md ("Pre-releases"): range, version, and by which rules it
 # satisfies.
 THREE_RULES = [
     ("^1.2.3-beta.4", "1.9.0", (True, True, True)),
