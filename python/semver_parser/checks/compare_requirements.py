@@ -12,24 +12,25 @@ usage: compare-requirements [--json] OLD NEW
        compare-requirements [--json] --git REV[..REV] PATH
        compare-requirements [--json] --git REV REV PATH
 
-Prints what changed between two package.json, pnpm-workspace.yaml or Cargo.toml
-files, or between all of them below two directories: each requirement, override,
-patch, engine and feature that was added, removed, moved or changed, and of a
-changed one the versions that it loses, gains and shares, as compare-ranges
-prints them. Ranges are read as npm or Cargo reads them. Cargo.toml needs Python
-3.11, and pnpm-workspace.yaml PyYAML.
+Prints what changed between two manifests, which are package.json,
+pnpm-workspace.yaml or Cargo.toml files, or between all manifests below two
+directories. There is a line for each requirement, override, patch, engine and
+feature that was added, removed, moved or changed. Below a changed requirement
+are the versions that it loses, gains and shares, printed as by compare-ranges.
+Ranges are read as npm or Cargo reads them. Cargo.toml needs Python 3.11, and
+pnpm-workspace.yaml needs PyYAML.
 
 - is standard input.
 
-    --git        compare a file or a directory as it is in a revision with what
-                 it is in the other revision, or in the work tree
+    --git        compare a file or a directory in a revision with the same one
+                 in the other revision, or in the work tree
     --json       print the changes as a list of objects
     --version    print the version
     -h, --help   print this
     --           end the options
 
-The status is 0 if all requirements mean the same versions, 1 if something
-differs, and 2 after an error, which standard error reports."""
+The status is 0 if all requirements contain the same versions as before, 1 if
+something differs, and 2 after an error, which standard error reports."""
 
 
 def compare(options: Options) -> Outcome:
