@@ -1,4 +1,4 @@
-"""Checks versions against ranges of npm and Cargo, and combines and compares ranges.
+"""Checks whether versions are in ranges of npm or Cargo, and combines and compares ranges.
 
     >>> from semver_parser import Range, Version, compare_ranges, satisfies
     >>> satisfies("1.9.0", "^1.2", dialect="npm")
@@ -11,22 +11,28 @@
     >>> Version.parse("1.2.3-rc.1", dialect="cargo").pre
     ('rc', 1)
 
-These are the versions of SemVer 2.0.0. Python's own follow PEP 440 (`1.0rc1`, `~=1.2`): for those
-use `packaging`.
+Versions are those of SemVer 2.0.0. For the versions of Python packages, which follow PEP 440
+(`1.0rc1`, `~=1.2`), use `packaging`.
 
 The `dialect` says whose rules apply: "npm", "cargo", or those of the Rust crate `semver-parser`,
 "crate-npm" and "crate-cargo". docs/GRAMMAR.md of the repository says which strings are versions and
 ranges, and docs/MEANING.md which versions satisfy a range.
 
-Strings are `str`, or `bytes` in UTF-8. A string that is refused raises `VersionError` or
-`RangeError`, a value of another type `TypeError`, and a failed allocation `MemoryError`. Threads
-may call everything at once, and use one range at once. A fork has ranges of its own. By POSIX a
-fork of several threads may not allocate, so it can't use the package.
+Strings are `str`, or `bytes` in UTF-8. These errors are raised:
 
-The functions are those of the shared library (`libsemver_parser.so.1`, `libsemver_parser.dylib` or
-`semver_parser.dll`), which is loaded when the first of these names is imported: from the path of
-the environment variable SEMVER_PARSER_LIBRARY, else from beside these modules, else from where the
-system looks for libraries. If there is none that fits, that raises an `ImportError`.
+- `VersionError` or `RangeError` for an invalid string;
+- `TypeError` for a value of another type;
+- `MemoryError` if memory runs out.
+
+Threads may call all functions at the same time, and may share a range. A forked process has its own
+copies of ranges. Don't use the package in a forked child of a process with several threads, since
+POSIX doesn't let such a child allocate memory.
+
+The package needs a shared library: `libsemver_parser.so.1`, `libsemver_parser.dylib` or
+`semver_parser.dll`. It is loaded when the first of the names below is imported. The environment
+variable SEMVER_PARSER_LIBRARY may have its path. Otherwise it is looked for next to these modules,
+and then where the system looks for libraries. If there is none, or the first one that can be loaded
+has another major version, an `ImportError` is raised.
 """
 
 from importlib import import_module

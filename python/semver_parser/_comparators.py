@@ -1,4 +1,4 @@
-"""Plain comparators, to which a range is rewritten, as plain data."""
+"""The plain comparators to which a range is rewritten."""
 
 import ctypes
 import enum
@@ -33,14 +33,14 @@ class Op(enum.Enum):
 
 @dataclass(frozen=True)
 class Comparator(Printed):
-    """A comparator: an operator (`op`), and what it compares with: the numbers `major`, `minor` and
-    `patch`, and the identifiers of a pre-release (`pre`).
+    """A comparator: an operator (`op`), and the version with which it compares. The version has the
+    numbers `major`, `minor` and `patch`, and the identifiers of a pre-release (`pre`).
 
     >>> str(Comparator(Op.LT, 2, 0, 0, (0,)))
     '<2.0.0-0'
 
-    An identifier of digits only, of a value up to 2**64 - 1, is an `int`, with or without leading
-    zeros.
+    An identifier that has only digits, with or without leading zeros, is an `int` if its value is
+    at most 2**64 - 1.
     """
 
     op: Op
@@ -56,8 +56,8 @@ class Comparator(Printed):
 
 @final
 class Comparators(Tuple[Tuple[Comparator, ...], ...], Printed):
-    """Tuples of comparators: a release satisfies the range if it satisfies all of one tuple. For
-    pre-releases ask a `Range`.
+    """Tuples of comparators. A release satisfies the range if it satisfies all comparators of at
+    least one tuple. For pre-releases use the `Range`.
 
     >>> from semver_parser import Range
     >>> comparators = Range("^1.2 || 3.x", dialect="npm").comparators
@@ -72,7 +72,7 @@ class Comparators(Tuple[Tuple[Comparator, ...], ...], Printed):
 
 
 def comparators_of(range: String, dialect: Dialect, is_exact: bool) -> Comparators:
-    """Returns the comparators of a range. Raises `RangeError` if it is none."""
+    """Returns the comparators of a range. Raises `RangeError` if the string isn't a range."""
     listed = ctypes.c_void_p()
     status = LIBRARY.semver_parser_comparators_of_range(
         c_string(range), dialect._number, is_exact, listed, None
@@ -88,7 +88,7 @@ def comparators_of(range: String, dialect: Dialect, is_exact: bool) -> Comparato
 
 
 def _comparator(text: str) -> Comparator:
-    """The comparator that the library printed."""
+    """Returns a comparator that the library printed."""
     version = text.lstrip("<>=")
     return Comparator(Op(text[: -len(version)]), *fields_of_printed(version))
 
@@ -104,9 +104,10 @@ def crate_comparators(
     >>> str(crate_comparators("^1.2", dialect="crate-npm"))
     '>=1.2.0 <2.0.0'
 
-    The crate's bounds aren't exact: 2.0.0-rc satisfies these, and not the range, whose
-    `Range.comparators` are `>=1.2.0 <2.0.0-0`. Raises `RangeError` if it is no range of the
-    dialect.
+    The crate's bounds aren't exact: 2.0.0-rc satisfies these comparators, but not the range. Its
+    `Range.comparators` are `>=1.2.0 <2.0.0-0`.
+
+    Raises `RangeError` if the string isn't a range in the dialect.
     """
     chosen = dialect_of(dialect)
     if chosen not in (Dialect.CRATE_CARGO, Dialect.CRATE_NPM):

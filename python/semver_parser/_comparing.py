@@ -1,4 +1,4 @@
-"""What changes if a new range replaces an old one."""
+"""Compares an old range with a new one."""
 
 from dataclasses import dataclass
 
@@ -14,7 +14,7 @@ class Comparison:
 
     - `lost`: the versions of the old range that aren't in the new one.
     - `gained`: the versions of the new range that aren't in the old one.
-    - `shared`: the versions of both.
+    - `shared`: the versions that are in both.
     """
 
     lost: Range
@@ -23,7 +23,7 @@ class Comparison:
 
     @property
     def overlaps(self) -> bool:
-        """Whether some version is in both."""
+        """Whether any version is in both."""
         return bool(self.shared)
 
     @property
@@ -33,7 +33,7 @@ class Comparison:
 
     @property
     def is_equal(self) -> bool:
-        """Whether both have the same versions: nothing is lost, and nothing is gained."""
+        """Whether both contain the same versions: nothing is lost, and nothing is gained."""
         return not self.lost and not self.gained
 
 
@@ -44,7 +44,7 @@ def compare_ranges(
     dialect: AnyDialect,
     pre_releases: AnyPreReleases = "default",
 ) -> Comparison:
-    """Returns what is lost, gained and shared if a new range replaces an old one.
+    """Returns which versions are lost, gained and shared if a new range replaces an old one.
 
     >>> compared = compare_ranges("^1.2.0", ">=1.4.0", dialect="npm")
     >>> str(compared.lost), str(compared.gained), str(compared.shared)
@@ -52,8 +52,8 @@ def compare_ranges(
     >>> compared.overlaps, compared.is_subset, compared.is_equal
     (True, False, False)
 
-    Raises `RangeError` if one is no range of the dialect; its `index` is 0 for the old one, which
-    comes first, and 1 for the new one.
+    Raises `RangeError` if a string isn't a range in the dialect. The `index` of the error is 0 for
+    the old one, which is read first, and 1 for the new one.
     """
     chosen, rule = dialect_of(dialect), pre_releases_of(pre_releases)
     ranges = []

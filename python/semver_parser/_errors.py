@@ -1,4 +1,4 @@
-"""The errors of strings that are an invalid version or an invalid range."""
+"""The errors for invalid versions and invalid ranges."""
 
 from typing import Literal, NamedTuple, Optional, cast
 
@@ -32,13 +32,13 @@ Reason = Literal[
     "bound-too-large",
     "npm-bound-too-large",
 ]
-"""Why a string is refused. A later minor version of the library may have more reasons."""
+"""Why a string is invalid. A later minor version of the library may have more reasons."""
 
 _LONGEST_SHOWN = 80
 
 
 class _Explanation(NamedTuple):
-    """What the library says of a string: its status, and where and why it is refused."""
+    """What the library reports for a string: a status, and where and why the string is invalid."""
 
     status: int
     offset: int
@@ -47,25 +47,25 @@ class _Explanation(NamedTuple):
 
 
 class SemverError(ValueError):
-    """A string that is refused: a `VersionError` or a `RangeError`.
+    """An invalid string: the base class of `VersionError` and `RangeError`.
 
-    - `string`: the string, as it was given.
-    - `dialect`: the dialect by which it is invalid.
-    - `index`: which of many versions it is, or of two ranges, 0 for the old one and 1 for the new
-      one; else None.
-    - `offset`: the index in `string` of the first character that no version or range has there, or
-      the length of `string` if something is missing at its end. If a number of a range is too
-      large, the index of that number.
-    - `reason`: why, as a word for programs.
-    - `sentence`: why, as an English sentence.
+    - `string`: the string, as it was passed.
+    - `dialect`: the dialect in which it is invalid.
+    - `index`: which of several versions it is; or which of two ranges, 0 for the old one and 1 for
+      the new one; otherwise None.
+    - `offset`: the index in `string` of the first invalid character. If something is missing at
+      the end, it is the length of `string`. If a number in a range is too large, it is the index
+      where the number begins.
+    - `reason`: why it is invalid, as a word for programs.
+    - `sentence`: why it is invalid, as an English sentence.
 
-    The last three are found at once when one of them is first used, so an error that is ignored
-    costs little.
+    The last three are computed when one of them is first used, so an error that is ignored costs
+    little.
     """
 
     _STATUS = OK
 
-    # What was found. It isn't in the dict, so it isn't pickled.
+    # The explanation, if it was computed. It isn't in the dict, so it isn't pickled.
     __slots__ = ("_found",)
 
     def __init__(self, string: String, dialect: AnyDialect, index: Optional[int] = None) -> None:
@@ -79,8 +79,8 @@ class SemverError(ValueError):
         raise NotImplementedError
 
     def _explanation(self) -> Optional[_Explanation]:
-        """What the library says of the string, which it reads once; nothing if it is valid after
-        all."""
+        """Returns what the library reports for the string, which it reads once; None if the string
+        is valid after all."""
         if not hasattr(self, "_found"):
             self._found = self._find()
         return self._found
@@ -101,7 +101,7 @@ class SemverError(ValueError):
         )
 
     def _explained(self) -> _Explanation:
-        """The same. Raises `ValueError` if the error was made of a string that is valid."""
+        """Returns the same. Raises `ValueError` if the error was made for a valid string."""
         explanation = self._explanation()
         if explanation is None:
             raise ValueError(f"the string is valid: {self.string!r}")
@@ -109,17 +109,17 @@ class SemverError(ValueError):
 
     @property
     def offset(self) -> int:
-        """Where the string is wrong."""
+        """Where the string is invalid."""
         return self._explained().offset
 
     @property
     def reason(self) -> Reason:
-        """Why it is, as a word for programs."""
+        """Why it is invalid, as a word for programs."""
         return self._explained().reason
 
     @property
     def sentence(self) -> str:
-        """Why it is, as an English sentence."""
+        """Why it is invalid, as an English sentence."""
         return self._explained().sentence
 
     def __str__(self) -> str:

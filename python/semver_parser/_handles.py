@@ -1,4 +1,4 @@
-"""Ranges that the library holds."""
+"""Ranges in the memory of the library."""
 
 import ctypes
 from typing import Any, Callable, Tuple
@@ -18,14 +18,16 @@ from ._strings import String, c_string
 class Handle(int):
     """The address of a range, which is freed when nothing refers to this object any more.
 
-    It is an `int` without fields. So the collector of cycles, which ends the objects of a cycle in
-    any order, doesn't know it: it is freed by its count of references alone, and what can still
-    reach it can use it, at the end of the interpreter too. A forked process has its own copy.
+    It is an `int` without fields, so the garbage collector, which finalizes the objects of a cycle
+    in any order, doesn't track it. It is freed only when its reference count is zero. So whatever
+    can still reach it can use it, also while the interpreter shuts down. A forked process has its
+    own copy.
     """
 
     __slots__ = ()
 
-    # The function is a default, since names of modules may be gone at the end of the interpreter.
+    # The function is a default value, since the names of modules may be gone while the interpreter
+    # shuts down.
     def __del__(self, free: Callable[[int], None] = LIBRARY.semver_parser_range_free) -> None:
         free(self)
 
@@ -34,7 +36,7 @@ class Handle(int):
 
 
 def parsed(range: String, dialect: Dialect, pre_releases: PreReleases) -> Handle:
-    """Returns the range that a string has. Raises `RangeError` if it has none."""
+    """Returns the range that a string has. Raises `RangeError` if it isn't a range."""
     made = ctypes.c_void_p()
     status = LIBRARY.semver_parser_range_parse(
         c_string(range), c_options(dialect, pre_releases), made, None
@@ -53,18 +55,19 @@ def combined(function: Callable[..., int], one: Handle, other: Handle) -> Handle
 
 
 def holds(function: Callable[..., int], one: Handle, other: Handle) -> bool:
-    """Returns what a function says of two ranges. Raises `DifferentOptions`."""
+    """Returns what a function reports for two ranges. Raises `DifferentOptions`."""
     said = ctypes.c_bool()
     _check_both(function(one, other, said, None))
     return said.value
 
 
 class DifferentOptions(Exception):
-    """Two ranges have different options. It says which, and isn't seen outside of the package."""
+    """Two ranges have different options. The message says which. The error doesn't leave the
+    package."""
 
 
 def _check_both(status: int) -> None:
-    """Raises the failure of a status of two ranges, if it is none of success."""
+    """Raises the error of a status for two ranges, unless it is success."""
     if status in (DIFFERENT_DIALECTS, DIFFERENT_PRE_RELEASES):
         raise DifferentOptions(LIBRARY.semver_parser_status_text(status).decode("utf-8"))
     check(status)

@@ -1,4 +1,5 @@
-"""What the C header declares: its structures, its functions and the numbers of its statuses."""
+"""The declarations of the C header: its structures, its functions and the numbers of its
+statuses."""
 
 import ctypes
 from typing import Any, Dict, List, Tuple
@@ -14,13 +15,13 @@ DIFFERENT_PRE_RELEASES = 7
 
 
 class CString(ctypes.Structure):
-    """A string that a function is given. It keeps its bytes."""
+    """A string that is passed to a function. It keeps its bytes alive."""
 
     _fields_ = [("data", ctypes.c_char_p), ("length", ctypes.c_size_t)]
 
 
 class COptions(ctypes.Structure):
-    """A dialect and which pre-releases satisfy a range, by their numbers."""
+    """A dialect and a rule for pre-releases, by their numbers."""
 
     _fields_ = [
         ("dialect", ctypes.c_int32),
@@ -30,7 +31,7 @@ class COptions(ctypes.Structure):
 
 
 class CError(ctypes.Structure):
-    """Where and why a string is refused."""
+    """Where and why a string is invalid."""
 
     _fields_ = [
         ("status", ctypes.c_int32),

@@ -1,4 +1,5 @@
-"""The shared library: where it is looked for, whether it fits, and what its statuses raise."""
+"""The shared library: where it is looked for, whether it is compatible, and which errors its
+statuses raise."""
 
 import ctypes
 import os
@@ -8,19 +9,19 @@ from typing import List, Tuple
 from ._interface import OK, OUT_OF_MEMORY, declare
 
 FITTING = (1,)
-"""The first numbers of the versions of the libraries that fit."""
+"""The beginning of the versions that are compatible: the major version."""
 
 _NAMES = {"win32": "semver_parser.dll", "darwin": "libsemver_parser.dylib"}
 
 NAME = _NAMES.get(sys.platform, "libsemver_parser.so." + ".".join(map(str, FITTING)))
-"""The name by which the system has the library, and the package beside its modules."""
+"""The file name of the library, for the system and next to the package's modules."""
 
 VARIABLE = "SEMVER_PARSER_LIBRARY"
-"""The environment variable that names a library, in place of any other."""
+"""The environment variable with the path of a library, which is used instead of any other."""
 
 
 def _places() -> List[Tuple[str, str]]:
-    """What is tried in turn, each with a word on where that is."""
+    """Returns the paths that are tried in turn, each with a description."""
     named = os.environ.get(VARIABLE)
     if named:
         return [(os.path.abspath(named), f"which {VARIABLE} names")]
@@ -29,7 +30,8 @@ def _places() -> List[Tuple[str, str]]:
 
 
 def load() -> ctypes.CDLL:
-    """Returns the first library that can be loaded, which has to fit."""
+    """Returns the first library that can be loaded. Raises `ImportError` if it isn't compatible, or
+    if none can be loaded."""
     refusals = []
     for path, where in _places():
         try:
@@ -48,7 +50,7 @@ def load() -> ctypes.CDLL:
 
 
 def _refuse_another_version(library: ctypes.CDLL, path: str) -> None:
-    """Raises if the library's version doesn't fit this package."""
+    """Raises `ImportError` if the library's version isn't compatible with this package."""
     fitting = ".".join(map(str, FITTING))
     try:
         function = library.semver_parser_library_version
@@ -69,14 +71,14 @@ LIBRARY = load()
 
 
 def failure(status: int) -> Exception:
-    """Returns what a status raises that isn't about a string: `MemoryError` if an allocation
-    failed. Others can't be."""
+    """Returns the error for a status that isn't about a string: `MemoryError` if an allocation
+    failed. There are no other such statuses."""
     if status == OUT_OF_MEMORY:
         return MemoryError()
     return AssertionError(f"the library returned status {status}")
 
 
 def check(status: int) -> None:
-    """Raises the failure of a status, if it is none of success."""
+    """Raises the error of a status, unless it is success."""
     if status != OK:
         raise failure(status)

@@ -8,8 +8,7 @@ from ._library import LIBRARY
 
 
 class Dialect(enum.Enum):
-    """Whose rules apply to ranges and versions. `Dialect("npm")` is `Dialect.NPM`, and each
-    `dialect=` takes either.
+    """Whose rules apply to ranges and versions. Each `dialect=` accepts a member or its value.
 
     >>> Dialect("npm")
     <Dialect.NPM: 'npm'>
@@ -34,7 +33,7 @@ class Dialect(enum.Enum):
 
 
 class PreReleases(enum.Enum):
-    """Which pre-releases satisfy a range. Each `pre_releases=` takes a value of it, too.
+    """Which pre-releases satisfy a range. Each `pre_releases=` accepts a member or its value.
 
     >>> PreReleases("included")
     <PreReleases.INCLUDED: 'included'>
@@ -44,7 +43,7 @@ class PreReleases(enum.Enum):
     """Those that Cargo and npm match by default: `^1.2.3-rc` contains 1.2.3-rc.1, not
     1.3.0-rc."""
     INCLUDED = "included"
-    """Each within the bounds: `^1.2.3` contains 1.3.0-rc, not 2.0.0-rc."""
+    """All within the bounds: `^1.2.3` contains 1.3.0-rc, not 2.0.0-rc."""
     EXCLUDED = "excluded"
     """None."""
 
@@ -52,17 +51,17 @@ class PreReleases(enum.Enum):
 
 
 AnyDialect = Union[Dialect, Literal["cargo", "npm", "crate-cargo", "crate-npm"]]
-"""A dialect, or its value."""
+"""A dialect, or the value of one."""
 
 AnyPreReleases = Union[PreReleases, Literal["default", "included", "excluded"]]
-"""Which pre-releases satisfy a range, or the value of that."""
+"""Which pre-releases satisfy a range: a member, or the value of one."""
 
 _Option = TypeVar("_Option", Dialect, PreReleases)
 
 
 def _numbered(kind: Type[_Option], name_of: Callable[[int], Optional[bytes]]) -> Dict[str, _Option]:
-    """The options of a kind by their values. Each gets its number, by the names that the library
-    has for its numbers, which count from 0."""
+    """Returns the options of a kind by their values, and gives each its number. The numbers count
+    from 0, and the library has a name for each."""
     names: List[str] = []
     while (name := name_of(len(names))) is not None:
         names.append(name.decode("ascii"))
@@ -78,7 +77,7 @@ _PRE_RELEASES = _numbered(PreReleases, LIBRARY.semver_parser_pre_releases_name)
 
 
 def _refusal(kind: Type[_Option], value: object, name: str) -> Exception:
-    """What is raised for a value that is no option."""
+    """Returns the error for a value that isn't an option."""
     values = ", ".join(repr(it.value) for it in kind)
     if isinstance(value, str):
         return ValueError(f"{name} is one of {values}, not {value!r}")
@@ -95,7 +94,7 @@ def dialect_of(dialect: AnyDialect) -> Dialect:
 
 
 def pre_releases_of(pre_releases: AnyPreReleases) -> PreReleases:
-    """Returns what is given, as `dialect_of`."""
+    """Returns the rule that is given, as `dialect_of` does for a dialect."""
     if isinstance(pre_releases, PreReleases):
         return pre_releases
     if isinstance(pre_releases, str) and pre_releases in _PRE_RELEASES:

@@ -1,13 +1,13 @@
-"""What ranges are made of, by which they are pickled."""
+"""The strings and operators of which a range was made, so it can be pickled."""
 
 from typing import Dict, List, NamedTuple, Tuple, Union
 
 Step = Union[str, Tuple[str, int, int]]
-"""The string of a range, or an operator and the indices of the two steps that it combines."""
+"""The string of a range; or an operator, and the indices of the two steps that it combines."""
 
 
 class Combination(NamedTuple):
-    """The operator by which a range was made of two, and what these were made of."""
+    """The operator that combined two ranges, and the origins of these."""
 
     operator: str
     first: "Origin"
@@ -15,11 +15,11 @@ class Combination(NamedTuple):
 
 
 Origin = Union[str, Combination]
-"""What a range was made of: its string, or two others."""
+"""The string of a range, or the combination of which it was made."""
 
 
 def steps_to(origin: Origin) -> Tuple[Step, ...]:
-    """Returns the steps that make a range, each once and after those that it needs."""
+    """Returns the steps that make a range. Each step is there once, after those that it needs."""
     steps: List[Step] = []
     indices: Dict[int, int] = {}
     waiting = [origin]

@@ -15,8 +15,7 @@ from ._terms import Term, terms_of
 from ._versions import AnyVersion, Version, fields_of_printed, string_of
 
 Invalid = Literal["raise", "skip"]
-"""What is done with strings that are no version: `raise` raises `VersionError`, `skip` skips
-them."""
+"""What happens with invalid versions: `raise` raises `VersionError`, and `skip` skips them."""
 
 _Given = TypeVar("_Given", bound=AnyVersion)
 _Answer = TypeVar("_Answer")
@@ -32,7 +31,7 @@ _COMBINING = {
 
 @final
 class Range(Printed):
-    """The versions that satisfy a range, by a dialect and by which pre-releases do.
+    """The versions that satisfy a range in a dialect, by a rule for pre-releases.
 
     >>> npm = Range("^1.2 || 3.x", dialect="npm")
     >>> "1.9.0" in npm, npm.filter(["1.3.0", "2.0.0", "3.0.0"])
@@ -40,19 +39,26 @@ class Range(Printed):
     >>> npm.highest(["v1.10.0", "v1.9.0", "latest"], invalid="skip")
     'v1.10.0'
 
-    Versions are strings, read by the same dialect, or `Version`s. Build metadata is ignored.
+    Versions are strings, which are read in the same dialect, or `Version`s. Build metadata is
+    ignored.
 
-    `|`, `&` and `-` make the range of the versions that are in one or the other, in both, or in the
-    first alone; `<=`, `<`, `>=`, `>` and `isdisjoint` compare two as sets; these raise `ValueError`
-    if the options of both differ. A range is true if it has a version.
+    Ranges are combined and compared like sets:
+
+    - `one | other` has the versions in either range;
+    - `one & other` has the versions in both;
+    - `one - other` has the versions in the first only;
+    - `<=`, `<`, `>=`, `>` and `isdisjoint` compare two ranges;
+    - a range is true if it contains a version.
+
+    All of these except the last raise `ValueError` if the two ranges have different options.
 
     >>> str(npm & Range(">=1.4.0", dialect="npm"))
     '>=1.4.0 <2.0.0 || >=3.0.0 <4.0.0'
 
-    Two ranges are equal if they have the same options and the same versions, whatever their
-    strings. Ranges are immutable; they can be pickled, and used by many threads at once.
+    Two ranges are equal if they have the same options and contain the same versions, even if their
+    strings differ. Ranges are immutable. They can be pickled, and threads may share them.
 
-    Raises `RangeError` if the string is no range of the dialect.
+    Raises `RangeError` if the string isn't a range in the dialect.
     """
 
     __slots__ = ("_handle", "_dialect", "_pre_releases", "_origin", "__weakref__")
@@ -82,7 +88,7 @@ class Range(Printed):
 
     @property
     def string(self) -> Optional[str]:
-        """The string that the range was read from; None if it was combined of others."""
+        """The string that the range was made of; None if it was combined of others."""
         return self._origin if isinstance(self._origin, str) else None
 
     # ---- which versions are in it
@@ -99,10 +105,10 @@ class Range(Printed):
         return contains.value
 
     def filter(self, versions: Iterable[_Given], *, invalid: Invalid = "raise") -> List[_Given]:
-        """Returns the versions that are in the range, in their order and with repeats.
+        """Returns the versions that are in the range, in their order, and with duplicates.
 
-        An invalid version raises `VersionError`, whose `index` is its index among the versions; by
-        `invalid="skip"` it isn't in the range. A value of another type raises `TypeError`.
+        An invalid version raises `VersionError`, whose `index` is its index among the versions.
+        With `invalid="skip"` it is skipped. A value of another type raises `TypeError`.
         """
         is_skipping, given = _is_skipping(invalid), _listed(versions)
         strings, count = _strings(given), len(given)
@@ -121,18 +127,20 @@ class Range(Printed):
     def highest(
         self, versions: Iterable[_Given], *, invalid: Invalid = "raise"
     ) -> Optional[_Given]:
-        """Returns the highest of the versions that are in the range, by precedence and the first of
-        equal ones, or None if none is. Invalid versions are treated as in `filter`."""
+        """Returns the highest of the versions that are in the range, by precedence; None if none
+        is. Of versions with the same precedence it returns the first. Invalid versions are treated
+        as by `filter`."""
         return self._found(LIBRARY.semver_parser_range_highest_of, versions, invalid)
 
     def lowest(self, versions: Iterable[_Given], *, invalid: Invalid = "raise") -> Optional[_Given]:
-        """Returns the lowest of them, as `highest` the highest."""
+        """Returns the lowest of the versions that are in the range, and otherwise does the same as
+        `highest`."""
         return self._found(LIBRARY.semver_parser_range_lowest_of, versions, invalid)
 
     def _found(
         self, function: Callable[..., int], versions: Iterable[_Given], invalid: Invalid
     ) -> Optional[_Given]:
-        """What a function finds among versions."""
+        """Returns the version that a function of the library finds."""
         is_skipping, given = _is_skipping(invalid), _listed(versions)
         strings, index, error = _strings(given), ctypes.c_size_t(), CError()
         array = c_strings(strings)
@@ -144,8 +152,8 @@ class Range(Printed):
 
     @property
     def lowest_version(self) -> Optional[Version]:
-        """The lowest version of all that are in the range, by precedence among all versions with
-        numbers up to 2**64 - 1, without build metadata; None if it has none.
+        """The lowest of all versions in the range, by precedence; None if there are none. All
+        versions with numbers up to 2**64 - 1 and without build metadata are considered.
 
         >>> str(Range(">1.2", dialect="npm").lowest_version)
         '1.3.0'
@@ -158,7 +166,8 @@ class Range(Printed):
     def _of_both(
         self, what: Callable[..., _Answer], function: Callable[..., int], other: "Range"
     ) -> _Answer:
-        """What a function makes or says of both. Raises `ValueError` if their options differ."""
+        """Returns the result of a function of two ranges. Raises `ValueError` if their options
+        differ."""
         try:
             return what(function, self._handle, other._handle)
         except handles.DifferentOptions as error:
@@ -173,15 +182,15 @@ class Range(Printed):
         return _range_of(handle, self._dialect, self._pre_releases, origin)
 
     def __or__(self, other: "Range") -> "Range":
-        """Returns the range of the versions of one or the other."""
+        """Returns the range of the versions that are in one or the other."""
         return self._combined("|", other)
 
     def __and__(self, other: "Range") -> "Range":
-        """Returns the range of the versions of both."""
+        """Returns the range of the versions that are in both."""
         return self._combined("&", other)
 
     def __sub__(self, other: "Range") -> "Range":
-        """Returns the range of the versions that only the first has."""
+        """Returns the range of the versions that are only in the first."""
         return self._combined("-", other)
 
     def __le__(self, other: "Range") -> bool:
@@ -197,13 +206,13 @@ class Range(Printed):
         return other <= self
 
     def __lt__(self, other: "Range") -> bool:
-        """Returns whether `<=` holds, and the other has more versions."""
+        """Returns whether `<=` is true, and the other has more versions."""
         if not isinstance(other, Range):
             return NotImplemented
         return self <= other and self != other
 
     def __gt__(self, other: "Range") -> bool:
-        """Returns whether `>=` holds, and the range has more versions."""
+        """Returns whether `>=` is true, and the range has more versions."""
         if not isinstance(other, Range):
             return NotImplemented
         return other < self
@@ -219,7 +228,7 @@ class Range(Printed):
         return not LIBRARY.semver_parser_range_is_empty(self._handle)
 
     def __eq__(self, other: object) -> bool:
-        """Returns whether both have the same options and the same versions."""
+        """Returns whether both have the same options and contain the same versions."""
         if not isinstance(other, Range):
             return NotImplemented
         try:
@@ -235,12 +244,12 @@ class Range(Printed):
 
     @property
     def terms(self) -> List[Term]:
-        """The terms of the string that was read, as they are written.
+        """The terms of the string that the range was made of, as they are written.
 
         >>> [term.operator for term in Range(">=1.2 <2", dialect="npm").terms]
         ['>=', '<']
 
-        Raises `ValueError` if the range was combined of others, since it has no string then.
+        Raises `ValueError` if the range was combined of others, since then it has no string.
         """
         if not isinstance(self._origin, str):
             raise ValueError("a range that was combined of others has no string")
@@ -250,9 +259,9 @@ class Range(Printed):
 
     @property
     def comparators(self) -> Comparators:
-        """The plain comparators to which the range is rewritten, with exact bounds: of a raised
-        bound they have the lowest pre-release, `<2.0.0-0`. Of a combined range those of its
-        releases. For pre-releases ask the range.
+        """The plain comparators to which the range is rewritten. Their bounds are exact: a raised
+        bound is the lowest pre-release, such as `<2.0.0-0`. If the range was combined, they are the
+        comparators of its releases. For pre-releases use the range itself.
 
         >>> str(Range("^1.2", dialect="npm").comparators)
         '>=1.2.0 <2.0.0-0'
@@ -264,7 +273,7 @@ class Range(Printed):
 
     @property
     def printed_releases(self) -> str:
-        """The releases of the range as a range of npm: `*` for all, `<0.0.0-0` for none.
+        """The releases in the range, as a range in npm's syntax: `*` for all, `<0.0.0-0` for none.
 
         >>> Range("^1.2", dialect="cargo").printed_releases
         '>=1.2.0 <2.0.0'
@@ -273,7 +282,7 @@ class Range(Printed):
 
     @property
     def printed_pre_releases(self) -> str:
-        """The pre-releases of the range as a range, to be compared by precedence.
+        """The pre-releases in the range, as a range of which only the pre-releases count.
 
         >>> Range("^1.2.3-rc", dialect="cargo").printed_pre_releases
         '>=1.2.3-rc <1.2.3'
@@ -281,8 +290,9 @@ class Range(Printed):
         return printed(LIBRARY.semver_parser_range_to_string, self._handle, True)
 
     def __str__(self) -> str:
-        """Returns the string that the range was read from. A combined range has its releases, and
-        after `pre-releases` its pre-releases if there are some, which no dialect reads back."""
+        """Returns the string that the range was made of. For a combined range, it returns the
+        releases, and then `pre-releases` and the pre-releases, if there are any. No dialect can
+        read that."""
         if isinstance(self._origin, str):
             return self._origin
         releases, pre_releases = self.printed_releases, self.printed_pre_releases
@@ -291,8 +301,8 @@ class Range(Printed):
         return f"{'' if releases == _NOTHING else releases + ', '}pre-releases {pre_releases}"
 
     def __repr__(self) -> str:
-        """Returns an expression for the range. A combined range may have none, and then it is
-        between `<` and `>`."""
+        """Returns an expression for the range. If a combined range has none, it returns a
+        description between `<` and `>`."""
         string = str(self)
         if self.string is None and self._dialect is Dialect.CARGO:
             string = string.replace(" ", ", ")
@@ -301,7 +311,7 @@ class Range(Printed):
         return f"<Range {str(self)!r}, {_options_text(self)}>"
 
     def _is_range_of(self, string: str) -> bool:
-        """Whether it is the range that a string has by the same options."""
+        """Returns whether a string has the same range with the same options."""
         try:
             made = Range(string, dialect=self._dialect, pre_releases=self._pre_releases)
         except RangeError:
@@ -322,7 +332,7 @@ class Range(Printed):
 def _range_of(
     handle: handles.Handle, dialect: Dialect, pre_releases: PreReleases, origin: Origin
 ) -> Range:
-    """The range that the library has, by the options by which it was made."""
+    """Returns a range of the library, with the options with which it was made."""
     range = object.__new__(Range)
     range._handle, range._origin = handle, origin
     range._dialect, range._pre_releases = dialect, pre_releases
@@ -332,8 +342,8 @@ def _range_of(
 def _unpickled_range(
     dialect: AnyDialect, pre_releases: AnyPreReleases, steps: Sequence[Step]
 ) -> Range:
-    """The range of a pickle. Those of each version 1 of the package name this function, with these
-    arguments."""
+    """Returns the range of a pickle. The pickles of all versions 1.x of the package name this
+    function, with these arguments."""
     made: List[Range] = []
     for step in steps:
         if isinstance(step, str):
@@ -345,7 +355,7 @@ def _unpickled_range(
 
 
 def _options_text(range: Range) -> str:
-    """The options of a range, as they are written in a call."""
+    """Returns the options of a range, as they are written in a call."""
     dialect = f"dialect={range.dialect.value!r}"
     if range.pre_releases is PreReleases.DEFAULT:
         return dialect
@@ -353,21 +363,21 @@ def _options_text(range: Range) -> str:
 
 
 def _is_skipping(invalid: Invalid) -> bool:
-    """Whether invalid versions are skipped."""
+    """Returns whether invalid versions are skipped."""
     if invalid not in ("raise", "skip"):
         raise ValueError(f"invalid is 'raise' or 'skip', not {invalid!r}")
     return invalid == "skip"
 
 
 def _listed(versions: Iterable[_Given]) -> List[_Given]:
-    """The versions that are given."""
+    """Returns the versions that are passed, as a list."""
     if isinstance(versions, (str, bytes)):
         raise TypeError("expected an iterable of versions, not one string")
     return list(versions)
 
 
 def _strings(given: List[_Given]) -> List[String]:
-    """The strings of versions."""
+    """Returns the strings of versions."""
     for index, it in enumerate(given):
         if not isinstance(it, (str, bytes, Version)):
             what = type(it).__name__

@@ -1,4 +1,4 @@
-"""Whether one version satisfies one range."""
+"""Checks whether a version satisfies a range."""
 
 import ctypes
 
@@ -24,8 +24,10 @@ def satisfies(
     >>> satisfies("1.9.0", "1.2.3", dialect="npm"), satisfies("1.9.0", "1.2.3", dialect="cargo")
     (False, True)
 
-    For one range and many versions a `Range` is faster. Raises `VersionError` if the version is
-    invalid, and else `RangeError` if the range is.
+    If you check several versions against one range, a `Range` is faster.
+
+    Raises `VersionError` if the version is invalid. Otherwise raises `RangeError` if the range is
+    invalid.
     """
     chosen, string = dialect_of(dialect), string_of(version)
     options, answer = c_options(chosen, pre_releases_of(pre_releases)), ctypes.c_bool()

@@ -1,4 +1,4 @@
-"""Strings of versions and ranges, and those that the library makes."""
+"""The strings of versions and ranges that are passed to the library, and those that it returns."""
 
 import ctypes
 from itertools import accumulate
@@ -12,7 +12,7 @@ String = Union[str, bytes]
 
 
 def encoded(string: String) -> bytes:
-    """Returns the bytes of a string. If a `str` can't be encoded, the library refuses them."""
+    """Returns the bytes of a string. If a `str` has a surrogate, the library rejects its bytes."""
     if isinstance(string, str):
         return string.encode("utf-8", "surrogatepass")
     if isinstance(string, bytes):
@@ -21,13 +21,13 @@ def encoded(string: String) -> bytes:
 
 
 def c_string(string: String) -> CString:
-    """Returns a string as the library takes it."""
+    """Returns a string in the form in which the library accepts it."""
     data = encoded(string)
     return CString(data, len(data))
 
 
 def c_strings(strings: List[String]) -> "ctypes.Array[CString]":
-    """Returns an array of strings as the library takes it."""
+    """Returns an array of strings in the form in which the library accepts it."""
     array = (CString * len(strings))()
     for item, string in zip(array, strings):
         item.data = data = encoded(string)
@@ -36,7 +36,7 @@ def c_strings(strings: List[String]) -> "ctypes.Array[CString]":
 
 
 def index_of(string: String, offset: int) -> int:
-    """Returns the index in a string of what is at an offset in its bytes."""
+    """Returns the index in a string of the character at an offset in its bytes."""
     if isinstance(string, bytes):
         return offset
     return len(encoded(string)[:offset].decode("utf-8", "surrogatepass"))
@@ -48,8 +48,8 @@ def offset_of(string: String, index: int) -> int:
 
 
 def indices_in(string: String) -> Callable[[int], int]:
-    """Returns what returns the index in a string of what is at an offset in its bytes. It takes
-    time once, and not for each offset."""
+    """Returns a function that returns the index in a string of the character at an offset in its
+    bytes. The string is scanned only once, not for each offset."""
     if isinstance(string, bytes) or string.isascii():
         return int
     begins = (byte & 0xC0 != 0x80 for byte in encoded(string))
@@ -57,7 +57,7 @@ def indices_in(string: String) -> Callable[[int], int]:
 
 
 def printed(function: Callable[..., int], *arguments: Any) -> str:
-    """Returns what a function prints, or an empty string if that is nothing."""
+    """Returns the string that a function of the library makes; an empty string if it makes none."""
     string = ctypes.c_char_p()
     check(function(*arguments, string))
     try:
@@ -67,7 +67,7 @@ def printed(function: Callable[..., int], *arguments: Any) -> str:
 
 
 class Printed:
-    """What is formatted as its string is: `f"{version:>12}"`."""
+    """A class whose objects are formatted as their strings are: `f"{version:>12}"`."""
 
     __slots__ = ()
 

@@ -21,13 +21,14 @@ _WILDCARDS: Dict[int, Literal["x", "X", "*"]] = {ord("x"): "x", ord("X"): "X", o
 
 @dataclass(frozen=True)
 class PartialVersion:
-    """A version as a term of a range states it.
+    """A version as it is written in a term of a range.
 
-    - `start`, `end`: where it is in the string of the range, with its `v`.
+    - `start`, `end`: where it is in the string of the range, including its `v`.
     - `has_v`: whether it begins with `v`.
     - `major`, `minor`, `patch`: its components. A wildcard is "x", "X" or "*", as it is written, and
       a component that isn't written is None.
-    - `pre`, `build`: the pre-release and the build metadata, without `-` and `+`; or empty strings.
+    - `pre`, `build`: the pre-release and the build metadata, without `-` and `+`. They are empty
+      strings if they aren't written.
     """
 
     start: int
@@ -47,8 +48,8 @@ class Term:
     - `range`: how many `||` are before it.
     - `operator`: "", "=", "<", "<=", ">", ">=", "~", "^", or "-" for a hyphen range.
     - `start`, `end`: where it is in the string of the range.
-    - `version`: its version; of a hyphen range the one before the hyphen.
-    - `upper`: the version after the hyphen of a hyphen range, else None.
+    - `version`: its version; in a hyphen range, the one before the hyphen.
+    - `upper`: in a hyphen range, the version after the hyphen; otherwise None.
     """
 
     range: int
@@ -74,7 +75,7 @@ def terms(range: String, *, dialect: AnyDialect) -> List[Term]:
 
 
 def terms_of(range: String, dialect: Dialect) -> List[Term]:
-    """Returns the terms of a range of a dialect."""
+    """Returns the terms of a range in a dialect."""
     string, count = c_string(range), ctypes.c_size_t()
     status = LIBRARY.semver_parser_terms_of_range(string, dialect._number, None, 0, count, None)
     if status in (INVALID_RANGE, NUMBER_TOO_LARGE):
@@ -132,7 +133,7 @@ def replace_version(
 
 
 def _term(term: CTerm, index_at: Callable[[int], int]) -> Term:
-    """The term that the library read."""
+    """Returns a term that the library read."""
     sign = LIBRARY.semver_parser_operator_sign(term.op)
     return Term(
         term.range,
@@ -145,7 +146,7 @@ def _term(term: CTerm, index_at: Callable[[int], int]) -> Term:
 
 
 def _version(version: CPartialVersion, index_at: Callable[[int], int]) -> PartialVersion:
-    """The version that the library read."""
+    """Returns a version that the library read."""
     major = _component(version.major)
     assert major is not None  # a version has at least one component
     return PartialVersion(

@@ -14,17 +14,17 @@ from ._strings import Printed, String, c_string
 Identifier = Union[int, str]
 """An identifier of a pre-release or of build metadata.
 
-It is an `int` if it is the canonical decimal of a number up to 2**64 - 1, as `7`, and else a `str`,
-as `rc`, `07` and `18446744073709551616`.
+If it is a number up to 2**64 - 1 without leading zeros, such as `7`, it is an `int`. Otherwise it
+is a `str`, such as `rc`, `07` and `18446744073709551616`.
 """
 
 PrecedenceKey = Tuple[int, int, int, bool, Tuple[Tuple[Any, ...], ...]]
-"""What `precedence` returns: values to be compared with each other, and nothing else."""
+"""What `precedence` returns. Such keys can only be compared with each other."""
 
 _MOST = 2**64 - 1
 _LONGEST_NUMBER = len(str(_MOST))
 
-# An identifier of a version, as SemVer 2.0.0 has it. Some dialects take fewer.
+# An identifier of a version, by SemVer 2.0.0. Some dialects accept fewer.
 _IDENTIFIER = re.compile(r"[0-9A-Za-z-]+")
 
 # The fields of a `CVersion`, all at once.
@@ -60,16 +60,17 @@ def printed_version(major: int, minor: int, patch: int, pre: str, build: str) ->
 
 
 def fields_of_printed(printed: str) -> Tuple[int, int, int, Tuple[Identifier, ...]]:
-    """Returns the numbers and the pre-release of a version that the library printed, which has no
-    build metadata. By the crate's dialects it can have identifiers that no version of theirs has,
-    so it can't be parsed by them."""
+    """Returns the numbers and the pre-release of a version that the library printed. It has no
+    build metadata. In the crate's dialects it can have identifiers that no version has there, so
+    `Version.parse` can't be used for it."""
     numbers, _, pre = printed.partition("-")
     major, minor, patch = map(int, numbers.split("."))
     return major, minor, patch, _identifiers_of(pre)
 
 
 def _check_number(name: str, value: object) -> None:
-    """Raises if it is no number that fits. A `bool` is none, since it prints as a word."""
+    """Raises an error if a value isn't a number that fits. A `bool` isn't a number here, since it
+    is printed as a word."""
     if not isinstance(value, int) or isinstance(value, bool):
         raise TypeError(f"{name} is an int, not {type(value).__name__}")
     if not 0 <= value <= _MOST:
@@ -77,7 +78,7 @@ def _check_number(name: str, value: object) -> None:
 
 
 def _check_identifiers(name: str, identifiers: object) -> None:
-    """Raises if they are no identifiers of a version."""
+    """Raises an error if a value isn't a tuple of identifiers."""
     if not isinstance(identifiers, tuple):
         raise TypeError(f"{name} is a tuple, not {type(identifiers).__name__}")
     for it in identifiers:
@@ -105,13 +106,17 @@ class Version(Printed):
     ('1.2.3-rc.1', True, True)
 
     `<`, `<=`, `>` and `>=` compare by precedence (SemVer 2.0.0, section 11), and so do `sorted`,
-    `min` and `max`. Versions of equal precedence are ordered by their build metadata, none first
-    and else as pre-releases are, so two are equal only if all their fields are.
+    `min` and `max`. Versions of equal precedence are ordered by their build metadata: a version
+    without any comes first, and others are compared as pre-releases are. So two versions are equal
+    only if all their fields are equal.
 
-    Versions are immutable. Those of every dialect can be made, printed and compared; `parse` reads
-    those of one. Raises `TypeError` if a number is no `int`, the identifiers are no `tuple`, or one
-    is neither `int` nor `str`; and `ValueError` if a number isn't from 0 to 2**64 - 1, or a `str`
-    is no identifier, or one that is an `int`.
+    Versions are immutable, and have no dialect: `Version(..)` makes one of its fields, and `parse`
+    reads a string in a dialect. `Version(..)` raises
+
+    - `TypeError` if a number isn't an `int`, if the identifiers aren't a `tuple`, or if one of them
+      is neither an `int` nor a `str`;
+    - `ValueError` if a number isn't from 0 to 2**64 - 1, if a `str` isn't an identifier, or if it
+      is an identifier that has to be an `int`.
     """
 
     __slots__ = ("_major", "_minor", "_patch", "_pre", "_build", "_order", "__weakref__")
@@ -144,14 +149,14 @@ class Version(Printed):
 
     @classmethod
     def parse(cls, version: String, *, dialect: AnyDialect) -> "Version":
-        """Returns the version that a string is in a dialect.
+        """Returns the version that a string has in a dialect.
 
         >>> Version.parse("1.2.3-rc.1+b5", dialect="cargo")
         Version(major=1, minor=2, patch=3, pre=('rc', 1), build=('b5',))
         >>> str(Version.parse("v1.2.3", dialect="npm"))
         '1.2.3'
 
-        Raises `VersionError` if it is invalid in the dialect.
+        Raises `VersionError` if the string is invalid in the dialect.
         """
         chosen, given, parsed = dialect_of(dialect), c_string(version), CVersion()
         status = LIBRARY.semver_parser_parse_version(given, chosen._number, parsed, None)
@@ -244,17 +249,18 @@ def precedence(version: Version) -> PrecedenceKey: ...
 @overload
 def precedence(version: AnyVersion, *, dialect: AnyDialect) -> PrecedenceKey: ...
 def precedence(version: AnyVersion, *, dialect: Optional[AnyDialect] = None) -> PrecedenceKey:
-    """Returns a key by which versions are ordered by precedence, which ignores build metadata. A
-    string is read by a dialect.
+    """Returns a key that orders versions by precedence, which ignores build metadata. A string
+    needs a dialect.
 
     >>> precedence(Version(1, 0, 0, (), ("a",))) == precedence("1.0.0+b", dialect="cargo")
     True
     >>> sorted(["1.10.0", "1.9.0"], key=lambda it: precedence(it, dialect="npm"))
     ['1.9.0', '1.10.0']
 
-    Versions that differ only in build metadata have the same key, so it is one for a `dict` or
-    `groupby`. It is Python code, which is tested and not proved. Raises `VersionError` if a string
-    is invalid, and `TypeError` if it is given without a dialect.
+    Versions that differ only in build metadata have the same key, so it can also be the key of a
+    `dict`, or that of `groupby`. This is Python code, which is tested and not proved.
+
+    Raises `VersionError` if a string is invalid, and `TypeError` if it is passed without a dialect.
     """
     if not isinstance(version, Version):
         if dialect is None:
@@ -265,5 +271,5 @@ def precedence(version: AnyVersion, *, dialect: Optional[AnyDialect] = None) -> 
 
 
 def string_of(version: AnyVersion) -> String:
-    """Returns the string of a version, which is printed if it isn't given."""
+    """Returns the string of a version. A `Version` is printed."""
     return str(version) if isinstance(version, Version) else version
