@@ -1,4 +1,4 @@
-"""Known findings, in a file of theirs: one a line, with a reason."""
+"""The file of known findings for `--allow`: one finding a line, with a reason."""
 
 import os
 from typing import Dict, Iterator, List, NamedTuple
@@ -11,13 +11,14 @@ MARK = " # "
 
 
 class Line(NamedTuple):
-    """A line of the file: its number and text."""
+    """A line of the file: its number, and its text."""
 
     number: int
     text: str
 
     def sentences(self) -> Iterator[str]:
-        """Yields what the line may allow: the text before a mark that has a reason after it."""
+        """Yields the findings that the line may be for: the text before each mark that has a reason
+        after it."""
         at = self.text.find(MARK)
         while at >= 0:
             if self.text[at + len(MARK) :].strip():
@@ -26,12 +27,12 @@ class Line(NamedTuple):
 
 
 def short(path: str) -> str:
-    """Returns a path as it is from the current directory, however it was given."""
+    """Returns a path relative to the current directory, however it was written."""
     return os.path.relpath(path) if path != STANDARD_INPUT else path
 
 
 def lines_of(path: str) -> List[Line]:
-    """Returns the lines of a file of known findings, each of which has to have a reason."""
+    """Returns the lines of a file of known findings. A line without a reason is rejected."""
     with taking(path, "list of known findings"):
         text = utf8(bytes_of(path))
     found = []
@@ -45,8 +46,8 @@ def lines_of(path: str) -> List[Line]:
 
 
 def allow(path: str, reports: List[Report]) -> List[Unused]:
-    """Takes the findings out of reports that a file allows. The lines of it that no longer apply,
-    but for those of files that weren't checked."""
+    """Removes the findings that a file allows from reports. Returns the lines of the file that no
+    longer apply, except those of lock files that weren't checked."""
     lines = lines_of(path)
     known: Dict[str, Line] = {it: line for line in lines for it in line.sentences()}
     used: List[Line] = []
@@ -66,8 +67,8 @@ def allow(path: str, reports: List[Report]) -> List[Unused]:
 
 
 def texts_before(report: Report) -> List[str]:
-    """Returns what may be before a sentence of a report: nothing, its file as it is printed, or as
-    it is from the current directory."""
+    """Returns what may be before a sentence of a report: nothing, its file as it is printed, or its
+    file relative to the current directory."""
     return list(dict.fromkeys(("", report.before, f"{short(report.name)}: ")))
 
 
@@ -77,8 +78,8 @@ def is_known(text: str, before: List[str], known: Dict[str, Line]) -> bool:
 
 
 def may_apply_elsewhere(line: Line, checked: List[str], files: int) -> bool:
-    """Returns whether a line begins with a lock file that wasn't checked, or with none, and one of
-    the files was refused."""
+    """Returns whether a line that wasn't used may still apply: it begins with a lock file that
+    wasn't checked, or with none, and one of the files was rejected."""
     path, colon, _ = line.text.partition(": ")
     if colon and os.path.basename(path.strip('"')) in LOCK_FILES:
         return short(path.strip('"')) not in checked

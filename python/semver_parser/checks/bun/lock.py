@@ -1,8 +1,8 @@
-"""What a `bun.lock` has: JSON with comments and with commas after the last entry, its workspaces,
-and its packages, each a list that begins with `NAME@WHAT-IS-THERE`.
+"""The contents of a `bun.lock`: JSON with comments and trailing commas. It has workspaces, and
+packages, each of which is a list that begins with `NAME@WHAT-IS-THERE`.
 
-The key of a package is its path: `router` is for all, and `runner/router` for `runner` alone. The
-workspaces are by their directories there, and by their names in paths.
+The key of a package is its path. `router` is for all, and `runner/router` is for `runner` only.
+Workspaces are listed by their directories, and are in paths by their names.
 """
 
 import re
@@ -21,14 +21,14 @@ STEP = re.compile(r"@[^/]+/[^/]+|[^/]+")
 
 
 def workspaces_of(lock: Entry) -> Dict[str, Entry]:
-    """Returns the workspaces by their directories. That of the project is empty."""
+    """Returns the workspaces by their directories. The directory of the project is empty."""
     if lock.get("lockfileVersion") not in (0, 1) or isinstance(lock["lockfileVersion"], bool):
         raise WrongShape(" of lockfileVersion 0 or 1")
     return objects_at(lock.get("workspaces"), "workspaces")
 
 
 def packages_of(lock: Entry, manifests: Dict[str, Entry]) -> Iterator[Package]:
-    """Yields the packages of a file, in its order, of which workspaces have the versions of their
+    """Yields the packages of a file, in its order. Workspaces have the versions in their
     package.json."""
     for key, value in object_at(lock.get("packages", {}), "packages").items():
         where = f"packages: {key}"
@@ -44,12 +44,12 @@ def packages_of(lock: Entry, manifests: Dict[str, Entry]) -> Iterator[Package]:
 
 
 def version_of(there: str) -> Optional[str]:
-    """Returns the version of a package of a registry; what is at a URL or a path has none."""
+    """Returns the version of a package of a registry. A package at a URL or a path has none."""
     return None if ":" in there or "/" in there else there
 
 
 def places_from(path: str, name: str) -> Iterator[str]:
-    """Yields the keys by which a name is looked for from a path on: the nearest first."""
+    """Yields the keys under which a name is looked up from a path: the nearest first."""
     steps = STEP.findall(path)
     for count in range(len(steps), -1, -1):
         yield "/".join((*steps[:count], name))

@@ -1,5 +1,5 @@
-"""What is put in place of requirements: overrides, catalogs and patches, in a `bun.lock` and in the
-package.json of its project."""
+"""What replaces requirements in a `bun.lock` and in the package.json of its project: overrides,
+catalogs and patches."""
 
 from typing import Dict, NamedTuple, Tuple
 
@@ -11,14 +11,14 @@ PATCHES = "patchedDependencies"
 
 
 class Replacements(NamedTuple):
-    """What the file puts in place of requirements: overrides by names, and the ranges of catalogs,
-    of which that without a name is the default."""
+    """What the lock file has to replace requirements: overrides by names, and the ranges of
+    catalogs. The default catalog has no name."""
 
     overrides: Dict[str, str]
     catalogs: Dict[str, Dict[str, str]]
 
     def by_catalog(self, spec: str, name: str) -> str:
-        """Returns what is required of a name, by the range of its catalog."""
+        """Returns what is required of a name. If it is a catalog, returns the range there."""
         if not spec.startswith(CATALOG):
             return spec
         return self.catalogs.get(spec[len(CATALOG) :].strip(), {}).get(name, spec)
@@ -31,14 +31,14 @@ def catalogs_in(entry: Entry) -> Dict[str, Dict[str, str]]:
 
 
 def replacements_of(lock: Entry) -> Replacements:
-    """Returns what a file puts in place of requirements."""
+    """Returns what a lock file has to replace requirements."""
     catalogs = {**catalogs_in(lock), "": texts_at(lock.get("catalog", {}), "catalog")}
     return Replacements(texts_at(lock.get("overrides", {}), "overrides"), catalogs)
 
 
 def replaced_by(manifest: Entry) -> Dict[str, Dict[str, str]]:
-    """Returns what the package.json of a project puts in place of requirements, by the names that
-    the file has for it. Bun takes no overrides inside of others."""
+    """Returns what the package.json of a project has to replace requirements, by the names of these
+    tables in the lock file. Bun doesn't accept overrides inside of others."""
     tables = (object_at(manifest.get(it) or {}, it) for it in ("resolutions", "overrides"))
     texts = {key: it for table in tables for key, it in table.items() if isinstance(it, str)}
     found = {"overrides": {key[3:] if key[:3] == "**/" else key: it for key, it in texts.items()}}
@@ -51,7 +51,7 @@ def replaced_by(manifest: Entry) -> Dict[str, Dict[str, str]]:
 
 
 def locked_replacements(lock: Entry) -> Dict[str, Tuple[Keys, Dict[str, str]]]:
-    """Returns what a file has of these, each after the keys that lead to it."""
+    """Returns the same tables of a lock file, each with the keys that lead to it."""
     found: Dict[str, Tuple[Keys, Dict[str, str]]] = {}
     for name in ("overrides", "catalog", PATCHES):
         found[name] = (name,), texts_at(lock.get(name) or {}, name)

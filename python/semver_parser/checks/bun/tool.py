@@ -1,16 +1,17 @@
-"""Bun: lock files of lockfileVersion 0 and 1, beside the package.json files of the project.
+"""Bun: lock files of lockfileVersion 0 and 1, with the package.json files of the project.
 
-WHO REQUIRES. The project and its workspaces, for what their package.json files have where these are
-there, and else for what the file has of them, and each package.
+WHO REQUIRES. The project and its workspaces require what their package.json files have. If these
+aren't there, they require what the lock file has of them. Each package requires what the lock file
+has of it.
 
-WHAT IS FOUND. The package of the name that is nearest to the path of what requires it, as for npm's
-directories, but by the names of packages.
+WHAT IS FOUND. The package of the name that is nearest to the path of its requirer. This is as in
+npm's directories, but paths consist of names of packages.
 
-OVERRIDES AND CATALOGS. They are in the file. A requirement that an override is for is checked by
-that, if the version doesn't satisfy what is required. `catalog:` is checked by the range there.
+OVERRIDES AND CATALOGS. They are in the lock file. An override counts if the version doesn't satisfy
+the requirement itself. `catalog:` is checked by the range of the catalog.
 
-BESIDE THE FILE. `bun install --frozen-lockfile` refuses it if the package.json files say something
-else than what it was written for.
+WHAT IS COMPARED. `bun install --frozen-lockfile` rejects a lock file that was written for other
+package.json files.
 """
 
 import os
@@ -67,7 +68,7 @@ class BunScheme(NodeScheme):
     """How Bun reads specifiers."""
 
     def npm_form(self, specifier: str, requirement: Requirement) -> str:
-        """Returns a specifier as npm has it, by the version that is found."""
+        """Returns a specifier in the form that npm reads, for the version that was found."""
         version = requirement.found.version if requirement.found else None
         return npm_form_of_workspace(specifier, version or "")
 
@@ -90,7 +91,7 @@ def requirements_in(
 
 
 class Reader:
-    """Reads a lock file beside the package.json files of its project."""
+    """Reads a lock file, with the package.json files of its project."""
 
     def __init__(self, lock: Entry, project: Project) -> None:
         self.lock, self.top = lock, project.directory
@@ -109,8 +110,8 @@ class Reader:
         return manifest_in(os.path.join(self.top or "", directory)) if is_path else None
 
     def looked_up(self, it: Requirement, path: str) -> Requirement:
-        """Returns a requirement of what is at a path with what is found, by its catalog, and by
-        overrides."""
+        """Returns a requirement from a path with the package that is found, the range of its
+        catalog, and its overrides."""
         override = self.replacements.overrides.get(it.name)
         others = () if override is None else (self.replacements.by_catalog(override, it.name),)
         spec = self.replacements.by_catalog(it.specifier, it.name)
@@ -118,8 +119,8 @@ class Reader:
         return it._replace(specifier=spec, found=found, replaced_by=others)
 
     def of_workspace(self, directory: str) -> Iterator[Requirement]:
-        """Yields what a workspace requires, with what the lock file was written for, if the
-        workspace is one of the project's."""
+        """Yields what a workspace requires. If its package.json was read, each requirement has what
+        the lock file was written for."""
         requirer = requirer_of(directory, ("workspaces", directory))
         path = path_of(self.workspaces[directory], directory)
         own = list(requirements_in(self.manifests[directory], requirer, KINDS_OF_WORKSPACES))
@@ -144,7 +145,7 @@ class Reader:
             yield self.looked_up(it, package.place)
 
     def workspace_findings(self) -> Iterator[Finding]:
-        """Yields what there is to say of workspaces that only a package.json has, or only the
+        """Yields the findings about workspaces that only a package.json has, or only the lock
         file."""
         for directory, manifest in self.beside.items():
             if directory not in self.workspaces:
@@ -155,8 +156,8 @@ class Reader:
                 yield Unreached(Package(name, None, directory, ("workspaces", directory)))
 
     def replacement_findings(self) -> Iterator[Finding]:
-        """Yields what there is to say of overrides, catalogs and patches that aren't those of the
-        file."""
+        """Yields the findings about overrides, catalogs and patches that differ from those of the
+        lock file."""
         if not self.beside:
             return
         own, locked = replaced_by(self.beside[""]), locked_replacements(self.lock)
@@ -170,7 +171,7 @@ class Reader:
                     yield StaleSetting(f"{table}.{key}", wanted, there, MANIFEST, keys)
 
     def unreached(self) -> Iterator[Finding]:
-        """Yields what there is to say of packages to which nothing leads."""
+        """Yields the findings about packages to which nothing leads."""
         left: List[Tuple[str, List[Entry]]] = []
         for directory in {**self.workspaces, **self.beside}:
             entry = self.workspaces.get(directory, {})
@@ -197,13 +198,13 @@ class Reader:
                 yield it.requirer.label, it.found.label
 
     def stated(self) -> Iterator[Requirement]:
-        """Yields what the project and its workspaces require by the file."""
+        """Yields what the project and its workspaces require according to the lock file."""
         for directory, workspace in self.workspaces.items():
             at = ("workspaces", directory)
             yield from requirements_in(workspace, requirer_of(directory, at), KINDS_TO_COMPARE)
 
     def lock_file(self, file: Input) -> LockFile:
-        """Returns what the lock file has, the versions of packages first."""
+        """Returns the contents of the lock file. The versions of packages are checked first."""
         there = [it for it in self.packages if not it.is_own]
         registry = [it for it in there if it.version]
         lock = LockFile([], registry, self.edges, self.stated, package_count=len(there))
@@ -217,7 +218,7 @@ class Reader:
 
 
 def is_known(key: str, spec: str) -> bool:
-    """Returns whether Bun has what is put in place as it is written."""
+    """Returns whether Bun writes a replacement into the lock file as it is in package.json."""
     return not spec.startswith("$") and ("/" not in key or key.startswith("@"))
 
 
@@ -229,21 +230,22 @@ class Bun(Tool):
     manifests = (MANIFEST,)
 
     def recognizes(self, file: Input) -> bool:
-        """Returns whether a file begins as only one of Bun does. A binary one is rejected."""
+        """Returns whether a file begins as only Bun's lock files do. A binary one is rejected."""
         if file.text.startswith(BINARY):
             raise Unreadable("bun.lockb is binary; run bun install --save-text-lockfile")
         return MARK.match(file.text) is not None
 
     def read(self, file: Input) -> LockFile:
-        """Returns what a lock file has, beside the package.json files of the project."""
+        """Returns the contents of a lock file, with the package.json files of the project."""
         return Reader(file.parsed(object_with_comments), project_beside(file)).lock_file(file)
 
     def offsets(self, text: bytes, wanted: Set[Keys]) -> Offsets:
-        """Yields the entries of a file, by the JSON that it is for, whose offsets are the same."""
+        """Yields the entries of a file. They are found in its plain JSON, in which all offsets are
+        the same."""
         return json_offsets(plain_json(text), wanted)
 
     def advise(self, finding: Finding) -> None:
-        """Says of a finding what to change, if the command doesn't repair it."""
+        """Adds advice to a finding if the command doesn't repair it."""
         advise(finding)
 
     def statement(self, finding: Finding, file: Input) -> Optional[Statement]:

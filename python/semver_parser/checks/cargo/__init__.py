@@ -1,4 +1,4 @@
-"""Lock files of Cargo: `Cargo.lock`, and what `cargo metadata` writes."""
+"""Lock files of Cargo: `Cargo.lock`, and the output of `cargo metadata`."""
 
 from .metadata import METADATA
 from .tool import CARGO

@@ -1,5 +1,5 @@
 """What Cargo demands of a lock file and its manifests besides requirements: checksums, features of
-packages at paths, and manifests that don't conflict. cargo 1.95.0 decides."""
+packages at paths, and manifests that don't conflict. The verdict of cargo 1.95.0 counts."""
 
 import re
 from typing import Dict, Iterator, List, Set
@@ -20,8 +20,9 @@ ADVICE = "remove the checksum, and have it written anew"
 
 
 def checksum_findings(lock: Lock) -> Iterator[Finding]:
-    """Yields the packages of registries without a valid checksum, and others with one. Cargo writes
-    none for a registry that has none, so one is missing if another package has one."""
+    """Yields the findings about packages of registries without a valid checksum, and about others
+    with one. Cargo writes no checksums for a registry that has none. So one is missing only if
+    another package has one."""
     has_any = any(FIELD in it.entry for it in lock.packages if it.source)
     for package in lock.packages:
         is_of_registry = bool(package.source) and source_of(package.source).kind != GIT
@@ -37,12 +38,13 @@ def checksum_findings(lock: Lock) -> Iterator[Finding]:
 
 
 def is_checksum(value: object) -> bool:
-    """Returns whether a value is a checksum of SHA-256."""
+    """Returns whether a value is an SHA-256 checksum."""
     return isinstance(value, str) and CHECKSUM.fullmatch(value) is not None
 
 
 def feature_findings(resolution: Resolution) -> Iterator[Finding]:
-    """Yields the features that packages require of those at paths, which don't have them."""
+    """Yields the findings about features that are required of packages at paths and that these
+    don't have."""
     for manifest in resolution.manifests():
         package = resolution.entry_of(manifest)
         asked = activated_by(manifest, resolution.features.get(manifest.folder, set()))
@@ -59,8 +61,8 @@ def feature_findings(resolution: Resolution) -> Iterator[Finding]:
 
 
 def conflict_findings(resolution: Resolution) -> Iterator[Finding]:
-    """Yields packages at paths that require themselves, that require a package by two names, or
-    that link what another one links."""
+    """Yields the findings about packages at paths that require themselves, that require one package
+    by two names, or that have the same `links` as another one."""
     linking: Dict[str, str] = {}
     requires: Dict[str, List[str]] = {}
     manifests = list(resolution.manifests())
@@ -94,8 +96,8 @@ def is_reached(start: str, requires: Dict[str, List[str]]) -> bool:
 
 
 def two_names(manifest: Manifest, package: Package, resolution: Resolution) -> Iterator[Finding]:
-    """Yields the packages that a manifest requires by two names. Of what is optional Cargo only
-    looks at what the default features have, so that isn't listed."""
+    """Yields the findings about packages that a manifest requires by two names. Optional
+    dependencies aren't listed: Cargo looks only at those that the default features include."""
     names: Dict[object, str] = {}
     for match in resolution.matches_of(manifest):
         it = match.dependency

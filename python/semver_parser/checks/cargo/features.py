@@ -1,4 +1,4 @@
-"""Which optional dependencies the features of a package require, as Cargo's lock file has them."""
+"""Which optional dependencies the features of a package require, according to Cargo's lock file."""
 
 from typing import Dict, List, Set
 
@@ -8,7 +8,7 @@ from .manifests import Manifest
 
 def features_of(manifest: Manifest) -> Dict[str, List[str]]:
     """Returns the features of a package: its own, and one for each optional dependency that no
-    feature has after `dep:`."""
+    feature has as `dep:NAME`."""
     optional = {it.key for it in manifest.dependencies if it.is_optional}
     values = [it for each in manifest.features.values() for it in each]
     stated = {it[len("dep:") :] for it in values if it.startswith("dep:")}
@@ -17,7 +17,8 @@ def features_of(manifest: Manifest) -> Dict[str, List[str]]:
 
 
 def checked(manifest: Manifest) -> Manifest:
-    """Returns a manifest, whose features require others and for optional dependencies alone."""
+    """Returns a manifest. It is rejected if a feature requires something that is neither a feature
+    nor an optional dependency."""
     features, keys = features_of(manifest), {it.key for it in manifest.dependencies}
     optional = {it.key for it in manifest.dependencies if it.is_optional}
     for feature, values in manifest.features.items():
@@ -31,8 +32,9 @@ def checked(manifest: Manifest) -> Manifest:
 
 
 def activated_by(manifest: Manifest, wanted: Set[str]) -> Dict[str, Set[str]]:
-    """Returns the dependencies that features of a package require, and which features of these.
-    `NAME?/FEATURE` requires the dependency, too: in the lock file it is there."""
+    """Returns the dependencies that features of a package activate, each with the features that
+    they require of it. `NAME?/FEATURE` counts as if it required the dependency, which is in the
+    lock file then."""
     features = features_of(manifest)
     optional = {it.key for it in manifest.dependencies if it.is_optional}
     found: Dict[str, Set[str]] = {}

@@ -1,4 +1,5 @@
-"""What a Cargo.toml requires: a package, and what a workspace has for its members."""
+"""What a Cargo.toml has: a package with its requirements, and what a workspace provides for its
+members."""
 
 import os
 from typing import Any, Dict, Iterator, List, NamedTuple, Optional, Tuple
@@ -20,10 +21,16 @@ NO_VERSION = "0.0.0"
 
 
 class Dependency(NamedTuple):
-    """What a manifest requires: the name of the package, the name that it is given, if another, the
-    requirement, whether that is of a registry or of a path or git alone, the table that it is in,
-    where the package is to be taken from, as stated and as it is, whether it is optional, and which
-    features it is to have."""
+    """A dependency of a manifest.
+
+    - `name` is that of the package, and `other_name` the name that the manifest gives to it, if
+      any.
+    - `has_registry` says whether the requirement is for a registry. Otherwise it is only for a path
+      or for git.
+    - `table` is the table that it is in.
+    - `stated_source` is its source as it is written, and `source` the same as Cargo compares it.
+    - `features` are those that it is to have.
+    """
 
     name: str
     other_name: Optional[str]
@@ -37,18 +44,18 @@ class Dependency(NamedTuple):
 
     @property
     def key(self) -> str:
-        """The name by which the manifest knows the package."""
+        """The name by which the manifest refers to the package."""
         return self.other_name or self.name
 
     @property
     def is_development(self) -> bool:
-        """Whether it is for development, also for a target."""
+        """Whether it is a development dependency, perhaps for a target."""
         return self.table.rpartition(".")[2] == "dev-dependencies"
 
 
 class Manifest(NamedTuple):
-    """The directory, the name and the version of a package, what it requires, its features, and
-    the library that it links. Without a name it is that of a workspace alone."""
+    """The manifest of a package: its directory, name, version, dependencies and features, and the
+    library that it links. If it has no name, it is only that of a workspace."""
 
     folder: str
     name: Optional[str]
@@ -59,7 +66,7 @@ class Manifest(NamedTuple):
 
 
 class Inherited(NamedTuple):
-    """What a workspace has for its members, and its directory."""
+    """What a workspace provides for its members, and its directory."""
 
     folder: str
     dependencies: Entry
@@ -70,7 +77,7 @@ NOTHING_INHERITED = Inherited("", {}, {})
 
 
 def tables_of(manifest: Entry) -> Iterator[Tuple[str, Entry]]:
-    """Yields the tables of dependencies, those for a target too."""
+    """Yields the tables of dependencies, including those for a target."""
     for kind in KINDS:
         for spelled in (kind, kind.replace("-", "_")) if "-" in kind else (kind,):
             if spelled in manifest:
@@ -81,7 +88,7 @@ def tables_of(manifest: Entry) -> Iterator[Tuple[str, Entry]]:
 
 
 def patches_of(manifest: Entry) -> Iterator[Tuple[str, Entry]]:
-    """Yields the tables of what replaces packages, by their sources, or by package and version."""
+    """Yields the tables of packages that replace others: `[patch]` by sources, and `[replace]`."""
     for source, table in object_at(manifest.get("patch", {}), "patch").items():
         yield f"patch.{source}", object_at(table, f"patch: {source}")
     if "replace" in manifest:
@@ -91,8 +98,8 @@ def patches_of(manifest: Entry) -> Iterator[Tuple[str, Entry]]:
 def dependency_of(
     key: str, value: Any, table: str, inherited: Inherited = NOTHING_INHERITED, folder: str = ""
 ) -> Dependency:
-    """Returns a dependency of a table: a requirement, or a table of its own, which may take that of
-    the workspace."""
+    """Returns a dependency of a table. Its value is a requirement, or a table that may refer to
+    that of the workspace."""
     where = f"{table}: {key}"
     if isinstance(value, str):
         return Dependency(key, None, value, True, table, features=("default",))
@@ -123,8 +130,8 @@ def dependency_of(
 
 
 def features_in(entry: Entry, where: str, has_default: bool) -> Tuple[str, ...]:
-    """Returns the features that a dependency is to have, where that of the name `default` is one
-    unless the manifest says otherwise, or is only if the manifest says so."""
+    """Returns the features that a dependency is to have. `default` is among them by default, or
+    only if the manifest says so."""
     for spelled in ("default-features", "default_features"):
         has_default = bool(entry.get(spelled, has_default))
     features = list_at(entry.get("features", []), f"{where}: features")
@@ -133,28 +140,28 @@ def features_in(entry: Entry, where: str, has_default: bool) -> Tuple[str, ...]:
 
 
 def package_of(manifest: Entry) -> Entry:
-    """Returns what a manifest has of its package. Up to edition 2021 the table may be `project`."""
+    """Returns the package table of a manifest. Up to edition 2021 it may be called `project`."""
     return object_at(manifest.get("package", manifest.get("project", {})), "package")
 
 
 def workspace_of(manifest: Entry) -> Entry:
-    """Returns what a manifest has of its workspace, if it is that of one."""
+    """Returns the workspace table of a manifest; an empty one if it has none."""
     return object_at(manifest.get("workspace", {}), "workspace")
 
 
 def workspace_table(manifest: Entry) -> Entry:
-    """Returns the dependencies that a workspace has for its members."""
+    """Returns the dependencies that a workspace provides for its members."""
     return object_at(workspace_of(manifest).get("dependencies", {}), "workspace: dependencies")
 
 
 def inherited_of(manifest: Entry, folder: str) -> Inherited:
-    """Returns what a workspace's manifest has for the members."""
+    """Returns what a workspace's manifest provides for the members."""
     package = object_at(workspace_of(manifest).get("package", {}), "workspace: package")
     return Inherited(folder, workspace_table(manifest), package)
 
 
 def manifest_of(entry: Entry, inherited: Inherited, folder: str) -> Manifest:
-    """Returns a manifest, whose dependencies and version may be those of the workspace."""
+    """Returns a manifest. Its dependencies and its version may be those of the workspace."""
     package = package_of(entry)
     version = package.get("version")
     if isinstance(version, dict) and version.get("workspace") is True:
@@ -178,15 +185,15 @@ def manifest_of(entry: Entry, inherited: Inherited, folder: str) -> Manifest:
 
 
 def read(path: str) -> Entry:
-    """Returns what a Cargo.toml has."""
+    """Returns the contents of a Cargo.toml."""
     with taking(path, MANIFEST):
         return toml_object(bytes_of(path))
 
 
 def by_table(entry: Entry) -> Dict[Tuple[str, str], Dependency]:
-    """Returns what a manifest requires, by table and key; of a workspace what it has for its
-    members, too, and what replaces packages. What it takes from another file has no requirement
-    here. A file without any table of a manifest is none."""
+    """Returns the requirements of a manifest by table and key, including what a workspace provides
+    for its members, and what replaces packages. A dependency that refers to a workspace in another
+    file has no requirement. A file without any table of a manifest is rejected."""
     package_of(entry)
     if not {"package", "workspace", "target", "patch", "replace", *KINDS}.intersection(entry):
         raise WrongShape("")

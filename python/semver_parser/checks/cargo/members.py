@@ -1,4 +1,4 @@
-"""The packages of a workspace, found as Cargo finds them."""
+"""The packages of a workspace, which are found as Cargo finds them."""
 
 import os
 from glob import escape, glob
@@ -21,7 +21,7 @@ from .manifests import (
 
 
 def manifest_at(folder: str) -> Manifest:
-    """Returns the manifest in a directory, with what it takes from its workspace."""
+    """Returns the manifest in a directory, with what it inherits from its workspace."""
     path = os.path.join(folder, MANIFEST)
     entry = read(path)
     root = root_of(folder, entry)
@@ -43,8 +43,9 @@ def members_at(folder: str) -> Iterator[Manifest]:
 
 
 def root_of(folder: str, entry: Entry) -> Optional[str]:
-    """Returns the directory of the workspace that a directory's manifest is in, if it is in one:
-    its own, that which it names, or the nearest around it that doesn't exclude it."""
+    """Returns the directory of the workspace to which the manifest in a directory belongs; None if
+    it belongs to none. This is the directory itself, the one that the manifest names, or the
+    nearest one around it that doesn't exclude it."""
     if "workspace" in entry:
         return folder
     outer, found = os.path.abspath(folder), entry
@@ -63,8 +64,8 @@ def root_of(folder: str, entry: Entry) -> Optional[str]:
 
 
 def unread_beside_workspace(folder: str) -> Optional[str]:
-    """Returns the lock file that Cargo reads in place of that in a directory, if this is in a
-    workspace whose directory is another one."""
+    """Returns the lock file that Cargo reads instead of the one in a directory, if the directory
+    belongs to a workspace in another one."""
     path = os.path.join(folder, MANIFEST)
     try:
         root = root_of(folder, read(path)) if os.path.isfile(path) else None
@@ -76,9 +77,13 @@ def unread_beside_workspace(folder: str) -> Optional[str]:
 
 
 def entries_of(folder: str, top: Entry) -> Dict[str, Entry]:
-    """Returns the manifests of a workspace or a package by their directories. Members are the
-    packages that a workspace names, and those that a member has by a path inside the directory, or
-    elsewhere if their manifest names the workspace, but for what is excluded."""
+    """Returns the manifests of a workspace or a package by their directories. These are the members
+    of a workspace, unless it excludes them:
+
+    - the packages that it names;
+    - the packages that a member has by a path, if they are inside the directory of the workspace or
+      their manifests name it.
+    """
     root = os.path.normpath(folder or ".")
     found = {root: top}
     if "workspace" not in top:
@@ -111,8 +116,8 @@ def texts_of(top: Entry, key: str) -> List[str]:
 
 
 def named_by(folder: str, top: Entry) -> Iterator[str]:
-    """Yields the directories that a workspace names as its members. A pattern that finds nothing
-    names itself, and one that ends in `**` finds what is below, as Cargo has it."""
+    """Yields the directories that a workspace names as members. As for Cargo, a pattern that finds
+    nothing stands for itself, and one that ends in `**` finds what is below."""
     for text in texts_of(top, "members"):
         pattern = os.path.join(escape(folder), f"{text}/*" if text.endswith("**") else text)
         # Python's glob refuses a zero byte, which no file has in its name.
@@ -124,15 +129,15 @@ def named_by(folder: str, top: Entry) -> Iterator[str]:
 
 
 def parts_of(folder: str, path: str) -> List[str]:
-    """Returns the parts of a path that begins at a directory, by which Cargo compares paths: `..`
-    is one."""
+    """Returns the parts of a path from a directory, with which Cargo compares paths: `..` is a
+    part."""
     whole = os.path.join(os.path.abspath(folder), path)
     return [part for part in whole.split("/") if part not in ("", ".")]
 
 
 def is_excluded(path: str, folder: str, top: Entry) -> bool:
-    """Returns whether a package is at or below a directory that a workspace excludes, and at or
-    below none that it names as a member without a pattern."""
+    """Returns whether a workspace excludes a package: it excludes the directory or one around it,
+    and it names neither as a member without a pattern."""
     parts = parts_of(path, "")
 
     def is_within(key: str) -> bool:
@@ -143,8 +148,8 @@ def is_excluded(path: str, folder: str, top: Entry) -> bool:
 
 
 def paths_of(folder: str, entry: Entry, root: str, top: Entry) -> Iterator[str]:
-    """Yields the directories of the packages that a manifest has by a path, its own or the
-    workspace's."""
+    """Yields the directories of the packages that a manifest has by a path, whether the path is in
+    it or in the workspace's table."""
     inherited = workspace_table(top)
     for _, values in tables_of(entry):
         for key, value in values.items():

@@ -1,17 +1,17 @@
-"""What `cargo metadata --format-version 1` writes: a graph that Cargo resolved, and the manifests
-that require it. A Cargo.lock has the graph alone.
+"""The output of `cargo metadata --format-version 1`: a graph that Cargo resolved, and the manifests
+with its requirements. A Cargo.lock has only the graph.
 
 WHO REQUIRES. Each package requires the `dependencies` of its manifest.
 
-WHAT IS FOUND. The edges of the package in the graph: those to a package of that name, for the same
-kind of dependency and the same target, and under the same other name where it has one. A path or a
-git repository without a version is required as `*`, and lets each version in.
+WHAT IS FOUND. The edges of the package in the graph that lead to a package of the name, for the
+same kind of dependency and the same target, and by the same other name, if it has one. A path or a
+git repository without a version has the requirement `*`, and accepts every version.
 
-WHAT HAS TO BE THERE. An edge has to be there for each dependency, but for
+WHAT HAS TO BE THERE. Each dependency must have an edge, except these:
 
-- an optional one that no active feature has;
-- one for development, of a package that isn't in the workspace;
-- one for a target that no edge of the graph is for alone: `--filter-platform` leaves it out.
+- an optional dependency that no active feature includes;
+- a development dependency of a package outside of the workspace;
+- a dependency for a target, if no edge is only for that target: `--filter-platform` leaves it out.
 """
 
 from typing import Any, Dict, Iterator, List, NamedTuple, Optional, Set, Tuple
@@ -28,7 +28,8 @@ DependencyKind = Tuple[Optional[str], Optional[str]]
 
 
 class Dependency(NamedTuple):
-    """What a manifest requires, and the other name that it gives to that, if any."""
+    """A dependency of a manifest. `other_name` is the name that the manifest gives to it, if
+    any."""
 
     name: str
     other_name: Optional[str]
@@ -39,7 +40,8 @@ class Dependency(NamedTuple):
 
 
 class GraphEdge(NamedTuple):
-    """What a package was given: under which name, which package, and as which kinds."""
+    """An edge of the graph: by which name a package has which other package, and for which kinds of
+    dependencies."""
 
     known_as: str
     name: str
@@ -48,7 +50,8 @@ class GraphEdge(NamedTuple):
 
 
 class GraphPackage(NamedTuple):
-    """A package, what it requires, what it was given, and what its active features require."""
+    """A package of the graph: its dependencies, its edges, and the optional dependencies that its
+    active features include."""
 
     name: str
     version: str
@@ -67,7 +70,7 @@ def optional_text_at(value: Any, where: str) -> Optional[str]:
 
 
 def kind_at(value: Entry, where: str) -> DependencyKind:
-    """Returns the kind and the target of what is required or given."""
+    """Returns the kind and the target of a dependency or an edge."""
     kind = optional_text_at(value.get("kind"), f"{where}: kind")
     return kind, optional_text_at(value.get("target"), f"{where}: target")
 
@@ -138,8 +141,8 @@ def packages_at(metadata: Entry) -> Iterator[GraphPackage]:
 
 
 def active_at(package: Entry, node: Entry, name: str) -> Set[str]:
-    """Returns the optional dependencies that the active features of a package have. `NAME?/FEATURE`
-    has none: what it adds is no name."""
+    """Returns the optional dependencies that the active features of a package include.
+    `NAME?/FEATURE` includes none: what it adds here is no name."""
     features = object_at(package.get("features", {}), f"{name}: features")
     active = set()
     for it in list_at(node.get("features", []), f"{name}: features"):
@@ -158,7 +161,7 @@ def active_at(package: Entry, node: Entry, name: str) -> Set[str]:
 
 
 def crate_name(name: str) -> str:
-    """Returns the name by which code knows what the manifest names."""
+    """Returns the name by which code refers to a package of a manifest."""
     return name.replace("-", "_")
 
 

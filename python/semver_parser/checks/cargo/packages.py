@@ -1,4 +1,4 @@
-"""The packages of a Cargo.lock, and which of them each depends on, as Cargo reads the file."""
+"""The packages of a Cargo.lock, and their edges, as Cargo reads the file."""
 
 from functools import lru_cache
 from typing import Callable, Dict, Iterator, List, NamedTuple, Optional, Tuple
@@ -20,13 +20,13 @@ source_of = lru_cache(maxsize=None)(locked_source)
 
 
 def key_of(package: Package) -> PackageKey:
-    """Returns what tells a package from the others."""
+    """Returns what distinguishes a package from all others."""
     return package.name or "", package.version or "", package.source
 
 
 class Edge(NamedTuple):
-    """What a package depends on: a name, and perhaps a version, and the package that is meant, if
-    it is there once."""
+    """An edge: a name, perhaps a version, and the package that it is for. It is None if there is no
+    such package or more than one."""
 
     name: str
     version: str
@@ -61,7 +61,8 @@ class Lock:
         return None if package.source else self.place(package.name or "", package.version or "")
 
     def is_gone(self, package: Package) -> bool:
-        """Returns whether no manifest leads to a package, which has no source. Cargo ignores it."""
+        """Returns whether a package has no source, and no manifest leads to it. Cargo ignores
+        it."""
         return not package.source and self.directory_of(package) is None
 
     def is_at(self, source: Source, package: Package) -> bool:
@@ -72,8 +73,9 @@ class Lock:
         return is_from(source, source_of(package.source) if package.source else None)
 
     def edges_of(self, package: Package) -> Iterator[Edge]:
-        """Yields what a package depends on: `NAME` if the file has one package of that name, `NAME
-        VERSION`, or a source after that. Of those without a source that at a path is meant."""
+        """Yields the edges of a package. They are written as `NAME` if the file has one package of
+        the name, otherwise as `NAME VERSION`, and perhaps with a source after that. Without a
+        source, a package at a path is preferred."""
         for text in depends_of(package.entry, package.name or ""):
             name, _, rest = text.partition(" ")
             version, _, source = rest.partition(" ")
@@ -97,7 +99,7 @@ def package_of(value: object, where: str) -> Package:
 
 
 def depends_of(entry: Entry, name: str) -> List[str]:
-    """Returns what the entry of a package depends on, as the file has it."""
+    """Returns the edges in the entry of a package, as they are written."""
     where = f"{name}: dependencies"
     depends = [text_at(it, where) for it in list_at(entry.get("dependencies", []), where)]
     if "replace" in entry:

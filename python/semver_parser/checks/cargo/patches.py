@@ -1,5 +1,5 @@
-"""The findings of the patches of a workspace: a lock file has each, as a package or as one that
-isn't used."""
+"""Findings about the patches of a workspace. A lock file must have each of them, as a package or as
+one that isn't used."""
 
 from typing import Iterator, List, Optional
 
@@ -14,7 +14,7 @@ A_PATCH = "a patch"
 
 
 def patch_findings(resolution: Resolution) -> Iterator[Finding]:
-    """Yields the findings of the patches of a workspace, and of those that a lock file has."""
+    """Yields the findings about the patches of a workspace, and about those of a lock file."""
     project, lock = resolution.project, resolution.lock
     for patch in project.patches:
         used = [it for it in lock.packages if resolution.is_of_patch(patch, it)]
@@ -33,8 +33,8 @@ def patch_findings(resolution: Resolution) -> Iterator[Finding]:
 
 
 def replacement_findings(resolution: Resolution) -> Iterator[Finding]:
-    """Yields the packages that [replace] has another one for, at a path and of the same version,
-    which the lock file doesn't have in their place."""
+    """Yields the findings about packages that [replace] replaces by one at a path with the same
+    version, if the lock file doesn't have that."""
     project = resolution.project
     for need in project.replacements:
         if need.source.kind != PATH:
@@ -62,8 +62,8 @@ def version_of(patch: Patch, resolution: Resolution) -> Optional[str]:
 def exchanged(
     patch: Patch, resolution: Resolution, unused: List[Package]
 ) -> Iterator[Finding]:
-    """Yields the packages that a patch replaces, by their version, where the lock file has them
-    from the source that is patched."""
+    """Yields the findings about packages that the lock file has from the source that is patched,
+    with the version of the patch."""
     project = resolution.project
     versions = {version_of(patch, resolution), *(it.version for it in unused)}
     for package in resolution.lock.by_name.get(patch.dependency.name, []):

@@ -1,5 +1,5 @@
-"""The manifests that a Cargo.lock is for: those of the members of a workspace, of the packages that
-these have by paths, and the patches of the workspace."""
+"""The manifests for a Cargo.lock: those of the workspace members, those of the packages that these
+have by paths, and the patches of the workspace."""
 
 import os
 from typing import Dict, Iterator, List, NamedTuple, Optional
@@ -21,15 +21,16 @@ OF_PATCH, REPLACE = "patch.", "replace"
 
 
 class Patch(NamedTuple):
-    """A package that replaces those of a source, or one of [replace], of which the key has that."""
+    """A package that replaces those of a source, or one of [replace], whose key names what it
+    replaces."""
 
     source: Source
     dependency: Dependency
 
 
 class Workspace:
-    """The manifests of a project. Those of packages at paths are read where they are needed, by
-    their directories."""
+    """The manifests of a project by their directories. Those of packages at paths are read when
+    they are needed."""
 
     def __init__(self, folder: str) -> None:
         self.folder = os.path.abspath(folder)
@@ -48,12 +49,12 @@ class Workspace:
         return any(it.folder == manifest.folder for it in self.members)
 
     def at(self, folder: str) -> Manifest:
-        """Returns the manifest in a directory, which has to be there."""
+        """Returns the manifest in a directory. It is an error if there is none."""
         found = self.known_at(folder)
         return manifest_at(folder) if found is None else found
 
     def known_at(self, folder: str) -> Optional[Manifest]:
-        """Returns the manifest in a directory, if it is one."""
+        """Returns the manifest in a directory; None if there is none that can be read."""
         if folder not in self.manifests:
             try:
                 found: Optional[Manifest] = manifest_at(os.path.relpath(folder))
@@ -63,7 +64,7 @@ class Workspace:
         return self.manifests[folder]
 
     def find(self) -> None:
-        """Finds the packages at paths, all that a manifest or a patch has."""
+        """Finds all packages at paths that a manifest or a patch has."""
         left: List[Optional[Manifest]] = list(self.members)
         stated = [*(it.dependency for it in self.patches), *self.replacements]
         seen = set(self.manifests)
@@ -79,8 +80,8 @@ class Workspace:
                     left.append(self.known_at(source.place))
 
     def place(self, name: str, version: str) -> Optional[str]:
-        """Returns the directory of a package of the lock file that has no source: Cargo goes by the
-        name where that is one package's alone."""
+        """Returns the directory of a package in the lock file without a source. If only one package
+        has the name, Cargo ignores the version."""
         places = self.folders.get(name, {})
         return next(iter(places.values())) if len(places) == 1 else places.get(version)
 

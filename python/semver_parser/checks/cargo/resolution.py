@@ -1,4 +1,5 @@
-"""What Cargo would take from a Cargo.lock for what the manifests of a project require."""
+"""Which packages of a Cargo.lock Cargo would use for the requirements of the manifests of a
+project."""
 
 from typing import Dict, Iterator, List, NamedTuple, Optional, Set, Tuple
 
@@ -14,8 +15,8 @@ from .sources import PATH, is_patched
 
 
 class Match(NamedTuple):
-    """What a package requires, what of the lock file that is, if anything, and whether it has to be
-    there."""
+    """A dependency of a package, the package in the lock file that satisfies it, if any, and
+    whether it has to be there."""
 
     dependency: Dependency
     found: Optional[Package]
@@ -23,9 +24,9 @@ class Match(NamedTuple):
 
 
 class Resolution:
-    """A lock file beside its project: the packages to which something leads, the features that each
-    package at a path is asked to have, and which of these a package requires whose manifest isn't
-    there."""
+    """A lock file with its project. It knows which packages something leads to, which features are
+    required of each package at a path, and which packages at paths are required by a package whose
+    manifest isn't there."""
 
     def __init__(self, lock: Lock, project: Workspace) -> None:
         self.lock, self.project = lock, project
@@ -49,7 +50,7 @@ class Resolution:
         return self.edges[key]
 
     def entry_of(self, manifest: Manifest) -> Optional[Package]:
-        """Returns the package of the lock file that a manifest is of."""
+        """Returns the package of the lock file that a manifest describes."""
         return self.entries.get(manifest.folder)
 
     def reach(self) -> None:
@@ -70,7 +71,8 @@ class Resolution:
                     left.append(edge.to)
 
     def ask(self) -> None:
-        """Finds the features that each package at a path is asked to have: a member has all."""
+        """Finds the features that are required of each package at a path. A member has all its
+        features."""
         left = list(self.project.members)
         for manifest in left:
             self.features[manifest.folder] = set(features_of(manifest))
@@ -94,10 +96,10 @@ class Resolution:
     # ---- what is required
 
     def dependencies_of(self, manifest: Manifest) -> Iterator[Tuple[Dependency, bool]]:
-        """Yields what a manifest may require, and whether it does. What is for development a member
-        alone requires, and an optional dependency is there if a feature requires it: which those
-        may be isn't known if a package asks whose manifest isn't there. A package at a path has to
-        be there."""
+        """Yields the dependencies of a manifest, each with whether it is active. Only a member has
+        its development dependencies. An optional dependency is active if a feature includes it.
+        Which features those are isn't known if a package requires this one whose manifest isn't
+        there; then all optional dependencies are yielded. A package at a path has to be there."""
         asked = activated_by(manifest, self.features.get(manifest.folder, set()))
         is_member = self.project.is_member(manifest)
         for need in manifest.dependencies:
@@ -110,7 +112,8 @@ class Resolution:
                 yield need, is_active
 
     def matches_of(self, manifest: Manifest) -> Iterator[Match]:
-        """Yields what a manifest requires, each with what of the lock file Cargo takes for it."""
+        """Yields the dependencies of a manifest, each with the package of the lock file that Cargo
+        uses for it."""
         entry = self.entry_of(manifest)
         edges = [] if entry is None else self.edges_of(entry)
         by_name: Dict[str, List[Package]] = {}
@@ -123,34 +126,35 @@ class Resolution:
             yield Match(need, next(fits, None), is_active)
 
     def version_of(self, package: Package) -> str:
-        """Returns the version of a package: one at a path has that of its manifest."""
+        """Returns the version of a package. For a package at a path it is the version in its
+        manifest."""
         directory = self.lock.directory_of(package)
         return self.project.at(directory).version if directory else package.version or ""
 
     def is_met(self, need: Dependency, package: Package) -> Optional[bool]:
-        """Returns whether a package has a version that is required; None if the requirement isn't
-        read. A path or git without a requirement lets each version in."""
+        """Returns whether the version of a package satisfies a requirement; None if the requirement
+        is invalid. A path or git without a requirement accepts every version."""
         if need.requirement == "*" and not need.has_registry:
             return True
         return is_met(need.requirement, self.version_of(package), Dialect.CARGO)
 
     def is_source(self, need: Dependency, package: Package) -> bool:
-        """Returns whether a package is from the source that is required, or from a patch of
-        that."""
+        """Returns whether a package comes from the source that is required, or from a patch of that
+        source."""
         return self.lock.is_at(need.source, package) or any(
             is_patched(need.source, patch.source) and self.is_of_patch(patch, package)
             for patch in self.project.patches
         )
 
     def is_of_patch(self, patch: Patch, package: Package) -> bool:
-        """Returns whether a package is what a patch puts in place."""
+        """Returns whether a package is the one that a patch provides."""
         dependency = patch.dependency
         return package.name == dependency.name and self.lock.is_at(dependency.source, package)
 
 
 def in_order(packages: List[Package]) -> List[Package]:
-    """Returns packages of one name in Cargo's order, by which the first that is required is
-    taken."""
+    """Returns packages of one name in Cargo's order. Cargo uses the first that satisfies a
+    requirement."""
     if len(packages) < 2 or not all(is_version(it.version or "", Dialect.CARGO) for it in packages):
         return packages
     return sorted(packages, key=lambda it: Version.parse(it.version or "", dialect=Dialect.CARGO))

@@ -1,4 +1,4 @@
-"""Where Cargo takes packages from, as manifests and lock files spell it: a directory, git, or a
+"""The sources of packages, as manifests and lock files write them: a directory, git, or a
 registry."""
 
 import os
@@ -30,7 +30,7 @@ class Source(NamedTuple):
     reference: str = ""
 
     def text(self, folder: str) -> str:
-        """Returns the source as a finding has it, a directory from another one on."""
+        """Returns the source as findings print it. A directory is relative to another one."""
         if self == CRATES_IO:
             return NAMES_OF_CRATES_IO[0]
         if self.kind == PATH:
@@ -40,8 +40,7 @@ class Source(NamedTuple):
 
 
 def canonical(url: str) -> str:
-    """Returns a URL in the form in which Cargo compares it: GitHub takes no notice of upper
-    case."""
+    """Returns a URL in the form in which Cargo compares it. GitHub's URLs aren't case-sensitive."""
     bare = url.rstrip("/")
     bare = bare.lower() if "//github.com/" in bare.lower() else bare
     return bare[: -len(".git")] if bare.endswith(".git") else bare
@@ -67,7 +66,7 @@ def registry_at(index: str) -> Source:
 
 
 def registry_of(name: str) -> Source:
-    """Returns the registry of a name. Where that is only the settings of Cargo say."""
+    """Returns the registry of a name. Only Cargo's settings say what its URL is."""
     return CRATES_IO if name in NAMES_OF_CRATES_IO else Source(NAMED, name)
 
 
@@ -91,7 +90,7 @@ def patched_source(key: str) -> Source:
 
 
 def directory_at(folder: str, path: str) -> str:
-    """Returns the directory that a path names in another one, as Cargo compares directories."""
+    """Returns the directory at a path in another directory, as Cargo compares directories."""
     return os.path.abspath(os.path.join(folder, path))
 
 
@@ -101,8 +100,8 @@ def is_patched(wanted: Source, key: Source) -> bool:
 
 
 def is_from(wanted: Source, found: Optional[Source]) -> bool:
-    """Returns whether a package is from a source. One of a registry whose place isn't known may be
-    from any but crates.io."""
+    """Returns whether a package comes from a source. If the source is a registry whose URL isn't
+    known, any registry except crates.io may be it."""
     if wanted.kind == NAMED and found is not None:
         return found.kind in (REGISTRY, NAMED) and found != CRATES_IO
     return wanted == found

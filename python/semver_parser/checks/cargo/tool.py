@@ -1,12 +1,12 @@
-"""Cargo: a Cargo.lock beside its manifests, and whether Cargo would leave it as it is.
+"""Cargo: a Cargo.lock with its manifests, and whether Cargo would leave it unchanged.
 
 WHO REQUIRES. The members of the workspace, and the packages that they have by paths, whose
-`Cargo.toml` files are there. What the other packages require isn't in such a file: `cargo metadata
---format-version 1` writes it.
+Cargo.toml files are there. A Cargo.lock doesn't have what the other packages require; `cargo
+metadata --format-version 1` prints that.
 
-WHAT IS FOUND. Of the packages that the lock file has for a package the first that is what is
-required: by its name, its version, and its source or a patch of that. What is there for nothing
-that is required is listed, and so is each package to which nothing leads.
+WHAT IS FOUND. Among the edges of a package, the first package that has the required name, a version
+that is required, and the required source or a patch of it. An edge for which there is no
+requirement is listed, and so is a package to which nothing leads.
 """
 
 import os
@@ -52,7 +52,7 @@ NAME = re.compile(r"""\s*name\s*=\s*["']([^"']*)""")
 
 
 class CargoScheme(Scheme):
-    """How Cargo reads versions and requirements, of the packages of one lock file."""
+    """How Cargo reads versions and requirements, for the packages of one lock file."""
 
     dialect = Dialect.CARGO
 
@@ -60,7 +60,8 @@ class CargoScheme(Scheme):
         self.resolution = resolution
 
     def verdict(self, specifier: str, requirement: Requirement) -> Optional[Verdict]:
-        """Returns the verdict on what is found, which has to be from the right source, too."""
+        """Returns the verdict on the package that is found. It has to come from the right source,
+        too."""
         dependency, found = requirement.stated, requirement.found
         if self.resolution is None or dependency is None or found is None:
             return super().verdict(specifier, requirement)
@@ -74,7 +75,7 @@ class CargoScheme(Scheme):
 
 
 class Reader:
-    """Reads a lock file beside the manifests of a directory."""
+    """Reads a lock file, with the manifests of a directory."""
 
     def __init__(self, lock: Entry, directory: str, scope: Scope) -> None:
         project = Workspace(directory)
@@ -83,7 +84,7 @@ class Reader:
         self.scheme = CargoScheme(self.resolution)
 
     def version_findings(self) -> Iterator[Finding]:
-        """Yields what there is to say of packages at paths whose manifests have another version."""
+        """Yields the findings about packages at paths whose manifests have another version."""
         for package in (*self.lock.packages, *self.lock.unused):
             version = self.resolution.version_of(package)
             is_own = self.lock.directory_of(package) is not None
@@ -91,8 +92,8 @@ class Reader:
                 yield ManifestVersion(package, version, MANIFEST)
 
     def candidates(self, dependency: Dependency, package: Package) -> List[Package]:
-        """Returns the packages of the name that a package depends on in the lock file, also those
-        that Cargo ignores, the last."""
+        """Returns the packages of a name to which the edges of a package lead. If there are edges,
+        but only to packages that Cargo ignores, returns these."""
         name = dependency.name
         edges = [it for it in self.resolution.edges_of(package) if it.name == name]
         there = [it.to for it in edges if it.to is not None]
@@ -101,8 +102,8 @@ class Reader:
         return [it for it in self.lock.packages if self.lock.is_gone(it) and it.name == name]
 
     def required(self, match: Match, package: Package) -> Iterator[Requirement]:
-        """Yields what a package requires: with what is found, or for each package that isn't what
-        is required."""
+        """Yields what a package requires, with the package that is found. If none is found, yields
+        it with each package of the name instead."""
         it = match.dependency
         requirer = requirer_of(package)
         alias = it.other_name or ""
@@ -114,7 +115,7 @@ class Reader:
             yield made
 
     def manifest_nodes(self, manifest: Manifest, lock: LockFile) -> Iterator[Node]:
-        """Yields what a package requires whose manifest is there."""
+        """Yields what the package of a manifest requires."""
         package = self.resolution.entry_of(manifest)
         if package is None:
             missing = MissingMember(Package(manifest.name or "", manifest.version))
@@ -132,7 +133,7 @@ class Reader:
         yield Node(findings=self.edge_findings(package, matches))
 
     def edge_findings(self, package: Package, matches: List[Match]) -> Iterator[Finding]:
-        """Yields what a package depends on in the lock file, and no manifest requires."""
+        """Yields the findings about edges of a package that its manifest has no requirement for."""
         used = {key_of(it.found) for it in matches if it.found is not None}
         unmet = {it.dependency.name for it in matches if it.found is None and it.is_active}
         requirer = requirer_of(package)
@@ -142,7 +143,8 @@ class Reader:
                 yield NotRequired(Requirement(requirer, edge.name, "", found))
 
     def lost(self) -> Iterator[Finding]:
-        """Yields what the packages whose manifests aren't there depend on, if that isn't there."""
+        """Yields the findings about edges that lead nowhere, of packages whose manifests aren't
+        there."""
         for package in self.lock.packages:
             is_own = self.lock.directory_of(package) is not None
             if not is_own and key_of(package) in self.resolution.reached:
@@ -152,14 +154,15 @@ class Reader:
                         yield Missing(Requirement(requirer, edge.name, edge.version or "*"))
 
     def unreached(self) -> Iterator[Finding]:
-        """Yields the packages to which nothing leads."""
+        """Yields the findings about packages to which nothing leads."""
         for package in self.lock.packages:
             is_reached = key_of(package) in self.resolution.reached
             if not is_reached and not self.lock.is_gone(package):
                 yield Unreached(package)
 
     def edges(self) -> Iterator[Tuple[str, str]]:
-        """Yields who depends on which package, or on each of a name that is there several times."""
+        """Yields who depends on which package. An edge without a version leads to all packages of
+        its name."""
         by_name: Dict[str, List[str]] = {}
         for it in self.lock.packages:
             by_name.setdefault(it.name or "", []).append(it.label)
@@ -170,15 +173,15 @@ class Reader:
                     yield it.label, label
 
     def own_findings(self) -> Iterator[Finding]:
-        """Yields what Cargo demands besides requirements."""
+        """Yields the findings about what Cargo demands besides requirements."""
         yield from checksum_findings(self.lock)
         yield from conflict_findings(self.resolution)
         yield from feature_findings(self.resolution)
 
     def lock_file(self) -> LockFile:
-        """Returns what the lock file has: first its versions, then what each package requires whose
-        manifest is there, the patches, and what the other packages depend on. If all of that is
-        right, a package to which nothing leads is wrong."""
+        """Returns the contents of the lock file: first its versions, then what each package
+        requires whose manifest is there, then the patches, and then the edges of the other
+        packages. If all of that is right, packages to which nothing leads are listed."""
         there = [it for it in self.lock.packages if it.source]
         lock = LockFile([], there, self.edges, if_right=self.unreached, scheme=self.scheme)
         project = self.resolution.project
@@ -210,7 +213,7 @@ def crates_below(directory: str) -> Iterator[Tuple[str, str]]:
 
 
 class Cargo(Tool):
-    """Cargo, of a Cargo.lock."""
+    """Cargo, with a Cargo.lock."""
 
     name, repair, scheme = "Cargo", "cargo update --workspace", CargoScheme()
     lock_files = (LOCK_FILE,)
@@ -221,7 +224,7 @@ class Cargo(Tool):
         return MARK.search(file.text) is not None
 
     def read(self, file: Input) -> LockFile:
-        """Returns what a lock file has, beside its manifests."""
+        """Returns the contents of a lock file, with its manifests."""
         lock = file.parsed(toml_object)
         if file.directory is None:
             raise WrongShape(" beside a Cargo.toml: name the file")
@@ -237,8 +240,8 @@ class Cargo(Tool):
                 yield ("package", *keys), name.start()
 
     def advise(self, finding: Finding) -> None:
-        """Says of a package at a path of another version that its manifest or another one has to
-        change."""
+        """Adds advice to a finding about a package at a path with another version: its manifest or
+        another one has to change."""
         if isinstance(finding, Unsatisfied) and finding.found and not finding.found.source:
             finding.advised("change the version of the package, or what is required of it", True)
 
@@ -252,7 +255,8 @@ class Cargo(Tool):
         return None if path is None else Statement(path, [(it.alias or it.name,)])
 
     def read_instead(self, path: str, is_named: bool) -> Optional[str]:
-        """Returns why Cargo doesn't read the lock file of a member: it reads the workspace's."""
+        """Returns why Cargo doesn't read the lock file of a member: it reads that of the
+        workspace."""
         other = unread_beside_workspace(os.path.dirname(path))
         return None if other is None else f"since Cargo reads {other}"
 

@@ -1,5 +1,5 @@
-"""What Cargo rejects in a Cargo.toml, as far as a line each says it. cargo 1.95.0 decides. Of the
-rest of a manifest nothing is checked."""
+"""The errors in a Cargo.toml that take one line here each. The verdict of cargo 1.95.0 counts.
+Nothing else of a manifest is validated."""
 
 import os
 import re
@@ -28,7 +28,7 @@ PLACES = ("version", "path", "git", "workspace")
 
 
 def wrong_in_package(package: Entry, directory: str) -> Iterator[str]:
-    """Yields what Cargo rejects in the table of a package."""
+    """Yields the errors in the package table."""
     name, version, edition = (package.get(it) for it in ("name", "version", "edition"))
     if isinstance(name, str) and not NAME.fullmatch(name):
         yield f"{name} is no name of a package"
@@ -45,7 +45,7 @@ def wrong_in_package(package: Entry, directory: str) -> Iterator[str]:
 
 
 def wrong_in_workspace(entry: Entry, package: Entry) -> Iterator[str]:
-    """Yields what Cargo rejects in the other tables of a manifest."""
+    """Yields the errors in the other tables."""
     workspace = entry.get("workspace")
     resolver = (workspace or {}).get("resolver", package.get("resolver", RESOLVERS[0]))
     if resolver not in RESOLVERS:
@@ -63,7 +63,7 @@ def wrong_in_workspace(entry: Entry, package: Entry) -> Iterator[str]:
 
 
 def wrong_in_dependency(table: str, value: Any) -> Iterator[str]:
-    """Yields what Cargo rejects in a dependency."""
+    """Yields the errors in a dependency."""
     if not isinstance(value, dict):
         return
     references = [it for it in REFERENCES if it in value]
@@ -83,14 +83,14 @@ def wrong_in_dependency(table: str, value: Any) -> Iterator[str]:
 
 
 def is_no_feature(name: Any) -> bool:
-    """Returns whether a text is no name of a feature, which a dependency may have."""
+    """Returns whether a string is a name that a feature may not have."""
     return isinstance(name, str) and ("/" in name or name.startswith("dep:"))
 
 
 def refuse_invalid(
     entry: Entry, package: Entry, tables: Dict[str, Entry], directory: str
 ) -> None:
-    """Rejects a manifest that Cargo rejects."""
+    """Rejects a manifest that has one of these errors."""
     wrong = [*wrong_in_workspace(entry, package), *wrong_in_package(package, directory)]
     for table, values in tables.items():
         for key, value in values.items():
