@@ -1,6 +1,8 @@
-"""The program `check-lock-file`: lists the versions of lock files that are not what is required.
+"""The program `check-lock-file`, which lists the versions of lock files that don't satisfy what is
+required.
 
-docs/man/check-lock-file.1 describes what it prints. It needs the library only to check something.
+docs/man/check-lock-file.1 describes what it prints. The library is loaded only if something is
+checked.
 """
 
 import sys
@@ -86,5 +88,5 @@ PROGRAM = Program(
 
 
 def main() -> int:
-    """Runs the program on its arguments. The status."""
+    """Runs the program on its arguments, and returns its status."""
     return run(PROGRAM, sys.argv[1:])

@@ -1,4 +1,4 @@
-"""What `check-lock-file` does: it checks the lock files that are named, and says what it finds."""
+"""What `check-lock-file` does: it checks the lock files that are named, and prints the findings."""
 
 import os
 import sys
@@ -31,7 +31,7 @@ COLORS = ("auto", "always", "never")
 
 
 def format_of(options: Options) -> str:
-    """Returns the format that is asked for."""
+    """Returns the format that the options name."""
     named = options.given.get("--format", "text")
     if "--json" in options.given:
         if named not in ("text", "json"):
@@ -43,7 +43,7 @@ def format_of(options: Options) -> str:
 
 
 def refuse_several(options: Options, found: Discovery) -> None:
-    """Rejects a package.json that isn't for exactly one file, and standard input for two files."""
+    """Rejects a package.json for several lock files, and standard input for two files."""
     named, allowed = options.given.get("--package-json"), options.given.get("--allow")
     if named is not None and (found.is_several or len(found.paths) != 1):
         raise Misuse("--package-json is for exactly one file")
@@ -52,8 +52,8 @@ def refuse_several(options: Options, found: Discovery) -> None:
 
 
 def is_colored(options: Options) -> bool:
-    """Returns whether sentences are in color: as it is asked for, or else if standard output is a
-    terminal that shows colors, which nobody refused."""
+    """Returns whether sentences are in color. If no option says so, they are at a terminal, unless
+    the environment forbids it."""
     asked = options.given.get("--color", "auto")
     if asked not in COLORS:
         raise Misuse(f'unknown color: "{asked}"')
@@ -64,7 +64,7 @@ def is_colored(options: Options) -> bool:
 
 
 def reports_on(paths: List[str], options: Options, form: str) -> Iterator[Report]:
-    """Yields what a check of each lock file reports."""
+    """Yields the report on each lock file."""
     scope = Scope("--no-peers" not in options.given, "--no-dev" not in options.given)
     asked = ("--why" in options.given, "--duplicates" in options.given)
     wanted = Wanted(scope, form in WITH_LINES or asked[0], *asked)
@@ -82,8 +82,8 @@ def reports_on(paths: List[str], options: Options, form: str) -> Iterator[Report
 
 
 def notes_of(results: Results, is_quiet: bool) -> Iterator[str]:
-    """Yields what standard error gets of each lock file: its closing line and what repairs it, or
-    why it isn't checked; and the line of all, if there are several."""
+    """Yields the lines for standard error: for each lock file its closing line and what repairs it,
+    or why it was not checked; and a line for all if there are several."""
     for report in results.reports:
         error = error_of(report)
         if error is not None:
@@ -98,7 +98,7 @@ def notes_of(results: Results, is_quiet: bool) -> Iterator[str]:
 
 
 def status_of(results: Results) -> int:
-    """Returns the status: the worst of all files."""
+    """Returns the status, which is the highest of all files."""
     if results.refusals or any(error_of(it) is not None for it in results.reports):
         return 2
     listed = (finding for it in results.reports for finding in it.listed)
@@ -106,7 +106,7 @@ def status_of(results: Results) -> int:
 
 
 def check(options: Options) -> Outcome:
-    """Lists what is wrong with the lock files that are named, and says how much is checked."""
+    """Lists the findings about the lock files that are named, and says how much was checked."""
     form, is_quiet = format_of(options), "--quiet" in options.given
     in_color = is_colored(options) and form == "text"
     found = discover(options.files or ["."])

@@ -1,4 +1,4 @@
-"""The closing line of a lock file: how much was checked, and what wasn't."""
+"""The closing line of a lock file, which says how much was checked and what wasn't."""
 
 from typing import List, Optional
 
@@ -27,12 +27,12 @@ REASONS = {
 
 
 def counted(count: int, one: str, several: str) -> str:
-    """Returns a count with what is counted."""
+    """Returns a count with the name of what is counted."""
     return f"{count:,} {one if count == 1 else several}"
 
 
 def parts_of(report: Report) -> List[str]:
-    """Returns what a closing line has after what was checked."""
+    """Returns the parts of a closing line after what was checked."""
     reasons = report.not_checked()
     parts = []
     if reasons:
@@ -58,7 +58,7 @@ def closing_line(report: Report) -> str:
 
 
 def total_line(results: Results) -> str:
-    """Returns the line after those of several lock files."""
+    """Returns the line for several lock files together."""
     reports = [it for it in results.reports if error_of(it) is None]
     requirements = sum(it.checked() for it in reports)
     checked = counted(requirements, "requirement", "requirements")
@@ -76,7 +76,7 @@ def total_line(results: Results) -> str:
 
 
 def error_of(report: Report) -> Optional[Refusal]:
-    """Returns why a lock file isn't checked: it is refused, or has nothing that can be checked."""
+    """Returns why a lock file wasn't checked: it was rejected, or nothing in it can be checked."""
     if report.refusal is None and report.is_unchecked():
         return Refusal(report.path, unchecked_line(report))
     return report.refusal

@@ -1,6 +1,8 @@
-"""The program `compare-requirements`: what the changed requirements of a manifest lose and gain.
+"""The program `compare-requirements`, which prints what the changed requirements of a manifest lose
+and gain.
 
-docs/man/compare-requirements.1 describes the lines. It needs the library only to compare something.
+docs/man/compare-requirements.1 describes the lines. The library is loaded only if something is
+compared.
 """
 
 import sys
@@ -34,14 +36,14 @@ something differs, and 2 after an error, which standard error reports."""
 
 
 def compare(options: Options) -> Outcome:
-    """Says what changed."""
+    """Prints what changed."""
     from .comparing import compare
 
     return compare(options)
 
 
 def takes(options: Options) -> bool:
-    """Returns whether the program is called with as many files as it takes."""
+    """Returns whether the number of files is right."""
     if "--git" in options.given:
         return len(options.files) in (1, 2)
     return len(options.files) == 2 and options.files != ["-", "-"]
@@ -51,5 +53,5 @@ PROGRAM = Program("compare-requirements", PAGE, {"--json": False, "--git": True}
 
 
 def main() -> int:
-    """Runs the program on its arguments. The status."""
+    """Runs the program on its arguments, and returns its status."""
     return run(PROGRAM, sys.argv[1:])

@@ -12,7 +12,7 @@ NAME = "compare-requirements"
 
 
 def shown(text: Optional[str]) -> str:
-    """Returns a requirement as it is printed: the empty one in quotes."""
+    """Returns a requirement as it is printed. An empty one is in quotes."""
     return text or '""'
 
 
@@ -31,7 +31,7 @@ def lines_of(it: Change) -> Iterator[str]:
 
 
 def compare(options: Options) -> Outcome:
-    """Says what changed."""
+    """Returns the lines about what changed."""
     refusals: List[Refusal] = []
     found: List[Tuple[Optional[str], Change]] = [
         (pair.file, it)

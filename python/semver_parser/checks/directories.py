@@ -1,4 +1,4 @@
-"""The files below a directory, except for those that git ignores or that a tool put there."""
+"""The files below a directory, except those that git ignores or that a tool put there."""
 
 import os
 from typing import Iterator, List, NoReturn, Tuple
@@ -17,15 +17,15 @@ def is_among(place: str, names: Tuple[str, ...]) -> bool:
 
 
 def named_below(directory: str, names: Tuple[str, ...]) -> List[str]:
-    """Returns the files of these names below a directory, from it on, but for those that git
-    ignores or a tool put there."""
+    """Returns the files with these names below a directory, relative to it, except those that git
+    ignores or that a tool put there."""
     places = (it for it in files_below(directory) if is_among(it, names))
     return sorted(it for it in places if os.path.isfile(os.path.join(directory, it)))
 
 
 def files_below(directory: str) -> List[str]:
-    """Returns the files below a directory by git, and without it, or outside of its work trees,
-    all."""
+    """Returns the files below a directory that git doesn't ignore; all files if there is no git, or
+    outside of its work trees."""
     try:
         os.scandir(directory or ".").close()
     except OSError as error:
@@ -41,7 +41,7 @@ def refuse_unread(error: OSError) -> NoReturn:
 
 
 def walked(directory: str) -> Iterator[str]:
-    """Yields the files below a directory, but for what tools put there."""
+    """Yields the files below a directory, except those that a tool put there."""
     for folder, inner, names in os.walk(directory, onerror=refuse_unread):
         inner[:] = [it for it in inner if it not in MADE]
         for name in names:

@@ -1,4 +1,4 @@
-"""The lock files that paths name: files as they are, and of a directory those below it."""
+"""The lock files that the paths of the command line stand for."""
 
 import os
 from typing import Dict, List, NamedTuple
@@ -16,8 +16,8 @@ for it in TOOLS:
 
 
 class Discovery(NamedTuple):
-    """The lock files that are checked, by path, what is left out of directories, directories
-    without any, and whether lines begin with their file."""
+    """The lock files to check, notes about those that are left out, directories that have none or
+    cannot be read, and whether each line begins with its file."""
 
     paths: List[str]
     notes: List[str]
@@ -26,7 +26,7 @@ class Discovery(NamedTuple):
 
 
 def discover(named: List[str]) -> Discovery:
-    """Returns the lock files that paths name."""
+    """Returns the lock files that paths stand for."""
     paths: Dict[str, str] = {}
     notes: List[str] = []
     refusals: List[Refusal] = []
@@ -47,7 +47,8 @@ def discover(named: List[str]) -> Discovery:
 
 
 def is_left_out(path: str, is_named: bool, notes: List[str]) -> bool:
-    """Returns whether the tool of a lock file reads another one, with a note of that."""
+    """Returns whether the tool of a lock file reads another one instead, and adds a note about
+    that."""
     tool = BY_NAME.get(os.path.basename(path))
     why = None if tool is None else tool.read_instead(path, is_named)
     if why is not None:
@@ -56,8 +57,8 @@ def is_left_out(path: str, is_named: bool, notes: List[str]) -> bool:
 
 
 def found_in(directory: str, refusals: List[Refusal]) -> List[str]:
-    """Returns the lock files below a directory. It is rejected if there are none, and if it or one
-    below can't be read."""
+    """Returns the lock files below a directory. The directory is rejected if there are none, or if
+    it or one below can't be read."""
     try:
         places = named_below(directory, tuple(LOCK_FILES))
         if not places:
@@ -69,8 +70,8 @@ def found_in(directory: str, refusals: List[Refusal]) -> List[str]:
 
 
 def locks_for(path: str, notes: List[str]) -> List[str]:
-    """Returns the lock files that a manifest is for: in the nearest directory that has one, from
-    its own upward in the repository. There is a note if there is none, as of a library."""
+    """Returns the lock files for a manifest: those in the nearest directory that has one, from its
+    own upward in the repository. If there is none, for example for a library, adds a note."""
     directory, name = os.path.split(path)
     while True:
         found = (os.path.join(directory, it) for it in dict.fromkeys(FOR[name]))

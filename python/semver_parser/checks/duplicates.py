@@ -1,5 +1,5 @@
-"""What `--duplicates` lists: packages of which a lock file has several versions, and what the
-project and its workspaces require by different ranges. Nothing of that is wrong."""
+"""What `--duplicates` lists: packages of which a lock file has several versions, and packages that
+the project and its workspaces require by different ranges. Neither is wrong."""
 
 from typing import Dict, Iterable, Iterator, List
 
@@ -28,7 +28,8 @@ def is_same(one: str, other: str) -> bool:
 
 
 def different_ranges(required: Iterable[Requirement]) -> Iterator[Finding]:
-    """Yields what is required by different ranges: each that isn't the first one."""
+    """Yields the findings about requirements whose range differs from the first one for the same
+    name."""
     firsts: Dict[str, Requirement] = {}
     for it in required:
         first = firsts.setdefault(it.name, it)
@@ -38,5 +39,5 @@ def different_ranges(required: Iterable[Requirement]) -> Iterator[Finding]:
 
 
 def duplicates_in(lock: LockFile) -> List[Finding]:
-    """Returns what there is to say of duplicates in a lock file."""
+    """Returns the findings about duplicates in a lock file."""
     return [*several_versions(lock.packages), *different_ranges(lock.stated())]

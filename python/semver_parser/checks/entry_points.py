@@ -1,4 +1,5 @@
-"""How the programs start: with one line on standard error if they can't, as without the library."""
+"""How the programs start. If they can't, for example without the library, they print one line on
+standard error."""
 
 import gc
 import sys
@@ -9,7 +10,7 @@ from .program import open_output
 
 
 def refused(program: str, error: ImportError) -> int:
-    """Reports in one line what a program needs. The status."""
+    """Prints in one line what a program needs. Returns the status."""
     open_output()
     what, _, more = str(error).partition("\n")
     details = "; ".join(line.strip() for line in more.splitlines())
@@ -18,8 +19,8 @@ def refused(program: str, error: ImportError) -> int:
 
 
 def check_lock_file() -> int:
-    """Runs `check-lock-file`. The status. What it reads it keeps until it ends, so a collector of
-    cycles would only look through that again and again."""
+    """Runs `check-lock-file`, and returns its status. The program keeps what it reads until it
+    ends, so the garbage collector, which would only scan that again and again, is off."""
     gc.disable()
     try:
         return check_main()
@@ -28,7 +29,7 @@ def check_lock_file() -> int:
 
 
 def compare_requirements() -> int:
-    """Runs `compare-requirements`. The status."""
+    """Runs `compare-requirements`, and returns its status."""
     try:
         return compare_main()
     except ImportError as error:

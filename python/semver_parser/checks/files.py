@@ -1,4 +1,4 @@
-"""Files, what they hold, and the shapes that they have to have."""
+"""Reading files, their notations, and the shapes of their contents."""
 
 import errno
 import json
@@ -33,7 +33,7 @@ def name_of(path: str) -> str:
 
 
 class Refusal(Exception):
-    """Why a file is refused."""
+    """A file is rejected, and why."""
 
     def __init__(self, path: str, why: str) -> None:
         super().__init__(path, why)
@@ -44,15 +44,15 @@ class Refusal(Exception):
 
 
 class Unreadable(Exception):
-    """Why a text isn't in its notation."""
+    """A text isn't in its notation, and why."""
 
 
 class WrongShape(Exception):
-    """What of a file isn't as it has to be."""
+    """The content of a file doesn't have the shape that it must have, and where."""
 
 
 def bytes_of(path: str) -> bytes:
-    """Returns what a file holds, or standard input, after a byte order mark."""
+    """Returns the content of a file, or of standard input, without a byte order mark."""
     if path != STANDARD_INPUT:
         try:
             with open(path, "rb") as file:
@@ -65,14 +65,14 @@ def bytes_of(path: str) -> bytes:
 
 
 def unmarked(text: bytes) -> bytes:
-    """Returns a text without a byte order mark. UTF-16 is refused."""
+    """Returns a text without a byte order mark. UTF-16 is rejected."""
     if UTF_16.match(text):
         raise Unreadable("it is in UTF-16, not in UTF-8")
     return text.removeprefix(BYTE_ORDER_MARK)
 
 
 def is_there(path: str) -> bool:
-    """Returns whether there is something at a path. What can't be known is an error."""
+    """Returns whether there is something at a path. Raises an error if that can't be found out."""
     try:
         os.stat(path)
     except ValueError:
@@ -86,7 +86,7 @@ def is_there(path: str) -> bool:
 
 @contextmanager
 def taking(path: str, what: str) -> Iterator[None]:
-    """Reports of a file that it isn't what it has to be."""
+    """Turns the errors that are raised while a file is read into a `Refusal` of that file."""
     try:
         yield
     except OSError as error:
@@ -105,7 +105,7 @@ def taking(path: str, what: str) -> Iterator[None]:
 
 
 def refuse_constant(name: str) -> NoReturn:
-    """Rejects what Python reads as JSON, and JSON hasn't."""
+    """Rejects constants that Python's reader of JSON accepts, and JSON doesn't have."""
     raise ValueError(f"{name} isn't JSON")
 
 
@@ -118,7 +118,7 @@ def refuse_conflict(text: bytes) -> None:
 
 
 def json_object(text: bytes) -> Entry:
-    """Returns the object that a text of JSON is."""
+    """Returns the object in a text of JSON."""
     whole = utf8(text)
     try:
         value = json.loads(whole, parse_constant=refuse_constant)
@@ -130,7 +130,7 @@ def json_object(text: bytes) -> Entry:
 
 
 def toml_object(text: bytes) -> Entry:
-    """Returns the table that a text of TOML is."""
+    """Returns the table in a text of TOML."""
     try:
         import tomllib
     except ImportError:
@@ -147,8 +147,8 @@ def toml_object(text: bytes) -> Entry:
 
 
 def yaml_objects(text: bytes) -> List[Entry]:
-    """Returns the mappings that the documents of a text of YAML are. Their scalars are texts, as
-    `1.10` has to be."""
+    """Returns the mappings in the documents of a text of YAML. Scalars stay texts, so `1.10` is not
+    a number."""
     try:
         import yaml
     except ImportError:
@@ -169,7 +169,7 @@ def yaml_objects(text: bytes) -> List[Entry]:
 
 
 def yaml_object(text: bytes) -> Entry:
-    """Returns the mapping that the one document of a text of YAML is."""
+    """Returns the mapping in the only document of a text of YAML."""
     documents = yaml_objects(text)
     if len(documents) > 1:
         raise WrongShape(": it has several documents")
@@ -177,7 +177,7 @@ def yaml_object(text: bytes) -> Entry:
 
 
 def utf8(text: bytes) -> str:
-    """Returns the text that bytes are."""
+    """Returns the text that bytes have in UTF-8."""
     refuse_conflict(text)
     try:
         return text.decode("utf-8")
@@ -190,14 +190,14 @@ def utf8(text: bytes) -> str:
 
 
 def object_at(value: Any, where: str) -> Entry:
-    """Returns an object of a file."""
+    """Returns a value that has to be an object. `where` is its place in the file, for the error."""
     if isinstance(value, dict):
         return value
     raise WrongShape(f": {where} isn't an object")
 
 
 def objects_at(value: Any, where: str) -> Dict[str, Entry]:
-    """Returns an object of a file that holds objects."""
+    """Returns a value that has to be an object of objects."""
     entries = object_at(value, where)
     for key, entry in entries.items():
         if not isinstance(entry, dict):
@@ -206,7 +206,7 @@ def objects_at(value: Any, where: str) -> Dict[str, Entry]:
 
 
 def texts_at(value: Any, where: str) -> Dict[str, str]:
-    """Returns an object of a file that holds texts."""
+    """Returns a value that has to be an object of texts."""
     entries = object_at(value, where)
     for key, entry in entries.items():
         if not isinstance(entry, str):
@@ -215,14 +215,14 @@ def texts_at(value: Any, where: str) -> Dict[str, str]:
 
 
 def list_at(value: Any, where: str) -> List[Any]:
-    """Returns a list of a file."""
+    """Returns a value that has to be a list."""
     if isinstance(value, list):
         return value
     raise WrongShape(f": {where} isn't a list")
 
 
 def text_at(value: Any, where: str) -> str:
-    """Returns a text of a file."""
+    """Returns a value that has to be a text."""
     if isinstance(value, str):
         return value
     raise WrongShape(f": {where} isn't a text")

@@ -1,8 +1,8 @@
-"""What there is to say of a lock file: a class for each kind of finding, with its sentence.
+"""The findings about a lock file: a class for each kind, with its sentence.
 
-A finding is about a requirement, or about a package. `record` has its parts for the outputs that
-have fields. What only counts with `--strict` has an `excuse`. What no command of its tool repairs
-has an `advice`, and if it makes the command fail it is blocking.
+A finding is about a requirement or about a package. `record` has its parts, for output formats that
+have fields. A finding that is listed only with `--strict` has an `excuse`. A finding that no
+command of its tool repairs has an `advice`; if it makes that command fail, it is blocking.
 """
 
 from dataclasses import dataclass
@@ -15,7 +15,7 @@ F = TypeVar("F", bound="Finding")
 
 
 class Record(NamedTuple):
-    """The parts of a finding, each None if it has none. The manual describes them."""
+    """The parts of a finding. A part that it doesn't have is None. The manual describes them."""
 
     package: Optional[str] = None
     version: Optional[str] = None
@@ -29,8 +29,8 @@ class Record(NamedTuple):
 
 
 class Finding:
-    """What there is to say of a requirement or of a package: the word of its kind, what that means,
-    and its sentence, in which names in braces are for parts."""
+    """A finding about a requirement or a package: the word of its kind, a title for it, and its
+    sentence, in which names in braces stand for parts."""
 
     kind: ClassVar[str]
     title: ClassVar[str]
@@ -50,7 +50,7 @@ class Finding:
 
     @property
     def about(self) -> str:
-        """The label of what the path of `--why` leads to."""
+        """The label to which the path of `--why` leads."""
         raise NotImplementedError
 
     def parts(self, paint: Paint) -> Dict[str, str]:
@@ -62,12 +62,13 @@ class Finding:
         return self.text.format(**self.parts(paint))
 
     def advised(self: F, advice: str, is_blocking: bool) -> F:
-        """Returns the finding, which no command repairs, with what to change instead."""
+        """Sets what to change, since no command repairs the finding. Returns the finding."""
         self.advice, self.is_blocking = advice, is_blocking
         return self
 
     def excused(self: F, reason: str) -> F:
-        """Returns the finding, which only counts with `--strict` if there is a reason."""
+        """Sets why the finding is listed only with `--strict`, if there is a reason. Returns the
+        finding."""
         self.excuse = reason
         return self
 
@@ -78,12 +79,12 @@ class Finding:
 
 
 def place_of(place: str) -> str:
-    """Returns a path or a name as a sentence has it: the project has no quotes."""
+    """Returns a path or a name as it is in a sentence. `the project` isn't in quotes."""
     return PROJECT if place == PROJECT else quoted(place)
 
 
 def or_missing(text: str) -> str:
-    """Returns a text of a manifest or a lock file, which may not be there."""
+    """Returns a text of a manifest or a lock file; `missing` if it isn't there."""
     return quoted(text) if text else "missing"
 
 
@@ -92,7 +93,7 @@ def or_missing(text: str) -> str:
 
 @dataclass(eq=False)
 class OfRequirement(Finding):
-    """A finding about a requirement. Some have a package that is found for it."""
+    """A finding about a requirement. Some kinds have the package that is found for it."""
 
     requirement: Requirement
 
@@ -152,7 +153,8 @@ class OfRequirement(Finding):
 
 @dataclass(eq=False)
 class OfFound(OfRequirement):
-    """A finding about what the lock file has for a requirement, and the specifier that counted."""
+    """A finding about the package that the lock file has for a requirement, and the specifier that
+    counted."""
 
     package_found: Optional[Package]
     specifier: str
@@ -183,7 +185,7 @@ class Overridden(OfFound):
 
 
 class AnotherPackage(OfFound):
-    """A package of another name than that which is required."""
+    """A package with another name than is required."""
 
     kind, title = "another-package", "There is another package than is required"
     text = "{found} is not the package of {range}, {required}"
@@ -191,14 +193,14 @@ class AnotherPackage(OfFound):
 
 
 class AnotherSource(OfFound):
-    """A package from another source than that which is required."""
+    """A package from another source than is required."""
 
     kind, title = "another-source", "A package comes from another source than is required"
     text = "{found} comes from another source than {range}, {required}"
 
 
 class InvalidRange(OfFound):
-    """A requirement that its tool doesn't read."""
+    """A requirement that is an invalid range for its tool."""
 
     kind, title = "invalid-range", "A range is invalid"
     text = "{found} cannot be checked: {range} is an invalid range, {required}"
@@ -206,7 +208,7 @@ class InvalidRange(OfFound):
 
 
 class NoVersion(OfFound):
-    """A package without a valid version, which is required by a range."""
+    """A package without a version that is required by a range."""
 
     kind, title = "invalid-version", "A version is invalid"
     text = "{name} has no version for {range}, {required}"
@@ -229,7 +231,7 @@ class Missing(OfRequirement):
 
 @dataclass(eq=False)
 class MissingFeature(OfFound):
-    """A feature that is required of a package, which doesn't have it. The specifier is its name."""
+    """A feature that is required of a package that doesn't have it. The specifier is its name."""
 
     kind, title = Missing.kind, Missing.title
     text = "the feature {range} of {found} is missing, {required}"
@@ -237,7 +239,7 @@ class MissingFeature(OfFound):
 
 
 class NotRequired(OfRequirement):
-    """What the lock file has for a requirer, which doesn't require it."""
+    """A package that the lock file has for a requirer that doesn't require it."""
 
     kind, title = "not-required", "Nothing requires a package"
     text = "{found} is in the graph, but not required by {requirer}"
@@ -255,7 +257,7 @@ class NotRequired(OfRequirement):
 
 @dataclass(eq=False)
 class Conflict(OfRequirement):
-    """An override of what the project itself requires otherwise."""
+    """An override that differs from what the project itself requires."""
 
     override: str
 
@@ -300,7 +302,7 @@ class Stale(OfRequirement):
 
 @dataclass(eq=False)
 class DifferentRange(OfRequirement):
-    """A requirement by another range than that of the project or another workspace."""
+    """A requirement whose range differs from that of the project or another workspace."""
 
     other: Requirement
 
@@ -328,7 +330,8 @@ class DifferentRange(OfRequirement):
 
 @dataclass(eq=False)
 class OfPackage(Finding):
-    """A finding about a package by itself. Some have what else is there, or what it is."""
+    """A finding about a package itself. Some kinds have what else is there, or what the package
+    is."""
 
     it: Package
     other: str = ""
@@ -364,7 +367,7 @@ class OfPackage(Finding):
 
 
 class InvalidVersion(OfPackage):
-    """A package whose version its tool doesn't read."""
+    """A package whose version is invalid for its tool."""
 
     kind, title = NoVersion.kind, NoVersion.title
     text = "{found} has an invalid version{inside}"
@@ -372,7 +375,7 @@ class InvalidVersion(OfPackage):
 
 
 class TwoVersions(OfPackage):
-    """An entry whose archive is that of another version, or has another version itself."""
+    """An entry whose archive has another version, or which has another version itself."""
 
     kind, title = "another-version", "An entry has two versions"
     text = "{found} does not match {other} of the same entry{inside}"
@@ -402,14 +405,14 @@ class Unreached(OfPackage):
 
 
 class NotPatched(OfPackage):
-    """A package in place of which a patch has another one."""
+    """A package that a patch replaces, but which is still there."""
 
     kind, title = AnotherSource.kind, AnotherSource.title
     text = "{found} comes from another source than the patch {other}"
 
 
 class NotReplaced(OfPackage):
-    """A package that was replaced by another one, which nothing requires any more."""
+    """A package that is replaced by another one, though nothing requires that any more."""
 
     kind, title = NotRequired.kind, NotRequired.title
     text = "{found} is replaced, but nothing requires that"
@@ -423,7 +426,7 @@ class WrongChecksum(OfPackage):
 
 
 class OwnConflict(OfPackage):
-    """A package whose manifest conflicts with itself or another one, and how."""
+    """A package whose manifest conflicts with itself or with another manifest, and how."""
 
     kind, title = Conflict.kind, Conflict.title
     text = "{found} {what}"
@@ -431,7 +434,7 @@ class OwnConflict(OfPackage):
 
 
 class MissingMember(OfPackage):
-    """A member of the workspace that the lock file lacks."""
+    """A workspace member that the lock file lacks."""
 
     kind, title = Missing.kind, Missing.title
     text = "{found} is missing, a member of the workspace{inside}"

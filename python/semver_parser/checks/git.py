@@ -1,4 +1,4 @@
-"""What git says of the files of a repository."""
+"""What git reports about the files of a repository."""
 
 import os
 import re
@@ -21,7 +21,7 @@ def run(arguments: List[str], directory: str) -> "subprocess.CompletedProcess[by
 
 
 def output_of(arguments: List[str], directory: str) -> Tuple[Optional[bytes], str]:
-    """Returns what git prints in a directory; if it fails None, and why."""
+    """Returns what git prints in a directory. If it fails, returns None and why."""
     try:
         done = run(arguments, directory)
     except OSError as error:
@@ -30,19 +30,20 @@ def output_of(arguments: List[str], directory: str) -> Tuple[Optional[bytes], st
 
 
 def said_by(done: "subprocess.CompletedProcess[bytes]") -> str:
-    """Returns what git said on standard error, in a line."""
+    """Returns what git printed on standard error, as one line."""
     return " ".join(done.stderr.decode("utf-8", "replace").split())
 
 
 def top_of(directory: str) -> Optional[str]:
-    """Returns the top of the work tree that a directory is in, if it is in one."""
+    """Returns the top of the work tree that has a directory; None if there is none."""
     shown, _ = output_of(["rev-parse", "--show-toplevel"], directory)
     return None if shown is None else os.fsdecode(shown.rstrip(b"\n")) or None
 
 
 def files_in_work_tree(directory: str) -> Optional[List[str]]:
-    """Returns the files below a directory that git doesn't ignore; None outside of its work trees,
-    and without git. What git refuses to list is refused: it can't be known what it ignores."""
+    """Returns the files below a directory that git doesn't ignore; None without git and outside of
+    its work trees. If git refuses to list the files, the directory is rejected, since it isn't
+    known what git ignores."""
     try:
         done = run(["ls-files", "-z", "-co", "--exclude-standard"], directory)
     except OSError:
@@ -66,7 +67,7 @@ def paths_of(listed: bytes) -> List[str]:
 
 
 def nearest(path: str) -> Tuple[str, str]:
-    """Returns the nearest directory of a path that is there, and the path from it on."""
+    """Returns the nearest directory above a path that exists, and the path relative to it."""
     directory, name = os.path.split(path)
     while directory and not os.path.isdir(directory):
         directory, inner = os.path.split(directory)
@@ -75,8 +76,8 @@ def nearest(path: str) -> Tuple[str, str]:
 
 
 def in_revision(revision: str, path: str) -> Optional[bytes]:
-    """Returns what a file holds in a revision; None if that lacks it. The directory of the file may
-    be gone now."""
+    """Returns the content of a file in a revision; None if the revision doesn't have it. The
+    directory of the file need not exist now."""
     directory, name = nearest(path)
     refuse_unknown(revision, path, directory)
     listed, why = output_of(
@@ -100,8 +101,8 @@ def refuse_unknown(revision: str, path: str, directory: str) -> None:
 
 
 def changed_below(old: str, new: Optional[str], directory: str) -> List[str]:
-    """Returns the files below a directory, from it on, that differ between two revisions, or
-    between one and what git knows of the work tree."""
+    """Returns the files below a directory, relative to it, that differ between two revisions, or
+    between a revision and the files of the work tree that git knows."""
     top, name = nearest(os.path.join(directory, ""))
     revisions = [old] if new is None else [old, new]
     options = ["-z", "--name-only", "--no-renames", "--no-ext-diff", "--relative"]
@@ -112,12 +113,12 @@ def changed_below(old: str, new: Optional[str], directory: str) -> List[str]:
 
 
 def from_on(name: str, paths: List[str]) -> List[str]:
-    """Returns paths below a directory of this name, from it on."""
+    """Returns paths relative to the directory with this name."""
     return [os.path.relpath(it, name) if name else it for it in paths]
 
 
 def below_in_revision(revision: str, directory: str) -> List[str]:
-    """Returns the files below a directory in a revision, from it on."""
+    """Returns the files below a directory in a revision, relative to it."""
     top, name = nearest(os.path.join(directory, ""))
     refuse_unknown(revision, directory, top)
     listed, _ = output_of(["ls-tree", "-r", "-z", "--name-only", revision, f"./{name}"], top)

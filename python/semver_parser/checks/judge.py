@@ -1,6 +1,6 @@
-"""The judge: what a lock file has, held against what is required.
+"""The judge, which compares what a lock file has with what is required.
 
-It knows no tool. How versions, ranges and other specifiers are read is a `Scheme`.
+It knows no tool. A `Scheme` says how a tool reads versions, ranges and other specifiers.
 """
 
 from typing import Iterator, List, NamedTuple, Optional, Tuple, Type
@@ -26,8 +26,9 @@ from .satisfaction import is_met, is_version
 
 
 class Verdict(NamedTuple):
-    """The class of what there is to say of what is found, why it isn't checked or only counts with
-    `--strict`, and what is printed instead of the specifier, if not that."""
+    """A verdict on the package that is found: the class of the finding; an excuse, if it isn't
+    checked or is listed only with `--strict`; and what is printed instead of the specifier, if
+    anything."""
 
     finding: Type[OfFound]
     excuse: str = ""
@@ -40,7 +41,7 @@ NO_VERSION = Verdict(NoVersion)
 
 
 class Scheme:
-    """How a tool reads versions and specifiers: by the ranges of a dialect alone."""
+    """How a tool reads versions and specifiers. This one only has the ranges of a dialect."""
 
     dialect = Dialect.NPM
 
@@ -53,7 +54,7 @@ class Scheme:
         return True
 
     def verdict(self, specifier: str, requirement: Requirement) -> Optional[Verdict]:
-        """Returns the verdict on the package that is found, by a specifier."""
+        """Returns the verdict on the package that is found for a specifier."""
         version = requirement.found.version if requirement.found else None
         met = is_met(specifier, version or "", self.dialect)
         if met is None:
@@ -61,13 +62,13 @@ class Scheme:
         return RIGHT if met else UNSATISFIED if version is not None else NO_VERSION
 
     def missing(self, requirement: Requirement) -> Finding:
-        """Returns what there is to say of a requirement for which nothing is there."""
+        """Returns the finding about a requirement for which nothing is found."""
         return Missing(requirement).excused(requirement.excuse)
 
 
 def is_plainly_met(it: Requirement, dialect: Dialect) -> bool:
-    """Returns whether a range is required, as nearly always, and the package has a version in that
-    range and no other name: then there is no more to say."""
+    """Returns whether a requirement is a range, as nearly always, and the package that is found has
+    a version in it and no other name. Then nothing else has to be checked."""
     found, specifier = it.found, it.specifier
     if found is None or found.version is None or ":" in specifier or it.stated is not None:
         return False
@@ -77,8 +78,9 @@ def is_plainly_met(it: Requirement, dialect: Dialect) -> bool:
 
 
 def best_of(it: Requirement, scheme: Scheme) -> Tuple[str, Optional[Verdict]]:
-    """Returns the specifier that counts, and the verdict by it. What replaces a requirement counts
-    if the version doesn't satisfy that: the first that is right, or else isn't checked."""
+    """Returns the specifier that counts, and its verdict. If the version doesn't satisfy the
+    requirement itself, an override may count instead: the first that the version satisfies, else
+    the first that isn't checked, else the first."""
     verdict = scheme.verdict(it.specifier, it)
     is_wrong = verdict is not None and verdict.finding is not NotChecked
     if not is_wrong or not it.replaced_by:
@@ -94,7 +96,7 @@ def best_of(it: Requirement, scheme: Scheme) -> Tuple[str, Optional[Verdict]]:
 
 
 def findings_of(it: Requirement, scheme: Scheme) -> Iterator[Finding]:
-    """Yields what there is to say of a requirement."""
+    """Yields the findings about a requirement."""
     if it.found is None:
         if it.must_exist:
             yield scheme.missing(it)
@@ -109,8 +111,8 @@ def findings_of(it: Requirement, scheme: Scheme) -> Iterator[Finding]:
 
 
 def stale_findings(it: Requirement) -> Iterator[Finding]:
-    """Yields what there is to say of a requirement for which the lock file wasn't written: tools
-    compare specifiers as strings."""
+    """Yields the findings about a requirement for which the lock file wasn't written. Tools compare
+    specifiers as strings."""
     locked = it.locked
     if locked is None:
         return
@@ -123,7 +125,7 @@ def stale_findings(it: Requirement) -> Iterator[Finding]:
 
 
 def judged(node: Node, scheme: Scheme) -> Iterator[Finding]:
-    """Yields what there is to say of a node, without what its tool leaves as it is."""
+    """Yields the findings about a node. The excuses of its tool aren't set yet."""
     if node.package is not None and not scheme.is_version(node.package):
         yield InvalidVersion(node.package)
     yield from node.findings
@@ -138,14 +140,14 @@ def judged(node: Node, scheme: Scheme) -> Iterator[Finding]:
 
 
 class Judgement(NamedTuple):
-    """What there is to say of a lock file, and how many requirements it has."""
+    """The findings about a lock file, and the number of its requirements."""
 
     findings: List[Finding]
     requirements: int
 
 
 def judge(lock: LockFile, scheme: Scheme) -> Judgement:
-    """Returns what there is to say of a lock file, in its order."""
+    """Returns the findings about a lock file, in its order."""
     findings: List[Finding] = []
     requirements = 0
     for node in lock.nodes:

@@ -1,6 +1,7 @@
-"""Where the entries of a file begin, by one scan of its bytes for those that are wanted.
+"""Finds the lines on which entries of a file begin, by one scan of its bytes.
 
-Nothing here rejects a file: what isn't found has no line. So locating can't change a verdict.
+Nothing here rejects a file: an entry that isn't found has no line. So locating can't change a
+verdict.
 """
 
 import json
@@ -33,8 +34,8 @@ DEPENDENCIES = re.compile(r"(?:.*\.)?(?:dev-|build-)?dependencies")
 
 
 def lines_at(text: bytes, found: Offsets, wanted: Set[Keys]) -> Dict[Keys, int]:
-    """Returns the lines of the entries that are wanted. What is there twice isn't sure, and has
-    none."""
+    """Returns the lines of the entries that are wanted. An entry that is found twice has none,
+    since it isn't known which is meant."""
     offsets: Dict[Keys, int] = {}
     try:
         for keys, offset in found:

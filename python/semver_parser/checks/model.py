@@ -1,4 +1,5 @@
-"""What lock files have, the same for each tool: packages, and requirements that lead to them.
+"""The model of a lock file, which is the same for each tool: packages, and requirements that lead
+to them.
 
 A tool reads its lock file and its manifests into a `LockFile`. `judge` checks that.
 """
@@ -38,7 +39,7 @@ DEVELOPMENT_KINDS = (FOR_DEVELOPMENT, "dev-dependencies", "dev")
 
 
 class Scope(NamedTuple):
-    """Which requirements are checked: whether peers are, and what is for development."""
+    """Which requirements are checked: whether peers are, and whether those for development are."""
 
     has_peers: bool = True
     has_development: bool = True
@@ -53,9 +54,11 @@ class Scope(NamedTuple):
 class Package(NamedTuple):
     """A package of a lock file.
 
-    The name and the version are None if the file doesn't have them. The place is its path, as the
-    tool writes it, and `at` has the keys of its entry. `source` is the URL that it is from. A
-    workspace, or another directory of the project, is its own.
+    - `name` and `version` are None if the file doesn't have them.
+    - `place` is its path, as the tool writes it.
+    - `at` has the keys of its entry.
+    - `source` is the URL that it comes from.
+    - `is_own` says whether it is a workspace or another directory of the project.
     """
 
     name: Optional[str]
@@ -74,7 +77,7 @@ class Package(NamedTuple):
 
 class Requirer(NamedTuple):
     """Who requires something: its name, its version if findings print that, the place by which its
-    tool knows it, and the keys of its entry."""
+    tool refers to it, and the keys of its entry."""
 
     name: str
     version: str = ""
@@ -88,9 +91,14 @@ class Requirer(NamedTuple):
 
 
 class Locked(NamedTuple):
-    """What a lock file was written for: a kind and a specifier. And what the manifest states now: a
-    kind, which is None if it has no such requirement; the specifiers that are the same to the tool;
-    that which is printed; and its file."""
+    """What a lock file was written for, and what the manifest states now.
+
+    - `kind` and `specifier` are what the lock file has.
+    - `stated_kind` is the kind in the manifest; None if it has no such requirement.
+    - `same` has the specifiers that the tool treats as equal to that of the manifest, and `stated`
+      is the one that is printed.
+    - `manifest` is the name of the manifest.
+    """
 
     kind: str
     specifier: str
@@ -101,17 +109,18 @@ class Locked(NamedTuple):
 
 
 class Requirement(NamedTuple):
-    """Who requires which name, by which specifier, and the package that the lock file has for it.
+    """A requirement: who requires which name, by which specifier, and the package that the lock
+    file has for it.
 
     - `kind` is the table of the manifest.
-    - `must_exist` says that it is missing if the lock file has no package. With an `excuse` that is
-      only listed with `--strict`.
+    - `must_exist` says that it is missing if the lock file has no package. If there is an `excuse`,
+      it is listed only with `--strict`.
     - `replaced_by` has the specifiers of overrides that may count instead. If the specifier is
-      itself that of an override, `is_override` says so.
-    - `accepted` is a specifier that is right, too.
+      itself that of an override, `is_override` is true.
+    - `accepted` is another specifier that is right.
     - `alias` is the name that the manifest gives to the package.
     - `locked` is what the lock file was written for, if it has that.
-    - `stated` is what the manifest states besides, for the scheme of its tool.
+    - `stated` is what else the manifest states, for the scheme of its tool.
     """
 
     requirer: Requirer
@@ -130,7 +139,7 @@ class Requirement(NamedTuple):
 
     @property
     def is_gone(self) -> bool:
-        """Whether only the lock file has it, and the manifest no longer."""
+        """Whether only the lock file has it, and the manifest no longer has it."""
         return self.locked is not None and self.locked.stated_kind is None
 
     @property
@@ -141,8 +150,8 @@ class Requirement(NamedTuple):
 
 @dataclass
 class Node:
-    """A package or a manifest of a lock file: the package whose version is checked, what requires
-    something, and what its tool finds besides."""
+    """A package or a manifest of a lock file: the package whose version is checked, what it
+    requires, and other findings of its tool."""
 
     package: Optional[Package] = None
     requirements: Sequence[Requirement] = ()
@@ -150,20 +159,20 @@ class Node:
 
 
 def no_excuse(_: "Finding") -> str:
-    """Returns no reason to leave anything as it is."""
+    """Returns no excuse for any finding."""
     return ""
 
 
 @dataclass
 class LockFile:
-    """A lock file as a graph, beside the manifests of its project.
+    """A lock file as a graph, with the manifests of its project.
 
     - `nodes` are in the order in which findings are listed.
-    - `packages` are all packages of the file except for the project's own.
+    - `packages` are all packages of the file except those of the project itself.
     - `edges` returns who leads to what, if to anything, by labels, for the paths of `--why`.
     - `stated` returns what the project and its workspaces require, for `--duplicates`.
     - `excuse` returns why the tool leaves what a finding is about as it is, if it does.
-    - `if_right` returns what only counts if nothing else is listed.
+    - `if_right` returns findings that count only if nothing else is listed.
     - `scheme` is that of the file, if it isn't that of its tool.
     - `left_out` counts what the scope leaves out, and `from_lock` the workspaces and links whose
       manifests aren't there.
@@ -188,7 +197,7 @@ class LockFile:
         return graph
 
     def scoped(self, requirements: Iterable[Requirement], scope: Scope) -> List[Requirement]:
-        """Returns the requirements that a scope has, and counts the others."""
+        """Returns the requirements that are in a scope, and counts the others."""
         each = list(requirements)
         kept = [it for it in each if scope.has(it.kind)]
         self.left_out += len(each) - len(kept)

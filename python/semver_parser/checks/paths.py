@@ -1,4 +1,4 @@
-"""The shortest paths from a project to what requires something: why it is there."""
+"""The shortest paths from a project to a requirer, which show why it is there."""
 
 from collections import deque
 from typing import Dict, List, Optional
@@ -8,7 +8,7 @@ from .model import PROJECT, Graph
 
 
 class Paths:
-    """The paths in a graph, from the project and from whatever else nothing requires."""
+    """The paths in a graph from the project, and from everything else that nothing requires."""
 
     def __init__(self, graph: Graph) -> None:
         required = {it for each in graph.values() for it in each}
@@ -23,8 +23,8 @@ class Paths:
                     left.append(it)
 
     def path_to(self, finding: Finding) -> List[str]:
-        """Returns the path to what is required, or to a package of which there is something to say.
-        Nothing leads to what isn't in the graph."""
+        """Returns the path to what is required, or to the package that a finding is about. There is
+        no path to what isn't in the graph."""
         last, record = finding.about, finding.record
         label = f"{record.package or ''} {record.version or ''}".rstrip()
         if last not in self.before and record.package and record.requirer is None:

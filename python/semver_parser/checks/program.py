@@ -1,4 +1,4 @@
-"""The frame of a program: its arguments, what it writes, and its status."""
+"""The common frame of the programs: arguments, output and status."""
 
 import io
 import json
@@ -13,7 +13,7 @@ from .files import STANDARD_INPUT, Refusal
 
 
 class Misuse(Exception):
-    """What is wrong with the arguments of a program."""
+    """The arguments of a program are wrong, and how."""
 
 
 # ---- what is written
@@ -25,18 +25,17 @@ CONTROL = re.compile("[\0-\x1f\x7f-\x9f\u061c\u200e\u200f\u2028-\u202e\u2066-\u2
 
 
 def visible(text: str) -> str:
-    """Returns a text in which control characters are written as JSON may write them."""
+    """Returns a text in which control characters are JSON escapes."""
     return CONTROL.sub(lambda it: in_json(it.group()), text)
 
 
 def in_json(character: str) -> str:
-    """Returns a control character as JSON may write it."""
+    """Returns a control character as a JSON escape."""
     return json.dumps(character)[1:-1] if character < " " else f"\\u{ord(character):04x}"
 
 
 def escaped(text: str) -> str:
-    """Returns a text in which backslashes and control characters are written as JSON may write
-    them."""
+    """Returns a text in which backslashes and control characters are JSON escapes."""
     return visible(text.replace("\\", "\\\\"))
 
 
@@ -46,7 +45,8 @@ def joined(*fields: str) -> str:
 
 
 def open_output() -> None:
-    """Has texts written as UTF-8, wherever the program runs, and what is closed take nothing."""
+    """Makes standard output and standard error write UTF-8 on each system. A closed one becomes a
+    file that ignores what is written."""
     sys.stdout = sys.stdout or open(os.devnull, "w")
     sys.stderr = sys.stderr or open(os.devnull, "w")
     for stream in (sys.stdout, sys.stderr):
@@ -58,7 +58,7 @@ def open_output() -> None:
 
 
 class Options(NamedTuple):
-    """What a program is called with: its files, and its options, each with its value."""
+    """The arguments of a program: its files, and its options, each with its value."""
 
     files: List[str]
     given: Dict[str, str]
@@ -73,9 +73,13 @@ class Outcome(NamedTuple):
 
 
 class Program(NamedTuple):
-    """A program: its name, the page that `--help` prints and whose first line is its usage, its
-    options, each with whether a value follows it, whether it takes so many files, and what it
-    does."""
+    """A program.
+
+    - `page` is what `--help` prints. Its first line is the usage.
+    - `options` has its options, each with whether a value follows it.
+    - `takes` returns whether the number of files is right.
+    - `run` does what the program is for.
+    """
 
     name: str
     page: str
@@ -87,8 +91,8 @@ class Program(NamedTuple):
 def read_arguments(
     arguments: List[str], options: Dict[str, bool]
 ) -> Tuple[List[str], Dict[str, str]]:
-    """Returns the files that are named, and the options, each with its value. Of those for help and
-    the version there is no more to know than that one is there."""
+    """Returns the files that are named, and the options, each with its value. If there is an option
+    for help or for the version, returns only that."""
     files: List[str] = []
     given: Dict[str, str] = {}
     left = iter(arguments)
@@ -114,14 +118,14 @@ def read_arguments(
 
 
 def let_interrupt() -> None:
-    """Has an interrupt end the program at once, and not by an exception of Python."""
+    """Lets an interrupt end the program at once, without an exception of Python."""
     if signal.getsignal(signal.SIGINT) is signal.default_int_handler:
         signal.signal(signal.SIGINT, signal.SIG_DFL)
 
 
 def run(program: Program, arguments: List[str]) -> int:
-    """Runs a program. Its status: that of what it does, or 2 if it is misused, if a file is refused
-    or if the output can't be written, which one line on standard error reports."""
+    """Runs a program, and returns its status. It is 2 if the arguments are wrong, if a file is
+    rejected, or if the output can't be written; one line on standard error reports that."""
     let_interrupt()
     open_output()
     try:
@@ -140,7 +144,7 @@ def run(program: Program, arguments: List[str]) -> int:
 
 
 def outcome_of(program: Program, arguments: List[str]) -> Outcome:
-    """Returns what a program does by its arguments."""
+    """Returns the outcome of a program for its arguments."""
     files, given = read_arguments(arguments, program.options)
     if "--help" in given:
         return Outcome([program.page], [], 0)
@@ -152,7 +156,8 @@ def outcome_of(program: Program, arguments: List[str]) -> Outcome:
 
 
 def write(outcome: Outcome) -> int:
-    """Writes what a program prints. Its status, also if a reader closed its pipe early."""
+    """Writes what a program prints, and returns its status, even if a reader closed its pipe
+    early."""
     try:
         for line in outcome.lines:
             print(line)

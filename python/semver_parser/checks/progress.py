@@ -1,4 +1,5 @@
-"""A line at a terminal that says what is checked now, if it takes more than a second."""
+"""A line at a terminal that names the file that is being checked, if this takes more than a
+second."""
 
 import shutil
 import sys
@@ -11,7 +12,7 @@ ERASE = "\r\x1b[K"
 
 
 class Progress:
-    """The line, of so many files."""
+    """The line for a number of files."""
 
     def __init__(self, files: int) -> None:
         self.files, self.text, self.is_shown = files, "", False

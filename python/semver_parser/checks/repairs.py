@@ -9,8 +9,8 @@ from .wording import quoted
 
 
 def command_for(report: Report) -> Optional[str]:
-    """Returns the command that repairs what is listed of a lock file, if one does: something isn't
-    repaired by it, or even makes it fail."""
+    """Returns the command that repairs the findings about a lock file. Returns None if it repairs
+    none of them, or if one makes it fail."""
     wrong = [it for it in report.listed if not (it.is_note or it.excuse)]
     if report.tool is None or any(it.is_blocking for it in wrong):
         return None

@@ -1,4 +1,4 @@
-"""What a check of one lock file reports."""
+"""The report on the check of one lock file."""
 
 from dataclasses import dataclass, field
 from typing import Dict, List, NamedTuple, Optional, Set, Tuple
@@ -27,9 +27,9 @@ class Position(NamedTuple):
 
 @dataclass
 class Report:
-    """A lock file and the tool that wrote it; the findings, those of them that are listed, and how
-    many are allowed; how much was checked; and why it is rejected, if it is. If they were looked
-    for, it has the lines of entries and of manifests, and the paths from the project."""
+    """A lock file, and the tool that wrote it; all findings, those that are listed, and how many
+    are allowed; how much was checked; and why the file was rejected, if it was. On demand it has
+    the lines of entries and manifests, and the paths from the project."""
 
     path: str
     tool: Optional[Tool] = None
@@ -49,17 +49,17 @@ class Report:
 
     @property
     def name(self) -> str:
-        """The file as it is named in fields."""
+        """The file as it is printed in fields."""
         return name_of(self.path)
 
     @property
     def tool_name(self) -> str:
-        """The name of the tool that wrote the file; empty if that isn't known."""
+        """The name of the tool that wrote the file; empty if it isn't known."""
         return "" if self.tool is None else self.tool.name
 
     @property
     def before(self) -> str:
-        """What a sentence has before it, if it begins with its file."""
+        """The text before a sentence that begins with its file."""
         return f"{self.name if self.path == STANDARD_INPUT else quoted(self.path)}: "
 
     def statement(self, finding: Finding) -> Optional[Position]:
@@ -67,14 +67,13 @@ class Report:
         return self.positions.get(id(finding))
 
     def position(self, finding: Finding) -> Position:
-        """Returns the file that a finding is about, and the line there: the manifest, if that has
+        """Returns the file and the line that a finding is about: those of the manifest, if it has
         the requirement."""
         stated = self.statement(finding)
         return stated or Position(self.name, self.lines.get(finding.at))
 
     def not_checked(self) -> Dict[str, int]:
-        """Returns how many requirements aren't checked for each reason, as far as that needs a
-        human."""
+        """Returns how many requirements aren't checked, for each reason."""
         found: Dict[str, int] = {}
         for it in self.findings:
             if it.excuse:
@@ -87,8 +86,8 @@ class Report:
         return self.requirements - sum(self.not_checked().values())
 
     def is_unchecked(self) -> bool:
-        """Returns whether nothing is checked or listed by default, although something is required
-        that isn't in the project's own directories: with `--strict` that is an error."""
+        """Returns whether nothing was checked or listed by default, though something is required
+        outside of the project's own directories. With `--strict` that is an error."""
         is_wrong = any(not it.excuse for it in self.findings)
         is_required = bool(self.requirements + self.packages)
         reasons = set(self.not_checked())
@@ -98,7 +97,8 @@ class Report:
 
 
 class Unused(NamedTuple):
-    """A line of a file of known findings that no longer applies: its file, number and text."""
+    """A line of a file of known findings that no longer applies: the file, the number of the line,
+    and its text."""
 
     path: str
     line: int
@@ -107,7 +107,7 @@ class Unused(NamedTuple):
 
 class Results(NamedTuple):
     """All reports, directories without a lock file, known findings that no longer apply, and
-    whether lines begin with their file."""
+    whether each line begins with its file."""
 
     reports: List[Report]
     refusals: List[Refusal]
@@ -116,8 +116,8 @@ class Results(NamedTuple):
 
 
 class Wanted(NamedTuple):
-    """What is wanted of findings: of which requirements, lines, paths from the project, and what is
-    there several times."""
+    """What a report is to have: which requirements it checks, and whether it has lines, paths from
+    the project, and duplicates."""
 
     scope: Scope
     has_lines: bool = False
@@ -126,8 +126,8 @@ class Wanted(NamedTuple):
 
 
 def report_on(path: str, named: Optional[str], wanted: Wanted) -> Report:
-    """Returns what a check of a lock file reports, with lines and paths on demand. These come after
-    the verdict, and don't change it."""
+    """Returns the report on a lock file. Lines and paths are found on demand, after the verdict,
+    and don't change it."""
     report = Report(path)
     try:
         with taking(path, "lock file"):
@@ -148,7 +148,7 @@ def report_on(path: str, named: Optional[str], wanted: Wanted) -> Report:
 
 
 def check(report: Report, tool: Tool, lock: LockFile) -> None:
-    """Has the judge check a lock file, and counts what it has."""
+    """Has the judge check a lock file, and counts its contents."""
     judgement = judge(lock, lock.scheme or tool.scheme)
     report.findings, report.requirements = judgement
     for finding in report.findings:
@@ -158,7 +158,7 @@ def check(report: Report, tool: Tool, lock: LockFile) -> None:
 
 
 def locate(report: Report, tool: Tool, file: Input) -> None:
-    """Looks for the lines of findings, in the lock file and in manifests."""
+    """Finds the lines of findings, in the lock file and in manifests."""
     listed = [*report.findings, *report.duplicates]
     wanted = {it.at for it in listed if it.at}
     if wanted:

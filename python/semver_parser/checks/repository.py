@@ -1,4 +1,4 @@
-"""Paths as GitHub takes them: from the root of the repository on."""
+"""Paths relative to the root of the repository, for GitHub."""
 
 import os
 from functools import lru_cache
@@ -11,15 +11,16 @@ WORKSPACE = "GITHUB_WORKSPACE"
 
 @lru_cache(maxsize=None)
 def roots() -> List[str]:
-    """Returns where the repository may begin, that first which counts: what GitHub says, git's top
-    level, and the current directory."""
+    """Returns the directories that may be the root of the repository, in the order in which they
+    count: GitHub's, git's top level, and the current directory."""
     named = (os.environ.get(WORKSPACE), top_of("."), ".")
     return [os.path.realpath(it) for it in named if it]
 
 
 @lru_cache(maxsize=None)
 def in_repository(path: str) -> str:
-    """Returns a path from the root on; one elsewhere from the root of the system on."""
+    """Returns a path relative to the first of these directories that has it; an absolute path if
+    none has it."""
     if not os.path.exists(path):
         return path
     directory, name = os.path.split(path)

@@ -1,5 +1,5 @@
-"""How a version is checked by a range, or by the rules of versions. Each text is read once: a lock
-file has most of them again and again."""
+"""Checks of versions and ranges. Each text is parsed only once, since a lock file has most of them
+several times."""
 
 from functools import lru_cache
 from typing import Literal, Optional
@@ -9,7 +9,7 @@ from semver_parser import Dialect, Range, RangeError, Version, VersionError, sat
 
 @lru_cache(maxsize=None)
 def is_version(text: str, dialect: Dialect) -> bool:
-    """Returns whether a text is a version to a tool."""
+    """Returns whether a text is a valid version in a dialect."""
     try:
         Version.parse(text, dialect=dialect)
     except VersionError:
@@ -21,7 +21,7 @@ def is_version(text: str, dialect: Dialect) -> bool:
 def range_in(
     text: str, dialect: Dialect, pre_releases: Literal["default", "included"] = "default"
 ) -> Optional[Range]:
-    """Returns the range that a text is to a tool; None if it is none."""
+    """Returns the range of a text in a dialect; None if it is invalid."""
     try:
         return Range(text, dialect=dialect, pre_releases=pre_releases)
     except RangeError:
@@ -29,14 +29,14 @@ def range_in(
 
 
 def is_range(text: str, dialect: Dialect) -> bool:
-    """Returns whether a text is a range to a tool."""
+    """Returns whether a text is a valid range in a dialect."""
     return range_in(text, dialect) is not None
 
 
 @lru_cache(maxsize=None)
 def is_met(wanted: str, version: str, dialect: Dialect) -> Optional[bool]:
     """Returns whether a version satisfies a range; None if the range is invalid. An invalid version
-    satisfies none."""
+    satisfies no range."""
     try:
         return satisfies(version, wanted, dialect=dialect)
     except RangeError:

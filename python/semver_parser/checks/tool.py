@@ -1,7 +1,6 @@
-"""What stands for a tool: how its lock files are recognized, read, located and repaired.
+"""The interface of a tool: how its lock files are recognized, read, located and repaired.
 
-A tool is a package of its own, with an object of a class below `Tool`. The list in `tools` names
-each; nothing else does.
+Each tool is a package with an object of a class below `Tool`. Only the list in `tools` names them.
 """
 
 import os
@@ -19,15 +18,15 @@ Value = TypeVar("Value")
 
 
 class Input:
-    """A lock file that is read: its path and content, the package.json that is named beside it,
-    and which of its requirements are checked."""
+    """A lock file that is read: its path and its content, the package.json of `--package-json`, and
+    which of its requirements are checked."""
 
     def __init__(self, path: str, text: bytes, named: Optional[str], scope: Scope) -> None:
         self.path, self.text, self.named, self.scope = path, text, named, scope
         self.known: Dict[Callable[[bytes], Any], Any] = {}
 
     def parsed(self, parse: Callable[[bytes], Value]) -> Value:
-        """Returns the content as a function parses it, once."""
+        """Returns the content as a function parses it. Each function is called only once."""
         if parse not in self.known:
             self.known[parse] = parse(self.text)
         value: Value = self.known[parse]
@@ -45,7 +44,7 @@ class Input:
 
 
 class Statement(NamedTuple):
-    """Where a manifest may state a requirement or a setting: its path, and keys of which the first
+    """Where a manifest may state a requirement or a setting: its path, and keys, of which the first
     that is there counts."""
 
     path: str
@@ -55,8 +54,9 @@ class Statement(NamedTuple):
 class Tool:
     """A tool that writes lock files.
 
-    - `name` is printed for it, and `repair` is the command that writes a lock file anew.
-    - `lock_files` has the names of its lock files, and `manifests` those of what they are for.
+    - `name` is its printed name, and `repair` is the command that writes a lock file anew.
+    - `lock_files` has the names of its lock files, and `manifests` the names of the files that
+      belong to them.
     - `scheme` is how it reads versions and specifiers.
     """
 
@@ -72,11 +72,11 @@ class Tool:
         raise NotImplementedError
 
     def read(self, file: Input) -> LockFile:
-        """Returns what a lock file has, beside the manifests of its project."""
+        """Returns the contents of a lock file, with the manifests of its project."""
         raise NotImplementedError
 
     def offsets(self, text: bytes, wanted: Set[Keys]) -> Offsets:
-        """Yields the entries of a file that are wanted, with their offsets, and perhaps others."""
+        """Yields the entries of a file that are wanted, and perhaps others, with their offsets."""
         return iter(())
 
     def statement(self, finding: Finding, file: Input) -> Optional[Statement]:
@@ -84,9 +84,9 @@ class Tool:
         return None
 
     def advise(self, finding: Finding) -> None:
-        """Says of a finding what to change, if the command of the tool doesn't repair it."""
+        """Adds advice to a finding if the command of the tool doesn't repair it."""
 
     def read_instead(self, path: str, is_named: bool) -> Optional[str]:
-        """Returns why the tool doesn't read the lock file at a path, if it reads another one, as
-        the end of a note. A file that is named is read, unless the tool can't."""
+        """Returns why the tool doesn't read the lock file at a path, as the end of a note; None if
+        it does. A file that is named is read, unless the tool can't read it."""
         return None

@@ -1,4 +1,4 @@
-"""The tools whose lock files are checked. A new one is a package, and a line here."""
+"""The tools whose lock files are checked. A new tool is a package, and a line here."""
 
 from typing import List
 

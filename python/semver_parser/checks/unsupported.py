@@ -1,4 +1,4 @@
-"""Lock files of tools that aren't supported, which are named when they are refused."""
+"""Lock files of tools that aren't supported. The error names them."""
 
 import re
 

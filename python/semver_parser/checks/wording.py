@@ -1,4 +1,4 @@
-"""How names, versions and ranges are written in a sentence, so nobody misreads where one ends."""
+"""How names, versions and ranges are written in a sentence, so that it is clear where each ends."""
 
 import json
 import re

@@ -1,6 +1,5 @@
-"""What is beside a `deno.lock`: the deno.json and package.json files of the project and its
-members, for which the file was written. `deno install --frozen` refuses it if these list something
-else."""
+"""The deno.json and package.json files of a project and its members, for which a `deno.lock` was
+written. `deno install --frozen` rejects it if they list something else."""
 
 import os
 from typing import Iterator, List, NamedTuple, Optional, Set, Tuple
@@ -19,9 +18,9 @@ REGISTRIES = ("npm:", "jsr:")
 
 
 class Member(NamedTuple):
-    """The project or a member: its directory, which is empty for the project, the name of its
-    deno.json, what that lists, and which members it has, and its package.json. What isn't there is
-    None."""
+    """The project or a member: its directory, which is empty for the project; the name of its
+    deno.json, the specifiers that this lists, and the members that it has; and its package.json.
+    What isn't there is None."""
 
     folder: str
     config_name: str
@@ -31,7 +30,7 @@ class Member(NamedTuple):
 
 
 def member_at(top: str, folder: str) -> Member:
-    """Returns what is in the directory of a member."""
+    """Returns the member in a directory."""
     at = os.path.join(top, folder)
     manifest = manifest_in(at)
     with taking(os.path.join(at, MANIFEST), MANIFEST):
@@ -61,8 +60,7 @@ def members_of(top: Optional[str]) -> List[Member]:
 
 
 def specifier_of(text: str) -> Optional[str]:
-    """Returns the specifier of what a deno.json maps a name to, without what is inside of the
-    package."""
+    """Returns the specifier to which a deno.json maps a name, without a path inside the package."""
     if text[:4] not in REGISTRIES:
         return None
     name, rest = name_and_rest(text[4:].lstrip("/"))
@@ -72,7 +70,7 @@ def specifier_of(text: str) -> Optional[str]:
 
 
 def specifiers_of_config(config: Entry) -> Iterator[str]:
-    """Yields the specifiers that a deno.json has in its map of imports."""
+    """Yields the specifiers in the import map of a deno.json."""
     scopes = object_at(config.get("scopes") or {}, "scopes")
     for table in (config.get("imports") or {}, *scopes.values()):
         for text in object_at(table, "imports").values():
@@ -82,7 +80,7 @@ def specifiers_of_config(config: Entry) -> Iterator[str]:
 
 
 def specifiers_of_manifest(manifest: Entry) -> Iterator[str]:
-    """Yields the specifiers that a package.json has: of its ranges and tags."""
+    """Yields the specifiers for the ranges and tags in a package.json."""
     for kind in (USUAL, FOR_DEVELOPMENT):
         for name, spec in (manifest.get(kind) or {}).items():
             if spec[:4] in REGISTRIES:
@@ -96,12 +94,12 @@ def specifiers_of_manifest(manifest: Entry) -> Iterator[str]:
 
 
 def listed_in(entry: Entry) -> Set[str]:
-    """Returns the specifiers that a file has of a deno.json or a package.json."""
+    """Returns the specifiers that the lock file has of a deno.json or a package.json."""
     return {text_at(it, KEY) for it in list_at(entry.get(KEY, []), KEY)}
 
 
 def parts_of(specifier: str) -> Tuple[str, str]:
-    """Returns the name of a specifier after its registry, and its range."""
+    """Returns the registry and the name of a specifier, and its range."""
     name, wanted = name_and_rest(specifier[4:])
     return specifier[:4] + name, wanted
 
@@ -109,7 +107,7 @@ def parts_of(specifier: str) -> Tuple[str, str]:
 def different_lists(
     own: Set[str], locked: Set[str], requirer: Requirer, file: str
 ) -> Iterator[Finding]:
-    """Yields what there is to say of two lists of specifiers."""
+    """Yields the findings about specifiers that only one of two lists has."""
     gone = dict(map(parts_of, sorted(locked - own)))
     for name, wanted in map(parts_of, sorted(own - locked)):
         yield Stale(Requirement(requirer, name[4:], wanted), wanted, gone.pop(name, ""), file)
@@ -118,7 +116,7 @@ def different_lists(
 
 
 def stale_lists(lock: Entry, top: Optional[str]) -> Iterator[Finding]:
-    """Yields what there is to say of what the files beside a lock file list."""
+    """Yields the findings about manifests that list something else than the lock file."""
     workspace = object_at(lock.get("workspace", {}), "workspace")
     members = object_at(workspace.get("members", {}), "workspace: members")
     for it in members_of(top):

@@ -1,13 +1,14 @@
-"""Deno: lock files of version 4 and 5, beside the deno.json and package.json files of the project.
+"""Deno: lock files of version 4 and 5, with the deno.json and package.json files of the project.
 
-WHO REQUIRES. `specifiers` are what is required, as `npm:numbers@^1.0.0` or `jsr:@std/path@1`. The
-project, its members and the packages of JSR list theirs. What none of them lists the project's code
-requires.
+WHO REQUIRES. `specifiers` are what is required, such as `npm:numbers@^1.0.0` or `jsr:@std/path@1`.
+The project, its members and the packages of JSR list theirs. A specifier that none of them lists is
+required by the project's code.
 
-WHAT IS FOUND. The version that a specifier has, and the package of it. The packages of npm list
-exact versions: only that these are there is checked.
+WHAT IS FOUND. The version that the lock file has for a specifier, and the package with that
+version. npm packages list exact versions; it is only checked that these are there.
 
-BESIDE THE FILE. `deno install --frozen` refuses it if the manifests list something else.
+WHAT IS COMPARED. `deno install --frozen` rejects a lock file that was written for manifests that
+list something else.
 """
 
 import re
@@ -40,7 +41,7 @@ THERE = Package(None, None)
 
 
 class DenoScheme(NodeScheme):
-    """How Deno reads specifiers. What a package of npm lists only has to be there."""
+    """How Deno reads specifiers. What an npm package lists only has to be there."""
 
     def verdict(self, specifier: str, requirement: Requirement) -> Optional[Verdict]:
         """Returns the verdict on what is found."""
@@ -48,7 +49,7 @@ class DenoScheme(NodeScheme):
 
 
 class Lister(NamedTuple):
-    """What requires something, and the specifiers that it lists."""
+    """A requirer, and the specifiers that it lists."""
 
     requirer: Requirer
     specifiers: List[str]
@@ -60,7 +61,7 @@ def specifiers_at(value: Any, where: str) -> List[str]:
 
 
 def split(specifier: str) -> Tuple[str, str, str]:
-    """Returns the registry of a specifier, its name, and its range, which may be missing."""
+    """Returns the registry of a specifier, its name, and its range, which may be empty."""
     registry, _, rest = specifier.partition(":")
     name, wanted = name_and_rest(rest.lstrip("/"))
     return registry, name, wanted
@@ -98,8 +99,8 @@ class Reader:
             yield Lister(Requirer(*name_and_rest(key), "", (JSR, key)), listed)
 
     def required(self) -> Iterator[Requirement]:
-        """Yields the specifiers that are required. A list has one without its range if the file has
-        one of its name."""
+        """Yields the specifiers that are required. A list may have a specifier without its range,
+        if the lock file has only one of that name."""
         by_name: Dict[str, List[str]] = {}
         for specifier in self.specifiers:
             registry, name, _ = split(specifier)
@@ -116,7 +117,7 @@ class Reader:
                 yield from self.looked_up(Requirer(PROJECT), specifier)
 
     def looked_up(self, requirer: Requirer, specifier: str) -> Iterator[Requirement]:
-        """Yields the requirement of a specifier of npm or JSR, with what is found."""
+        """Yields the requirement for a specifier of npm or JSR, with the package that is found."""
         registry, name, wanted = split(specifier)
         if registry not in self.packages:
             return
@@ -130,8 +131,8 @@ class Reader:
         yield Requirement(requirer, name, wanted or "*", found)
 
     def of_package(self, key: str, entry: Entry) -> Iterator[Requirement]:
-        """Yields what a package of npm lists: `NAME@VERSION`, or a name alone if the file has one
-        version of that, both perhaps after another name. Only that it is there is checked."""
+        """Yields what an npm package lists: `NAME@VERSION`, or only a name if the lock file has one
+        version of it, each perhaps after another name. It is only checked that this is there."""
         package = package_at(NPM, key)
         requirer = Requirer(package.name or "", package.version or "", "", package.at)
         for listed in specifiers_at(entry.get("dependencies", []), f"{key}: dependencies"):
@@ -179,11 +180,11 @@ class Deno(Tool):
     manifests = (MANIFEST, *CONFIGS)
 
     def recognizes(self, file: Input) -> bool:
-        """Returns whether a file begins as only one of Deno does."""
+        """Returns whether a file begins as only Deno's lock files do."""
         return MARK.match(file.text) is not None
 
     def read(self, file: Input) -> LockFile:
-        """Returns what a lock file has, beside the manifests of the project."""
+        """Returns the contents of a lock file, with the manifests of the project."""
         return Reader(file.json).lock_file(file.directory)
 
     def offsets(self, text: bytes, wanted: Set[Keys]) -> Offsets:

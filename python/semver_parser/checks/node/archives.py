@@ -1,5 +1,5 @@
-"""The name and the version in the name of an archive of a registry, as npm's `versionFromTgz` has
-it."""
+"""The name and the version in the file name of a registry's archive, as npm's `versionFromTgz`
+finds them."""
 
 import re
 from functools import lru_cache
@@ -12,15 +12,15 @@ SLASH = re.compile("/|%2f", re.I)
 
 
 class Archive(NamedTuple):
-    """What the name of an archive says."""
+    """The name and the version in the file name of an archive."""
 
     name: str
     version: str
 
 
 def archive_at(address: str) -> Optional[Archive]:
-    """Returns the archive at an address of a registry, `.../NAME/-/FILE`. None if it is elsewhere,
-    or if the name of the file isn't made of that of the package and a version."""
+    """Returns the archive at a URL of a registry, `.../NAME/-/FILE`. Returns None for another URL,
+    or if the file name doesn't consist of the name of the package and a version."""
     if not address.startswith(("http:/", "https:/")):
         return None
     package, mark, file = address.split("/", 3)[-1].rpartition("/-/")
@@ -28,7 +28,7 @@ def archive_at(address: str) -> Optional[Archive]:
 
 
 def archive_of(path: str, file: str) -> Optional[Archive]:
-    """Returns the archive of a package whose name ends a path."""
+    """Returns the archive of the package whose name is at the end of a path."""
     *_, scope, name = ["", *SLASH.split(path)]
     if not file.startswith(f"{name}-"):
         return None
@@ -41,7 +41,7 @@ def archive_of(path: str, file: str) -> Optional[Archive]:
 
 @lru_cache(maxsize=None)
 def without_build(text: str) -> Optional[str]:
-    """Returns a version without its build metadata; None if it is none to npm."""
+    """Returns a version without its build metadata; None if it is invalid for npm."""
     try:
         version = Version.parse(text, dialect=Dialect.NPM)
     except VersionError:

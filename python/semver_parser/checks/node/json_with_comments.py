@@ -1,4 +1,4 @@
-"""JSON with comments and with commas after the last entry, as Bun and Deno have it."""
+"""JSON with comments and trailing commas, which Bun and Deno use."""
 
 import re
 
@@ -10,16 +10,16 @@ LAST_COMMA = re.compile(rb'"(?:[^"\\]|\\.)*"|,(?=\s*[\]}])', re.S)
 
 
 def plain_json(text: bytes) -> bytes:
-    """Returns the JSON that a text is for. What is there stays at its offset."""
+    """Returns a text as plain JSON. All offsets stay the same."""
     bare = COMMENT.sub(lambda it: kept(it.group()), text)
     return LAST_COMMA.sub(lambda it: b" " if it.group() == b"," else it.group(), bare)
 
 
 def kept(part: bytes) -> bytes:
-    """Returns a string as it is; of a comment blanks, and its ends of lines."""
+    """Returns a string as it is. A comment becomes blanks, and keeps its line ends."""
     return part if part.startswith(b'"') else re.sub(rb"[^\n]", b" ", part)
 
 
 def object_with_comments(text: bytes) -> Entry:
-    """Returns the object that a text is."""
+    """Returns the object in a text of JSON with comments."""
     return json_object(plain_json(text))

@@ -1,4 +1,4 @@
-"""The settings of a project for npm, in its .npmrc."""
+"""A project's settings of npm, in its .npmrc."""
 
 import os
 import re
@@ -14,7 +14,7 @@ OFF = ("false", "null", "0")
 
 
 def is_set(project: Optional[str], name: str) -> bool:
-    """Returns whether the .npmrc in a project's folder turns on a setting."""
+    """Returns whether the .npmrc in a project's directory turns on a setting."""
     path = os.path.join(project or "", ".npmrc")
     if project is None or not os.path.exists(path):
         return False
@@ -23,8 +23,8 @@ def is_set(project: Optional[str], name: str) -> bool:
 
 
 def is_on(settings: str, name: str) -> bool:
-    """Returns whether settings turn one on, the last time that they name it. After the head of a
-    section there are none of npm's."""
+    """Returns whether a setting is on. Its last value counts. After the head of a section there are
+    no settings of npm."""
     found = False
     for line in LINE_ENDS.split(settings):
         if line.startswith("["):

@@ -1,4 +1,4 @@
-"""The package.json files of a project and of its workspaces, and where they state requirements."""
+"""The package.json files of a project and its workspaces, and where they state requirements."""
 
 import os
 from typing import Dict, Iterable, Iterator, List, NamedTuple, Optional, Tuple
@@ -42,8 +42,8 @@ TOP = "."
 
 
 class Project(NamedTuple):
-    """The package.json files of a project and its workspaces by their directories, which are below
-    one, if that is known. Without that of the project there are none."""
+    """The package.json files of a project and its workspaces by their directories, relative to
+    `directory`, if that is known. If the project's own isn't there, there are none."""
 
     directory: Optional[str]
     manifests: Dict[str, Entry]
@@ -54,13 +54,13 @@ class Project(NamedTuple):
         return self.manifests.get(TOP, {})
 
     def by_name(self) -> Dict[str, Entry]:
-        """Returns the manifests that have a name, by it."""
+        """Returns the manifests that have a name, by their names."""
         named = ((name_in(it), it) for it in self.manifests.values())
         return {name: it for name, it in named if name is not None}
 
 
 def requirer_of(directory: str, at: Keys = ()) -> Requirer:
-    """Returns the project or a workspace as what requires something."""
+    """Returns the project or a workspace as a requirer."""
     name = PROJECT if directory in ("", TOP) else directory
     return Requirer(name, "", directory, at)
 
@@ -78,34 +78,34 @@ def requirements_in(
 
 
 def compared_in(manifests: Iterable[Tuple[str, Entry]]) -> Iterator[Requirement]:
-    """Yields what the project and its workspaces require, which `--duplicates` compares."""
+    """Yields what the project and its workspaces require. `--duplicates` compares that."""
     for directory, manifest in manifests:
         requirer = requirer_of(directory)
         yield from requirements_in(manifest, requirer, (USUAL, FOR_DEVELOPMENT, OPTIONAL))
 
 
 def checked(manifest: Entry) -> Entry:
-    """Returns a package.json whose requirements are texts."""
+    """Returns a package.json. It is rejected if a requirement isn't a text."""
     for kind in KINDS:
         texts_at(manifest.get(kind, {}), kind)
     return manifest
 
 
 def manifest_in(directory: str) -> Optional[Entry]:
-    """Returns the package.json in a directory, whose requirements are texts, if it is there."""
+    """Returns the package.json in a directory, if it is there."""
     path = os.path.join(directory, MANIFEST)
     with taking(path, MANIFEST):
         return checked(json_object(bytes_of(path))) if is_there(path) else None
 
 
 def version_in(manifest: Entry) -> Optional[str]:
-    """Returns the version in a package.json, if that is a text."""
+    """Returns the version in a package.json, if it is a text."""
     version = manifest.get("version")
     return version if isinstance(version, str) else None
 
 
 def name_in(manifest: Entry) -> Optional[str]:
-    """Returns the name in a package.json, if that is a text."""
+    """Returns the name in a package.json, if it is a text."""
     name = manifest.get("name")
     return name if isinstance(name, str) else None
 
@@ -114,8 +114,8 @@ def name_in(manifest: Entry) -> Optional[str]:
 
 
 def manifest_path(file: Input, directory: Optional[str]) -> Optional[str]:
-    """Returns where the package.json of a project in a directory is, if there is one: that which is
-    named beside the lock file comes first."""
+    """Returns the path of the package.json of a project: that of `--package-json`, else the one in
+    its directory, if it is there."""
     if file.named is not None or directory is None:
         return file.named
     beside = os.path.join(directory, MANIFEST)
@@ -123,7 +123,7 @@ def manifest_path(file: Input, directory: Optional[str]) -> Optional[str]:
 
 
 def project_in(directory: Optional[str], path: Optional[str]) -> Project:
-    """Returns the package.json files of a project, of which that of the project is at a path."""
+    """Returns the package.json files of a project. `path` is that of the project's own."""
     if path is None:
         return Project(directory, {})
     with taking(path, MANIFEST):
@@ -144,12 +144,13 @@ def project_beside(file: Input) -> Project:
 def missing_workspace(
     name: str, version: Optional[str], place: str, at: Keys = ()
 ) -> Finding:
-    """Returns what there is to say of a workspace that the lock file lacks."""
+    """Returns the finding about a workspace that the lock file lacks."""
     return MissingMember(Package(name, version, place, at))
 
 
 def refuse_twice(names: Iterable[Tuple[str, str]]) -> Dict[str, str]:
-    """Returns the directories of workspaces by their names. Two of one name are rejected."""
+    """Returns the directories of workspaces by their names. Two workspaces of one name are
+    rejected."""
     found: Dict[str, str] = {}
     for name, place in names:
         if found.setdefault(name, place) != place:
@@ -163,8 +164,8 @@ def refuse_twice(names: Iterable[Tuple[str, str]]) -> Dict[str, str]:
 def statement_of(
     finding: Finding, file: Input, directory: Optional[str], requirer: str = ""
 ) -> Optional[Statement]:
-    """Returns where a package.json states the requirement that a finding is about, if the project
-    or a workspace has it."""
+    """Returns where a package.json states the requirement of a finding, if the project or a
+    workspace has it."""
     if not isinstance(finding, OfRequirement) or directory is None:
         return None
     it = finding.requirement
@@ -180,7 +181,7 @@ def statement_of(
 
 
 def text_or(value: object, where: str, other: str) -> str:
-    """Returns a text of a file, or another one if it isn't there."""
+    """Returns a text of a file, or a default if it isn't there."""
     return other if value is None else text_at(value, where)
 
 
@@ -188,7 +189,7 @@ def text_or(value: object, where: str, other: str) -> str:
 
 
 def advise(finding: Finding) -> None:
-    """Says of a finding what to change, if writing the lock file anew doesn't repair it: if a
-    directory of the project has another version than is required, the registry has to have that."""
+    """Adds advice to a finding that the command doesn't repair: if a directory of the project
+    doesn't have the required version, the command would look for that in the registry."""
     if isinstance(finding, Unsatisfied) and finding.found is not None and finding.found.is_own:
         finding.advised("change the version of the package, or what is required of it", True)

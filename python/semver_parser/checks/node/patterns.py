@@ -1,7 +1,7 @@
-"""Patterns of workspaces, as minimatch reads them: what they match, and the directories that they
-find below the project, as npm and yarn find them, none in a `node_modules`.
+"""Patterns of workspaces, as minimatch reads them: what they match, and which directories below the
+project they find. As for npm and yarn, they find none in a `node_modules`.
 
-A link isn't followed for `**`, since links may lead round in circles.
+`**` doesn't follow links, since these may lead in circles.
 """
 
 import os
@@ -32,7 +32,8 @@ NOTHING = re.compile(r"(?!)")
 
 
 def alternatives(pattern: str) -> List[str]:
-    """Returns the patterns that one with braces is for: `{a,b}/*` is for `a/*` and `b/*`."""
+    """Returns the patterns that one with braces stands for: `{a,b}/*` stands for `a/*` and
+    `b/*`."""
     patterns = [pattern]
     while any(BRACES.search(it) for it in patterns):
         patterns = [inner for it in patterns for inner in without_braces(it)]
@@ -42,7 +43,7 @@ def alternatives(pattern: str) -> List[str]:
 
 
 def without_braces(pattern: str) -> List[str]:
-    """Returns the patterns that one is for by its first braces."""
+    """Returns the patterns that one stands for, with its first braces expanded."""
     found = BRACES.search(pattern)
     if found is None:
         return [pattern]
@@ -52,7 +53,8 @@ def without_braces(pattern: str) -> List[str]:
 
 @lru_cache(maxsize=None)
 def expression(pattern: str) -> Pattern[str]:
-    """Returns the expression that a pattern without braces is. One with `[z-a]` matches nothing."""
+    """Returns the regular expression for a pattern without braces. A pattern with `[z-a]` matches
+    nothing."""
     parts = (matched(it.group(), it.start(), pattern) for it in PART.finditer(pattern))
     try:
         return re.compile("".join(parts), re.S)
@@ -61,8 +63,8 @@ def expression(pattern: str) -> Pattern[str]:
 
 
 def matched(part: str, at: int, pattern: str) -> str:
-    """Returns what a part of a pattern matches. A name that begins with a dot is matched only by
-    one."""
+    """Returns the regular expression for a part of a pattern. Only a part that begins with a dot
+    matches a name that does."""
     no_dot = r"(?!\.)" if at == 0 or pattern[at - 1] == "/" else ""
     if part == "**/":
         return r"(?:(?!\.)[^/]+/)*"
@@ -77,7 +79,8 @@ def matched(part: str, at: int, pattern: str) -> str:
 
 
 def with_a_list(part: str, no_dot: str) -> str:
-    """Returns what a part with a list of patterns matches, as `@(a|b)` and `!(c)`."""
+    """Returns the regular expression for a part with a list of patterns, such as `@(a|b)` and
+    `!(c)`."""
     listed = "|".join(expression(it).pattern for it in part[2:-1].split("|"))
     if part[0] == "!":
         return rf"{no_dot}(?!(?:{listed})(?:/|\Z))[^/]*"
@@ -88,7 +91,7 @@ def with_a_list(part: str, no_dot: str) -> str:
 
 
 def places_at(pattern: str, top: str) -> List[str]:
-    """Returns the directories below another one that a pattern finds."""
+    """Returns the directories below a directory that a pattern finds."""
     if "\0" in pattern:
         raise WrongShape(": workspaces: no folder has such a name")
     parts = map(parts_of, alternatives(pattern))
@@ -98,7 +101,7 @@ def places_at(pattern: str, top: str) -> List[str]:
 
 
 def parts_of(pattern: str) -> List[str]:
-    """Returns the parts of a pattern. Several `**` one after another are as one."""
+    """Returns the parts of a pattern. Several `**` in a row count as one."""
     parts = [it for it in pattern.split("/") if it not in ("", ".")]
     if ".." in parts and ANYWHERE in parts:
         raise WrongShape(f": workspaces: {pattern} is for directories outside of the project")
@@ -106,7 +109,7 @@ def parts_of(pattern: str) -> List[str]:
 
 
 def places_below(top: str, place: str, parts: List[str]) -> Iterator[str]:
-    """Yields the places that the parts of a pattern find from one on."""
+    """Yields the directories that the parts of a pattern find below a place."""
     if not parts:
         yield place
         return
@@ -121,7 +124,7 @@ def places_below(top: str, place: str, parts: List[str]) -> Iterator[str]:
 
 
 def names_in(top: str, place: str, part: str) -> List[str]:
-    """Returns the names of the directories in one that a part of a pattern matches."""
+    """Returns the names of the directories in a directory that a part of a pattern matches."""
     is_deep = part == ANYWHERE
     matches = expression("*" if is_deep else part).fullmatch
     with os.scandir(os.path.join(top, place) or ".") as entries:

@@ -1,5 +1,5 @@
-"""Specifiers of the tools of npm's registry: ranges, tags, URLs and paths, and what each says of a
-version."""
+"""The specifiers of the tools of npm's registry: ranges, tags, URLs and paths, and whether a
+version satisfies each."""
 
 import posixpath
 import re
@@ -49,54 +49,54 @@ REASONS = (
 
 def name_and_rest(text: str) -> Tuple[str, str]:
     """Returns the name in `NAME@REST`, which may begin with `@`, and the rest, which may be
-    missing."""
+    empty."""
     at = text.find("@", 1)
     return (text, "") if at < 0 else (text[:at], text[at + 1 :])
 
 
 def alias_of(spec: str) -> Optional[Tuple[str, str]]:
-    """Returns the name and the range of `npm:NAME@RANGE`, which is empty where there is none; None
-    where it is no alias."""
+    """Returns the name and the range of `npm:NAME@RANGE`. The range may be empty. Returns None if
+    it isn't an alias."""
     if ":" not in spec or spec[:4].lower() != "npm:" or len(spec) == 4:
         return None
     return name_and_rest(spec[4:])
 
 
 def has_name(name: str, spec: str) -> bool:
-    """Returns whether a package has the name that is required, if that is an alias."""
+    """Returns whether a package has the name that an alias requires. Other specifiers require no
+    name."""
     alias = alias_of(spec)
     return alias is None or alias[0] == name
 
 
 @lru_cache(maxsize=None)
 def is_any(spec: str) -> bool:
-    """Returns whether npm takes each package for what is required, also without a valid version."""
+    """Returns whether npm accepts every package, even without a valid version."""
     alias = alias_of(spec)
     wanted = spec if alias is None else alias[1]
     return not wanted or wanted.strip() == "*"
 
 
 def git_range_of(spec: str) -> Optional[Tuple[str, str]]:
-    """Returns the address and the range of `ADDRESS#semver:RANGE`; None where it is no such
-    address."""
+    """Returns the URL and the range of `URL#semver:RANGE`; None for another specifier."""
     found = GIT_RANGE.fullmatch(spec) if alias_of(spec) is None else None
     return None if found is None else (found.group(1), unquote(found.group(2)))
 
 
 def range_of(spec: str) -> str:
-    """Returns what comes in place of the range in what is required."""
+    """Returns the range in a specifier, or the specifier itself."""
     named = alias_of(spec) or (git_range_of(spec) if "#" in spec else None)
     return spec if named is None else named[1]
 
 
 def is_archive(spec: str) -> bool:
-    """Returns whether what is required is an archive at a URL."""
+    """Returns whether a specifier is the URL of an archive."""
     return spec.startswith(("http:", "https:")) and spec.endswith((".tgz", ".tar", ".tar.gz"))
 
 
 def directory_at(spec: str, place: str) -> Optional[str]:
-    """Returns the place of the directory that is required from another place; None if it is none,
-    or if its path begins at the root or at the user's home."""
+    """Returns the place of the directory that a specifier at a place requires. Returns None if it
+    requires no directory, or if its path begins at the root or at the user's home."""
     found = DIRECTORY.fullmatch(spec)
     if found is None or spec.endswith((".tgz", ".tar", ".tar.gz")):
         return None
@@ -105,14 +105,13 @@ def directory_at(spec: str, place: str) -> Optional[str]:
 
 
 def is_elsewhere(spec: str) -> bool:
-    """Returns whether npm takes what is required for an address or a path. An alias is none."""
+    """Returns whether npm reads a specifier as a URL or a path. An alias is neither."""
     return alias_of(spec) is None and ELSEWHERE.match(spec) is not None
 
 
 def is_no_range(spec: str) -> bool:
-    """Returns whether npm takes what is required, which isn't read as a range, for something else:
-    a tag, an address or a path. An alias has a range or a tag, and an address of git may have a
-    range."""
+    """Returns whether npm reads a specifier that isn't a range as something else: a tag, a URL or a
+    path. An alias has a range or a tag, and a git URL may have a range."""
     if git_range_of(spec) is not None:
         return False
     wanted = range_of(spec).strip()
@@ -121,22 +120,21 @@ def is_no_range(spec: str) -> bool:
 
 
 def reason_of(spec: str) -> str:
-    """Returns why what is required isn't checked, in a word: it is a tag, if it is none of the
-    others."""
+    """Returns a word for why a specifier isn't checked. It is a tag if it is nothing else."""
     return next((reason for reason, begins in REASONS if begins.match(spec)), "tag")
 
 
 @lru_cache(maxsize=None)
 def may_overlap(spec: str, within: str) -> bool:
-    """Returns whether two ranges have a version in common, or may have one, since one of them isn't
-    read."""
+    """Returns whether two ranges have a version in common. If one of them is invalid, they may have
+    one."""
     one, other = (range_in(it, Dialect.NPM) for it in (spec, within))
     return one is None or other is None or not one.isdisjoint(other)
 
 
 def verdict_on(version: Optional[str], spec: str) -> Optional[Verdict]:
-    """Returns the verdict on the version of a package, if it has one, by a specifier. What is at a
-    URL may have none."""
+    """Returns the verdict on the version of a package for a specifier. A package at a URL may have
+    no version."""
     met = is_met(range_of(spec), version or "", Dialect.NPM)
     if met is None:
         return Verdict(NotChecked, reason_of(spec)) if is_no_range(spec) else INVALID_RANGE
@@ -146,12 +144,13 @@ def verdict_on(version: Optional[str], spec: str) -> Optional[Verdict]:
 
 
 class NodeScheme(Scheme):
-    """How tools of npm's registry read specifiers. One may have npm's form of each."""
+    """How the tools of npm's registry read specifiers. A tool may convert each to the form that npm
+    reads."""
 
     dialect = Dialect.NPM
 
     def npm_form(self, specifier: str, requirement: Requirement) -> str:
-        """Returns a specifier as npm has it."""
+        """Returns a specifier in the form that npm reads."""
         return specifier
 
     def has_name(self, specifier: str, requirement: Requirement) -> bool:
@@ -160,7 +159,8 @@ class NodeScheme(Scheme):
         return has_name(name or "", self.npm_form(specifier, requirement))
 
     def verdict(self, specifier: str, requirement: Requirement) -> Optional[Verdict]:
-        """Returns the verdict on the package that is found. What has no version isn't checked."""
+        """Returns the verdict on the package that is found. A package without a version isn't
+        checked."""
         wanted = self.npm_form(specifier, requirement)
         found = requirement.found
         if found is not None and found.version is None:

@@ -9,21 +9,21 @@ from .patterns import MODULES, alternatives, expression, places_at
 
 
 class Patterns(NamedTuple):
-    """The patterns of workspaces, and those of what is none."""
+    """The patterns of workspaces, and those of directories that are excluded."""
 
     taken: Tuple[str, ...]
     left_out: Tuple[str, ...]
 
 
 def patterns_in(value: Any, where: str, key: str = "packages") -> List[str]:
-    """Returns the patterns of a manifest, which may be a list or in an object."""
+    """Returns the patterns in a manifest, which are a list, or a list in an object."""
     listed = value.get(key, []) if isinstance(value, dict) else value
     return [text_at(it, where) for it in list_at(listed or [], where)]
 
 
 def directories_of(texts: Iterable[str], top: str) -> List[str]:
-    """Returns the directories below another one that patterns find, of which those with `!` before
-    them find what is none, wherever they are."""
+    """Returns the directories below a directory that patterns find. Patterns that begin with `!`
+    exclude directories, wherever they are in the list."""
     found, left_out = set(), set()
     for text in texts:
         if text[:1] == "!":
@@ -37,8 +37,8 @@ def directories_of(texts: Iterable[str], top: str) -> List[str]:
 
 
 def patterns_of(texts: Iterable[str]) -> Patterns:
-    """Returns the patterns in npm's order. One with `!` leaves out what it matches, unless a later
-    pattern is among that."""
+    """Returns patterns by the rules of npm, in which the order counts. A pattern with `!` excludes
+    what it matches, unless it also matches a later pattern."""
     taken: List[str] = []
     left_out: List[str] = []
     for text in texts:
@@ -59,25 +59,25 @@ def is_matched(pattern: str, place: str) -> bool:
 
 
 def is_workspace(patterns: Patterns, place: str) -> bool:
-    """Returns whether patterns have a place of a lock file for a workspace."""
+    """Returns whether a place in a lock file is a workspace by these patterns."""
     if MODULES in place.split("/") or is_left_out(patterns, place):
         return False
     return any(is_matched(it, place) for it in patterns.taken)
 
 
 def is_left_out(patterns: Patterns, place: str) -> bool:
-    """Returns whether patterns leave out a place."""
+    """Returns whether patterns exclude a place."""
     texts = (place, f"{place}/")
     return any(is_matched(it, text) for it in patterns.left_out for text in texts)
 
 
 def places_in(patterns: Patterns, directory: str) -> List[str]:
-    """Returns the directories below another one that patterns have for workspaces, in order."""
+    """Returns the directories below a directory that are workspaces by these patterns, in order."""
     found = {place for it in patterns.taken for place in places_at(it, directory)}
     return [place for place in sorted(found) if not is_left_out(patterns, place)]
 
 
 def name_by_directory(place: str) -> str:
-    """Returns the name that a directory gives a package without one."""
+    """Returns the name that a package without one gets from its directory."""
     *_, above, last = ["", *place.split("/")]
     return f"{above}/{last}" if above.startswith("@") else last

@@ -1,5 +1,5 @@
-"""The package.json of workspaces and linked directories, which npm reads in place of what the lock
-file has of them, and which directories are workspaces."""
+"""The package.json files of workspaces and linked directories, which npm reads instead of what the
+lock file has of them; and which directories are workspaces."""
 
 import os
 from typing import Dict, Iterable, Iterator, List, Optional, Set, Tuple
@@ -21,7 +21,7 @@ from .lock import ACCEPTED, KINDS_OF_TOPS, WORKSPACES, Packages, is_top, with_ma
 
 
 def check_manifest(manifest: Entry) -> None:
-    """Rejects a package.json whose names, versions and requirements aren't texts."""
+    """Rejects a package.json if a name, a version or a requirement isn't a text."""
     for key in ("name", "version"):
         text_at(manifest.get(key, ""), key)
     for kind in (*KINDS_OF_TOPS, ACCEPTED):
@@ -30,7 +30,7 @@ def check_manifest(manifest: Entry) -> None:
 
 
 def manifest_in(folder: str) -> Optional[Entry]:
-    """Returns the package.json in a folder, where there is one."""
+    """Returns the package.json in a directory, if it is there."""
     path = os.path.join(folder, "package.json")
     if not os.path.exists(path):
         return None
@@ -41,8 +41,9 @@ def manifest_in(folder: str) -> Optional[Entry]:
 
 
 def read_links(packages: Packages, project: Optional[str]) -> Set[str]:
-    """Takes what links lead to from the folders below the project's. Where there is nothing: that
-    is as the lock file has it, as what lies in a `node_modules` is for npm."""
+    """Reads the package.json files of the directories to which links lead, below the project.
+    Returns the places of those that have none: they stay as the lock file has them, as for npm what
+    is in a `node_modules` does."""
     targets = {
         text_at(entry.get("resolved"), f"{place}: resolved")
         for place, entry in packages.items()
@@ -59,8 +60,8 @@ def read_links(packages: Packages, project: Optional[str]) -> Set[str]:
 
 
 def workspaces_of(packages: Packages, folder: Optional[str], is_there: bool) -> Dict[str, str]:
-    """Returns the places of the project's workspaces by their names: what is in its folder, if its
-    package.json is there, and else what the lock file has of them."""
+    """Returns the places of the project's workspaces by their names. If the project's package.json
+    is there, these are directories below the project, and otherwise those of the lock file."""
     texts = patterns_in(packages.get("", {}).get(WORKSPACES, []), WORKSPACES)
     patterns = patterns_of(texts)
     if folder is not None and is_there:
@@ -70,7 +71,7 @@ def workspaces_of(packages: Packages, folder: Optional[str], is_there: bool) -> 
 
 
 def manifests_at(folder: str, places: List[str]) -> Iterator[Tuple[str, Entry]]:
-    """Yields the package.json files in places below a folder, each with its place."""
+    """Yields the package.json files in some places below a directory, each with its place."""
     for place in places:
         manifest = manifest_in(os.path.join(folder, place))
         if manifest is not None:
@@ -87,7 +88,7 @@ def by_name(manifests: Iterable[Tuple[str, Entry]]) -> Dict[str, str]:
 
 
 def root_around(directory: str) -> Optional[str]:
-    """Returns the nearest directory around another one whose package.json has that for a
+    """Returns the nearest directory around a directory whose package.json has that as a
     workspace."""
     inner = os.path.abspath(directory)
     outer = os.path.dirname(inner)
@@ -107,7 +108,7 @@ def root_around(directory: str) -> Optional[str]:
 
 
 def unchecked_manifest(directory: str) -> Entry:
-    """Returns the package.json in a directory; an empty one if it isn't there, or isn't one."""
+    """Returns the package.json in a directory; an empty one if it isn't there or isn't valid."""
     try:
         with open(os.path.join(directory, "package.json"), "rb") as file:
             return json_object(file.read())

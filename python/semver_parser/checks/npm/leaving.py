@@ -1,4 +1,5 @@
-"""What `npm ci` leaves as it is, though it doesn't fit: that is listed by `--strict` alone."""
+"""What `npm ci` leaves as it is, though it doesn't satisfy a requirement. That is listed only with
+`--strict`."""
 
 from functools import cached_property
 from typing import Callable, Optional, Set
@@ -20,8 +21,8 @@ ANEW = "remove it, and have npm write it without the old one"
 
 
 class Leaving:
-    """Which findings are of what npm leaves as it is; of peers unless a setting has it refuse
-    these."""
+    """Decides which findings are about something that npm leaves as it is. Without `peers`, npm
+    leaves no peer."""
 
     def __init__(
         self, packages: Packages, peers: Optional[Peers], look: Callable[[], Set[str]]
@@ -31,11 +32,11 @@ class Leaving:
 
     @cached_property
     def looked(self) -> Set[str]:
-        """The places whose requirements npm looks at."""
+        """The places whose requirements npm checks."""
         return self.look()
 
     def excuse(self, finding: Finding) -> str:
-        """Returns why npm leaves what a finding is about as it is, if it does."""
+        """Returns why npm leaves what a finding is about as it is; an empty text if it doesn't."""
         if not isinstance(finding, (*UNMET, Missing, InvalidRange, NoVersion)):
             return ""
         assert isinstance(finding, OfRequirement)
@@ -53,8 +54,8 @@ class Leaving:
         return "conflicting peer" if is_peer else ""
 
     def may_stay(self, finding: Overridden) -> bool:
-        """Returns whether npm may leave what an override is for: a package further up than what is
-        found is what the override requires."""
+        """Returns whether npm may leave a package that an override is for: another package of the
+        name further up satisfies the override."""
         it, specifier = finding.requirement, finding.specifier
         if it.found is None or is_top(it.found.place):
             return False
@@ -64,8 +65,8 @@ class Leaving:
         return any(is_met(specifier, str(version), Dialect.NPM) for version in versions)
 
     def is_brought_along(self, it: Requirement) -> bool:
-        """Returns whether a package brings along what it requires, or what is there is from the
-        lock file of another package."""
+        """Returns whether a package bundles what it requires, or what is found comes from another
+        package's own lock file."""
         place = it.requirer.place
         if is_top(place):
             return False

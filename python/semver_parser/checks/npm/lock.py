@@ -1,7 +1,7 @@
-"""What a lock file of npm has: its packages, what each requires, and what is found for that.
+"""The contents of a lock file of npm: its packages, what each requires, and what is found for that.
 
-Packages are told by their places, as in lockfileVersion 2 and 3: the folders from the project on,
-and nothing for the project itself.
+A package is identified by its place, as in lockfileVersion 2 and 3. This is its path from the
+project, and it is empty for the project itself.
 """
 
 import posixpath
@@ -27,8 +27,8 @@ OF_MANIFEST = ("name", "version", "workspaces", *KINDS_OF_TOPS, "peerDependencie
 
 
 def keys_of(place: str, is_old: bool) -> Keys:
-    """Returns the keys in the file that lead to the package at a place; none to the project of an
-    old file, of lockfileVersion 1."""
+    """Returns the keys in the file that lead to the package at a place. In lockfileVersion 1, the
+    project has none."""
     if not is_old:
         return "packages", place
     keys: List[str] = []
@@ -38,9 +38,9 @@ def keys_of(place: str, is_old: bool) -> Keys:
 
 
 def folders(place: str) -> Iterator[str]:
-    """Yields the folders from a place upward, itself first, up to the project.
+    """Yields the directories from a place upward to the project, beginning with the place itself.
 
-    Of a place outside the project, as `../other`, they end where only `..` is left.
+    For a place outside of the project, such as `../other`, they end where only `..` is left.
     """
     parts = place.split("/") if place else []
     while parts and parts[-1] != "..":
@@ -51,12 +51,12 @@ def folders(place: str) -> Iterator[str]:
 
 
 def inside(folder: str, name: str) -> str:
-    """Returns the place of a name in the `node_modules` of a folder."""
+    """Returns the place of a name in the `node_modules` of a directory."""
     return f"{folder}/node_modules/{name}" if folder else f"node_modules/{name}"
 
 
 def is_top(place: str) -> bool:
-    """Returns whether a place is the project, a workspace or what else lies below no
+    """Returns whether a place is the project, a workspace, or anything else that is not in a
     `node_modules`."""
     return "node_modules" not in place or "node_modules" not in place.split("/")
 
@@ -67,7 +67,7 @@ def is_outside(place: str) -> bool:
 
 
 def folder_round(place: str) -> str:
-    """Returns the folder whose `node_modules` has the package."""
+    """Returns the directory whose `node_modules` has the package."""
     parts = place.split("/")
     while parts.pop() != "node_modules":
         pass
@@ -75,7 +75,7 @@ def folder_round(place: str) -> str:
 
 
 def name_by_place(place: str) -> str:
-    """Returns the name that a package has where none is written: that of its folder."""
+    """Returns the name that a package without one gets from its directory."""
     if is_top(place):
         return place.rpartition("/")[2]
     return f"/{place}".rpartition("/node_modules/")[2]
@@ -85,9 +85,9 @@ def name_by_place(place: str) -> str:
 
 
 def packages_of(lock: Entry, manifest: Optional[Entry]) -> Packages:
-    """Returns the packages of a lock file, in its order. What the project itself requires is taken
-    from its package.json, where there is one, and else from the file: one of lockfileVersion 1
-    hasn't it."""
+    """Returns the packages of a lock file, in its order. What the project itself requires comes
+    from its package.json, if that is there, and otherwise from the lock file. A lock file of
+    lockfileVersion 1 doesn't have it."""
     version = lock.get("lockfileVersion")
     if version not in (1, 2, 3) or type(version) is not int:
         raise WrongShape(" of lockfileVersion 1, 2 or 3")
@@ -102,20 +102,20 @@ def packages_of(lock: Entry, manifest: Optional[Entry]) -> Packages:
 
 
 def with_manifest(entry: Entry, manifest: Entry) -> Entry:
-    """Returns a package of a lock file, with what its package.json has in place of the lock
-    file's."""
+    """Returns a package of a lock file with what its package.json has instead."""
     own = {key: it for key, it in entry.items() if key not in OF_MANIFEST}
     return {**own, **{key: it for key, it in manifest.items() if key in OF_MANIFEST}}
 
 
 def is_left_out(entry: Entry, scope: Scope) -> bool:
-    """Returns whether a scope leaves out a package: npm marks one that is for development alone."""
+    """Returns whether a scope leaves out a package. npm marks packages that are only for
+    development."""
     return entry.get("dev") is True and not scope.has_development
 
 
 def within(packages: Packages, scope: Scope) -> Tuple[Packages, int]:
-    """Returns the packages with what a scope leaves of their requirements, and how many it leaves
-    out."""
+    """Returns the packages with the requirements that are in a scope, and the number of those that
+    are left out."""
     kinds = {it for it in KINDS_OF_TOPS if not scope.has(it)}
     found, left_out = {}, 0
     for place, entry in packages.items():
@@ -139,8 +139,8 @@ def packages_inside(holder: Entry, place: str) -> Iterator[Tuple[str, Entry]]:
 
 
 def target_of(old: Entry) -> Optional[str]:
-    """Returns the place that a package of lockfileVersion 1 is linked from: one at `file:PATH` is,
-    as a workspace, if that is no archive."""
+    """Returns the place to which a package of lockfileVersion 1 is a link. A package at `file:PATH`
+    is one, such as a workspace, unless that is an archive."""
     version = old.get("version")
     if not isinstance(version, str) or not version.startswith("file:"):
         return None
@@ -149,8 +149,8 @@ def target_of(old: Entry) -> Optional[str]:
 
 
 def modern_entry(old: Entry, place: str) -> Entry:
-    """Returns a package of lockfileVersion 1 as lockfileVersion 2 and 3 have it. One from an
-    archive of a registry has the version in the name of that."""
+    """Returns a package of lockfileVersion 1 in the form of lockfileVersion 2 and 3. If it comes
+    from an archive of a registry, it has the version in the file name."""
     entry: Entry = {"inBundle": old.get("bundled", False), "dev": old.get("dev", False)}
     requires = old.get("requires", {})
     if not isinstance(requires, bool):
@@ -170,7 +170,7 @@ def modern_entry(old: Entry, place: str) -> Entry:
 
 
 def end_of_links(packages: Packages, place: str) -> Optional[str]:
-    """Returns the place to which the links from a place lead; None where that is nowhere."""
+    """Returns the place to which the links from a place lead; None if they lead nowhere."""
     seen = set()
     while packages[place].get("link"):
         seen.add(place)
@@ -181,8 +181,8 @@ def end_of_links(packages: Packages, place: str) -> Optional[str]:
 
 
 def package_at(packages: Packages, place: str, is_old: bool) -> Package:
-    """Returns the package at a place, with its links followed. A link that leads nowhere has
-    neither a name nor a version."""
+    """Returns the package at a place. Links are followed; one that leads nowhere has neither a name
+    nor a version."""
     end = end_of_links(packages, place)
     if end is None:
         return Package(None, None, place, keys_of(place, is_old))
@@ -195,7 +195,7 @@ def package_at(packages: Packages, place: str, is_old: bool) -> Package:
 
 
 def version_at(entry: Entry, where: str) -> Optional[str]:
-    """Returns the version of a package, where it has one."""
+    """Returns the version of a package, if it has one."""
     version = entry.get("version", "")
     if not isinstance(version, str):
         text_at(version, f"{where}: version")
@@ -208,8 +208,8 @@ def locked_in(packages: Packages) -> Set[str]:
 
 
 def pinned_in(packages: Packages) -> Set[str]:
-    """Returns the places of the packages that were put there by one that brings them along, or that
-    has its own lock file."""
+    """Returns the places of the packages that another package bundles, or that are in a package
+    with its own lock file."""
     locked = locked_in(packages)
     return {
         place
@@ -224,9 +224,9 @@ def pinned_in(packages: Packages) -> Set[str]:
 def requirements_at(
     place: str, entry: Entry, found: Dict[str, Package], workspaces: Dict[str, str], is_old: bool
 ) -> Iterator[Requirement]:
-    """Yields what the package at a place requires, in the order of the file, with what is found at
-    each place. The project has its workspaces under their names, whatever else it requires by
-    these."""
+    """Yields what the package at a place requires, in the order of the file, with the package that
+    is found. The project requires its workspaces by their names, whatever else it requires by these
+    names."""
     stated = [] if entry.get("link") else stated_at(place, entry)
     own = {} if place or entry.get("link") else workspaces
     if not stated and not own:
@@ -251,8 +251,9 @@ def requirements_at(
 
 
 def missing(it: Requirement, entry: Entry) -> Requirement:
-    """Returns a requirement for which nothing is there. It counts by `--strict` only if it may be
-    missing: npm wrote files of lockfileVersion 2 and 3 without what packages require optionally."""
+    """Returns a requirement for which nothing is found. If it may be missing, it is listed only
+    with `--strict`: npm wrote files of lockfileVersion 2 and 3 without the optional dependencies of
+    packages."""
     place = it.requirer.place
     is_required = has_to_be_there(place, entry, it.kind, it.name)
     is_optional = it.kind == OPTIONAL and not is_outside(place)
@@ -267,7 +268,8 @@ def is_linked(name: str, directory: str, found: Dict[str, Package]) -> bool:
 
 
 def around_of(place: str) -> Tuple[str, ...]:
-    """Returns what is before a name in the `node_modules` around a place, the nearest first."""
+    """Returns the prefixes of names in the `node_modules` directories around a place, the nearest
+    first."""
     outer, slash, last = place.rpartition("/")
     if last in ("", ".."):
         return (inside(place, ""),)
@@ -280,7 +282,7 @@ around_again = lru_cache(maxsize=None)(around_of)
 
 
 def nearest(name: str, around: Tuple[str, ...], found: Dict[str, Package]) -> Optional[Package]:
-    """Returns the first package of a name in some folders."""
+    """Returns the package of a name in the first of some directories that has one."""
     for folder in around:
         package = found.get(folder + name)
         if package is not None:
@@ -289,7 +291,8 @@ def nearest(name: str, around: Tuple[str, ...], found: Dict[str, Package]) -> Op
 
 
 def stated_at(place: str, entry: Entry) -> List[Tuple[str, str, str]]:
-    """Returns what the package at a place requires: in which way, for which name, and for what."""
+    """Returns the requirements of the package at a place: the table, the name and the specifier of
+    each."""
     where = place or "the project"
     named = KINDS_OF_TOPS if is_top(place) else KINDS_OF_EACH
     kinds = [kind for kind in named if kind in entry]
@@ -307,22 +310,22 @@ def stated_at(place: str, entry: Entry) -> List[Tuple[str, str, str]]:
 
 
 def is_of_what_is_there(lock: Entry) -> bool:
-    """Returns whether a file is that in node_modules, which has what is there and no project: what
-    is optional may be for another platform."""
+    """Returns whether a file is the lock file inside node_modules. It lists what is installed, and
+    has no project. What is optional there may be for another platform."""
     packages = lock.get("packages")
     return isinstance(packages, dict) and "" not in packages
 
 
 def without_optional(requirements: List[Requirement]) -> List[Requirement]:
-    """Returns what a package requires, of which what is optional doesn't have to be there."""
+    """Returns the requirements of a package. Optional ones don't have to be there."""
     return [
         it._replace(excuse="may be optional") if it.kind == OPTIONAL else it for it in requirements
     ]
 
 
 def has_to_be_there(place: str, entry: Entry, kind: str, name: str) -> bool:
-    """Returns whether what a package requires in a way has to be in the file. Of what is optional
-    only that of the project, its workspaces and linked directories has to: npm adds that."""
+    """Returns whether a requirement has to be in the lock file. An optional dependency has to be if
+    the project, a workspace or a linked directory requires it, since npm adds it then."""
     if is_outside(place):
         return False
     if kind != PEERS:

@@ -1,5 +1,5 @@
-"""Which of many ranges, in an order, is the first that has versions in common with another one, and
-which have a version."""
+"""Finds the first of many ranges that has a version in common with another range, and all ranges
+that have a version."""
 
 from itertools import zip_longest
 from typing import Iterator, List, Optional
@@ -8,8 +8,9 @@ from semver_parser import Range
 
 
 class Overlaps:
-    """Ranges in their order, then what each two of them contain together, then each two of these,
-    up to what all contain. So one is found by few comparisons, however many there are."""
+    """Ranges in their order, with the unions of each two neighbours, the unions of each two of
+    these, and so on up to the union of all. So a range is found by few comparisons, however many
+    there are."""
 
     def __init__(self, ranges: List[Range]) -> None:
         self.levels = [ranges]
@@ -19,7 +20,7 @@ class Overlaps:
             self.levels.append([one if other is None else one | other for one, other in pairs])
 
     def first(self, wanted: Range) -> Optional[int]:
-        """Returns the number of the first one that has versions in common with a range."""
+        """Returns the index of the first range that has a version in common with a range."""
         top = self.levels[-1]
         if not top or top[0].isdisjoint(wanted):
             return None
@@ -31,7 +32,7 @@ class Overlaps:
         return number
 
     def having(self, version: str) -> Iterator[int]:
-        """Yields the numbers of those that have a version, in their order."""
+        """Yields the indices of the ranges that have a version, in their order."""
         pending = [(len(self.levels) - 1, 0)]
         while pending:
             level, number = pending.pop()

@@ -1,17 +1,18 @@
-"""The overrides of a project of npm, and which of them is for what is required.
+"""The overrides of a project of npm, and which of them applies to which requirement.
 
 This imitates npm 10.8.2 (`override-set.js` and `edge.js` of its Arborist), and nothing else depends
-on how: `rules_of` reads package.json, and `put_overrides` puts them in place. What this release
-may leave as it is counts by `--strict` alone (`leaving`).
+on how: `rules_of` reads package.json, and `put_overrides` replaces requirements. What this release
+may leave as it is is listed only with `--strict` (`leaving`).
 
-A rule is a key of the overrides with what is there. It is for packages of its name, and of its
-range of versions, and what it has inside for all that these require, directly and through others.
-Of one name the innermost goes first.
+A rule is a key of the overrides with its value. It applies to requirements of its name that have a
+version in common with its range. The rules inside of it apply to everything that such a package
+requires, directly or through others. If several rules have the name, the innermost comes first.
 
-Each package has one rule, whose inner ones and those round it are for what it requires. As npm
-reads a lock file in its order, that is the rule of who required the package last, as far as these
-were read with one, or else it comes from the folder that the package is in. The project has the
-outermost rule; its workspaces and linked folders have none.
+Each package has one rule. That rule, the rules inside of it and those around it apply to what the
+package requires. npm reads a lock file in its order. The rule of a package is that of the last
+requirement that led to it and had a rule by then; if there is none, it is the rule of the directory
+that the package is in. The project has the outermost rule. Its workspaces and linked directories
+have none.
 """
 
 from bisect import bisect_left, insort
@@ -41,8 +42,14 @@ ANY = "*"
 
 @dataclass(eq=False)
 class Rule:
-    """An override: the name and the range of its key, what is there, what that puts in place of
-    what is required, if it does, the key, and the rule that it is in. The outermost has none."""
+    """An override.
+
+    - `name` and `within` are the name and the range of its key, which is `key`.
+    - `own` is its value, or that of the `.` inside.
+    - `spec` is what replaces a requirement; None if nothing does.
+    - `outer` is the rule that it is in, and `inner` has those inside of it. The outermost rule has
+      no name.
+    """
 
     name: str = ""
     within: str = ANY
@@ -65,26 +72,27 @@ class Rule:
 
     @cached_property
     def alone(self) -> "RulesOfName":
-        """This rule, as the only one."""
+        """This rule as the only one of its name."""
         return RulesOfName([self])
 
     @cached_property
     def versions(self) -> Range:
-        """The versions by the key and by what is there, if that is a range."""
+        """The versions in the range of the key and in the value, if that is a range."""
         key, own = (range_in(it, Dialect.NPM) for it in (self.within, self.own))
         assert key is not None
         return key if own is None else key | own
 
     def around(self) -> Iterator["Rule"]:
-        """Yields this rule and those round it, the innermost first."""
+        """Yields this rule and those around it, the innermost first."""
         at: Optional[Rule] = self
         while at is not None:
             yield at
             at = at.outer
 
     def having(self, name: str, version: str) -> Iterator["Rule"]:
-        """Yields the rules of a name whose key or replacement has a version, and that are for what
-        a package with this one requires, the innermost first. Of one key the innermost counts."""
+        """Yields the rules of a name that apply to what a package with this rule requires, and
+        whose key or value has a version, the innermost first. Of rules with the same key only the
+        innermost counts."""
         passed: List[RulesOfName] = []
         for at in self.around():
             inside = [at.by_name[name]] if name in at.by_name else []
@@ -96,8 +104,7 @@ class Rule:
 
 
 class RulesOfName:
-    """The rules of a name inside another one, in their order, of which a file may have
-    thousands."""
+    """The rules of one name inside another rule, in their order. A file may have thousands."""
 
     def __init__(self, rules: List[Rule]) -> None:
         self.rules = rules
@@ -106,14 +113,15 @@ class RulesOfName:
 
     @cached_property
     def overlaps(self) -> Overlaps:
-        """The ranges of those before the first that is for any version, since none after it is the
-        first."""
+        """The ranges of the rules before the first one for any version. No rule after that one can
+        be the first."""
         texts = [it.within for it in self.rules[: self.of_any]]
         return Overlaps([Range(it, dialect=Dialect.NPM, pre_releases="included") for it in texts])
 
     def first(self, spec: str) -> Optional[Rule]:
-        """Returns the first that is for what is required: with a range it is if both have versions
-        in common. Of what has no range that can't be told, and git without one is for none."""
+        """Returns the first rule that applies to a specifier. A rule applies to a range if both
+        have a version in common. A specifier without a range may have any version, so the first
+        rule applies. Only a rule for any version applies to git without a range."""
         number = self.of_any
         if not is_git_without_range(spec):
             wanted = range_in(range_of(spec), Dialect.NPM, "included")
@@ -123,16 +131,16 @@ class RulesOfName:
 
     @cached_property
     def versions(self) -> Overlaps:
-        """The versions of each."""
+        """The versions of each rule."""
         return Overlaps([it.versions for it in self.rules])
 
     def having(self, version: str) -> Iterator[Rule]:
-        """Returns those whose key or replacement has a version, in their order."""
+        """Returns the rules whose key or value has a version, in their order."""
         return (self.rules[number] for number in self.versions.having(version))
 
 
 def is_git_without_range(spec: str) -> bool:
-    """Returns whether a repository is required, and no range of its versions."""
+    """Returns whether a specifier is a repository without a range of versions."""
     return git_range_of(spec) is None and alias_of(spec) is None and reason_of(spec) == "git"
 
 
@@ -140,7 +148,7 @@ def is_git_without_range(spec: str) -> bool:
 
 
 def rules_of(manifest: Entry) -> Rule:
-    """Returns the rules of a package.json, inside one that has no name."""
+    """Returns the rules of a package.json, inside an outermost rule without a name."""
     outermost = Rule()
     overrides = object_at(manifest.get("overrides", {}), "overrides")
     add_rules(outermost, overrides, "overrides", manifest)
@@ -148,7 +156,7 @@ def rules_of(manifest: Entry) -> Rule:
 
 
 def add_rules(outer: Rule, overrides: Entry, where: str, manifest: Entry) -> None:
-    """Puts the rules of an object of overrides into a rule."""
+    """Adds the rules in an object of overrides to a rule."""
     for key, value in overrides.items():
         if key != ".":
             its_place = f"{where}: {key}"
@@ -172,8 +180,8 @@ def name_and_range(key: str, where: str) -> Tuple[str, str]:
 
 
 def replacement(spec: str, manifest: Entry) -> Optional[str]:
-    """Returns what an override puts in place of what is required. `*` puts nothing there, as npm
-    has it, and `$NAME` what the project itself requires of that name."""
+    """Returns what an override replaces a requirement by. As for npm, `*` replaces nothing, and
+    `$NAME` is what the project itself requires by that name."""
     if not spec.startswith("$"):
         return None if spec == ANY else spec
     kinds = ("devDependencies", "optionalDependencies", "dependencies", "peerDependencies")
@@ -188,8 +196,8 @@ def replacement(spec: str, manifest: Entry) -> Optional[str]:
 
 
 def rule_for(here: Rule, name: str, spec: str) -> Rule:
-    """Returns the rule for what a package with a rule requires, and that one if there is no
-    other."""
+    """Returns the rule for a requirement of a package with a rule. If none applies, it is the rule
+    of the package."""
     if (name, spec) not in here.chosen:
         rules = (first_at(at, name, spec) for at in here.around())
         here.chosen[name, spec] = next((it for it in rules if it is not None), here)
@@ -197,20 +205,20 @@ def rule_for(here: Rule, name: str, spec: str) -> Rule:
 
 
 def first_at(rule: Rule, name: str, spec: str) -> Optional[Rule]:
-    """Returns the first rule inside another one that is for what is required, or that one if it
-    is."""
+    """Returns the first rule inside another rule that applies to a requirement, or else the other
+    rule if it applies itself."""
     found = rule.by_name[name].first(spec) if name in rule.by_name else None
     return rule.alone.first(spec) if found is None and rule.name == name else found
 
 
 def rule_within(here: Rule, name: str, version: str) -> Rule:
-    """Returns the rule of a package in a folder whose package has a rule: the first of the name
-    whose key or replacement has the version, and that one if there is none."""
+    """Returns the rule of a package in a directory whose package has a rule: the first rule of its
+    name whose key or value has the version, or else the directory's rule."""
     return next(here.having(name, version), here) if is_version(version, Dialect.NPM) else here
 
 
 def put_in_place(rule: Optional[Rule], ask: Requirement) -> str:
-    """Returns what is required, or what a rule puts in its place."""
+    """Returns the specifier of a requirement, or what a rule replaces it by."""
     if rule is None or rule.name != ask.name or rule.spec is None:
         return ask.specifier
     return rule.spec
@@ -221,7 +229,7 @@ def put_in_place(rule: Optional[Rule], ask: Requirement) -> str:
 
 @dataclass(eq=False)
 class Edge:
-    """What a package requires, the rule for that, if it has one, and the place that it leads to."""
+    """A requirement of a package, the rule for it, if any, and the place to which it leads."""
 
     ask: Requirement
     rule: Optional[Rule] = None
@@ -229,7 +237,8 @@ class Edge:
 
 
 class Edges:
-    """The edges to one name as they were read, of which a folder may have few."""
+    """The edges for one name, in the order in which they were read. They are also sorted by their
+    places, since only a few may be in a directory."""
 
     def __init__(self) -> None:
         self.all: List[Edge] = []
@@ -241,7 +250,7 @@ class Edges:
         self.all.append(edge)
 
     def inside(self, folder: str) -> List[Edge]:
-        """Returns those of the package in a folder, and of what is inside it."""
+        """Returns the edges of the package in a directory, and of the packages inside of it."""
         if not folder:
             return self.all
         found: List[int] = []
@@ -252,8 +261,8 @@ class Edges:
 
 
 class Reading:
-    """What npm has read of a lock file: the rule of each package, and the edges between packages by
-    the names of what is required."""
+    """What npm knows of a lock file while it reads it: the rule of each package, and the edges
+    between packages by the names of requirements."""
 
     def __init__(self, found: Dict[str, Package], outermost: Rule) -> None:
         self.found, self.named = found, names_in(outermost)
@@ -262,8 +271,8 @@ class Reading:
         self.read: Set[str] = set()
 
     def add(self, place: str, asks: List[Requirement]) -> None:
-        """Reads the package at a place: edges that were read may lead there now, and its own begin
-        there."""
+        """Reads the package at a place. Edges that were read may now lead to it, and its own edges
+        are added."""
         self.read.add(place)
         if not is_top(place):
             self.attach(place, name_by_place(place), folder_round(place))
@@ -276,8 +285,8 @@ class Reading:
             self.lead(edge, next(nearest, ""))
 
     def attach(self, place: str, name: str, folder: str) -> None:
-        """Leads edges to a package in a folder, which has its rule from the last of them, or else
-        from the folder."""
+        """Lets edges lead to a package in a directory. The package gets its rule from the last of
+        them, or else from the directory."""
         for edge in self.edges[name].inside(folder) if name in self.edges else ():
             if len(edge.target) < len(place):
                 self.lead(edge, place)
@@ -286,14 +295,15 @@ class Reading:
             self.rules[place] = rule_within(rule, name, version) if name in self.named else rule
 
     def choose(self, edge: Edge) -> None:
-        """Chooses the rule for an edge, by what the rule before puts in place."""
+        """Chooses the rule for an edge. It is compared with what the previous rule of the edge
+        replaced the requirement by."""
         rule = self.rules.get(edge.ask.requirer.place)
         if rule is not None and edge.ask.name in self.named:
             rule = rule_for(rule, edge.ask.name, put_in_place(edge.rule, edge.ask))
         edge.rule = rule
 
     def lead(self, edge: Edge, target: str) -> None:
-        """Leads an edge to a package, which has its rule then, or nowhere."""
+        """Lets an edge lead to a package, which gets its rule then, or nowhere."""
         self.choose(edge)
         if target and target != edge.target:
             edge.target = target
@@ -302,10 +312,14 @@ class Reading:
 
 
     def put_late(self, edge: Edge) -> Optional[str]:
-        """Returns what an override puts in place of what an edge requires, where npm sees that only
-        after its package has been read. What is found doesn't fit then, so npm puts something else
-        inside the package, chooses the rule anew, and takes what it found after all if that has the
-        same rule, fits by it, and is newer than anything that was required."""
+        """Returns what an override replaces the requirement of an edge by, if npm sees that only
+        after it has read the package.
+
+        Then the package that is found does not satisfy the requirement, so npm puts another one
+        inside the requirer, and chooses the rule again. It uses the package that it found after all
+        if that has the same rule, satisfies the override, and is higher than every version that was
+        required.
+        """
         ask, here = edge.ask, self.rules.get(edge.ask.requirer.place)
         asked, found = put_in_place(edge.rule, ask), ask.found
         if here is None or found is None or ask.kind == PEERS:
@@ -323,13 +337,14 @@ class Reading:
 
 
 def are_beside(place: str, found: Package) -> bool:
-    """Returns whether what is found is in the same directory as the package at a place."""
+    """Returns whether a package that is found is in the same `node_modules` as the package at a
+    place."""
     is_inside = not is_top(place) and not is_top(found.place)
     return is_inside and folder_round(place) == folder_round(found.place)
 
 
 def names_in(rule: Rule) -> Set[str]:
-    """Returns the names that the rules inside a rule are for."""
+    """Returns the names of all rules inside a rule."""
     return {it.name for it in rule.inner}.union(*(names_in(it) for it in rule.inner))
 
 
@@ -339,8 +354,8 @@ def reading_of(
     asks: Dict[str, List[Requirement]],
     outermost: Rule,
 ) -> Reading:
-    """Returns what npm has read of a lock file, if there are overrides. It reads links after all
-    packages."""
+    """Returns what npm knows of a lock file after it has read it, if there are overrides. It reads
+    links after all packages."""
     reading = Reading(found, outermost)
     for is_link in (False, True) if outermost.inner else ():
         for place, entry in packages.items():
@@ -350,8 +365,8 @@ def reading_of(
 
 
 def refused(reading: Reading) -> Iterator[Tuple[Requirement, str]]:
-    """Yields what the project itself requires, where an override puts something else in its place:
-    npm refuses that, also if a version satisfies both."""
+    """Yields the requirements of the project itself that an override replaces, with the
+    replacement. npm rejects that, even if a version satisfies both."""
     for edge in (it for edges in reading.edges.values() for it in edges.all):
         spec = put_in_place(edge.rule, edge.ask)
         if not edge.ask.requirer.place and spec != edge.ask.specifier:
@@ -359,8 +374,8 @@ def refused(reading: Reading) -> Iterator[Tuple[Requirement, str]]:
 
 
 def put_overrides(packages: Packages, asks: Dict[str, List[Requirement]], reading: Reading) -> None:
-    """Puts overrides in place of what packages require, but for the project itself, and for what
-    was put where it is by another package."""
+    """Replaces the requirements of packages by overrides, except those of the project itself, and
+    those for packages that another package put where they are."""
     pinned = pinned_in(packages) if reading.read else set()
     replaced: Dict[str, Dict[str, str]] = {}
     edges = (reading.edges[name].all for name in reading.named if name in reading.edges)

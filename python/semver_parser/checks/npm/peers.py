@@ -1,10 +1,11 @@
-"""Which peers that don't fit `npm ci` leaves as they are.
+"""Which mismatched peers `npm ci` leaves as they are.
 
-npm looks for a place for a peer in the folders round who requires it, beginning with the first
-whose package has no such peer itself. No other version has a place there if that package needs the
-one that is there, or brings along who has that for a peer. Then npm only warns, unless the project
-or a workspace requires the peer, or brought along who does. To npm nobody brought along a linked
-directory that is no workspace.
+npm looks for a place for a peer in the directories around its requirer. It begins with the first
+directory whose package does not have the same peer itself. No other version has a place there if
+that package needs the one that is there, or if it brings in a package that has that one as a peer.
+
+Then npm only warns, unless the project or a workspace requires the peer, or brought in its
+requirer. For npm, nobody brought in a linked directory that is not a workspace.
 """
 
 from functools import cached_property
@@ -16,7 +17,8 @@ from .lock import folders, inside, is_top
 
 
 class Peers:
-    """What the packages of a lock file require, which of that fits, and who requires each."""
+    """The requirements of the packages of a lock file: which of them are satisfied, and who
+    requires each package."""
 
     def __init__(
         self,
@@ -29,7 +31,7 @@ class Peers:
 
     @cached_property
     def into(self) -> Dict[str, List[Requirement]]:
-        """What requires the package at each place."""
+        """The requirements that lead to the package at each place."""
         found: Dict[str, List[Requirement]] = {}
         for each in self.required.values():
             for ask in each:
@@ -38,14 +40,14 @@ class Peers:
         return found
 
     def fitting(self, place: str) -> List[Requirement]:
-        """Returns what requires the package at a place and is for it."""
+        """Returns the requirements that lead to the package at a place and that it satisfies."""
         if place not in self.known:
             self.known[place] = [it for it in self.into.get(place, ()) if self.fits(it)]
         return self.known[place]
 
     def is_left(self, ask: Requirement) -> bool:
-        """Returns whether npm leaves a peer that doesn't fit as it is: no version is for that and
-        for others that need what is there."""
+        """Returns whether npm leaves a mismatched peer as it is: no version satisfies both the peer
+        and another requirement that needs the package that is there."""
         if ask.kind != PEERS or ask.found is None or ask.requirer.place in self.tops:
             return False
         if is_elsewhere(ask.specifier):
@@ -56,7 +58,7 @@ class Peers:
         return is_needed and (is_top(place) or not self.is_of_project(place))
 
     def first_folder(self, place: str, name: str) -> str:
-        """Returns the first of a place and the folders round it whose package has no peer of a
+        """Returns the first of a place and the directories around it whose package has no peer of a
         name."""
         around = (it for it in folders(place) if it in self.required)
         return next((it for it in around if not it or not self.has_peer(it, name)), "")
@@ -66,22 +68,23 @@ class Peers:
         return any(it.kind == PEERS and it.name == name for it in self.required[place])
 
     def is_of_project(self, place: str) -> bool:
-        """Returns whether the project or a workspace requires a package, or who has it for a
-        peer."""
+        """Returns whether the project or a workspace requires a package, or a package that has it
+        as a peer."""
         into = self.into.get(place, ())
         own = (it.requirer.place in self.tops and it.kind != PEERS for it in into)
         return any(own) or any(it.requirer.place in self.tops for it in self.entries(place))
 
     def entries(self, place: str) -> Iterator[Requirement]:
-        """Yields what fits and leads to a package, or by peers alone to who has it for a peer, but
-        is no peer of these itself."""
+        """Yields the satisfied requirements that bring in a package: they are for the package, or
+        for one that has it as a peer, and are no peers themselves."""
         for each in self.having(place):
             for ask in self.fitting(each):
                 if ask.kind != PEERS or is_top(ask.requirer.place):
                     yield ask
 
     def having(self, place: str) -> Set[str]:
-        """Returns a package and those that have it for a peer, directly or by others."""
+        """Returns the places of a package and of those that have it as a peer, directly or through
+        others."""
         found: Set[str] = set()
         left = [place]
         while left:
@@ -92,9 +95,10 @@ class Peers:
         return found
 
     def others(self, folder: str, peer: Requirement, there: str) -> List[Requirement]:
-        """Returns what keeps a peer from a place in a folder, if no version is for both: what else
-        leads to what is there, from the folder on if that is further up, and else if the package of
-        the folder is among it or brings along who has it for a peer."""
+        """Returns the requirements that keep a peer from a place in a directory if no version
+        satisfies both. If the package that is there is further up, these are all others that lead
+        to it from the directory. Otherwise they count only if the package of the directory is one
+        of its requirers, or brings in a package that has it as a peer."""
         into = self.fitting(there)
         if there != inside(folder, peer.name):
             return [it for it in into if folder in folders(it.requirer.place)]
@@ -104,8 +108,8 @@ class Peers:
 
 
 def is_apart(spec: str, other: str) -> bool:
-    """Returns whether no version is for both of what is required. One at a URL or a path is for
-    that."""
+    """Returns whether no version satisfies both of two specifiers. A URL or a path is satisfied
+    only by what is there."""
     if is_elsewhere(spec):
         return True
     return not is_no_range(spec) and not may_overlap(range_of(spec), range_of(other))

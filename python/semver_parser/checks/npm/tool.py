@@ -1,22 +1,23 @@
-"""npm: lock files of lockfileVersion 1, 2 and 3, beside the package.json files of the project.
+"""npm: lock files of lockfileVersion 1, 2 and 3, with the package.json files of the project.
 
 WHO REQUIRES. Each package requires its `peerDependencies`, `dependencies` and
-`optionalDependencies`, and the project and its workspaces, which are below no `node_modules`, for
-their `devDependencies` too. Of one name in several of these npm keeps the last, in this order. In
-lockfileVersion 1 each package requires what it `requires`. What the project, its workspaces and
-linked directories require is in their package.json, and in the lock file too from lockfileVersion 2
-on, where it may be stale.
+`optionalDependencies`. The project, its workspaces and everything else outside of `node_modules`
+also require their `devDependencies`. If a name is in several of these, npm keeps the last one, in
+this order. In lockfileVersion 1 each package requires what is in its `requires`. What the project,
+its workspaces and linked directories require is in their package.json; from lockfileVersion 2 on it
+is also in the lock file, where it may be stale.
 
-WHAT IS FOUND. The nearest package of the name: in the package's own `node_modules`, or else in
-that of a folder round it. A peer is looked for from the folder round the package on; those of the
-project and its workspaces, round which there is none, are in their own. A link is followed. What
-isn't found has no version. The project has each workspace by a link under its name.
+WHAT IS FOUND. The nearest package of the name: in the package's own `node_modules`, or else in that
+of a directory around it. The search for a peer begins in the directory around the package. The
+project and its workspaces have none around them, so their peers are looked for in their own
+`node_modules`. A link is followed. If nothing is found, there is no version. The project has each
+workspace by a link under its name.
 
-WHAT COUNTS. What nothing leads to from the project and its workspaces isn't looked at, and what npm
-leaves as it is counts by `--strict` alone.
+WHAT COUNTS. Packages to which nothing leads from the project and its workspaces aren't checked.
+What npm leaves as it is is listed only with `--strict`.
 
-OVERRIDES. They aren't in a lock file, but in the project's package.json. What an override replaces
-is checked by what the override requires.
+OVERRIDES. They aren't in the lock file, but in the project's package.json. If an override replaces
+a requirement, the override is what has to be satisfied.
 """
 
 import os
@@ -97,7 +98,7 @@ class NpmScheme(NodeScheme):
     """How npm reads versions and specifiers."""
 
     def verdict(self, specifier: str, requirement: Requirement) -> Optional[Verdict]:
-        """Returns the verdict on what is found, which `acceptDependencies` may accept."""
+        """Returns the verdict on the package that is found. `acceptDependencies` may accept it."""
         verdict = self.verdict_by(specifier, requirement)
         accepted = requirement.accepted
         if accepted is not None and self.verdict_by(accepted, requirement) is RIGHT:
@@ -105,10 +106,14 @@ class NpmScheme(NodeScheme):
         return verdict
 
     def verdict_by(self, specifier: str, requirement: Requirement) -> Optional[Verdict]:
-        """Returns the verdict by a specifier: npm takes each package for `*`, that from just the
-        URL that is required, and a link to just the directory, but none of a registry for a
-        directory, an archive or a repository. An archive or a repository of an old file has no
-        version there."""
+        """Returns the verdict for a specifier:
+
+        - npm accepts every package for `*`.
+        - A URL of an archive accepts only a package from exactly that URL.
+        - A path of a directory accepts only a link to exactly that directory.
+        - A package of a registry satisfies no directory, archive or repository.
+        - In an old lock file, an archive or a repository has no version, and isn't checked.
+        """
         found = requirement.found
         if found is not None and found.name is not None:
             if is_any(specifier):
@@ -130,12 +135,12 @@ class NpmScheme(NodeScheme):
         return verdict_on(None if found is None else found.version, specifier)
 
     def is_version(self, package: Package) -> bool:
-        """Returns whether a version is valid. npm doesn't look at that of the project itself, nor
-        at those of its own directories."""
+        """Returns whether a version is valid. npm doesn't check those of the project itself and of
+        its own directories."""
         return package.is_own or super().is_version(package)
 
     def fits(self, requirement: Requirement) -> bool:
-        """Returns whether npm takes what is found."""
+        """Returns whether npm accepts the package that is found."""
         if requirement.found is None:
             return False
         verdict = self.verdict(requirement.specifier, requirement)
@@ -146,7 +151,7 @@ NPM_SCHEME = NpmScheme()
 
 
 def is_fetched(specifier: str) -> bool:
-    """Returns whether npm fetches what is required from a URL, a repository or a path."""
+    """Returns whether npm fetches what a specifier requires from a URL, a repository or a path."""
     return is_no_range(specifier) and reason_of(specifier) in ("git", "URL", "path")
 
 
@@ -154,15 +159,14 @@ def is_fetched(specifier: str) -> bool:
 
 
 def is_own_archive(package: Package, resolved: object) -> bool:
-    """Returns whether the archive of a package is named by its name and version, as nearly all
-    are."""
+    """Returns whether the archive of a package has its name and version, as nearly all have."""
     name = package.name or ""
     end = f"/{name}/-/{name.rpartition('/')[2]}-{package.version}.tgz"
     return isinstance(resolved, str) and resolved.endswith(end)
 
 
 def archive_findings(package: Package, resolved: object) -> Iterator[Finding]:
-    """Yields what there is to say of the archive of a package, which npm installs."""
+    """Yields the findings about the archive of a package, which npm installs."""
     name, version = package.name or "", package.version
     if not isinstance(resolved, str) or version is None:
         return
@@ -178,7 +182,7 @@ def archive_findings(package: Package, resolved: object) -> Iterator[Finding]:
 def project_findings(
     packages: Packages, found: Dict[str, Package], workspaces: Dict[str, str], is_old: bool
 ) -> Iterator[Finding]:
-    """Yields what there is to say of links that lead nowhere, and of workspaces without a link."""
+    """Yields the findings about links that lead nowhere, and about workspaces without a link."""
     for place, entry in packages.items():
         if entry.get("link") and found[place].name is None:
             target = text_at(entry.get("resolved"), f"{place}: resolved")
@@ -192,8 +196,8 @@ def project_findings(
 
 
 def edges_of(required: Requirements) -> Iterator[Tuple[str, Optional[str]]]:
-    """Yields the places that what each place requires leads to. A workspace is where a path
-    begins."""
+    """Yields the places to which the requirements of each place lead. A path begins at the project
+    or at a workspace."""
     for place, each in required.items():
         yield place or PROJECT, None
         for it in each:
@@ -202,7 +206,7 @@ def edges_of(required: Requirements) -> Iterator[Tuple[str, Optional[str]]]:
 
 
 def reached(required: Requirements, tops: Iterable[str]) -> Set[str]:
-    """Returns the places that are reached from some of them: npm removes the others."""
+    """Returns the places that are reached from some of them. npm removes the others."""
     found: Set[str] = set()
     left = list(tops)
     while left:
@@ -214,7 +218,7 @@ def reached(required: Requirements, tops: Iterable[str]) -> Set[str]:
 
 
 def looked_at(required: Requirements) -> Set[str]:
-    """Returns the places that npm comes to from the project without a link."""
+    """Returns the places that npm reaches from the project without a link."""
     found: Set[str] = set()
     left = [""]
     while left:
@@ -239,13 +243,13 @@ class Npm(Tool):
         return file.text.lstrip()[:1] == b"{"
 
     def directory_of(self, file: Input) -> Optional[str]:
-        """Returns the directory of the project: npm has a file in its node_modules, too."""
+        """Returns the directory of the project. npm also has a lock file in its node_modules."""
         if file.directory is None or os.path.basename(file.path) != HIDDEN:
             return file.directory
         return os.path.normpath(os.path.join(file.directory, ".."))
 
     def read(self, file: Input) -> LockFile:
-        """Returns what a lock file has, beside the project's package.json."""
+        """Returns the contents of a lock file, with the project's package.json."""
         beside = self.directory_of(file)
         directory = beside
         if beside is None and file.named not in (None, STANDARD_INPUT):
@@ -260,8 +264,8 @@ class Npm(Tool):
         return json_offsets(text, wanted, AFTER_KEY_OF_OBJECT)
 
     def advise(self, finding: Finding) -> None:
-        """Says of a finding what to change, if the command doesn't repair it: npm leaves out what
-        is optional and can't be installed."""
+        """Adds advice to a finding if the command doesn't repair it: npm leaves out an optional
+        dependency that can't be installed."""
         advise(finding)
         is_unmet = isinstance(finding, (Missing, Unsatisfied))
         if is_unmet and isinstance(finding, OfRequirement) and finding.requirement.kind == OPTIONAL:
@@ -272,8 +276,8 @@ class Npm(Tool):
         return statement_of(finding, file, self.directory_of(file))
 
     def read_instead(self, path: str, is_named: bool) -> Optional[str]:
-        """Returns why npm doesn't read a package-lock.json: a shrinkwrap is beside it, or it is in
-        a workspace, of which npm reads the project's."""
+        """Returns why npm doesn't read a package-lock.json: a shrinkwrap is next to it, or it is in
+        a workspace, and npm reads that of the project."""
         directory, name = os.path.split(path)
         other = self.lock_files[1]
         if not is_named and name != other and os.path.isfile(os.path.join(directory, other)):
@@ -286,8 +290,8 @@ NPM = Npm()
 
 
 def lock_of(file: Input) -> Entry:
-    """Returns the object of a lock file. npm reads an npm-shrinkwrap.json without lockfileVersion
-    as one of lockfileVersion 1."""
+    """Returns the object in a lock file. As for npm, an npm-shrinkwrap.json without lockfileVersion
+    is one of lockfileVersion 1."""
     lock = file.json
     is_old = os.path.basename(file.path) == NPM.lock_files[1] and "lockfileVersion" not in lock
     return {"lockfileVersion": 1, **lock} if is_old else lock
@@ -304,7 +308,8 @@ def manifest_and_rules(path: Optional[str]) -> Tuple[Optional[Entry], Rule]:
 
 
 class Reader:
-    """Reads a lock file: its packages, what is found at each place, and what each requires."""
+    """Reads a lock file: its packages, what is found at each place, and what each package
+    requires."""
 
     def __init__(
         self,
@@ -333,7 +338,7 @@ class Reader:
         return list(requirements_at(place, entry, self.found, self.workspaces, self.is_old))
 
     def checked(self) -> List[str]:
-        """Returns the places that are checked: what nothing leads to npm removes."""
+        """Returns the places that are checked. npm removes packages to which nothing leads."""
         places = self.packages
         checked = [it for it in places if not is_left_out(places[it], self.scope)]
         if self.manifest is None:

@@ -1,1 +1,1 @@
-"""What the program prints of its reports: a module for each format."""
+"""The output of `check-lock-file`: a module for each format."""

@@ -1,4 +1,4 @@
-"""Annotations of GitHub Actions."""
+"""The format `github`: annotations of GitHub Actions."""
 
 from typing import Iterator, Optional
 

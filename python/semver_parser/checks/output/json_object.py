@@ -1,4 +1,4 @@
-"""One object of JSON with all that is known."""
+"""The format `json`: one object with all that is known."""
 
 import json
 from typing import Any, Dict, Iterator
@@ -23,7 +23,7 @@ def lines(results: Results) -> Iterator[str]:
 
 
 def report_object(report: Report) -> Object:
-    """Returns what is known of a lock file. One that is refused has no tool."""
+    """Returns what is known of a lock file. A file that was rejected has no tool."""
     error = error_of(report)
     return {
         "file": report.name,
@@ -41,7 +41,7 @@ def report_object(report: Report) -> Object:
 
 
 def finding_object(it: Finding, report: Report) -> Object:
-    """Returns all parts of a finding. What it hasn't is null."""
+    """Returns all parts of a finding. A part that it doesn't have is null."""
     stated = report.statement(it)
     return {
         "kind": it.kind,

@@ -1,4 +1,4 @@
-"""SARIF 2.1.0, with what GitHub's code scanning requires of it."""
+"""The format `sarif`: SARIF 2.1.0, with what GitHub's code scanning requires."""
 
 import hashlib
 import json
@@ -34,8 +34,8 @@ RULES = list(DESCRIPTIONS)
 
 
 def lines(results: Results) -> Iterator[str]:
-    """Yields the lines of the object, one result after the other, since there may be many. What is
-    more than GitHub takes is left out, and a notification says so."""
+    """Yields the lines of the object, one result after the other, since there may be many. Results
+    beyond the number that GitHub accepts are left out, and a notification says so."""
     count = count_of(results)
     has_errors = bool(results.refusals) or any(map(error_of, results.reports))
     invocation: Object = {"executionSuccessful": not has_errors}
@@ -67,7 +67,7 @@ def text_of(value: Object) -> str:
 
 
 def visible_lines(text: str) -> str:
-    """Returns lines in which control characters are written as JSON may write them."""
+    """Returns lines in which control characters are JSON escapes."""
     return "\n".join(map(visible, text.split("\n")))
 
 
@@ -78,14 +78,14 @@ def count_of(results: Results) -> int:
 
 
 def rule(name: str) -> Object:
-    """Returns a rule. What there is to say of one is in the manual."""
+    """Returns a rule. The manual describes it."""
     text = {"text": DESCRIPTIONS[name]}
     help_text = {"text": f"See {name} in the manual check-lock-file(1)."}
     return {"id": name, "shortDescription": text, "fullDescription": text, "help": help_text}
 
 
 def all_results(results: Results) -> Iterator[Object]:
-    """Yields each finding, each error, and each known finding that is there no more."""
+    """Yields each finding, each error, and each known finding that no longer applies."""
     for report in results.reports:
         for it in grouped(report.listed):
             path, line = report.position(it)
@@ -101,7 +101,7 @@ def all_results(results: Results) -> Iterator[Object]:
 
 
 def result(name: str, level: str, path: str, line: Optional[int], text: str) -> Object:
-    """Returns a result. GitHub requires a line of it, and knows it again by a hash."""
+    """Returns a result. GitHub requires a line, and recognizes the result by a hash."""
     path = in_repository(path)
     known: List[str] = [name, path, text]
     digest = hashlib.sha256("\0".join(known).encode("utf-8", "backslashreplace")).hexdigest()

@@ -1,4 +1,4 @@
-"""Lines for people: a sentence for each finding, grouped by package."""
+"""The format `text`: a sentence for each finding, grouped by package."""
 
 from typing import Dict, Iterator, List
 
@@ -11,7 +11,7 @@ LOOKS = {PACKAGE: "1", VERSION: "31", RANGE: "32"}
 
 
 def colored(text: str, part: str) -> str:
-    """Returns a part of a sentence as terminals show it: bold, red or green."""
+    """Returns a part of a sentence for a terminal: bold, red or green."""
     return f"\x1b[{LOOKS[part]}m{text}\x1b[0m"
 
 
@@ -28,8 +28,8 @@ def lines(results: Results, is_colored: bool = False) -> Iterator[str]:
 
 
 def told(report: Report, finding: Finding, paint: Paint = plain) -> Iterator[str]:
-    """Yields the sentence of a finding, and below it the path to what requires it, if that is
-    wanted, with where a manifest states a direct requirement."""
+    """Yields the sentence of a finding. If paths are wanted, also yields the path to the requirer,
+    with where a manifest states a direct requirement."""
     yield finding.sentence(paint)
     if report.paths is not None:
         path, stated = report.paths.path_to(finding), report.statement(finding)
@@ -38,7 +38,7 @@ def told(report: Report, finding: Finding, paint: Paint = plain) -> Iterator[str
 
 
 def grouped(findings: List[Finding]) -> Iterator[Finding]:
-    """Yields the findings, those of one package together, in the order of the first of each."""
+    """Yields the findings. Those about one package are together, where the first of them is."""
     groups: Dict[str, List[Finding]] = {}
     for finding in findings:
         groups.setdefault(finding.group, []).append(finding)

@@ -1,4 +1,4 @@
-"""Lines of fields that are separated by tabs."""
+"""The format `tsv`: fields that are separated by tabs."""
 
 from typing import Iterator, List
 
@@ -20,8 +20,8 @@ def lines(results: Results) -> Iterator[str]:
 
 
 def fields_of(finding: Finding) -> List[str]:
-    """Returns the fields of a finding: what is required, what is found, who requires it, and its
-    kind if there is more to know."""
+    """Returns the fields of a finding: what is required, what is found, who requires it, and the
+    kind, unless it is the usual one."""
     it = finding.record
     alias = f" as {it.alias}" if it.alias else ""
     who = f"{it.requirer} {it.requirer_version or ''}".rstrip()

@@ -1,5 +1,5 @@
-"""The entries of a `pnpm-lock.yaml` that packages have: which one a version leads to, and which of
-them are missing. pnpm refuses a file in which what it installs has none."""
+"""The entries of the packages in a `pnpm-lock.yaml`: to which one a version leads, and which are
+missing. pnpm rejects a lock file in which something that it installs has no entry."""
 
 import re
 from typing import Dict, Iterator, List, NamedTuple, Optional, Tuple
@@ -25,8 +25,8 @@ CALLED = re.compile(
 
 
 class Entries(NamedTuple):
-    """What packages have in a file: their fields, what they depend on, which is apart from these
-    (`snapshots`) from lockfileVersion 9 on, and the first number of lockfileVersion."""
+    """The entries of the packages in a file: their fields; what they depend on, which is separate
+    from lockfileVersion 9 on (`snapshots`); and the first number of lockfileVersion."""
 
     packages: Dict[str, Entry]
     snapshots: Dict[str, Entry]
@@ -49,8 +49,8 @@ class Entries(NamedTuple):
 
 
 def called_by(text: str) -> Optional[Tuple[str, str]]:
-    """Returns the name and the version in what a package is called. One that is at an address or a
-    path has none, as `github.com/user/numbers/0123` and `example.org/numbers/0123`."""
+    """Returns the name and the version in the key of a package. A package at a URL or a path has
+    none, such as `github.com/user/numbers/0123` and `example.org/numbers/0123`."""
     called = CALLED.fullmatch(text)
     if called is None or ":" in text[: called.end("version")]:
         return None
@@ -61,7 +61,7 @@ def called_by(text: str) -> Optional[Tuple[str, str]]:
 
 
 def entries_of(lock: Entry) -> Entries:
-    """Returns what packages have in a file."""
+    """Returns the entries of the packages in a file."""
     form = text_at(lock.get("lockfileVersion"), "lockfileVersion").partition(".")[0]
     packages = objects_at(lock.get("packages") or {}, "packages")
     if form != "9":
@@ -77,8 +77,8 @@ def depends_of(key: str, entry: Entry) -> Dict[str, str]:
 
 
 def missing_entries(entries: Entries, tops: List[str]) -> Iterator[Finding]:
-    """Yields what there is to say of packages that have no entry, or only one of its two halves, of
-    those to which some keys lead."""
+    """Yields the findings about packages without an entry, or with only one of its two halves,
+    among those to which some keys lead."""
     seen, left = set(tops), list(tops)
     for key in left:
         own = key.partition("(")[0]

@@ -1,12 +1,12 @@
-"""Who requires what in a `pnpm-lock.yaml`, and what is found for that.
+"""The requirements in a `pnpm-lock.yaml`, and what is found for them.
 
-WHO REQUIRES. The project and its workspaces (`importers`), for what they depend on directly, by
-their package.json files where these are there, the catalogs, from which importers take ranges, and
-each package for its peers. The other ranges of packages aren't in such a file.
+WHO REQUIRES. The project and its workspaces (`importers`), which require what their package.json
+files have, if these are there; the catalogs, from which importers take ranges; and each package,
+for its peers. The lock file doesn't have the other ranges of packages.
 
-WHAT IS FOUND. Of an importer and a catalog the version beside what it requires, and of a peer the
-package of that name among the dependencies of the package, where pnpm puts it. What is at an
-address has its version at its package, and a workspace in its package.json.
+WHAT IS FOUND. For an importer and a catalog, the version next to the specifier. For a peer, the
+package of the name among the dependencies of the package, where pnpm puts it. A package at a URL
+has its version in its entry, and a workspace in its package.json.
 """
 
 import os
@@ -58,7 +58,7 @@ Catalogs = Dict[Tuple[str, str], str]
 
 
 class Stated(NamedTuple):
-    """What a file has of a requirement of an importer: its kind, its name, its specifier, and what
+    """A requirement of an importer in the lock file: its table, its name, its specifier, and what
     is found."""
 
     kind: str
@@ -68,8 +68,8 @@ class Stated(NamedTuple):
 
 
 class Importer(NamedTuple):
-    """The project or a workspace: its directory, the keys that lead to it, what the file has of it,
-    and what its package.json requires, if that is there."""
+    """The project or a workspace: its directory, the keys that lead to it, what the lock file has
+    of it, and what its package.json requires, if that is there."""
 
     directory: str
     at: Keys
@@ -78,13 +78,13 @@ class Importer(NamedTuple):
 
     @property
     def requirer(self) -> Requirer:
-        """The importer as what requires something."""
+        """The importer as a requirer."""
         return requirer_of(self.directory, self.at)
 
 
 def found_at(text: str, name: str, packages: Packages) -> Package:
-    """Returns what a file has for a version of a name: one, a package of another name, or a URL or
-    a path."""
+    """Returns the package for the version of a name in the lock file. That is a version, a package
+    of another name, a URL or a path."""
     bare = re.split(r"[(_]", text, maxsplit=1)[0]
     if is_version(bare, Dialect.NPM):
         return Package(name, bare)
@@ -93,8 +93,8 @@ def found_at(text: str, name: str, packages: Packages) -> Package:
 
 
 def found_at_url(text: str, name: str, packages: Packages) -> Package:
-    """Returns what a file has at a URL or a path. Its package is called `NAME@URL` from
-    lockfileVersion 9 on, and before that as the URL, with its name in a field."""
+    """Returns the package at a URL or a path. From lockfileVersion 9 on its key is `NAME@URL`.
+    Before that the key is the URL, and the name is in a field."""
     bare = text.partition("(")[0]
     for key in (f"{name}@{bare}", bare, text):
         if key in packages:
@@ -109,7 +109,7 @@ def found_at_url(text: str, name: str, packages: Packages) -> Package:
 
 
 def found_by_link(text: str, name: str, directory: str, read: Reader) -> Package:
-    """Returns what is in the directory that a link leads to from another directory."""
+    """Returns the package in the directory to which a link from another directory leads."""
     manifest = read(os.path.normpath(os.path.join(directory, text[len(LINK) :]))) or {}
     return Package(name_in(manifest) or name, version_in(manifest))
 
@@ -125,7 +125,8 @@ def importers_of(lock: Entry) -> Dict[str, Entry]:
 
 
 def stated_in(importer: Importer) -> Iterator[Stated]:
-    """Yields what a file has of an importer. In lockfileVersion 5 the specifiers are apart."""
+    """Yields the requirements of an importer in the lock file. In lockfileVersion 5 the specifiers
+    are in a table of their own."""
     directory, fields = importer.directory, importer.fields
     specs = texts_at(fields.get("specifiers", {}), f"{directory}: specifiers")
     for kind in KINDS:
@@ -140,7 +141,7 @@ def stated_in(importer: Importer) -> Iterator[Stated]:
 
 
 def requirements_of(importer: Importer, entries: Entries, read: Reader) -> Iterator[Requirement]:
-    """Yields what the project or a workspace requires, by its package.json where that is there."""
+    """Yields what the project or a workspace requires, by its package.json if that is there."""
     own, requirer = dict(importer.required or {}), importer.requirer
     for kind, name, locked, text in stated_in(importer):
         found = None
@@ -161,7 +162,7 @@ def requirements_of(importer: Importer, entries: Entries, read: Reader) -> Itera
 
 
 def catalog_requirements(lock: Entry, packages: Packages) -> Iterator[Requirement]:
-    """Yields what the catalogs require. The versions there are without the names of packages."""
+    """Yields what the catalogs require. Their versions are without the names of packages."""
     for catalog, entries in objects_at(lock.get("catalogs") or {}, "catalogs").items():
         for name, entry in objects_at(entries, f"catalogs: {catalog}").items():
             where = f"catalogs: {catalog}: {name}"
@@ -174,7 +175,7 @@ def catalog_requirements(lock: Entry, packages: Packages) -> Iterator[Requiremen
 
 
 def by_catalog(it: Requirement, catalogs: Catalogs) -> Requirement:
-    """Returns a requirement, with the range of the catalog that it is taken from."""
+    """Returns a requirement. If it refers to a catalog, it gets the range of that."""
     if not it.specifier.startswith(CATALOG):
         return it
     catalog = f"{CATALOG}{it.specifier[len(CATALOG) :] or 'default'}"
@@ -185,8 +186,8 @@ def by_catalog(it: Requirement, catalogs: Catalogs) -> Requirement:
 
 
 def packages_of(lock: Entry, packages: Packages) -> Iterator[Tuple[str, Entry, Entry]]:
-    """Yields the packages: what each is called, its fields, and what it depends on. From
-    lockfileVersion 9 on that is apart from the fields (`snapshots`)."""
+    """Yields the packages: the key, the fields, and the dependencies of each. From lockfileVersion
+    9 on the dependencies are separate from the fields (`snapshots`)."""
     if "snapshots" not in lock:
         for key, entry in packages.items():
             yield key, entry, entry
@@ -196,13 +197,13 @@ def packages_of(lock: Entry, packages: Packages) -> Iterator[Tuple[str, Entry, E
 
 
 def keys_of(key: str, packages: Packages) -> Keys:
-    """Returns the keys in the file that lead to a package, whose snapshots have their peers in the
-    key."""
+    """Returns the keys in the file that lead to a package. The keys of snapshots have their
+    peers."""
     return "packages", key if key in packages else key.partition("(")[0]
 
 
 def requirer_at(key: str, packages: Packages) -> Requirer:
-    """Returns a package as what requires something."""
+    """Returns a package as a requirer."""
     called = called_by(key)
     at = keys_of(key, packages)
     return Requirer(key, "", "", at) if called is None else Requirer(*called, "", at)
@@ -228,8 +229,8 @@ def peers_of(key: str, fields: Entry, depends: Entry, packages: Packages) -> Ite
 
 
 def reader_of(top: Optional[str]) -> Reader:
-    """Returns what reads the package.json of a directory below another one once, if that is
-    known."""
+    """Returns a function that reads the package.json of a directory below another one, each only
+    once. If the other directory is not known, it returns None."""
     known: Dict[str, Optional[Entry]] = {}
 
     def read(directory: str) -> Optional[Entry]:
@@ -243,7 +244,7 @@ def reader_of(top: Optional[str]) -> Reader:
 
 def importers_for(lock: Entry, top: Optional[str], read: Reader) -> Iterator[Importer]:
     """Yields the project and its workspaces: those that pnpm finds, if the project is there, and
-    else those of the file."""
+    otherwise those of the lock file."""
     locked, found = importers_of(lock), directories_in(top)
     for directory in locked if found is None else found:
         # With this sum there is a `.pnpmfile.cjs`, which may change what a package.json requires.
@@ -256,9 +257,9 @@ def importers_for(lock: Entry, top: Optional[str], read: Reader) -> Iterator[Imp
 def required_in(
     manifest: Entry, lock: Entry, directory: str
 ) -> Iterator[Tuple[str, Requirement]]:
-    """Yields what a package.json requires, by names. With `autoInstallPeers` these are also its
-    peers, and with `excludeLinksFromLockfile` no links. What the file has as ignored isn't
-    there."""
+    """Yields what a package.json requires, by names. With `autoInstallPeers` it also requires its
+    peers, and with `excludeLinksFromLockfile` no links. Optional dependencies that the lock file
+    lists as ignored are left out."""
     has_peers, has_no_links = (
         object_at(lock.get("settings") or {}, "settings").get(name) == "true"
         for name in ("autoInstallPeers", "excludeLinksFromLockfile")
@@ -277,8 +278,8 @@ def required_in(
 
 
 def directories_in(top: Optional[str]) -> Optional[List[str]]:
-    """Returns the directories of the project and its workspaces, the project first, if it is
-    there. They are what the patterns of pnpm-workspace.yaml find."""
+    """Returns the directories of the project and its workspaces, the project first; None if the
+    project is not there. The workspaces are what the patterns of pnpm-workspace.yaml find."""
     if top is None:
         return None
     workspace = workspace_file(top)
@@ -295,7 +296,7 @@ def has_manifest(directory: str) -> bool:
 
 
 def check_version(lock: Entry) -> None:
-    """Rejects a file of a version that isn't known."""
+    """Rejects a file whose lockfileVersion isn't supported."""
     version = text_at(lock.get("lockfileVersion"), "lockfileVersion")
     if version.partition(".")[0] not in ("5", "6", "9"):
         raise WrongShape(" of lockfileVersion 5, 6 or 9")

@@ -1,6 +1,6 @@
-"""The settings of a project of pnpm: those of its pnpm-workspace.yaml, of `pnpm` in its
-package.json and of its .npmrc, beside what the lock file was written with.
-`pnpm install --frozen-lockfile` refuses one that differs: ERR_PNPM_LOCKFILE_CONFIG_MISMATCH."""
+"""The settings of a project of pnpm, from its pnpm-workspace.yaml, from `pnpm` in its package.json
+and from its .npmrc; and which of them the lock file was not written with. `pnpm install
+--frozen-lockfile` rejects it if one differs: ERR_PNPM_LOCKFILE_CONFIG_MISMATCH."""
 
 import os
 from typing import Any, Dict, Iterator, List, NamedTuple, Optional, Tuple
@@ -46,16 +46,15 @@ Place = Tuple[str, Dict[str, str]]
 
 
 class Settings(NamedTuple):
-    """The settings of a project: its pnpm-workspace.yaml, the `pnpm` of its package.json, and what
-    its .npmrc has."""
+    """The settings of a project: its pnpm-workspace.yaml, its package.json, and the pairs in its
+    .npmrc."""
 
     workspace: Entry
     manifest: Entry
     npmrc: Dict[str, str]
 
     def table(self, name: str) -> Tuple[str, Any]:
-        """Returns what a setting has, after the file that has it: pnpm-workspace.yaml comes
-        first."""
+        """Returns the file that has a setting, and its value. pnpm-workspace.yaml comes first."""
         if name in self.workspace:
             return WORKSPACE_FILE, self.workspace[name]
         own = object_at(self.manifest.get("pnpm") or {}, "pnpm").get(name)
@@ -65,7 +64,7 @@ class Settings(NamedTuple):
         return MANIFEST, own
 
     def switch(self, name: str) -> Tuple[str, str]:
-        """Returns whether a setting is on, after the file that says so."""
+        """Returns the file that has a setting that is on or off, and its value."""
         other_name, by_default = SWITCHES[name]
         if name in self.workspace:
             return WORKSPACE_FILE, str(self.workspace[name])
@@ -94,7 +93,7 @@ def npmrc_of(top: str) -> Dict[str, str]:
 
 
 def settings_of(top: str, manifest: Entry) -> Settings:
-    """Returns the settings of a project, beside its package.json."""
+    """Returns the settings of a project. Its package.json was read before."""
     return Settings(workspace_file(top) or {}, manifest, npmrc_of(top))
 
 
@@ -108,8 +107,8 @@ def catalogs_of(workspace: Entry) -> Dict[str, Dict[str, str]]:
 
 
 def overrides_of(settings: Settings) -> Place:
-    """Returns the overrides of a project as a lock file has them: `$NAME` is what the project
-    requires, and `catalog:` the range of that."""
+    """Returns the overrides of a project in the form that a lock file has: `$NAME` becomes what the
+    project requires, and `catalog:` the range in the catalog."""
     file, found = settings.table("overrides")
     manifest, catalogs = settings.manifest, catalogs_of(settings.workspace)
     required = {
@@ -130,8 +129,8 @@ def overrides_of(settings: Settings) -> Place:
 
 
 def patches_of(value: Any) -> Dict[str, str]:
-    """Returns the files of patches by what they are for. A lock file has their sums, too, or these
-    alone, which count as no file."""
+    """Returns the paths of patches by their keys. A lock file also has their checksums, or only
+    these; then the path is empty."""
     found = {}
     for key, it in object_at(value or {}, "patchedDependencies").items():
         path = it.get("path", "") if isinstance(it, dict) else it
@@ -143,7 +142,7 @@ def patches_of(value: Any) -> Dict[str, str]:
 
 
 def stale_texts(name: str, locked: Dict[str, str], place: Place) -> Iterator[Finding]:
-    """Yields the findings of texts that a lock file and a file of settings have."""
+    """Yields the findings about texts that differ between a lock file and a file of settings."""
     file, texts = place
     for key in {**locked, **texts}:
         if locked.get(key) != texts.get(key):
@@ -152,8 +151,8 @@ def stale_texts(name: str, locked: Dict[str, str], place: Place) -> Iterator[Fin
 
 
 def stale_catalogs(lock: Entry, settings: Settings) -> Iterator[Finding]:
-    """Yields the findings of ranges that the lock file has of catalogs. It has those alone that
-    something takes."""
+    """Yields the findings about ranges of catalogs. A lock file has only those that something
+    uses."""
     catalogs = catalogs_of(settings.workspace)
     for catalog, entries in objects_at(lock.get("catalogs") or {}, "catalogs").items():
         for name, entry in objects_at(entries, f"catalogs: {catalog}").items():
@@ -164,7 +163,7 @@ def stale_catalogs(lock: Entry, settings: Settings) -> Iterator[Finding]:
 
 
 def stale_patches(lock: Entry, settings: Settings) -> Iterator[Finding]:
-    """Yields the findings of patches. A lock file of pnpm 11 has no paths."""
+    """Yields the findings about patches. A lock file of pnpm 11 has no paths."""
     name = "patchedDependencies"
     locked = lock.get(name) or {}
     file, found = settings.table(name)
@@ -176,7 +175,7 @@ def stale_patches(lock: Entry, settings: Settings) -> Iterator[Finding]:
 
 
 def stale_switches(lock: Entry, settings: Settings) -> Iterator[Finding]:
-    """Yields the findings of settings that are on or off."""
+    """Yields the findings about settings that are on or off."""
     locked = object_at(lock.get("settings") or {}, "settings")
     for name in SWITCHES:
         file, now = settings.switch(name)
@@ -192,7 +191,7 @@ def ignored_in(lists: Any) -> Dict[str, str]:
 
 
 def stale_extensions(lock: Entry, settings: Settings) -> Iterator[Finding]:
-    """Yields the findings of what is put into packages, of which a lock file has the sum."""
+    """Yields the findings about package extensions. A lock file has only their checksum."""
     file, own = settings.table(EXTENSIONS)
     locked = str(lock.get(f"{EXTENSIONS}Checksum") or "")
     if bool(own) != bool(locked):
@@ -201,7 +200,7 @@ def stale_extensions(lock: Entry, settings: Settings) -> Iterator[Finding]:
 
 
 def stale_settings(lock: Entry, settings: Settings) -> Iterator[Finding]:
-    """Yields the findings of settings that aren't those of the lock file."""
+    """Yields the findings about settings that differ from those of the lock file."""
     yield from stale_catalogs(lock, settings)
     locked = texts_at(lock.get("overrides") or {}, "overrides")
     yield from stale_texts("overrides", locked, overrides_of(settings))
@@ -216,8 +215,8 @@ def stale_settings(lock: Entry, settings: Settings) -> Iterator[Finding]:
 
 
 def keys_of_setting(at: Keys, file: str) -> List[Keys]:
-    """Returns the keys that may lead to a setting in a file, by those in the lock file: to it, or
-    to the list or the table that it is in."""
+    """Returns the keys in a file that may lead to a setting, by its keys in the lock file. They
+    lead to the setting itself, or to the list or table that it is in."""
     name, *inner = at
     keys: List[Keys]
     if name == "settings":

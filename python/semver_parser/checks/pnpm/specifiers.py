@@ -1,4 +1,5 @@
-"""What pnpm requires, as npm has it: `jsr:`, `workspace:` and the ranges of peers."""
+"""The specifiers of pnpm in the form that npm reads: `jsr:`, `workspace:` and the ranges of
+peers."""
 
 import re
 from typing import Tuple
@@ -16,15 +17,15 @@ PRE_RELEASE = re.compile(r"([0-9]+\.[0-9]+\.[0-9]+)-[0-9A-Za-z.-]+", re.A)
 
 
 def parent_and_name(key: str) -> Tuple[str, str]:
-    """Returns the parent and the package that the key of an override is for, each a name and
-    perhaps a range after `@`. A range may have `>` at its start, after a blank and after `|`."""
+    """Returns the parent and the package in the key of an override. Each is a name, perhaps with a
+    range after `@`. A range may have `>` at its beginning, after a blank and after `|`."""
     *outer, last = re.split(r"(?<=[^ |@])>", key, maxsplit=1)
     return "".join(outer), last
 
 
 def npm_form_of_jsr(name: str, spec: str) -> str:
-    """Returns `jsr:RANGE` or `jsr:@SCOPE/NAME@RANGE` as the package of npm's registry that JSR has
-    for it. Any other is its own."""
+    """Returns `jsr:RANGE` or `jsr:@SCOPE/NAME@RANGE` as the package that JSR has for it in npm's
+    registry. Returns other specifiers unchanged."""
     if not spec.startswith(JSR):
         return spec
     rest = spec[len(JSR) :]
@@ -33,8 +34,8 @@ def npm_form_of_jsr(name: str, spec: str) -> str:
 
 
 def npm_form_of_workspace(spec: str, version: str) -> str:
-    """Returns `workspace:RANGE` or `workspace:NAME@RANGE` by the version that is there, for which
-    `*`, `^` and `~` are. A path, and any other, is its own."""
+    """Returns the range in `workspace:RANGE` or `workspace:NAME@RANGE`. `*`, `^` and `~` are for
+    the version that is there. Returns a path, and other specifiers, unchanged."""
     rest = spec[len(WORKSPACE) :]
     if not spec.startswith(WORKSPACE) or rest.startswith("."):
         return spec
@@ -46,13 +47,14 @@ def npm_form_of_workspace(spec: str, version: str) -> str:
 
 
 def npm_form_of(name: str, spec: str, version: str) -> str:
-    """Returns what is required of a name as npm has it, by the version that is there."""
+    """Returns what is required of a name in the form that npm reads, for the version that is
+    there."""
     return npm_form_of_workspace(npm_form_of_jsr(name, spec), version)
 
 
 def takes_peer(spec: str, version: str) -> bool:
-    """Returns whether a peer's range takes a version, or its release, with all pre-releases, as
-    pnpm has it."""
+    """Returns whether a peer's range, with all pre-releases, contains a version or its release.
+    That is pnpm's rule."""
     if not is_range(spec, Dialect.NPM) or not is_version(version, Dialect.NPM):
         return False
     versions = (version, PRE_RELEASE.sub(r"\1", version))

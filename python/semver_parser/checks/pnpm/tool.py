@@ -1,10 +1,10 @@
-"""pnpm: lock files of lockfileVersion 5, 6 and 9, beside the manifests of the project.
+"""pnpm: lock files of lockfileVersion 5, 6 and 9, with the manifests of the project.
 
-BESIDE THE FILE. What package.json files require has to be what the file was written for, text by
-text, and so have settings. Packages without an entry are missing.
+WHAT IS COMPARED. The requirements in package.json files have to be those that the lock file was
+written for, compared as strings, and so have settings. Packages without an entry are missing.
 
-OVERRIDES. They are in the file. A requirement that one of them is for is checked by what it puts
-there, if the version isn't what is required.
+OVERRIDES. They are in the lock file. If an override applies to a requirement, and the version does
+not satisfy the requirement itself, the override is what has to be satisfied.
 """
 
 import json
@@ -65,8 +65,8 @@ MARK = re.compile(rb"(?:\A|\n)lockfileVersion:")
 
 
 class Override(NamedTuple):
-    """What is put in place of what is required: of which package's requirements, and of which of
-    these, each empty if it is for all, and what is put there."""
+    """An override: the package whose requirements it applies to, the range of these requirements,
+    each empty if it applies to all, and the replacement."""
 
     parent: str
     within: str
@@ -81,8 +81,8 @@ class PnpmScheme(NodeScheme):
     """How pnpm reads specifiers."""
 
     def npm_form(self, specifier: str, requirement: Requirement) -> str:
-        """Returns a specifier as npm has it, by the version that is found. Of a peer its range may
-        be by pnpm's own rule."""
+        """Returns a specifier in the form that npm reads, for the version that is found. The range
+        of a peer is checked by pnpm's own rule."""
         version = requirement.found.version if requirement.found else None
         wanted = npm_form_of(requirement.name, specifier, version or "")
         is_peer = requirement.kind == "peerDependencies" and version is not None
@@ -93,8 +93,8 @@ class PnpmScheme(NodeScheme):
 
 
 def overrides_of(lock: Entry) -> Overrides:
-    """Returns the overrides by the names that they are for: a key is `NAME`, `NAME@RANGE`, or one
-    of these after `PARENT>`, which is one of these too."""
+    """Returns the overrides by the names to which they apply. A key is `NAME`, `NAME@RANGE`, or one
+    of these after `PARENT>`. The parent has the same form."""
     overrides: Overrides = {}
     for key, spec in texts_at(lock.get("overrides") or {}, "overrides").items():
         parent, last = parent_and_name(key)
@@ -104,9 +104,9 @@ def overrides_of(lock: Entry) -> Overrides:
 
 
 def is_for(override: Override, it: Requirement) -> bool:
-    """Returns whether an override of the name is for a requirement: by the package that has it, and
-    by the range that is required. The project and its workspaces may have any name, as it isn't in
-    the file, and so may a package at a URL."""
+    """Returns whether an override of the name applies to a requirement, by its requirer and by its
+    range. The lock file doesn't have the names of the project, its workspaces and packages at URLs,
+    so these may have any name."""
     name, within = name_and_rest(override.parent)
     if name and it.requirer.version:
         is_within = not within or is_met(within, it.requirer.version, Dialect.NPM) is not False
@@ -116,7 +116,7 @@ def is_for(override: Override, it: Requirement) -> bool:
 
 
 def overridden(it: Requirement, overrides: Overrides, catalogs: Catalogs) -> Requirement:
-    """Returns a requirement with what overrides put in its place, and by its catalog."""
+    """Returns a requirement with the overrides that apply to it, and the range of its catalog."""
     others = [each for each in overrides.get(it.name, []) if is_for(each, it)]
     if it.locked is not None and not it.is_gone:
         specs = [each.spec for each in others]
@@ -134,13 +134,14 @@ def overridden(it: Requirement, overrides: Overrides, catalogs: Catalogs) -> Req
 
 
 def as_text(value: Any) -> str:
-    """Returns a value as a text, without quotes: what is no text in JSON may be one in the file."""
+    """Returns a value as a text without quotes. What is not a text in JSON may be one in the lock
+    file."""
     return json.dumps(value, ensure_ascii=False, sort_keys=True).replace('"', "") if value else ""
 
 
 def field_findings(importer: Importer, manifest: Entry) -> Iterator[Finding]:
-    """Yields what there is to say of what a file has of a package.json beside what that
-    requires."""
+    """Yields the findings about fields of a package.json that the lock file has, other than
+    requirements."""
     published = object_at(manifest.get("publishConfig") or {}, "publishConfig")
     own = {
         "dependenciesMeta": as_text(manifest.get("dependenciesMeta")),
@@ -153,7 +154,7 @@ def field_findings(importer: Importer, manifest: Entry) -> Iterator[Finding]:
 
 
 def conflicts_of(lock: Entry, packages: Packages) -> Set[str]:
-    """Returns the names of peers that are missing and that nothing satisfies together: pnpm leaves
+    """Returns the names of missing peers for which no version satisfies all requirers. pnpm leaves
     them out, and warns."""
     wanted: Dict[str, List[Range]] = {}
     for key, fields, depends in packages_of(lock, packages):
@@ -168,7 +169,7 @@ def conflicts_of(lock: Entry, packages: Packages) -> Set[str]:
 
 
 class Reader:
-    """Reads a document of a lock file, beside the package.json files in and below a directory, if
+    """Reads a document of a lock file, with the package.json files in and below a directory, if
     that is known."""
 
     def __init__(self, document: Entry, top: Optional[str], scope: Scope) -> None:
@@ -194,20 +195,20 @@ class Reader:
                 yield requirer_at(key, {}).label, f"{found.name} {found.version}"
 
     def stated(self) -> Iterator[Requirement]:
-        """Yields what the project and its workspaces require by the file."""
+        """Yields what the project and its workspaces require according to the lock file."""
         for directory, fields in importers_of(self.document).items():
             importer = Importer(directory, (), fields, None)
             for it in stated_in(importer):
                 yield Requirement(importer.requirer, it.name, it.specifier)
 
     def there(self) -> List[Package]:
-        """Returns the packages that are called by a name and a version."""
+        """Returns the packages whose keys have a name and a version."""
         called = ((key, called_by(key)) for key in self.packages)
         return [Package(*it, "", ("packages", key)) for key, it in called if it is not None]
 
     def package_nodes(self, lock: LockFile) -> Iterator[Node]:
-        """Yields the packages with their peers. Without a setting pnpm only warns of a peer that
-        isn't there."""
+        """Yields the packages with their peers. Without `autoInstallPeers` pnpm only warns if a
+        peer is missing."""
         switches = object_at(self.document.get("settings") or {}, "settings")
         is_automatic = switches.get("autoInstallPeers") == "true"
         conflicts = conflicts_of(self.document, self.packages) if is_automatic else set()
@@ -240,7 +241,7 @@ class Reader:
         yield from self.package_nodes(lock)
 
     def lock_file(self) -> LockFile:
-        """Returns what the document has."""
+        """Returns the contents of the document."""
         lock = LockFile([], self.there(), self.edges, self.stated)
         lock.package_count = len(self.packages)
         lock.nodes = list(self.nodes(lock))
@@ -262,12 +263,12 @@ class Pnpm(Tool):
     manifests = (MANIFEST, ".npmrc", WORKSPACE_FILE)
 
     def recognizes(self, file: Input) -> bool:
-        """Returns whether a file has what only pnpm's has."""
+        """Returns whether a file has what only pnpm's lock files have."""
         return MARK.search(file.text) is not None
 
     def read(self, file: Input) -> LockFile:
-        """Returns what the documents of a lock file have: before that of the project pnpm 11 has
-        one of what it needs itself, which is in no package.json."""
+        """Returns the contents of the documents of a lock file. With pnpm 11 the first document has
+        what pnpm itself needs, which is in no package.json. The last one is that of the project."""
         *before, last = file.parsed(yaml_objects)
         lock = Reader(last, file.directory, file.scope).lock_file()
         for document in reversed(before):
@@ -282,12 +283,12 @@ class Pnpm(Tool):
         return yaml_offsets(text, wanted)
 
     def advise(self, finding: Finding) -> None:
-        """Says of a finding what to change, if the command doesn't repair it."""
+        """Adds advice to a finding if the command doesn't repair it."""
         advise(finding)
 
     def statement(self, finding: Finding, file: Input) -> Optional[Statement]:
-        """Returns where a package.json states a requirement, or a pnpm-workspace.yaml that of a
-        catalog or a setting."""
+        """Returns where a package.json states a requirement, or where a pnpm-workspace.yaml states
+        that of a catalog, or a setting."""
         directory = file.directory
         if directory is None:
             return None

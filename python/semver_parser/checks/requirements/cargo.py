@@ -1,5 +1,5 @@
-"""What a Cargo.toml has beside its requirements: the Rust that it needs, its features, and those
-that it requires of others."""
+"""What a Cargo.toml has besides requirements: the Rust version that it needs, its features, and the
+features that it requires of others."""
 
 import json
 from typing import Any, Dict, Iterator, NamedTuple, Tuple
@@ -12,8 +12,8 @@ OF_FEATURES = ("features", "default-features")
 
 
 class Beside(NamedTuple):
-    """What is there beside requirements: its table and key, its text, and the range that it is for,
-    if it is one."""
+    """An entry that is not a requirement: its table and key, its text, and its range, if it has
+    one."""
 
     table: str
     key: str
@@ -22,13 +22,13 @@ class Beside(NamedTuple):
 
 
 def text_of(value: Any) -> str:
-    """Returns what is no requirement, as a text."""
+    """Returns a value that is not a requirement as a text."""
     return json.dumps(value, ensure_ascii=False, sort_keys=True, default=str)
 
 
 def rust_versions(entry: Entry, table: str) -> Iterator[Beside]:
-    """Yields the Rust that a package needs, or that its workspace has for its members: that one or
-    a later one."""
+    """Yields the Rust version that a package needs, or that its workspace has for its members. Its
+    range contains this version and all later ones."""
     if RUST in entry:
         needed = entry[RUST]
         is_own = isinstance(needed, str)
@@ -44,7 +44,7 @@ def feature_lists(table: str, values: Dict[str, Any]) -> Iterator[Beside]:
 
 
 def beside_requirements(entry: Entry) -> Iterator[Beside]:
-    """Yields what a Cargo.toml has beside its requirements."""
+    """Yields what a Cargo.toml has besides requirements."""
     yield from rust_versions(object_at(entry.get("package", {}), "package"), "package")
     workspace = object_at(entry.get("workspace", {}), "workspace")
     shared = object_at(workspace.get("package", {}), "workspace: package")

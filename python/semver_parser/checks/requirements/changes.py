@@ -14,9 +14,8 @@ NOTHING = "<0.0.0-0"
 
 
 class Change(NamedTuple):
-    """A requirement that is not what it was, or moved to another table, and what that does: the
-    releases that are lost, gained and shared, and the pre-releases, each as a range. `note` says
-    why there are none of these."""
+    """A requirement that changed or moved to another table. The releases and the pre-releases that
+    are lost, gained and shared are ranges. If there are none, `note` says why."""
 
     name: str
     table: str
@@ -68,8 +67,7 @@ def moves(old: Manifest, new: Manifest) -> Dict[Key, Key]:
 
 
 def gone_from(one: Manifest, other: Manifest) -> Dict[str, List[Key]]:
-    """Returns the keys of dependencies that one manifest has and the other one lacks, by their
-    names."""
+    """Returns the keys of dependencies that only the first of two manifests has, by their names."""
     found: Dict[str, List[Key]] = {}
     for key in one.requirements:
         if key not in other.requirements and is_kind(key[0]):
@@ -78,8 +76,8 @@ def gone_from(one: Manifest, other: Manifest) -> Dict[str, List[Key]]:
 
 
 def change(key: Key, new_key: Key, old: Requirement, new: Requirement, dialect: Dialect) -> Change:
-    """Returns what a changed requirement loses and gains. A tag, a URL or a path has no versions,
-    and those of two packages aren't compared."""
+    """Returns the change of a requirement. A tag, a URL or a path has no versions, and those of two
+    different packages aren't compared."""
     note, ranges = comparison(old, new, dialect)
     new_table = None if new_key == key else new_key[0]
     return Change(key[1], key[0], new_table, old.text, new.text, note, *ranges)

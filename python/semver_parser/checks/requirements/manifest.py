@@ -50,9 +50,8 @@ Key = Tuple[str, str]
 
 
 class Requirement(NamedTuple):
-    """What is required: how it is printed, the name of the package, where that is known, where it
-    is to be taken from, if that is stated, and the range, where it is one or may be meant for
-    one."""
+    """A requirement: how it is printed; the name of the package, if it is known; its source, if it
+    is stated; and the range, if it is one or may be meant as one."""
 
     text: str
     name: Optional[str] = None
@@ -61,8 +60,8 @@ class Requirement(NamedTuple):
 
 
 class Manifest(NamedTuple):
-    """The requirements of a manifest by table and key, and the dialect that they are in. A file
-    that isn't there has none."""
+    """The requirements of a manifest by table and key, and their dialect. A file that isn't there
+    has none."""
 
     requirements: Dict[Key, Requirement]
     dialect: Optional[Dialect]
@@ -72,7 +71,8 @@ NOWHERE = Manifest({}, None)
 
 
 def manifest_of(text: bytes) -> Manifest:
-    """Returns the manifest that a text is: JSON is npm's, YAML pnpm's, TOML Cargo's."""
+    """Returns the manifest in a text. JSON is read as npm's, YAML as pnpm's, and TOML as
+    Cargo's."""
     if text.lstrip()[:1] == b"{":
         return Manifest(dict(package_json_requirements(json_object(text))), Dialect.NPM)
     if OF_PNPM.search(text):
@@ -81,8 +81,8 @@ def manifest_of(text: bytes) -> Manifest:
 
 
 def is_kind(table: str) -> bool:
-    """Returns whether a table has what a package depends on, so a requirement may move to another
-    one."""
+    """Returns whether a table has dependencies. A requirement may move from one such table to
+    another one."""
     return table in KINDS_OF_NPM or KINDS_OF_CARGO.fullmatch(table) is not None
 
 
@@ -98,7 +98,7 @@ def cargo_requirement(need: Dependency) -> Requirement:
 
 
 def npm_requirement(name: str, spec: str) -> Requirement:
-    """Returns a requirement of npm, yarn or pnpm. What is at a URL has its name there."""
+    """Returns a requirement of npm, yarn or pnpm. The name of a package at a URL is not known."""
     wanted_spec = workspace_specifier(spec)
     alias, at_git, wanted = alias_of(wanted_spec), git_range_of(spec), range_of(wanted_spec)
     is_none = is_met(wanted, "0.0.0", Dialect.NPM) is None and is_no_range(wanted_spec)
@@ -108,8 +108,9 @@ def npm_requirement(name: str, spec: str) -> Requirement:
 
 
 def workspace_specifier(spec: str) -> str:
-    """Returns what `workspace:RANGE` and `workspace:NAME@RANGE` require of a workspace; any other
-    spec is its own, as one with a path, or by a version that isn't in the manifest."""
+    """Returns what `workspace:RANGE` and `workspace:NAME@RANGE` require of a workspace. Returns
+    other specifiers unchanged, such as a path, or one for the version of the workspace, which isn't
+    in the manifest."""
     if not spec.startswith(WORKSPACE):
         return spec
     rest = spec[len(WORKSPACE) :]
@@ -120,19 +121,19 @@ def workspace_specifier(spec: str) -> str:
 
 
 def override_requirement(key: str, spec: str) -> Requirement:
-    """Returns what an override puts in place of a requirement. `-` removes it, and `$NAME` is for
+    """Returns what an override replaces a requirement by. `-` removes it, and `$NAME` refers to
     what the project requires."""
     is_other = spec == "-" or spec.startswith("$")
     return Requirement(spec) if is_other else npm_requirement(name_and_rest(key)[0], spec)
 
 
 def object_requirement(value: Any) -> Requirement:
-    """Returns what is no requirement, and is compared as a text."""
+    """Returns a value that is not a requirement. It is compared as a text."""
     return Requirement(json.dumps(value, ensure_ascii=False, sort_keys=True))
 
 
 def cargo_toml_requirements(entry: Entry) -> Iterator[Tuple[Key, Requirement]]:
-    """Yields the requirements of a Cargo.toml, and what is beside them."""
+    """Yields the requirements of a Cargo.toml, and what it has besides."""
     for key, need in by_table(entry).items():
         yield key, cargo_requirement(need)
     for it in beside_requirements(entry):
@@ -143,7 +144,8 @@ def cargo_toml_requirements(entry: Entry) -> Iterator[Tuple[Key, Requirement]]:
 
 
 def package_json_requirements(entry: Entry) -> Iterator[Tuple[Key, Requirement]]:
-    """Yields the requirements of a package.json. What says that it is another file is none."""
+    """Yields the requirements of a package.json. A file with keys of another kind of file is
+    rejected."""
     for key in ("lockfileVersion", "workspace_members"):
         if key in entry:
             raise WrongShape(f": it has {key}")
@@ -173,7 +175,7 @@ def pnpm_workspace_requirements(entry: Entry) -> Iterator[Tuple[Key, Requirement
 
 
 def table_requirements(entry: Entry, key: str, table: str) -> Iterator[Tuple[Key, Requirement]]:
-    """Yields the requirements of a table of names, in resolutions after paths of names."""
+    """Yields the requirements of a table of names. In resolutions the keys are paths of names."""
     for path, spec in texts_at(entry.get(key) or {}, table).items():
         is_path = table == "resolutions"
         name = name_and_rest(STEP.findall(path)[-1])[0] if is_path and path.strip("/") else path

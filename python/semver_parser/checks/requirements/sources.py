@@ -1,4 +1,4 @@
-"""Where manifests come from: files, revisions of git, and all below a directory."""
+"""The sources of manifests: files, revisions of git, and directories."""
 
 import os
 from typing import Callable, Iterator, List, NamedTuple, Optional, Tuple
@@ -15,16 +15,16 @@ WHAT = "package.json, pnpm-workspace.yaml or Cargo.toml"
 
 
 class Side(NamedTuple):
-    """One of the two sides that are compared: where its files are, in a revision of git if there is
-    one, and whether a file may be missing."""
+    """One of the two sides that are compared: its path, its revision of git, if any, and whether a
+    file may be missing."""
 
     path: str
     revision: Optional[str]
     may_lack: bool
 
     def text(self, place: str = "") -> Optional[bytes]:
-        """Returns what the file at a place below the path holds, or at the path itself; None if it
-        isn't there and may be missing."""
+        """Returns the content of the file at a place below the path, or at the path itself; None if
+        it isn't there and may be missing."""
         path = path_of(self, place)
         if self.revision is not None:
             text = in_revision(self.revision, path)
@@ -36,7 +36,7 @@ class Side(NamedTuple):
             return bytes_of(path)
 
     def manifest(self, place: str, text: Optional[bytes]) -> Manifest:
-        """Returns the manifest that the text of the file at a place is."""
+        """Returns the manifest in the text of the file at a place."""
         if text is None:
             return NOWHERE
         path = path_of(self, place)
@@ -52,13 +52,12 @@ class Side(NamedTuple):
 
 
 def path_of(side: Side, place: str) -> str:
-    """Returns the path of a place of a side."""
+    """Returns the path of a place on a side."""
     return os.path.normpath(os.path.join(side.path, place)) if place else side.path
 
 
 class Pair(NamedTuple):
-    """Two manifests that are compared, of one dialect, and the file that they are, if several
-    are."""
+    """Two manifests that are compared, their dialect, and their file, if there are several."""
 
     file: Optional[str]
     old: Manifest
@@ -83,8 +82,8 @@ def sides_of(options: Options) -> Tuple[Side, Side]:
 
 
 def is_of_directories(old: Side, new: Side) -> bool:
-    """Returns whether all manifests below directories are compared. One of a revision may be gone
-    now."""
+    """Returns whether all manifests below directories are compared. A directory in a revision need
+    not exist now."""
     if old.revision is None and new.revision is None:
         found = [os.path.isdir(it.path) for it in (old, new)]
         if found[0] != found[1]:
@@ -96,7 +95,7 @@ def is_of_directories(old: Side, new: Side) -> bool:
 
 
 def pair_of(old: Side, new: Side, place: str, file: Optional[str]) -> Optional[Pair]:
-    """Returns two manifests at a place of both sides. Below directories None if nothing changed."""
+    """Returns the two manifests at a place. Below directories, returns None if nothing changed."""
     text, other_text = old.text(place), new.text(place)
     if file is not None and text == other_text:
         return None
@@ -110,8 +109,7 @@ def pair_of(old: Side, new: Side, place: str, file: Optional[str]) -> Optional[P
 
 
 def places_of(old: Side, new: Side) -> List[str]:
-    """Returns the places below two directories that are compared: those where something may
-    differ."""
+    """Returns the places below two directories where something may differ."""
     before, after = set(old.places()), set(new.places())
     if not before | after:
         raise Refusal(new.path, "it is a directory without a manifest")
@@ -122,8 +120,8 @@ def places_of(old: Side, new: Side) -> List[str]:
 
 
 def pairs_of(options: Options, refuse: Callable[[Refusal], None]) -> Iterator[Pair]:
-    """Yields the manifests that are compared. Of those below directories each is refused by
-    itself."""
+    """Yields the manifests that are compared. Below directories, each that is rejected is reported
+    by itself."""
     old, new = sides_of(options)
     is_several = is_of_directories(old, new)
     for place in places_of(old, new) if is_several else [""]:

@@ -1,11 +1,11 @@
 """yarn 2 and later.
 
-WHO REQUIRES. Each package requires its `dependencies` and `optionalDependencies`, also a workspace,
-by its package.json, where that is there. A key that no package requires the project does: by a
-catalog, a resolution or a patch.
+WHO REQUIRES. Each package requires its `dependencies` and `optionalDependencies`. A workspace
+requires what its package.json has, if that is there. A key that no package requires is required by
+the project: by a catalog, a resolution or a patch.
 
-WHAT IS FOUND. The package whose key has what is required, as `numbers@npm:^1.0.0`, and of which
-the version in its `resolution` is installed. A resolution that has a key is found first.
+WHAT IS FOUND. The package whose key has what is required, such as `numbers@npm:^1.0.0`. The version
+in its `resolution` is installed. A resolution that has a key comes first.
 
 NOT IN THE FILE. Who provides a peer, the version of a workspace, and which key a catalog is for.
 """
@@ -37,8 +37,8 @@ class BerryScheme(YarnScheme):
     """How yarn 2 and later read specifiers."""
 
     def npm_form(self, specifier: str, requirement: Requirement) -> str:
-        """Returns a specifier as npm has it: a range with the name of its package, also inside
-        `patch:`."""
+        """Returns a specifier in the form that npm reads: a range with the name of its package. For
+        `patch:` these are those of the patched package."""
         name, spec = requirement.name, specifier
         if PATCH in spec:
             name, spec = name_and_rest(source_of(f"{name}@{spec}"))
@@ -54,7 +54,7 @@ def directory_of(package: Package) -> str:
 
 
 class Reader:
-    """Reads a lock file beside the package.json files of its project."""
+    """Reads a lock file, with the package.json files of its project."""
 
     def __init__(self, lock: YarnFile, project: Project, resolutions: Resolutions) -> None:
         self.lock, self.project = lock, project
@@ -68,7 +68,8 @@ class Reader:
         }
 
     def stated(self, package: Package) -> Iterator[Requirement]:
-        """Yields what a package states: a workspace by its package.json, where that is there."""
+        """Yields the requirements of a package; for a workspace those in its package.json, if that
+        is there."""
         directory = directory_of(package)
         requirer = self.lock.requirer(package)._replace(place=directory)
         manifest = self.project.manifests.get(directory)
@@ -78,8 +79,8 @@ class Reader:
             yield from requirements_in(manifest, requirer, KINDS_OF_BERRY)
 
     def required(self, package: Package) -> Iterator[Requirement]:
-        """Yields what a package requires, with what is found: that by a resolution that has a key
-        first."""
+        """Yields the requirements of a package, with what is found. A resolution that has a key
+        comes first."""
         name, place = name_and_rest(str(package.entry.get("resolution", "")))
         for it in self.stated(package):
             resolved: List[str] = []
@@ -91,8 +92,9 @@ class Reader:
             yield self.looked_up(it._replace(is_override=bool(resolved)), *resolved[:1])
 
     def looked_up(self, it: Requirement, specifier: Optional[str] = None) -> Requirement:
-        """Returns a requirement by a specifier with what is found. A tag, a path or a URL may have
-        been written in another way, and without a package.json resolutions aren't known."""
+        """Returns a requirement with what is found for a specifier. If nothing is found, it is
+        listed only with `--strict` if it is a tag, a path or a URL, which yarn may have written in
+        another way, or if there is no package.json, so resolutions aren't known."""
         found = self.lock.found(it.name, it.specifier if specifier is None else specifier)
         if found is not None:
             is_replaced = specifier is not None and not found.is_own
@@ -105,8 +107,8 @@ class Reader:
         return it._replace(must_exist=True, excuse=excuse)
 
     def of_project(self, package: Package) -> Iterator[Requirement]:
-        """Yields the keys of a package that no package requires: the project does, by a catalog, a
-        resolution or a patch. A workspace's own key is required by none."""
+        """Yields the keys of a package that no package requires. The project requires them, by a
+        catalog, a resolution or a patch. Nothing requires a workspace's own key."""
         requirer = Requirer(PROJECT)
         for pattern in self.lock.patterns[package.at[0]]:
             if bare(pattern) not in self.used:
@@ -115,8 +117,8 @@ class Reader:
                     yield self.looked_up(Requirement(requirer, name, spec))
 
     def workspaces(self) -> Iterator[Finding]:
-        """Yields what there is to say of the workspaces that the file lacks, and of those that are
-        gone. Those are known if the project has its package.json files below it."""
+        """Yields the findings about workspaces that the lock file lacks, and about those that are
+        gone. It is known which are gone if the project has package.json files below it."""
         known: Dict[str, List[Package]] = {}
         for package in self.lock.packages:
             if directory_of(package):
@@ -138,7 +140,7 @@ class Reader:
                 yield it.requirer.label, self.lock.requirer(it.found).label
 
     def lock_file(self, file: Input) -> LockFile:
-        """Returns what the lock file has."""
+        """Returns the contents of the lock file."""
         packages = self.lock.packages
         required = [list(self.required(it)) for it in packages]
         # A key has what a resolution put there.
@@ -155,8 +157,8 @@ class Reader:
 
 
 def entry_findings(package: Package) -> Iterator[Finding]:
-    """Yields what there is to say of an entry that has another version than yarn installs. Build
-    metadata isn't compared: yarn writes `version` without it."""
+    """Yields the findings about an entry whose version is not the one that yarn installs. Build
+    metadata isn't compared, since yarn writes `version` without it."""
     version, other = package.version or "", str(package.entry["version"])
     if not package.is_own and version.partition("+")[0] != other.partition("+")[0]:
         yield TwoVersions(package, other)
@@ -172,7 +174,7 @@ class Berry(YarnTool):
     is_berry = True
 
     def read(self, file: Input) -> LockFile:
-        """Returns what a lock file has, beside the package.json files of the project."""
+        """Returns the contents of a lock file, with the package.json files of the project."""
         project, resolutions = self.project_of(file)
         return Reader(self.lock_of(file), project, resolutions).lock_file(file)
 

@@ -1,17 +1,18 @@
 """yarn 1.
 
-WHO REQUIRES. The project and its workspaces, by their package.json files, and for each resolution
-the project, too; and each package that is found for something requires its `dependencies` and
-`optionalDependencies`. What nobody requires yarn doesn't look at. Without a package.json all
-packages count, and each key that none of them requires the project does.
+WHO REQUIRES. The project and its workspaces require what their package.json files have. The project
+also requires each resolution. Each package that is found for something requires its `dependencies`
+and `optionalDependencies`. yarn doesn't check what nobody requires. Without a package.json all
+packages are checked, and the project requires each key that no package requires.
 
-WHAT IS FOUND. The package whose key has what is required, as `numbers@^1.0.0`, and for a name that
-a resolution is for the package of its key, whatever is required. A workspace is found by its name
-and version, without a key.
+WHAT IS FOUND. The package whose key has what is required, such as `numbers@^1.0.0`. If a resolution
+applies to a name, it is the package of the resolution's key, whatever is required. A workspace is
+found by its name and version, and has no key.
 
-WHAT IS DROPPED. What a resolution is for yarn drops from the file if it has another archive than
-that of the resolution, and refuses the file if the project itself requires the same: beside a
-package or a workspace that does, or beside itself, if it has workspaces.
+WHAT IS DROPPED. If a resolution applies to a requirement, and the lock file has another archive for
+it than for the resolution, yarn drops the entry. If the project itself requires the same, yarn then
+rejects the lock file. This happens if a package or a workspace requires the same, too, or if the
+project has workspaces.
 """
 
 import os
@@ -63,13 +64,14 @@ class ClassicScheme(YarnScheme):
     """How yarn 1 reads specifiers."""
 
     def npm_form(self, specifier: str, requirement: Requirement) -> str:
-        """Returns a specifier as npm has it: `npm:NAME` without a range is for the tag `latest`."""
+        """Returns a specifier in the form that npm reads: `npm:NAME` without a range is for the tag
+        `latest`."""
         name, rest = alias_of(specifier) or ("", specifier)
         return f"npm:{name}@latest" if name and not rest else specifier
 
     def verdict(self, specifier: str, requirement: Requirement) -> Optional[Verdict]:
-        """Returns the verdict on what is found. To yarn 1 an empty text is no range, and each
-        version is right. Of an invalid range it takes any version."""
+        """Returns the verdict on the package that is found. For yarn 1 an empty text accepts every
+        version. It also accepts any version for an invalid range."""
         version = requirement.found.version if requirement.found else None
         if not specifier and version is not None and is_version(version, Dialect.NPM):
             return RIGHT
@@ -78,16 +80,16 @@ class ClassicScheme(YarnScheme):
 
 
 class Reader:
-    """Reads a lock file beside the package.json files of its project, and what resolutions put in
-    place of requirements."""
+    """Reads a lock file, with the package.json files of its project, and with what resolutions
+    replace."""
 
     def __init__(self, lock: YarnFile, project: Project, resolutions: Resolutions) -> None:
         self.lock, self.project, self.resolutions = lock, project, resolutions
         self.known: Dict[str, List[Requirement]] = {}
 
     def found(self, it: Requirement) -> Optional[Requirement]:
-        """Returns a requirement with what is found for it; None if a resolution decides, as it
-        doesn't of what the project itself requires."""
+        """Returns a requirement with what is found for it; None if a resolution decides. A
+        resolution does not decide for the project itself."""
         own = self.own_found(it)
         if it.requirer.name == PROJECT:
             return own
@@ -95,9 +97,9 @@ class Reader:
         return own if is_right or not self.resolved_for(it) else None
 
     def own_found(self, it: Requirement) -> Requirement:
-        """Returns a requirement with what is found for it without resolutions. Without a
-        package.json these aren't known, and of what only workspaces and packages require yarn asks
-        the registry."""
+        """Returns a requirement with what is found for it without resolutions. If nothing is found,
+        it is listed only with `--strict` in two cases: there is no package.json, so resolutions
+        aren't known; or the project doesn't require it, so yarn asks the registry."""
         if not self.project.manifests:
             excuse = "no package.json"
         else:
@@ -106,11 +108,11 @@ class Reader:
         return it._replace(found=found, must_exist=True, excuse=excuse)
 
     def is_met(self, it: Requirement) -> bool:
-        """Returns whether what is found is what is required."""
+        """Returns whether the package that is found is right."""
         return it.found is not None and CLASSIC.scheme.verdict(it.specifier, it) is RIGHT
 
     def resolved_for(self, it: Requirement) -> List[Resolution]:
-        """Returns the resolutions that may be for what is required."""
+        """Returns the resolutions that may apply to a requirement."""
         if it.name not in self.resolutions:
             return []
         if it.requirer.at:
@@ -121,8 +123,8 @@ class Reader:
         return resolutions_for(self.resolutions, it.name, it.specifier, names)
 
     def replacing(self, it: Requirement) -> Optional[str]:
-        """Returns what a resolution puts in place of what is found, if it is known to be for that
-        and has another archive."""
+        """Returns what a resolution replaces the package that is found by. Returns None if it is
+        not certain that the resolution applies, or if the archive is the same."""
         found = [each for each in self.resolved_for(it) if is_taken(each.spec)][:1]
         spec = next((each.spec for each in found if each.is_anywhere), None)
         other = None if spec is None else self.lock.found(it.name, spec)
@@ -132,7 +134,7 @@ class Reader:
         return spec if len(archives) > 1 and "" not in archives else None
 
     def required_by(self, package: Package) -> List[Requirement]:
-        """Returns what a package requires, with what is found for it."""
+        """Returns the requirements of a package, with what is found for them."""
         key = package.at[0]
         if key not in self.known:
             requirer = self.lock.requirer(package)
@@ -163,7 +165,8 @@ class Reader:
                     yield it._replace(specifier=spec)
 
     def of_resolutions(self) -> Iterator[Requirement]:
-        """Yields what the project requires by resolutions. yarn warns of a tag, and ignores it."""
+        """Yields what the project requires by resolutions. If one is a tag, yarn warns and ignores
+        it."""
         for name, groups in self.resolutions.items():
             for spec in dict.fromkeys(it.spec for group in groups.values() for it in group):
                 if is_taken(spec):
@@ -180,9 +183,9 @@ class Reader:
     def dropped(
         self, stated: List[Requirement], reached: List[Package]
     ) -> Iterator[Finding]:
-        """Yields what there is to say of what the project requires, if others require the same, and
-        yarn drops that from the file for a resolution. The root of workspaces is one of the others
-        itself."""
+        """Yields the findings about requirements of the project whose entry yarn drops because of a
+        resolution. That is so if others require the same. If the project has workspaces, it is one
+        of the others itself."""
         own = {(it.name, it.specifier): it for it in stated if it.requirer.name == PROJECT}
         is_root = has_workspaces(self.project.top)
         others = [it for it in stated if it.requirer.name != PROJECT or is_root]
@@ -201,8 +204,8 @@ class Reader:
                     yield conflict
 
     def gone_directories(self, stated: List[Requirement]) -> Iterator[Finding]:
-        """Yields what the project and its workspaces require from directories that aren't there:
-        yarn reads their package.json."""
+        """Yields the findings about directories that the project and its workspaces require and
+        that aren't there: yarn reads their package.json."""
         for it in stated:
             path = directory_at(it.specifier, "") if it.specifier.startswith("file:") else None
             is_known = path is not None and self.project.directory is not None and it.requirer.place
@@ -211,7 +214,8 @@ class Reader:
                     yield Missing(it).advised(GONE, True)
 
     def not_private(self) -> Iterator[Finding]:
-        """Yields the project if it has workspaces and isn't private: yarn rejects that."""
+        """Yields the finding about a project that has workspaces and isn't private, which yarn
+        rejects."""
         top = self.project.top
         patterns = patterns_in(top.get("workspaces", []), "workspaces")
         if patterns and not top.get("private"):
@@ -219,7 +223,7 @@ class Reader:
             yield OwnConflict(package, "", "has workspaces, and is not private")
 
     def lock_file(self, file: Input) -> LockFile:
-        """Returns what the lock file has. First comes what the project requires."""
+        """Returns the contents of the lock file. What the project requires comes first."""
         stated = list(self.stated() if self.project.manifests else self.of_keys())
         found = [it for it in map(self.found, stated) if it is not None]
         outside = [*found, *map(self.own_found, self.of_resolutions())]
@@ -245,8 +249,8 @@ class Reader:
 
 
 def with_workspaces(project: Project, path: str) -> Project:
-    """Returns a project with what yarn 1 takes for its workspaces: those with a name and a version.
-    It rejects two of one name."""
+    """Returns a project with what yarn 1 considers workspaces: those with a name and a version. Two
+    of one name are rejected."""
     with taking(path, MANIFEST):
         found = {TOP: project.top} if project.manifests else {}
         for place, it in project.manifests.items():
@@ -258,15 +262,15 @@ def with_workspaces(project: Project, path: str) -> Project:
 
 
 def has_workspaces(manifest: Entry) -> bool:
-    """Returns whether yarn takes the project for one of its workspaces, also if it names no
-    other."""
+    """Returns whether yarn considers the project one of its workspaces. That is so even if it names
+    no other."""
     named = manifest.get("workspaces")
     return "packages" in named if isinstance(named, dict) else named is not None
 
 
 def specifier_in(manifest: Entry, it: Requirement) -> str:
-    """Returns what a package.json requires by a name: of several kinds the first that isn't `*` or
-    empty."""
+    """Returns what a package.json requires by a name. If it is in several tables, the first that
+    isn't `*` or empty counts."""
     if it.specifier not in TRIVIAL:
         return it.specifier
     specs = (manifest.get(kind, {}).get(it.name, "") for kind in (*KINDS, PEERS))
@@ -274,13 +278,13 @@ def specifier_in(manifest: Entry, it: Requirement) -> str:
 
 
 def is_taken(spec: str) -> bool:
-    """Returns whether yarn takes a resolution for one."""
+    """Returns whether yarn accepts a resolution."""
     is_any = is_range(spec, Dialect.NPM) or is_elsewhere(spec)
     return is_any or alias_of(spec) is not None
 
 
 def archive_findings(package: Package) -> Iterator[Finding]:
-    """Yields what there is to say of a package whose archive at a registry is that of another
+    """Yields the findings about a package whose archive at a registry is that of another
     version."""
     url = package.source.partition("#")[0]
     archive = archive_at(url) if own_name(package.entry) is not None else None
@@ -295,7 +299,7 @@ class Classic(YarnTool):
     scheme = ClassicScheme()
 
     def read(self, file: Input) -> LockFile:
-        """Returns what a lock file has, beside the package.json files of the project."""
+        """Returns the contents of a lock file, with the package.json files of the project."""
         project, resolutions = self.project_of(file)
         project = with_workspaces(project, manifest_path(file, file.directory) or "")
         return Reader(self.lock_of(file), project, resolutions).lock_file(file)

@@ -1,5 +1,5 @@
-"""What yarn 1 and later versions share: how their files are recognized and located, and what isn't
-in any of them."""
+"""What yarn 1 and later versions share: how their lock files are recognized and located, and what
+none of them has."""
 
 import os
 import re
@@ -29,10 +29,10 @@ NAME = re.compile(rb"""(?:^|[\s",'])(@?[^@\s",']+)@""")
 
 
 class YarnScheme(NodeScheme):
-    """How yarn reads specifiers. The version of a workspace isn't in the file."""
+    """How yarn reads specifiers. The version of a workspace isn't in the lock file."""
 
     def has_name(self, specifier: str, requirement: Requirement) -> bool:
-        """Returns whether a package, if its own name is known, has the name of an alias."""
+        """Returns whether a package has the name of an alias, if its own name is known."""
         found = requirement.found
         if found is None or own_name(found.entry) is None:
             return True
@@ -45,8 +45,8 @@ class YarnScheme(NodeScheme):
         return super().verdict(specifier, requirement)
 
     def missing(self, requirement: Requirement) -> Finding:
-        """Returns what there is to say of what has no key. Which key a catalog is for isn't in the
-        file."""
+        """Returns the finding about a requirement without a key. The lock file doesn't say which
+        key a catalog is for."""
         if requirement.specifier.startswith(CATALOG):
             return NotChecked(requirement, None, requirement.specifier).excused("catalog")
         return super().missing(requirement)
@@ -62,7 +62,7 @@ class YarnTool(Tool):
     is_berry = False
 
     def recognizes(self, file: Input) -> bool:
-        """Returns whether yarn wrote a file. An empty yarn.lock is that of a project without
+        """Returns whether yarn wrote a file. An empty yarn.lock belongs to a project without
         packages."""
         is_empty = os.path.basename(file.path) == "yarn.lock" and not file.text.strip()
         if MARK.search(file.text) is None and not is_empty:

@@ -1,6 +1,8 @@
-"""What a `yarn.lock` has: its packages, each with the requirements that it is for and with what it
-requires itself. Both notations are read by one reader: they are indented by two blanks a level, and
-a line has a key, and then a value or, on the lines below, an object.
+"""The contents of a `yarn.lock`: its packages, each with the requirements that its keys are for,
+and with its own requirements.
+
+One reader reads both notations. They are indented by two blanks for each level. A line has a key,
+and then a value; or the lines below it have an object.
 """
 
 import json
@@ -45,9 +47,9 @@ COMMON_LINE = re.compile(
 
 
 def lines_of(text: str) -> Iterator[Tuple[int, int, str, str, bool]]:
-    """Yields the lines of a file: of each its number, indent, key and value, and whether an object
-    follows. Berry writes a key of more than 1,024 characters after `? `, and its colon on the next
-    line."""
+    """Yields the lines of a file: the number, indent, key and value of each, and whether an object
+    follows. yarn 2 and later write a key of more than 1,024 characters after `? `, and its colon on
+    the next line."""
     key = ""
     for number, line in enumerate(text.splitlines(), 1):
         usual = None if key else COMMON_LINE.fullmatch(line)
@@ -71,7 +73,7 @@ def lines_of(text: str) -> Iterator[Tuple[int, int, str, str, bool]]:
 
 
 def tree_of(text: bytes) -> Tree:
-    """Returns what the lines of a file have, by their indents."""
+    """Returns the tree that the lines of a file make by their indents."""
     tree: Tree = {}
     open_trees: List[Tuple[int, Tree]] = [(-1, tree)]
     for _, depth, key, value, has_more in lines_of(utf8(text)):
@@ -88,8 +90,8 @@ def tree_of(text: bytes) -> Tree:
 
 def cut(line: str, number: int) -> Tuple[str, str, bool]:
     """Returns the key of a line, its value, and whether an object follows it. Several keys of one
-    package are joined by a line feed: yarn 1 has each in quotes of its own, and later ones all in
-    one."""
+    package are joined by a line feed: yarn 1 puts quotes around each, and later versions around
+    all."""
     keys: List[str] = []
     at = 0
     while True:
@@ -114,14 +116,14 @@ def cut(line: str, number: int) -> Tuple[str, str, bool]:
 
 
 def after_blanks(line: str, at: int) -> int:
-    """Returns where the blanks of a line end that may begin at a place."""
+    """Returns the offset after the blanks of a line that may begin at an offset."""
     found = BLANKS.match(line, at)
     assert found is not None
     return found.end()
 
 
 def unquoted(word: str, number: int) -> str:
-    """Returns the text that a word is for."""
+    """Returns the text of a word, which may be in quotes."""
     if not word.startswith('"'):
         return word
     try:
@@ -133,8 +135,8 @@ def unquoted(word: str, number: int) -> str:
 
 
 class YarnFile:
-    """A yarn.lock: its packages, the requirements that the keys of each are for, and by each of
-    these its package."""
+    """A yarn.lock: its packages, the requirements that the keys of each are for, and the package
+    for each of these."""
 
     def __init__(self, tree: Tree) -> None:
         self.is_berry = METADATA in tree
@@ -152,28 +154,27 @@ class YarnFile:
                 self.by_pattern.update((bare(it), package) for it in patterns)
 
     def name_of(self, package: Package) -> str:
-        """Returns the name of the first key of a package, which need not be its own name."""
+        """Returns the name in the first key of a package, which may differ from its own name."""
         return name_and_rest(self.patterns[package.at[0]][0])[0]
 
     def keyed(self, package: Package) -> Package:
-        """Returns a package under the name of its first key."""
+        """Returns a package with the name in its first key."""
         name = self.name_of(package)
         return package if name == package.name else package._replace(name=name)
 
     def requirer(self, package: Package) -> Requirer:
-        """Returns a package as what requires something."""
+        """Returns a package as a requirer."""
         return Requirer(self.name_of(package), package.version or "", "", package.at)
 
     def key_for(self, name: str, spec: str) -> Optional[str]:
-        """Returns the key that is for what is required. yarn 2 and later write `npm:` before a
-        range."""
+        """Returns the key for a requirement. yarn 2 and later write `npm:` before a range."""
         key = f"{name}@{bare(spec) if '::' in spec else spec}"
         if key not in self.by_pattern:
             key = f"{name}@npm:{spec}"
         return key if key in self.by_pattern else None
 
     def found(self, name: str, spec: str) -> Optional[Package]:
-        """Returns the package whose key is for what is required."""
+        """Returns the package whose key is for a requirement."""
         key = self.key_for(name, spec)
         return None if key is None else self.by_pattern[key]
 
@@ -183,13 +184,13 @@ class YarnFile:
 
 
 def bare(pattern: str) -> str:
-    """Returns what is required, without the place that a link or a patch belongs to."""
+    """Returns a requirement without the place that a link or a patch belongs to."""
     return pattern.partition("::")[0]
 
 
 def package_of(key: str, fields: Any, patterns: List[str]) -> Package:
-    """Returns a package, with the version that yarn installs. Without a name of its own it has that
-    of its first key."""
+    """Returns a package with the version that yarn installs. If its own name is not known, it has
+    that of its first key."""
     if not isinstance(fields, dict):
         raise WrongShape(f": {key} isn't an object")
     version = fields.get("version")
@@ -204,7 +205,7 @@ def package_of(key: str, fields: Any, patterns: List[str]) -> Package:
 
 
 def own_name(fields: Tree) -> Optional[str]:
-    """Returns the name of a package itself, which yarn 1 has only in a URL, if it is known."""
+    """Returns a package's own name, if it is known. In yarn 1 it is only in a URL."""
     name_at = NAME_AT.search(str(fields["resolved"])) if "resolved" in fields else None
     if name_at is not None:
         return unquote(name_at.group(1))
@@ -212,8 +213,8 @@ def own_name(fields: Tree) -> Optional[str]:
 
 
 def source_of(text: str) -> str:
-    """Returns the `NAME@REST` that is patched, in `NAME@patch:SOURCE#PATCH`; any other is its
-    own."""
+    """Returns the `NAME@REST` that is patched in `NAME@patch:SOURCE#PATCH`. Returns other texts
+    unchanged."""
     rest = spec_of(text) if PATCH in text else ""
     while rest.startswith(PATCH):
         text = unquote(rest[len(PATCH) :].partition("#")[0])
@@ -222,8 +223,7 @@ def source_of(text: str) -> str:
 
 
 def version_of(reference: str) -> Optional[str]:
-    """Returns the version in the reference of what a package is resolved by, if that is of a
-    registry."""
+    """Returns the version in a resolution, if the package comes from a registry."""
     bare = reference.partition("::")[0]
     return bare[4:] if bare.startswith("npm:") else None
 

@@ -1,4 +1,4 @@
-"""The resolutions of a package.json of yarn: what is put in place of what packages require."""
+"""The resolutions in a package.json of yarn, which replace the requirements of packages."""
 
 import re
 from typing import Dict, Iterable, List, NamedTuple, Tuple
@@ -11,8 +11,9 @@ STEP = re.compile(r"(?:@[^/]+/)?[^/]+")
 
 
 class Resolution(NamedTuple):
-    """A resolution of a name: its place in the file, what is put there, and whether the whole path
-    is known by who asks: by `**/` before it, or a name alone, which yarn 1 takes for the same."""
+    """A resolution of a name: its index in the file, the replacement, and whether it is certain
+    that it applies, whoever requires the name. That is so for `**/` before the name, or a name
+    alone, which means the same in yarn 1."""
 
     number: int
     spec: str
@@ -43,15 +44,15 @@ def resolutions_of(manifest: Entry) -> Resolutions:
 
 
 def without_protocol(spec: str) -> str:
-    """Returns what is required without the `npm:` that berry writes before a range."""
+    """Returns a specifier without the `npm:` that yarn 2 and later write before a range."""
     return spec[4:] if spec.startswith("npm:") and "@" not in spec[5:] else spec
 
 
 def resolutions_for(
     resolutions: Resolutions, name: str, spec: str, parents: Iterable[str], place: str = ""
 ) -> List[Resolution]:
-    """Returns the resolutions for what a package requires, of one of these names and perhaps at a
-    place, in the order of the file: the first of those that are for the same."""
+    """Returns the resolutions for a requirement of a package with one of these names, perhaps at a
+    place, in the order of the file. Of those for the same, only the first counts."""
     groups = resolutions.get(name)
     if groups is None:
         return []
@@ -65,6 +66,6 @@ def resolutions_for(
 def specs_for(
     resolutions: Resolutions, name: str, spec: str, parents: Iterable[str], place: str = ""
 ) -> List[str]:
-    """Returns what is put in place of what a package requires."""
+    """Returns what replaces a requirement of a package."""
     found = resolutions_for(resolutions, name, spec, parents, place)
     return list(dict.fromkeys(it.spec for it in found))
