@@ -82,7 +82,7 @@ __all__ = [
 ]
 
 _UNPICKLE = "_unpickled_range"
-"""The function that pickles name, beside the public classes."""
+"""The function that pickles name, besides the public classes."""
 
 _MODULES = ["strings", "options", "errors", "versions", "comparators", "terms", "ranges"]
 _MODULES += ["satisfying", "comparing"]

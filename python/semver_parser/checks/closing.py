@@ -5,7 +5,7 @@ from typing import List, Optional
 from .files import Refusal
 from .reports import Report, Results
 
-# Why something isn't checked, of one and of several.
+# Why something isn't checked, in singular and plural.
 REASONS = {
     "git": ("git", "git"),
     "tag": ("tag", "tags"),

@@ -6,7 +6,7 @@ from typing import Iterator, List, NoReturn, Tuple
 from .files import Refusal
 from .git import files_in_work_tree
 
-# Directories that hold what a tool puts there.
+# Directories whose contents a tool puts there.
 MADE = ("node_modules", ".git", "target")
 
 

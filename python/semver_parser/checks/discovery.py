@@ -7,7 +7,7 @@ from .directories import named_below
 from .files import STANDARD_INPUT, Refusal
 from .tools import LOCK_FILES, TOOLS
 
-# The tools by the names of their lock files, and the lock files that a manifest is for.
+# The tools by the names of their lock files, and the lock files of each manifest.
 BY_NAME = {name: tool for tool in TOOLS for name in tool.lock_files}
 FOR: Dict[str, List[str]] = {}
 for it in TOOLS:

@@ -15,15 +15,16 @@ Entry = Dict[str, Any]
 
 STANDARD_INPUT = "-"
 
-# What git writes before one side of a conflict; a file of none of the notations has it.
+# What git writes before one side of a conflict. No valid file has it.
 CONFLICT = re.compile(rb"(?:\A|\n)<<<<<<< ")
 
-# The errors of a path at which there is nothing.
+# The errors for a path at which there is nothing.
 NOWHERE = (errno.ENOENT, errno.ENOTDIR, errno.ENAMETOOLONG)
 
 BYTE_ORDER_MARK = b"\xef\xbb\xbf"
 
-# How a text in UTF-16 begins: by its own mark, or by a character of ASCII, half of which is zero.
+# How a text in UTF-16 begins: with a byte order mark, or with an ASCII character, which has a zero
+# byte.
 UTF_16 = re.compile(rb"\xff\xfe|\xfe\xff|\0[^\0]|[^\0]\0", re.S)
 
 

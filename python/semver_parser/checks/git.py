@@ -8,8 +8,8 @@ from typing import List, Optional, Tuple
 from .files import Refusal
 
 
-# What git says outside of its work trees, in English, and of a directory that it can't read. Of the
-# link to a repository that is gone it says the first without the parents.
+# What git prints, in English, outside of its work trees, and for a directory that it can't read. If
+# there is a link to a repository that is gone, it prints the first without the parents.
 NO_WORK_TREE = "not a git repository (or any"
 NOT_OPENED = re.compile(r"warning: could not open directory '(.*)': (.*)")
 

@@ -13,21 +13,21 @@ from .files import Refusal, Unreadable, bytes_of, taking
 from .model import Keys
 from .tool import Offsets
 
-# What follows a key of JSON, and a key whose value is an object.
+# What follows a key in JSON, and a key whose value is an object.
 AFTER_KEY = re.compile(rb'"\s*:')
 AFTER_KEY_OF_OBJECT = re.compile(rb'"\s*:\s*\{')
 
-# In an object of JSON what is before the next key, or its end, and what is between a key and its
+# In an object in JSON, what is before the next key or the end; and what is between a key and its
 # value.
 NEXT = re.compile(r'\s*,?\s*(["}])')
 COLON = re.compile(r"\s*:\s*")
 
-# A key of YAML as pnpm writes it, at the beginning of a line and below others.
+# A key in YAML as pnpm writes it, at the beginning of a line and inside of others.
 KEY_OF_YAML = rb"""('(?:[^'\n]|'')*'|"(?:[^"\\\n]|\\.)*"|[^\s#'"][^\n]*?):(?=[ \r\n]|\Z)"""
 TOP_OF_YAML = re.compile(rb"^" + KEY_OF_YAML, re.M)
 INDENT = 2
 
-# A head of a table of TOML, and a key at the beginning of a line.
+# A header of a table in TOML, and a key at the beginning of a line.
 HEAD = re.compile(r"\[\s*([^\[\]]+?)\s*\]")
 KEY = re.compile(r"""(["']?)([A-Za-z0-9_-]+)\1\s*[.=]""")
 DEPENDENCIES = re.compile(r"(?:.*\.)?(?:dev-|build-)?dependencies")

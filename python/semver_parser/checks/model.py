@@ -22,13 +22,13 @@ if TYPE_CHECKING:
     from .findings import Finding
 
 PROJECT = "the project"
-"""The name of the project itself, if it requires something."""
+"""The name of the project itself as a requirer."""
 
 Keys = Tuple[str, ...]
 """The keys that lead to an entry of a file."""
 
 Graph = Dict[str, List[str]]
-"""What the project, its workspaces and each package lead to, by their labels."""
+"""The labels to which the project, each workspace and each package lead, by their labels."""
 
 Entry = Dict[str, Any]
 

@@ -19,8 +19,8 @@ class Misuse(Exception):
 # ---- what is written
 
 
-# What a terminal takes for more than a character: the controls of ASCII and after it, ends of
-# lines, and marks that change the direction of what follows.
+# Characters that a terminal would act on: control characters, in ASCII and after it, line ends, and
+# marks that change the direction of what follows.
 CONTROL = re.compile("[\0-\x1f\x7f-\x9f\u061c\u200e\u200f\u2028-\u202e\u2066-\u2069]")
 
 

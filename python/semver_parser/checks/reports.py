@@ -14,7 +14,7 @@ from .tool import Input, Statement, Tool
 from .tools import tool_for
 from .wording import quoted
 
-# Why what is in directories of the project isn't checked.
+# Why requirements for directories of the project aren't checked.
 OWN = {"path", "link", "workspace"}
 
 

@@ -12,7 +12,7 @@ from .judge import Scheme
 from .model import Keys, LockFile, Scope
 
 Offsets = Iterator[Tuple[Keys, int]]
-"""Entries of a file, each with the offset where it begins."""
+"""The keys of entries of a file, each with the offset where the entry begins."""
 
 Value = TypeVar("Value")
 

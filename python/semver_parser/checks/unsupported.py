@@ -4,14 +4,14 @@ import re
 
 from .files import Unreadable
 
-# What only one file has at its beginning, the file, and whose it is.
+# How only one file begins, the file, and its owner.
 BY_BEGINNING = (
     (rb'\{\s*"_meta"\s*:', "Pipfile.lock", "Python's Pipenv"),
     (rb'\{\s*"_readme"\s*:', "composer.lock", "PHP's Composer"),
     (rb"(?:GIT|PATH|GEM)\r?\n  remote:", "Gemfile.lock", "Ruby's Bundler"),
 )
 
-# What only one file of TOML has at the beginning of a line, the first that has it.
+# How a line begins in only one TOML file, the file, and its owner. The first that matches counts.
 BY_LINE = (
     (b"[[packages]]", "pylock.toml", "Python's"),
     (b"requires-python = ", "uv.lock", "Python's uv"),

@@ -9,10 +9,10 @@ from .program import escaped, visible
 __all__ = ["PACKAGE", "RANGE", "VERSION", "Paint", "escaped", "plain", "quoted", "visible"]
 
 Paint = Callable[[str, str], str]
-"""Returns a text with the look of a part of a sentence."""
+"""Returns a text in the style of a part of a sentence."""
 
 PACKAGE, VERSION, RANGE = "package", "version", "range"
-"""The parts of a sentence that have a look of their own."""
+"""The parts of a sentence that have their own style."""
 
 MISLEADING = re.compile(r'\A\Z|[\s",]')
 

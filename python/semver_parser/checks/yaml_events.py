@@ -5,7 +5,7 @@ from typing import Any, List, Union
 
 Container = Union[dict, list]
 
-# How deep a file may be nested that is read so.
+# How deep a file that is read in this way may be nested.
 DEEPEST = 100
 
 

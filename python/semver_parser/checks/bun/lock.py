@@ -13,7 +13,7 @@ from ..model import Package
 from ..node.package_json import TOP, version_in
 from ..node.specifiers import name_and_rest
 
-# What of a package's place is a workspace's directory.
+# What is before the directory in the package of a workspace.
 WORKSPACE = "workspace:"
 
 # A step of a path: a name, which may have a scope.

@@ -53,12 +53,12 @@ from ..tool import Input, Offsets, Statement, Tool
 from .lock import nearest, packages_of, path_of, workspaces_of
 from .replacements import Replacements, locked_replacements, replaced_by, replacements_of
 
-# The kinds of requirements. Of one name in several of them the first counts.
+# The kinds of requirements. If a name is in several, the first one counts.
 KINDS_OF_EACH = (OPTIONAL, USUAL, PEERS)
 KINDS_OF_WORKSPACES = (FOR_DEVELOPMENT, *KINDS_OF_EACH)
 KINDS_TO_COMPARE = (USUAL, FOR_DEVELOPMENT, OPTIONAL)
 
-# What only a file of Bun has at its beginning, and a binary file, of which Bun makes the text.
+# How only Bun's lock files begin, and how binary ones begin, which Bun can convert to text.
 BLANK = rb"(?:\s|//[^\n]*\n|/\*.*?\*/)*"
 MARK = re.compile(BLANK + rb'\{(?:\s*"\w+"\s*:\s*\d+\s*,)*\s*"workspaces"\s*:\s*\{', re.S)
 BINARY = b"#!/usr/bin/env bun\n"

@@ -15,7 +15,7 @@ from .sources import GIT, PATH
 CHECKSUM = re.compile(r"[0-9a-f]{64}")
 FIELD = "checksum"
 
-# What to change if there is a wrong one: Cargo writes those that are missing.
+# The advice for a wrong checksum. Cargo only writes those that are missing.
 ADVICE = "remove the checksum, and have it written anew"
 
 

@@ -11,12 +11,12 @@ from .validity import refuse_invalid
 KINDS = ("dependencies", "dev-dependencies", "build-dependencies")
 MANIFEST = "Cargo.toml"
 
-# In place of the source of what is the workspace's, in another file.
+# The source of a dependency that refers to a workspace in another file.
 INHERITED = "workspace = true"
 
 SOURCES = ("path", "git", "branch", "tag", "rev", "registry", "registry-index")
 
-# The version that Cargo takes for a package without one.
+# The version of a package without one, for Cargo.
 NO_VERSION = "0.0.0"
 
 

@@ -120,7 +120,7 @@ def named_by(folder: str, top: Entry) -> Iterator[str]:
     nothing stands for itself, and one that ends in `**` finds what is below."""
     for text in texts_of(top, "members"):
         pattern = os.path.join(escape(folder), f"{text}/*" if text.endswith("**") else text)
-        # Python's glob refuses a zero byte, which no file has in its name.
+        # Python's glob rejects a zero byte, which no file name has.
         found = [] if "\0" in pattern else glob(pattern, recursive=True, include_hidden=True)
         paths = sorted(found)
         for path in paths or [os.path.join(folder, text)]:

@@ -24,7 +24,7 @@ from ..tool import Input, Tool
 from .tool import CargoScheme
 
 DependencyKind = Tuple[Optional[str], Optional[str]]
-"""A kind of dependency, as `dev`, and a target. A usual one has neither."""
+"""A kind of dependency, such as `dev`, and a target. A normal dependency has neither."""
 
 
 class Dependency(NamedTuple):

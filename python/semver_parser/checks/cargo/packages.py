@@ -12,7 +12,7 @@ NEWEST = 4
 
 PackageKey = Tuple[str, str, str]
 
-# Which directory a package without a source is in, by its name and version.
+# Returns the directory of a package without a source, by its name and version.
 Place = Callable[[str, str], Optional[str]]
 
 source_of = lru_cache(maxsize=None)(locked_source)
@@ -42,7 +42,7 @@ class Lock:
         if not isinstance(version, int) or version > NEWEST:
             raise WrongShape(f": version {version} isn't known")
         self.place = place
-        # Cargo.lock files of before 2017 have the package itself in a table of its own.
+        # Cargo.lock files from before 2017 have the package itself in a table of its own.
         own = [lock["root"]] if "root" in lock else []
         entries = (*own, *list_at(lock.get("package", []), "package"))
         self.packages = [package_of(it, "package") for it in entries]

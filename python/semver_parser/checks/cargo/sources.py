@@ -12,11 +12,11 @@ PATH, GIT, REGISTRY, NAMED = "path", "git", "registry", "named"
 
 INDEX_OF_CRATES_IO = "https://github.com/rust-lang/crates.io-index"
 
-# How a lock file and a [patch] spell crates.io by its name.
+# The names of crates.io in a lock file and in a [patch].
 NAMES_OF_CRATES_IO = ("crates-io", "crates.io")
 
-# The source of a package in a lock file: its kind, its URL, and for git what of the repository, and
-# the commit that was taken.
+# The source of a package in a lock file: its kind and its URL; and for git the branch, tag or
+# revision, and the commit.
 LOCKED = re.compile(r"(git|registry|sparse)\+([^?#]*)(?:\?([^#]*))?(?:#.*)?", re.S)
 
 REFERENCES = ("branch", "tag", "rev")

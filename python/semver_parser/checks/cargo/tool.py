@@ -42,10 +42,10 @@ from .resolution import Match, Resolution
 
 LOCK_FILE = "Cargo.lock"
 
-# What only a Cargo.lock has. Without packages it has its version alone.
+# What only a Cargo.lock has. Without packages it has only its version.
 MARK = re.compile(rb"\[\[package\]\]|(?:\A|\n)\[root\]|\A(?:#.*\n|\s)*version = [0-9]+\s*\Z")
 
-# A package of a Cargo.lock, and the fields that tell which one it is.
+# A package of a Cargo.lock, and the fields that identify it.
 TOP = re.compile(rb"^\[(?:\[package\]|root)\][^\n]*\n(?:[^\[\n][^\n]*\n)*", re.M)
 FIELD = re.compile(rb'^(name|version) = "([^"\n]*)"', re.M)
 NAME = re.compile(r"""\s*name\s*=\s*["']([^"']*)""")

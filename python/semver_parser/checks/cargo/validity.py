@@ -13,15 +13,15 @@ from ..satisfaction import is_version
 EDITIONS, RESOLVERS = ("2015", "2018", "2021", "2024"), ("1", "2", "3")
 NAME = re.compile(r"[^\W\d][\w-]*")
 
-# A target: the name of one, or an expression, of which the brackets are compared.
+# A target: its name, or an expression, in which only the brackets are counted.
 TARGET = re.compile(r"[\w.-]*|cfg\(.+\)", re.S)
 
-# What a manifest without a package may not have.
+# The tables that a manifest without a package may not have.
 OF_PACKAGE = (
     "dependencies", "dev-dependencies", "build-dependencies", "features", "target", "lib", "bin",
 )  # fmt: skip
 
-# Of each the dependency may have one at most.
+# Pairs of which a dependency may have at most one.
 APART = (("git", "path"), ("git", "registry"), ("registry", "registry-index"))
 REFERENCES = ("branch", "tag", "rev")
 PLACES = ("version", "path", "git", "workspace")

@@ -56,7 +56,7 @@ def members_of(top: Optional[str]) -> List[Member]:
     return [project, *(it for it in members if it.config is not None or it.manifest is not None)]
 
 
-# ---- what they list, as the file has it
+# ---- what they list, in the form of the lock file
 
 
 def specifier_of(text: str) -> Optional[str]:
@@ -90,7 +90,7 @@ def specifiers_of_manifest(manifest: Entry) -> Iterator[str]:
                 yield f"npm:{name}@{spec or '*'}"
 
 
-# ---- what there is to say
+# ---- findings
 
 
 def listed_in(entry: Entry) -> Set[str]:

@@ -26,17 +26,17 @@ from .manifests import CONFIGS, stale_lists
 VERSIONS = ("4", "5")
 JSR, NPM = "jsr", "npm"
 
-# What is after the version of a package of npm: its peers.
+# What is before the peers of an npm package, which follow its version.
 PEERS = "_"
 
-# What only a file of Deno has at its beginning.
+# How only Deno's lock files begin.
 MARK = re.compile(
     rb'\s*\{\s*"version"\s*:\s*"\d"\s*(?:\}|,'
     rb'\s*"(?:specifiers|packages|remote|redirects|jsr|npm|workspace)"\s*:)'
 )
 
 
-# A package of npm that is there: another one lists its version.
+# Stands for an npm package that is there. Another package lists its version.
 THERE = Package(None, None)
 
 

@@ -7,7 +7,7 @@ from typing import NamedTuple, Optional
 
 from semver_parser import Dialect, Version, VersionError
 
-# What parts the scope of a package, which begins with `@`, from its name.
+# What separates the scope of a package, which begins with `@`, from its name.
 SLASH = re.compile("/|%2f", re.I)
 
 

@@ -4,7 +4,7 @@ import re
 
 from ..files import Entry, json_object
 
-# A string, a comment, and a comma before what ends a list or an object.
+# A string or a comment; and a string, or a comma before the end of a list or an object.
 COMMENT = re.compile(rb'"(?:[^"\\]|\\.)*"|//[^\n]*|/\*.*?\*/', re.S)
 LAST_COMMA = re.compile(rb'"(?:[^"\\]|\\.)*"|,(?=\s*[\]}])', re.S)
 

@@ -31,8 +31,8 @@ from .workspaces import directories_of, patterns_in
 
 MANIFEST = "package.json"
 
-# The kinds of requirements, that first which replaces the same name in the others: of pnpm and yarn
-# 1, and of yarn 2 and later.
+# The kinds of requirements. If a name is in several, the first counts. KINDS is for pnpm and yarn
+# 1, and KINDS_OF_BERRY for yarn 2 and later.
 KINDS = (OPTIONAL, USUAL, FOR_DEVELOPMENT)
 KINDS_OF_BERRY = (FOR_DEVELOPMENT, OPTIONAL, USUAL)
 ALL_KINDS = (PEERS, USUAL, OPTIONAL, FOR_DEVELOPMENT)

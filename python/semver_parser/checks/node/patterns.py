@@ -16,13 +16,13 @@ MAGIC = re.compile(r"[*?\[(]")
 ANYWHERE = "**"
 MODULES = "node_modules"
 
-# How many patterns one with braces may be for.
+# How many patterns one with braces may stand for.
 MOST = 1000
 
 # The parts of a pattern without braces.
 PART = re.compile(r"(?:\A|(?<=/))\*\*(?:/|\Z)|[?*+@!]\([^()]*\)|\[[!^]?\]?[^\]/]*\]|.", re.S)
 
-# What a list matches, by what is before it.
+# How often a list may match, by the character before it.
 TIMES = {"?": "?", "*": "*", "+": "+", "@": ""}
 
 NOTHING = re.compile(r"(?!)")

@@ -14,26 +14,26 @@ from ..judge import INVALID_RANGE, NO_VERSION, RIGHT, UNSATISFIED, Scheme, Verdi
 from ..model import Requirement
 from ..satisfaction import is_met, range_in
 
-# What npm takes for an address or a path.
+# What npm reads as a URL or a path.
 ELSEWHERE = re.compile(r"(?!npm:)(?:git\+)?[a-z]+:|\.|.*/|.*\.(?:tgz|tar|tar\.gz)\Z", re.I | re.S)
 
-# A tag to npm is what is no range and has only characters that a URL has as they are. npm reads
-# some of these loosely as a version or a range, as `01.2.3` and `1.2.3beta`.
+# For npm a tag isn't a range, and has only characters that a URL has unescaped. npm reads some of
+# these loosely as a version or a range, such as `01.2.3` and `1.2.3beta`.
 TAG = re.compile(r"[\w.!~*'()-]+", re.A)
 PART = r"(?:\d+|[xX*])"
 PRE = r"-?[\dA-Za-z-]+(?:\.[\dA-Za-z-]+)*"
 LOOSE = re.compile(rf"~?v*{PART}(?:\.{PART}(?:\.{PART}(?:{PRE})?)?)?", re.A)
 
-# An address of git, and the range that it has.
+# A git URL with a range.
 GIT_RANGE = re.compile(r"(?!file:|[./~])([^#]*[/:][^#]*)#(?:.*::)?semver:([^:]*)(?:::.*)?", re.S)
 
-# The path of a directory, from where it is required.
+# The path of a directory, relative to its requirer.
 DIRECTORY = re.compile(r"(?:file:(?!/|~/)|(?=\.))(.*)", re.S)
 
-# What is required by the range of a catalog begins so, of which npm has none.
+# How a specifier begins that refers to a catalog. npm has no catalogs.
 CATALOG = "catalog:"
 
-# Why what is no range isn't checked, by how it begins or ends; the first that fits.
+# Why a specifier that isn't a range isn't checked. The first pattern that matches counts.
 REASONS = (
     ("workspace", re.compile(r"workspace:", re.I)),
     ("catalog", re.compile(r"catalog:", re.I)),

@@ -33,7 +33,7 @@ def directories_of(texts: Iterable[str], top: str) -> List[str]:
     return sorted(found - left_out)
 
 
-# ---- as npm has them, by their order
+# ---- npm's rules, by which the order counts
 
 
 def patterns_of(texts: Iterable[str]) -> Patterns:

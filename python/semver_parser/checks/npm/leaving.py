@@ -16,7 +16,7 @@ from .peers import Peers
 UNMET = (Unsatisfied, Overridden)
 
 
-# What repairs what npm doesn't look at: it looks at what workspaces require, and no further.
+# The advice for what npm doesn't check: it checks what workspaces require, and nothing below.
 ANEW = "remove it, and have npm write it without the old one"
 
 

@@ -15,7 +15,7 @@ from ..node.specifiers import alias_of
 
 Packages = Dict[str, Entry]
 
-# The kinds in npm's order: of one name in several of them the last replaces the others.
+# The kinds in npm's order. If a name is in several, the last one counts.
 KINDS_OF_EACH = (PEERS, "dependencies", "optionalDependencies")
 KINDS_OF_TOPS = (*KINDS_OF_EACH, "devDependencies")
 ACCEPTED = "acceptDependencies"
@@ -278,7 +278,7 @@ def around_of(place: str) -> Tuple[str, ...]:
 
 
 around_again = lru_cache(maxsize=None)(around_of)
-"""The same for a place that has many others inside."""
+"""The same, cached: a place may have many others inside."""
 
 
 def nearest(name: str, around: Tuple[str, ...], found: Dict[str, Package]) -> Optional[Package]:

@@ -60,7 +60,7 @@ class Rule:
     inner: List["Rule"] = field(default_factory=list)
 
     chosen: Dict[Tuple[str, str], "Rule"] = field(default_factory=dict)
-    """The rules that were chosen for what a package with this one requires."""
+    """The rules that were chosen for requirements of a package with this rule."""
 
     @cached_property
     def by_name(self) -> Dict[str, "RulesOfName"]:
@@ -144,7 +144,7 @@ def is_git_without_range(spec: str) -> bool:
     return git_range_of(spec) is None and alias_of(spec) is None and reason_of(spec) == "git"
 
 
-# ---- what package.json has
+# ---- the overrides in package.json
 
 
 def rules_of(manifest: Entry) -> Rule:
@@ -192,7 +192,7 @@ def replacement(spec: str, manifest: Entry) -> Optional[str]:
     return spec
 
 
-# ---- which rule is for what
+# ---- which rule applies to a requirement
 
 
 def rule_for(here: Rule, name: str, spec: str) -> Rule:

@@ -91,7 +91,7 @@ from .peers import Peers
 HIDDEN = ".package-lock.json"
 
 Requirements = Dict[str, List[Requirement]]
-"""What each place requires."""
+"""The requirements of each place."""
 
 
 class NpmScheme(NodeScheme):
@@ -155,7 +155,7 @@ def is_fetched(specifier: str) -> bool:
     return is_no_range(specifier) and reason_of(specifier) in ("git", "URL", "path")
 
 
-# ---- what npm demands besides
+# ---- what npm demands besides requirements
 
 
 def is_own_archive(package: Package, resolved: object) -> bool:

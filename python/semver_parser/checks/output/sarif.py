@@ -17,14 +17,14 @@ from .text import grouped, told
 Object = Dict[str, Any]
 
 SCHEMA = "https://json.schemastore.org/sarif-2.1.0.json"
-# How many results of a run GitHub takes, and how deep they are in the object.
+# How many results of a run GitHub accepts, and how far they are indented.
 MOST = 25000
 INDENT = " " * 8
 
 REFUSED, NO_LONGER_APPLIES = "refused", "no-longer-applies"
 
-# The rules by their names: the kinds of findings, a file that is rejected, and a known finding that
-# is there no more; and what those say whose names don't.
+# The rules by their names, each with a description: the kinds of findings, a file that is rejected,
+# and a known finding that no longer applies.
 DESCRIPTIONS = {
     **{it.kind: it.title for it in CLASSES},
     REFUSED: "A file cannot be checked",

@@ -12,11 +12,11 @@ from ..model import Package, Requirement, Requirer
 from ..satisfaction import is_version
 
 LINK = "link:"
-"""What the version of a workspace or another directory has before its path."""
+"""What is before the path in the version of a workspace or another directory."""
 
 
-# What a package is called: NAME@VERSION, or /NAME/VERSION or /NAME@VERSION, before which its
-# registry may be, and what follows of peers.
+# The key of a package: NAME@VERSION, /NAME/VERSION or /NAME@VERSION. The last two may begin with a
+# registry. Peers may follow.
 CALLED = re.compile(
     r"(?P<registry>[^/@]*/)?(?P<name>(?:@[^/@]+/)?[^/@]+)(?(registry)[/@]|@)"
     r"(?P<version>[^/(_]+)(?:[(_].*)?",

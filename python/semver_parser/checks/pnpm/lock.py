@@ -54,7 +54,7 @@ Packages = Dict[str, Entry]
 Reader = Callable[[str], Optional[Entry]]
 
 Catalogs = Dict[Tuple[str, str], str]
-"""What catalogs require, by these and the names there."""
+"""The specifiers in catalogs, by the catalog and the name."""
 
 
 class Stated(NamedTuple):
@@ -247,7 +247,7 @@ def importers_for(lock: Entry, top: Optional[str], read: Reader) -> Iterator[Imp
     otherwise those of the lock file."""
     locked, found = importers_of(lock), directories_in(top)
     for directory in locked if found is None else found:
-        # With this sum there is a `.pnpmfile.cjs`, which may change what a package.json requires.
+        # With this checksum there is a `.pnpmfile.cjs`, which may change the requirements.
         manifest = None if "pnpmfileChecksum" in lock else read(directory)
         at = ("importers", directory) if "importers" in lock else ()
         required = None if manifest is None else dict(required_in(manifest, lock, directory))

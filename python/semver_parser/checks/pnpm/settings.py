@@ -25,24 +25,24 @@ from .specifiers import parent_and_name
 
 WORKSPACE_FILE, MANIFEST, NPMRC = "pnpm-workspace.yaml", "package.json", ".npmrc"
 
-# The settings that a lock file has, each with its name in .npmrc and what it is by default.
+# The settings in a lock file that are on or off, each with its name in .npmrc and its default.
 SWITCHES = {
     "autoInstallPeers": ("auto-install-peers", "true"),
     "excludeLinksFromLockfile": ("exclude-links-from-lockfile", "false"),
     "injectWorkspacePackages": ("inject-workspace-packages", "false"),
 }
 
-# What the lock file has only if it is on.
+# This one is in the lock file only if it is on.
 IF_ON = "injectWorkspacePackages"
 
 IGNORED = "ignoredOptionalDependencies"
 EXTENSIONS = "packageExtensions"
 
-# The kinds of what `$NAME` in an override is for, the last of which counts.
+# The tables to which `$NAME` in an override refers. The last one that has the name counts.
 KINDS = ("devDependencies", "dependencies", "optionalDependencies")
 
 Place = Tuple[str, Dict[str, str]]
-"""Texts by names, after the file that has them."""
+"""A file, and the texts in it by names."""
 
 
 class Settings(NamedTuple):

@@ -57,10 +57,10 @@ from .lock import (
 from .settings import WORKSPACE_FILE, keys_of_setting
 from .specifiers import npm_form_of, parent_and_name, takes_peer
 
-# What an override has in place of what is required if that is removed.
+# The replacement in an override that removes a requirement.
 REMOVED = "-"
 
-# What only a file of pnpm has.
+# What only pnpm's lock files have.
 MARK = re.compile(rb"(?:\A|\n)lockfileVersion:")
 
 
@@ -74,7 +74,7 @@ class Override(NamedTuple):
 
 
 Overrides = Dict[str, List[Override]]
-"""Overrides by the names that they are for."""
+"""Overrides by the names to which they apply."""
 
 
 class PnpmScheme(NodeScheme):
@@ -130,7 +130,7 @@ def overridden(it: Requirement, overrides: Overrides, catalogs: Catalogs) -> Req
     return it._replace(replaced_by=replaced, must_exist=it.must_exist and REMOVED not in specs)
 
 
-# ---- what pnpm demands besides
+# ---- what pnpm demands besides requirements
 
 
 def as_text(value: Any) -> str:

@@ -37,7 +37,7 @@ class Change(NamedTuple):
 
 
 WHOLE = Change._fields[6:]
-"""What has the versions of a change, in the order in which they are printed."""
+"""The fields with the versions of a change, in the order in which they are printed."""
 
 
 def changes(old: Manifest, new: Manifest, dialect: Dialect) -> Iterator[Change]:

@@ -40,7 +40,7 @@ METAS = ("peerDependenciesMeta", "dependenciesMeta")
 
 KINDS_OF_CARGO = re.compile(r"(?:target\..*\.)?(?:dev-|build-)?dependencies", re.S)
 
-# How a pnpm-workspace.yaml is told from a Cargo.toml, in which no key has a colon after it.
+# What distinguishes a pnpm-workspace.yaml from a Cargo.toml, in which no colon follows a key.
 OF_PNPM = re.compile(rb"(?:\A|\n)[A-Za-z]+:(?=\s)")
 
 WORKSPACE = "workspace:"
@@ -151,7 +151,7 @@ def package_json_requirements(entry: Entry) -> Iterator[Tuple[Key, Requirement]]
             raise WrongShape(f": it has {key}")
     for table in (*KINDS_OF_NPM, *ALSO_OF_NPM):
         yield from table_requirements(entry, table, table)
-    # npm had a list of engines once, which it ignores.
+    # Old manifests have a list of engines, which npm ignores.
     if isinstance(entry.get("engines"), dict):
         yield from table_requirements(entry, "engines", "engines")
     for table in METAS:

@@ -29,7 +29,7 @@ from .family import YarnScheme, YarnTool
 from .lock import PATCH, YarnFile, bare, requirements_of, source_of
 from .resolutions import Resolutions, without_protocol, specs_for
 
-# What the key of a workspace has before its directory.
+# What is before the directory in the key of a workspace.
 OWN = "workspace:"
 
 

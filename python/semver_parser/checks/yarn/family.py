@@ -21,10 +21,10 @@ from ..tool import Input, Offsets, Statement, Tool
 from .lock import MARK, METADATA, YarnFile, lines_of, own_name, tree_of
 from .resolutions import Resolutions, resolutions_of
 
-# The line of a package, which may have its colon on the next one.
+# The line of a package. Its colon may be on the next line.
 TOP = re.compile(rb"^(?:\? [^\n]*\n)?[^\s#][^\n]*", re.M)
 
-# The name of a package in a key, unless it has an escape.
+# The name of a package in a key without an escape.
 NAME = re.compile(rb"""(?:^|[\s",'])(@?[^@\s",']+)@""")
 
 

@@ -17,20 +17,20 @@ from ..node.specifiers import name_and_rest
 
 Tree = Dict[str, Union[str, "Tree"]]
 
-# A text in quotes, or one up to the blank, colon or comma that ends it.
+# A text in quotes, or one up to a blank or a comma.
 TOKEN = re.compile(r'"(?:[^"\\]|\\.)*"|[^\s,"][^\s,"]*')
 
 BLANKS = re.compile(" *")
 
-# The name of a package in its address at a registry, as https://example.org/NAME/-/FILE.
+# The name of a package in its URL at a registry, such as https://example.org/NAME/-/FILE.
 NAME_AT = re.compile(r"/((?:@[^/]+/)?[^/]+)/-/")
 
-# Before the source of a package that berry patches, in which `:` is `%3A`.
+# What is before the source of a package that yarn 2 or later patches. In it `:` is `%3A`.
 PATCH = "patch:"
 
 MET_BY = (USUAL, OPTIONAL)
 
-# What only a file of yarn has.
+# What only yarn's lock files have.
 MARK = re.compile(rb"yarn lockfile v1|\n__metadata:")
 METADATA = "__metadata"
 
@@ -38,8 +38,8 @@ METADATA = "__metadata"
 WORKSPACE = "0.0.0-use.local"
 
 
-# A line as nearly all are: its indent, a key, and then a colon alone or a value. A quoted text has
-# nothing that is escaped.
+# A line such as nearly all: its indent, a key, and then only a colon, or a value. A quoted text has
+# no escape.
 QUOTED = r'"([^"\\\x00-\x1f]*)"'
 COMMON_LINE = re.compile(
     rf'( *)(?:{QUOTED}|([^\s,":#?][^\s,":]*))(?:(:)|:? +(?:{QUOTED}|([^\s"](?:.*\S)?)))'

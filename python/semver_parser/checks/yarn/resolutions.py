@@ -6,7 +6,7 @@ from typing import Dict, Iterable, List, NamedTuple, Tuple
 from ..files import Entry, texts_at
 from ..node.specifiers import name_and_rest
 
-# A step of the path of a resolution: a name, and perhaps a range.
+# A step in the path of a resolution: a name, and perhaps a range.
 STEP = re.compile(r"(?:@[^/]+/)?[^/]+")
 
 
@@ -21,8 +21,8 @@ class Resolution(NamedTuple):
 
 
 Resolutions = Dict[str, Dict[Tuple[str, str, str], List[Resolution]]]
-"""Resolutions by the names at the ends of their paths: each by the name of the package that has it,
-the place that this has, and what it requires, each empty if it may be any."""
+"""Resolutions by the names at the ends of their paths, and then by a group: the name of the
+requirer, its place, and the specifier. Each of these is empty if it may be any."""
 
 
 def resolutions_of(manifest: Entry) -> Resolutions:
