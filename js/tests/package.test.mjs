@@ -454,8 +454,8 @@ test('the example of terms in the README', () => {
   const [, example] = /\n## Terms\n[^]*?```js\nimport .*\n([^]*?)```/.exec(readme)
   const code = example.replace(/^(.*\S) +\/\/ (.*)$/gm, 'results.push([$1, $2])')
   const results = []
-  Function('terms', 'results', code)(semver.terms, results)
-  assert.equal(results.length, 3)
+  Function('terms', 'replaceVersion', 'results', code)(semver.terms, semver.replaceVersion, results)
+  assert.equal(results.length, 4)
   for (const [found, right] of results) assert.deepEqual(found, right)
 })
 

@@ -19,8 +19,7 @@ const why: semver.Explanation | null = semver.explainVersion('1.2')
 const lost: string | null | undefined = semver.compareRanges('^1', '^1.2').lost?.releases
 const values: string[] = new semver.Range('^1').set.flatMap((it) => it.map(({ value }) => value))
 const written: semver.Term[] = semver.terms('^1.2 || 1 - 2', { loose: false })
-const replaced: string = semver.replaceVersion('^1.2', written[0].version, new semver.SemVer('2.0.0'), C)
-const second: number | 'x' | null | undefined = written[1].upper?.minor
+const second: number | 'x' | 'X' | '*' | null | undefined = written[1].upper?.minor
 const where: [number, number, boolean] = [written[0].start, written[0].version.end, written[0].version.hasV]
 const incremented: string | null = semver.inc('1.2.3', 'prerelease', 'beta', false)
 const ready: Promise<void> = semver.ready()
@@ -58,6 +57,7 @@ class Named extends semver.Range { readonly label: string = 'a' }
 const satisfiedByAny: boolean = semver.satisfies(new semver.SemVer('1.2.3', C), new Named('^1'), C)
 export { sum, ofBound, ofAlone, kept64, readAgain, lowestOfNpm, either, reason, lowest, place, satisfiedByAny }
 
+const replaced: string = semver.replaceVersion('^1.2', written[0].version, new semver.SemVer('2.0.0'))
 const componentOfCargo: bigint | 'x' | 'X' | '*' = semver.terms('1.2.3', C)[0].version.major
 const termOfEither = (dialect: semver.Dialect): number | bigint | 'x' | 'X' | '*' => semver.terms('1', { dialect })[0].version.major
 export { componentOfCargo, termOfEither }
