@@ -1,6 +1,7 @@
 /* Raises the requirements of standard input by the example in C: a range, a version and a dialect,
  * each with a zero byte after it. It writes for each the new range, `!none` or `!invalid`, and a
  * zero byte. */
+#define _POSIX_C_SOURCE 200809L
 #define main main_of_example
 #include "raise-requirement.c"
 #undef main
@@ -28,13 +29,16 @@ int main(void) {
         if (!read_field(&fields[1], &capacities[1]) || !read_field(&fields[2], &capacities[2])) {
             return 2;
         }
+        bool contains = false;
         char *made = NULL;
         semver_parser_error error;
-        semver_parser_status status
-            = raised(fields[0], fields[1], dialect_of(fields[2]), &made, &error);
-        fputs(status != SEMVER_PARSER_OK ? "!invalid" : made == NULL ? "!none" : made, stdout);
+        semver_parser_status status = raise_to(
+            semver_parser_str(fields[0]), semver_parser_str(fields[1]), dialect_of(fields[2]),
+            &contains, &made, &error);
+        const char *raised = contains ? fields[0] : made;
+        fputs(status != SEMVER_PARSER_OK ? "!invalid" : raised == NULL ? "!none" : raised, stdout);
         putchar('\0');
-        free(made);
+        semver_parser_free(made);
     }
     for (int at = 0; at < 3; at++) {
         free(fields[at]);
