@@ -13,7 +13,7 @@
 // argument is invalid.
 'use strict'
 
-const { replaceVersion, satisfies, terms } = require('semver-parser-proved')
+const { replaceVersion, satisfies, SemVer, terms } = require('semver-parser-proved')
 
 /**
  * Returns a range that contains the version: the range itself if it does, or else the range with
@@ -22,11 +22,12 @@ const { replaceVersion, satisfies, terms } = require('semver-parser-proved')
  */
 function raised(range, version, dialect) {
   const options = { dialect }
+  const to = new SemVer(version, options)
   const last = terms(range, options).at(-1)
-  if (satisfies(version, range, options)) return range
+  if (satisfies(to, range, options)) return range
   if (last === undefined || !['', '=', '~', '^'].includes(last.operator)) return null
-  const result = replaceVersion(range, last.version, version, options)
-  return satisfies(version, result, options) ? result : null
+  const result = replaceVersion(range, last.version, to, options)
+  return satisfies(to, result, options) ? result : null
 }
 
 function main(range, version, dialect = 'npm', ...more) {
