@@ -10,7 +10,8 @@ import { EMBEDDED, WHERE } from './module.mjs'
 export const OUT_OF_MEMORY = -3
 
 const encoder = new TextEncoder()
-const decoder = new TextDecoder()
+// A string may begin with U+FEFF, which is white space to npm.
+const decoder = new TextDecoder('utf-8', { ignoreBOM: true })
 
 let functions = null
 let bytes, numbers

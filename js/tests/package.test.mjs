@@ -206,6 +206,7 @@ test('a version of a range has the numbers of another one', () => {
   assert.deepEqual(replaced('v1.2 || >= 1.2.3-a+b', version), ['v3.1 || >= 1.2.3-a+b', 'v1.2 || >= 3.1.4-rc.1'])
   assert.deepEqual(replaced('1.X - 2.*.x', new semver.SemVer(version)), ['3.X - 2.*.x', '1.X - 3.*.x'])
   assert.deepEqual(replaced('\u00a0^1.2.x-a', version), ['\u00a0^3.1.x'])
+  assert.deepEqual(replaced('\ufeff^1', version), ['\ufeff^3'])
   assert.deepEqual(replaced('>=1.2.0, <2', version, cargo), ['>=3.1.4-rc.1, <2', '>=1.2.0, <3'])
   const [{ version: written }] = semver.terms('^1.2')
   assert.throws(() => semver.replaceVersion('^1.02', written, '2.0.0'), { name: 'SemverError', kind: 'range', input: '^1.02' })
