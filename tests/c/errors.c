@@ -293,32 +293,32 @@ static const struct {
     const char *message;
 } messages[] = {
     {CARGO, "1 || 2",
-     "invalid range \"1 || 2\", at byte 2: Cargo takes no ||; npm does\n"
+     "invalid range \"1 || 2\" at offset 2: Cargo takes no ||; npm does\n"
      "    1 || 2\n"
      "      ^"},
     {CARGO, ">=",
-     "invalid range \">=\", at byte 2: a number is expected\n"
+     "invalid range \">=\" at offset 2: a number is expected\n"
      "    >=\n"
      "      ^"},
     /* Quotes and control characters are escaped, and are one column in the second line. */
     {NPM, "1\t\"",
-     "invalid range \"1\\t\\\"\", at byte 2: unexpected character\n"
+     "invalid range \"1\\t\\\"\" at offset 2: unexpected character\n"
      "    1\xEF\xBF\xBD\"\n"
      "      ^"},
     {CARGO, "\xC3\xA9",
-     "invalid range \"\xC3\xA9\", at byte 0: unexpected character\n"
+     "invalid range \"\xC3\xA9\" at offset 0: unexpected character\n"
      "    \xC3\xA9\n"
      "    ^"},
     {CARGO, "1.2.\xFF",
-     "invalid range \"1.2.\xEF\xBF\xBD\", at byte 4: the string isn't UTF-8\n"
+     "invalid range \"1.2.\xEF\xBF\xBD\" at offset 4: the string isn't UTF-8\n"
      "    1.2.\xEF\xBF\xBD\n"
      "        ^"},
     {CARGO, "^18446744073709551616",
-     "number too large in range \"^18446744073709551616\", at byte 1: numbers are at most 2^64 - 1\n"
+     "number too large in range \"^18446744073709551616\" at offset 1: numbers are at most 2^64 - 1\n"
      "    ^18446744073709551616\n"
      "     ^"},
     {CARGO, "~1.18446744073709551615",
-     "number too large in range \"~1.18446744073709551615\", at byte 3: the bound above this number "
+     "number too large in range \"~1.18446744073709551615\" at offset 3: the bound above this number "
      "is above 2^64 - 1\n"
      "    ~1.18446744073709551615\n"
      "       ^"},
@@ -348,11 +348,11 @@ static void other_messages(void) {
     semver_parser_version parsed;
     semver_parser_error error = parse(&version, CARGO, &parsed);
     message_of(&error, &version, false,
-               "invalid version \"1.2.03\", at byte 5: numbers and identifiers of digits may not "
+               "invalid version \"1.2.03\" at offset 5: numbers and identifiers of digits may not "
                "have a leading zero");
     /* Another string than that of the error: the offset is beyond its end. */
     message_of(&error, &empty, true,
-               "invalid version \"\", at byte 5: numbers and identifiers of digits may not "
+               "invalid version \"\" at offset 5: numbers and identifiers of digits may not "
                "have a leading zero\n    \n    ^");
     error = no_error;
     message_of(&error, &version, true, "no error");

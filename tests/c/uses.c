@@ -30,7 +30,7 @@ static bool use_error(const semver_parser_error *error) {
     semver_parser_status status =
         semver_parser_error_message(error, semver_parser_str("1.2.03"), false, &message);
     return is_made(status, message,
-                   "invalid version \"1.2.03\", at byte 5: numbers and identifiers of digits may "
+                   "invalid version \"1.2.03\" at offset 5: numbers and identifiers of digits may "
                    "not have a leading zero")
            && strcmp(semver_parser_status_name(error->status), "invalid-version") == 0
            && strcmp(semver_parser_status_text(error->status), "invalid version") == 0

@@ -221,7 +221,7 @@ typedef struct {
     uint64_t reserved[4];
 } semver_parser_error;
 
-/* Makes an English sentence of an error: `invalid range "1 || 2", at byte 2: Cargo takes no ||;
+/* Makes an English sentence of an error: `invalid range "1 || 2" at offset 2: Cargo takes no ||;
  * npm does`. `string` is the string of the call that `error->index` names. With `caret` it has
  * two lines more, indented by four spaces: the string, shortened if it is long and with U+FFFD
  * for control characters, and a caret under the character. An error that isn't about a string, such

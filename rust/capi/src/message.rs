@@ -63,7 +63,7 @@ pub fn of_error<'a>(error: &Error, of: &[u8], caret: bool) -> Result<*mut c_char
     let shown = Shown(&of[begin..end]);
     let column = left.len() + Shown(&of[begin..offset]).characters().count();
     let mut text = String::new();
-    text.write_fmt(format_args!("{status} {left}\"{shown:#}\"{right}, at byte "))?;
+    text.write_fmt(format_args!("{status} {left}\"{shown:#}\"{right} at offset "))?;
     text.write_fmt(format_args!("{}: {reason}", error.offset))?;
     if caret {
         text.write_fmt(format_args!("\n    {left}{shown}{right}\n    {:column$}^", ""))?;
