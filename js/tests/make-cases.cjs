@@ -112,6 +112,8 @@ for (const range of RANGES) {
     add('simplifyRange', RELEASES_OF_SOME, range, options)
   }
   for (const call of ['validRange', 'toComparators', 'Range', 'Comparator']) add(call, range)
+  // A hyphen range up to three numbers is written otherwise here: js/README.md.
+  if (!/ - /.test(range)) for (const call of ['validRange', 'toComparators', 'Range']) add(call, range, { includePrerelease: true })
   for (const version of SOME) add('Range.test', range, version)
   if (!range.includes('||')) add('Range.parseRange', '1', range)
 }

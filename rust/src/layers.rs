@@ -2,7 +2,7 @@
 
 use crate::proved::{invalid_strings, tool_ranges};
 use crate::version::Outline;
-use crate::{AllocError, Dialect, PartialVersion, RangeError, RangeSet, Terms};
+use crate::{AllocError, Dialect, Meaning, PartialVersion, PreReleases, RangeError, RangeSet, Terms};
 
 pub use crate::proved::invalid_strings::refusals::Refusal as VersionRefusal;
 pub use crate::proved::tool_ranges::refusals::Refusal as RangeRefusal;
@@ -77,6 +77,29 @@ pub fn check_range(range: &str, dialect: Dialect) -> Result<(), RangeError> {
 /// ```
 pub fn comparators(range: &str, dialect: Dialect) -> Result<RangeSet, RangeError> {
     tool_ranges::dialect::rewrite(dialect, range)
+}
+
+/// Rewrites a range string into plain comparators with exact bounds, as [`comparators`] does. In npm's
+/// dialect with `PreReleases::Included` they say which pre-releases satisfy the range, too: their
+/// lower bounds are as node-semver writes them with `includePrerelease`.
+///
+/// # Errors
+///
+/// Those of [`comparators`].
+///
+/// ```
+/// use semver_parser::layers::comparators_of_meaning;
+/// use semver_parser::{Dialect, Meaning, PreReleases};
+///
+/// let meaning = Meaning { dialect: Dialect::Npm, pre_releases: PreReleases::Included };
+/// assert_eq!(comparators_of_meaning("1.x", meaning)?.to_string(), ">=1.0.0-0 <2.0.0-0");
+/// # Ok::<(), semver_parser::RangeError>(())
+/// ```
+pub fn comparators_of_meaning(range: &str, meaning: Meaning) -> Result<RangeSet, RangeError> {
+    match (meaning.dialect, meaning.pre_releases) {
+        (Dialect::Npm, PreReleases::Included) => tool_ranges::npm::rewrite_included(range),
+        (dialect, _) => tool_ranges::dialect::rewrite(dialect, range),
+    }
 }
 
 /// Returns what is before the version that begins at an offset of a range string, that version with

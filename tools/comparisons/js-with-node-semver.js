@@ -107,6 +107,17 @@ function isRead (range, options) {
   return false
 }
 
+// A range that is written is read back, with the same options, as the same versions.
+function readBack (range, options, versions) {
+  const written = ours.validRange(range, options)
+  for (const one of versions) {
+    const [wanted, found] = [range, written].map((it) => ours.satisfies(one, it, options))
+    if (wanted === found || !options) continue
+    console.log(`differ: ${one} in ${range}: ${wanted}, and in ${written}, which it is written as: ${found}`)
+    process.exit(1)
+  }
+}
+
 function compareRange (random, range) {
   const list = asked(random, range)
   const versions = [...list.slice(0, 6), version(random)]
@@ -122,7 +133,9 @@ function compareRange (random, range) {
       compareCall('maxSatisfying', [versions, object, options], known)
     }
     const isLong = () => isKnown() || isLarge([range])()
-    if (options === undefined) for (const call of ['validRange', 'toComparators']) compareCall(call, [range], isLong)
+    const isUpTo = () => isLong() || (options && /\s-\s/.test(range) && count('a hyphen range as it is written with includePrerelease'))
+    for (const call of ['validRange', 'toComparators']) compareCall(call, [range, options], isUpTo)
+    readBack(range, options, versions)
     const releases = versions.filter((it) => semver.valid(it) !== null && !/-/.test(it))
     compareCall('simplifyRange', [releases, range, options], isLong)
   }

@@ -63,6 +63,16 @@ pub fn one_npm_rewrite(alloc: Global, range: &str) -> Answers
     (npm::rewrite(alloc, range), npm::rewrite(alloc, range))
 }
 
+/// `npm::rewrite_included` has one result.
+pub fn one_npm_rewrite_included(alloc: Global, range: &str) -> Answers
+    ensures one { AreOne RangeError.OutOfMemory set_of result.0 result.1 }
+{
+    (
+        npm::rewrite_included(alloc, range),
+        npm::rewrite_included(alloc, range),
+    )
+}
+
 /// `dialect::rewrite` has one answer.
 pub fn one_rewrite(alloc: Global, dialect: Dialect, range: &str) -> Answers
     ensures one { AreOne RangeError.OutOfMemory set_of result.0 result.1 }

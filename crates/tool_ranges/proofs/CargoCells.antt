@@ -1,4 +1,4 @@
--- serves: tool_ranges::meaning::satisfies
+-- serves: tool_ranges::npm::rewrite_included
 -- Between the sides of Cargo's table and of the crate's are the versions that a term means.
 use Rattle.std.proofs.Common.{◌≡◌, ℕ, Bool, true, false, not, ◌&&◌, ◌||◌, ◌==◌, List, [], ◌∷◌, length}
 use Rattle.std.proofs.Common.{refl, sym, ap, ◌∙◌, rules}

@@ -1,4 +1,4 @@
--- serves: tool_ranges::cargo::rewrite
+-- serves: tool_ranges::npm::rewrite_included
 -- How sides of the zero-filled version of stated numbers go with agreement and comparison.
 use Rattle.std.proofs.Common.{◌≡◌, ℕ, Bool, true, false, not, ◌&&◌, ◌||◌, ◌==◌, nat_eq, List, [], ◌∷◌}
 use Rattle.std.proofs.Common.{refl, ap, ◌∙◌}
@@ -57,7 +57,7 @@ ge_of Step.lower o h = h
 ge_of Step.level o h = refl
 ge_of Step.higher o h = refl
 
-same_ge : {g : Ordering → Ordering} {e m : Bool} → Step g e m → (o : Ordering) → is_ge o ≡ true → is_ge (g o) ≡ is_ge (g Equal)
+pub same_ge : {g : Ordering → Ordering} {e m : Bool} → Step g e m → (o : Ordering) → is_ge o ≡ true → is_ge (g o) ≡ is_ge (g Equal)
 same_ge Step.lower o h = refl
 same_ge Step.level o h = h
 same_ge Step.higher o h = refl

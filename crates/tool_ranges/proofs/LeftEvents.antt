@@ -1,4 +1,4 @@
--- serves: tool_ranges::version_range::VersionRange::parse
+-- serves: tool_ranges::npm::rewrite_included
 -- What is left of a range text whose terms fit, when a term comes first, and at the end.
 use Rattle.std.proofs.Common.{◌≡◌, true, List, [], ◌∷◌, Option, Some, None, refl}
 use Rattle.std.proofs.lemmas.Bool.{and_parts}

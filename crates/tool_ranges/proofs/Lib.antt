@@ -39,4 +39,6 @@ mod BuiltSets
 mod LeftEvents
 mod PrintedTerms
 mod PrintedCells
+mod IncludedCells
+mod IncludedMeanings
 mod PrintedSets

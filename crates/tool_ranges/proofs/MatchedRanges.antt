@@ -145,7 +145,7 @@ module _ (v : PlainVersion) where
     whole (three a b c (part ∷ parts) build) y =
         let meets = three_from (stated_shape (three a b c (part ∷ parts) build)) y in rw y (meets _)
 
-  included_range : (r : RangeTree) → range_met Npm true v (yielded Lowest r) ≡ npm.meets_range Included r v
+  pub included_range : (r : RangeTree) → range_met Npm true v (yielded Lowest r) ≡ npm.meets_range Included r v
   included_range empty = refl
   included_range (simples first others) = and-true _
   included_range (hyphen left right) = by_test (states_nothing right)

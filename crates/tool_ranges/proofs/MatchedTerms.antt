@@ -1,4 +1,4 @@
--- serves: tool_ranges::meaning::satisfies
+-- serves: tool_ranges::npm::rewrite_included
 -- What a term that was read says of a version is what the term of the tree says.
 use Rattle.std.proofs.Common.{◌≡◌, ℕ, Bool, true, false, not, ◌&&◌, ◌==◌, if◌then◌else◌, nat_eq, List, [], ◌∷◌, length, refl, sym, ap, ◌∙◌}
 use Rattle.std.proofs.Math.Bool.{and-false, and-true}
@@ -30,7 +30,7 @@ none_is : (is : List IdentifierValue) → is_empty is ≡ true → is ≡ []
 none_is [] e = refl
 none_is (i ∷ is) e = cc
 
-none_any : (s : Simple) → (length (stated s.partial) == 3) ≡ false → identifiers_by AnySize (pre_release s.partial) ≡ []
+pub none_any : (s : Simple) → (length (stated s.partial) == 3) ≡ false → identifiers_by AnySize (pre_release s.partial) ≡ []
 none_any s n = rw n refl
 
 none_kept : (s : Simple) → (length (stated s.partial) == 3) ≡ false → pre_release s.partial ≡ []

@@ -1,4 +1,4 @@
--- serves: tool_ranges::meaning::satisfies
+-- serves: tool_ranges::npm::rewrite_included
 -- Between the sides of npm's table are the versions that a term means.
 use Rattle.std.proofs.Common.{◌≡◌, ℕ, Bool, true, false, not, ◌&&◌, ◌||◌, ◌==◌, if◌then◌else◌, List, [], ◌∷◌, length}
 use Rattle.std.proofs.Common.{refl, sym, ap, ◌∙◌, rules}

@@ -4,6 +4,7 @@ use Rattle.std.proofs.Common.{◌≡◌, ℕ, true, false, not, ◌&&◌, ◌==�
 use Rattle.semver_texts.specs.Texts.{is_empty}
 use Rattle.semver_texts.specs.Versions.{numbers, IdentifierValue, PlainVersion}
 use Rattle.semver_texts.proofs.Lists.{by_test}
+use Rattle.semver_ranges.specs.declared.partial.LowerBounds.TheVariants.{Stated}
 use Rattle.semver_ranges.specs.declared.range.Compat.{Compat}
 use Rattle.semver_ranges.specs.declared.range.Compat.TheVariants as mode
 use Rattle.semver_ranges.specs.declared.range.Op.TheVariants.{Lt, Gte}
@@ -26,7 +27,7 @@ use Rattle.tool_ranges.proofs.FitCells.{none_stated}
 use Rattle.tool_ranges.proofs.ReadMeanings.{every_equal}
 
 -- the tables, of a form, the stated numbers and a pre-release
-abbrev written_by : Compat → Form → List ℕ → PlainVersion → List PlainComparator
+abbrev pub written_by : Compat → Form → List ℕ → PlainVersion → List PlainComparator
 written_by m form s z =
     if is_greater form && states_some s then comparator Gte (up (length s) s) ∷ []
     else (if ends_at m form s then comparator Lt (exact_bound z) ∷ []
@@ -34,13 +35,13 @@ written_by m form s z =
 
 abbrev Prints : Dialect → Compat → Form → List ℕ → List IdentifierValue → Type 0
 Prints d m form s p =
-    printed (sides d form s (not (is_empty p))).0 (sides d form s (not (is_empty p))).1 (filled s p) ≡ written_by m form s (filled s p)
+    printed Stated (sides d form s (not (is_empty p))).0 (sides d form s (not (is_empty p))).1 (filled s p) ≡ written_by m form s (filled s p)
 
 abbrev Both : Form → List ℕ → List IdentifierValue → Type 0
 Both form s p = Prints Cargo mode.Cargo form s p × Prints Npm mode.Npm form s p
 
 -- the numbers that are raised are stated
-raised_same : {s : List ℕ} {k : ℕ} → Spot s k → (p : List IdentifierValue) → up k (numbers (filled s p)) ≡ up k s
+pub raised_same : {s : List ℕ} {k : ℕ} → Spot s k → (p : List IdentifierValue) → up k (numbers (filled s p)) ≡ up k s
 raised_same (Spot.first_of_one x) p = refl
 raised_same (Spot.first_of_two x y) p = refl
 raised_same (Spot.second_of_two x y) p = refl
@@ -108,8 +109,8 @@ cargo_cells form (Shape.one x) p none every = rw (none refl) (one form x).0
 cargo_cells form (Shape.two x y) p none every = rw (none refl) (two form x y).0
 cargo_cells form (Shape.three x y w) p none every = (three form x y w p).0
 
-pub npm_term : (s : Simple) → printed_term Npm s ≡ written_in mode.Npm s
+pub npm_term : (s : Simple) → printed_term Stated Npm s ≡ written_in mode.Npm s
 npm_term s = npm_cells s.form (stated_shape s.partial) (pre_release s.partial) (none_stated s)
 
-pub cargo_term : (s : Simple) → is_of_cargo s ≡ true → printed_term Cargo (as_read s) ≡ written_one s
+pub cargo_term : (s : Simple) → is_of_cargo s ≡ true → printed_term Stated Cargo (as_read s) ≡ written_one s
 cargo_term s e = cargo_cells (as_read s).form (stated_shape s.partial) (pre_release s.partial) (none_stated s) (every_equal s e)

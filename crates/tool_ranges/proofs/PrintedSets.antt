@@ -4,6 +4,7 @@ use Rattle.std.proofs.Common.{◌≡◌, List, [], ◌∷◌, ◌++◌, map, ref
 use Rattle.std.proofs.lemmas.List.{map-append}
 use Rattle.std.specs.List.{flat_map}
 use Rattle.semver_texts.specs.Texts.{Text}
+use Rattle.semver_ranges.specs.declared.partial.LowerBounds.{LowerBounds}
 use Rattle.semver_ranges.specs.declared.partial.LowerBounds.TheVariants.{Stated}
 use Rattle.semver_ranges.specs.declared.range.Comparator.{Comparator}
 use Rattle.semver_ranges.specs.declared.range.Compat.{Compat}
@@ -56,31 +57,31 @@ module _ (written : Simple → List PlainComparator) (mode : Compat) where
         → map range_of new ≡ map range_of old ++ ranges_by written mode (map comparator_of set) left
     text_ended left none = with_range ∙ ap (λ es. map range_of old ++ ranges_by written mode (map comparator_of set) es) (sym none)
 
-pub printed_events : (d : Dialect) (mode : Compat) (t : Text) (tree : TreeOf d) → SpellsAs d tree t
-    → printed_ranges d mode tree ≡ ranges_by (printed_term d) mode [] (events_in (ranges_of Stated d tree))
-printed_events d mode t tree h =
-    let some = some_ranges Stated d t tree h in
-    ap (map (range_of_simples (printed_term d) mode)) some.2
-    ∙ sym (listed (printed_term d) mode some.0 some.1)
-    ∙ ap (λ rs. ranges_by (printed_term d) mode [] (events_in rs)) (sym some.2)
+pub printed_events : (low : LowerBounds) (d : Dialect) (mode : Compat) (t : Text) (tree : TreeOf d) → SpellsAs d tree t
+    → printed_ranges low d mode tree ≡ ranges_by (printed_term low d) mode [] (events_in (ranges_of low d tree))
+printed_events low d mode t tree h =
+    let some = some_ranges low d t tree h in
+    ap (map (range_of_simples (printed_term low d) mode)) some.2
+    ∙ sym (listed (printed_term low d) mode some.0 some.1)
+    ∙ ap (λ rs. ranges_by (printed_term low d) mode [] (events_in rs)) (sym some.2)
 
 -- ---- of npm
 npm_range : (r : RangeTree)
-    → range_of_simples (printed_term Npm) mode.Npm (yielded Stated r) ≡ record { comparators = range_by (written_in mode.Npm) r; compat = mode.Npm }
+    → range_of_simples (printed_term Stated Npm) mode.Npm (yielded Stated r) ≡ record { comparators = range_by (written_in mode.Npm) r; compat = mode.Npm }
 npm_range r = (λ i. range_of_simples (λ s. npm_term s i) mode.Npm (yielded Stated r)) ∙ range_made npm_table mode.Npm r
 
-pub npm_ranges : (tree : SetTree) → printed_ranges Npm mode.Npm tree ≡ (rewritten_npm tree).ranges
+pub npm_ranges : (tree : SetTree) → printed_ranges Stated Npm mode.Npm tree ≡ (rewritten_npm tree).ranges
 npm_ranges [] = refl
 npm_ranges (r ∷ others) = λ i. npm_range r i ∷ npm_ranges others i
 
 -- ---- of Cargo
 pub requirement_printed : (tree : List Simple) (t : Text) → SpellsComparators tree t
-    → flat_map (printed_term Cargo) (map as_read tree) ≡ flat_map written_one tree
+    → flat_map (printed_term Stated Cargo) (map as_read tree) ≡ flat_map written_one tree
 requirement_printed [] t h = absurd h
 requirement_printed (s ∷ []) t h = ap (λ cs. cs ++ []) (cargo_term s h.is_read)
 requirement_printed (s ∷ next ∷ others) t (front, back, h, more, text) =
     λ i. cargo_term s h.is_read i ++ requirement_printed (next ∷ others) back more i
 
 pub requirement_ranges : (tree : List Simple) (t : Text) → SpellsComparators tree t
-    → printed_ranges Cargo mode.Cargo tree ≡ (rewritten_requirement tree).ranges
+    → printed_ranges Stated Cargo mode.Cargo tree ≡ (rewritten_requirement tree).ranges
 requirement_ranges tree t h = ap (λ cs. record { comparators = cs; compat = mode.Cargo } ∷ []) (requirement_printed tree t h)

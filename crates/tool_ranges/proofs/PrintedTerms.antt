@@ -8,6 +8,7 @@ use Rattle.std.specs.Prelude.{is_some}
 use Rattle.semver_texts.specs.Texts.{is_empty}
 use Rattle.semver_texts.specs.Versions.{numbers, PlainVersion}
 use Rattle.semver_ranges.specs.declared.grammar.Simple as read
+use Rattle.semver_ranges.specs.declared.partial.LowerBounds.{LowerBounds}
 use Rattle.semver_ranges.specs.declared.range.Comparator.{Comparator}
 use Rattle.semver_ranges.specs.declared.range.Op.TheVariants.{Eq}
 use Rattle.semver_ranges.specs.RangeTree.{Simple}
@@ -39,10 +40,10 @@ module _ (d : Dialect) (s : Simple) (simple : read.Simple) (is : IsSimpleOf s si
   same : (stated_of simple.partial ≡ stated s.partial) × (version_of simple.partial ≡ zero_filled s.partial)
   same = is.1.1 (sym is.1.0 ∙ term_stated d s fit)
 
-  pub printed_so : (lower upper : Option SideValue) → lower ≡ of_read.0 → upper ≡ of_read.1
-      → printed lower upper (version_of simple.partial) ≡ printed_term d s
-  printed_so lower upper e f = (λ i. printed (e i) (f i) (version_of simple.partial))
-      ∙ (λ i. printed (sides d (is.0 i) (same.0 i) (not (is_empty (same.1 i).pre))).0
+  pub printed_so : (low : LowerBounds) (lower upper : Option SideValue) → lower ≡ of_read.0 → upper ≡ of_read.1
+      → printed low lower upper (version_of simple.partial) ≡ printed_term low d s
+  printed_so low lower upper e f = (λ i. printed low (e i) (f i) (version_of simple.partial))
+      ∙ (λ i. printed low (sides d (is.0 i) (same.0 i) (not (is_empty (same.1 i).pre))).0
       (sides d (is.0 i) (same.0 i) (not (is_empty (same.1 i).pre))).1 (same.1 i))
 
   both_rise : (may_rise (limit d) of_read.0 (numbers (version_of simple.partial))
@@ -64,10 +65,10 @@ pub pushed : (old new : List Comparator) (c : Comparator) (x : PlainComparator) 
 pushed old new c x e f = ap (map comparator_of) e ∙ map-append comparator_of old (c ∷ []) ∙ ap (λ y. map comparator_of old ++ y ∷ []) f
 
 -- the comparators of two sides
-pub both_sides : (lower upper : Option SideValue) (z : PlainVersion) → (is_some lower && ends_past upper) ≡ true
-    → (comparator Eq z ∷ []) ≡ printed lower upper z
-both_sides lower upper z e = rw e refl
+pub both_sides : (low : LowerBounds) (lower upper : Option SideValue) (z : PlainVersion) → (is_some lower && ends_past upper) ≡ true
+    → (comparator Eq z ∷ []) ≡ printed low lower upper z
+both_sides low lower upper z e = rw e refl
 
-pub apart_sides : (lower upper : Option SideValue) (z : PlainVersion) → (is_some lower && ends_past upper) ≡ false
-    → (at_side lower_comparator lower z ++ at_side upper_comparator upper z) ≡ printed lower upper z
-apart_sides lower upper z e = rw e refl
+pub apart_sides : (low : LowerBounds) (lower upper : Option SideValue) (z : PlainVersion) → (is_some lower && ends_past upper) ≡ false
+    → (at_side (lower_comparator low) lower z ++ at_side upper_comparator upper z) ≡ printed low lower upper z
+apart_sides low lower upper z e = rw e refl

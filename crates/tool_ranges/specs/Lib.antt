@@ -6,6 +6,7 @@ pub mod ToolTable
 pub mod NpmGrammar
 pub mod NpmMeaning
 pub mod NpmTable
+pub mod IncludedTable
 pub mod Steps
 pub mod Dialects
 pub mod DialectTable

@@ -4,6 +4,7 @@ ghost use Rattle.std.specs.Prelude.{◌≡◌, [], List, true, IfOk, IsTrue};
 ghost use Rattle.semver_ranges.specs.RangeTree.{Simple as SimpleTree, SetTree, Spells};
 ghost use Rattle.semver_texts.specs.Versions.{PlainVersion};
 ghost use Rattle.semver_ranges.specs.RangeViews.{set_of};
+ghost use Rattle.semver_ranges.specs.declared.partial.LowerBounds.TheVariants.{Stated};
 ghost use Rattle.semver_ranges.specs.declared.range.Compat.TheVariants.{Cargo};
 ghost use Rattle.semver_ranges.specs.Meeting.{meets_set};
 ghost use Rattle.semver_ranges.specs.PrintedRanges.{IsPrintableSet, set_text};
@@ -26,6 +27,7 @@ use crate::printing;
 use crate::table::fits;
 pub(crate) use grammar::read_comparator;
 use semver_ranges::grammar::Simple;
+use semver_ranges::partial::LowerBounds;
 use semver_ranges::{Compat, Range, RangeError, RangeSet};
 use std::alloc::{AllocError, Global};
 
@@ -76,10 +78,16 @@ pub fn rewrite(alloc: Global, requirement: &str) -> Result<RangeSet, RangeError>
 fn rewritten(alloc: Global, requirement: &str) -> Result<RangeSet, RangeError>
     ensures refusals { RefusesAs dialect.Cargo requirement.now result }
     ensures printed { IfOk result (λ set.
-        IsPrintedAs dialect.Cargo Cargo requirement.now (set_of set)) }
+        IsPrintedAs Stated dialect.Cargo Cargo requirement.now (set_of set)) }
 {
     let Some((simple, None)) = read_comparator(requirement.as_bytes()) else {
-        return printing::rewrite(alloc, requirement, Dialect::Cargo, Compat::Cargo);
+        return printing::rewrite(
+            alloc,
+            requirement,
+            Dialect::Cargo,
+            Compat::Cargo,
+            LowerBounds::Stated,
+        );
     };
     if !fits(&simple, Dialect::Cargo) {
         return Err(RangeError::NumberTooLarge);
@@ -94,10 +102,16 @@ fn rewritten(alloc: Global, requirement: &str) -> Result<RangeSet, RangeError>
 fn set_of_one(alloc: Global, simple: &Simple<'_>) -> Result<RangeSet, AllocError>
     requires { (s : SimpleTree) × IsSimpleOf s simple.now }
     ensures { IfOk result (λ set. (s : SimpleTree) → IsSimpleOf s simple.now
-        → fits_in Cargo s ≡ true → set_of set ≡ in_one_range (printed_term dialect.Cargo s)) }
+        → fits_in Cargo s ≡ true → set_of set ≡ in_one_range (printed_term Stated dialect.Cargo s)) }
 {
     let mut comparator_set = Vec::with_capacity(alloc, 2)?;
-    printing::push(alloc, simple, Dialect::Cargo, &mut comparator_set)?;
+    printing::push(
+        alloc,
+        simple,
+        Dialect::Cargo,
+        LowerBounds::Stated,
+        &mut comparator_set,
+    )?;
     let mut ranges = Vec::with_capacity(alloc, 1)?;
     ranges.push_reserved(Range {
         comparator_set,

@@ -10,7 +10,9 @@ ghost use Rattle.semver_ranges.specs.RangeViews.{set_of};
 ghost use Rattle.semver_ranges.specs.Meeting.{meets_set};
 ghost use Rattle.semver_ranges.specs.PrintedRanges.{IsPrintableSet, set_text};
 ghost use Rattle.semver_ranges.specs.RewritingTable.{fits, rewritten};
-ghost use Rattle.version_sets.specs.declared.rules.PreReleases.TheVariants.{Default};
+ghost use Rattle.version_sets.specs.declared.rules.PreReleases.TheVariants.{Default, Included};
+ghost use Rattle.tool_ranges.specs.AnySize.{set_any};
+ghost use Rattle.tool_ranges.specs.IncludedTable.{rewritten_included};
 ghost use Rattle.tool_ranges.specs.NpmGrammar.{may_stand, SpellsNpmRange};
 ghost use Rattle.tool_ranges.specs.NpmMeaning.{meets_npm};
 ghost use Rattle.tool_ranges.specs.NpmTable.{rewritten_npm};
@@ -19,6 +21,7 @@ ghost use Rattle.tool_ranges.specs.declared.dialect.Dialect.TheVariants as diale
 
 use crate::dialect::Dialect;
 use crate::printing;
+use semver_ranges::partial::LowerBounds;
 use semver_ranges::{Compat, RangeError, RangeSet};
 use semver_texts::white_space::is_white_space_beyond_ascii;
 use std::alloc::Global;
@@ -61,7 +64,33 @@ pub fn rewrite(alloc: Global, range: &str) -> Result<RangeSet, RangeError>
         × Spells tree (set_text (set_of set)) × IsTrue (fits Npm tree)
         × (rewritten Npm tree ≡ set_of set)) }
 {
-    printing::rewrite(alloc, range, Dialect::Npm, Compat::Npm)
+    printing::rewrite(alloc, range, Dialect::Npm, Compat::Npm, LowerBounds::Stated)
+}
+
+// Answer: law answer_laws::ranges::one_npm_rewrite_included.
+/// Rewrites a range, as npm reads it with `includePrerelease`, into plain comparators that say which
+/// pre-releases satisfy it, too: `^1.2` gives `>=1.2.0-0 <2.0.0-0`.
+///
+/// A version satisfies the result, compared by precedence, if and only if it satisfies the range and
+/// pre-releases are included. The result has the ranges in the order of the string, in Npm mode, and
+/// is `>=0.0.0-0` if npm matches everything.
+///
+/// # Errors
+///
+/// Those of [`rewrite`].
+pub fn rewrite_included(alloc: Global, range: &str) -> Result<RangeSet, RangeError>
+    // What isn't in npm's grammar and what is too large is refused, exactly; all else is read.
+    ensures refusals { RefusesAs dialect.Npm range.now result }
+    // What is returned is what each tree of the text is rewritten to.
+    ensures as_rewritten { IfOk result (λ set. (tree : SetTree) → SpellsNpmRange tree range.now
+        → set_of set ≡ rewritten_included tree) }
+    // A version satisfies the result if and only if the text means it with all pre-releases.
+    // Identifiers of digits only are compared as numbers of any size.
+    ensures versions { IfOk result (λ set. (tree : SetTree) (v : PlainVersion)
+        → SpellsNpmRange tree range.now
+        → meets_set v (set_any (set_of set)) ≡ meets_npm Included tree v) }
+{
+    printing::rewrite(alloc, range, Dialect::Npm, Compat::Npm, LowerBounds::Lowest)
 }
 
 /// Whether each character beyond ASCII is white space to JavaScript. For speed it is asked first

@@ -34,9 +34,10 @@ pub(crate) fn rewrite(
     range: &str,
     dialect: Dialect,
     compat: Compat,
+    lower: LowerBounds,
 ) -> Result<RangeSet, RangeError>
     ensures refusals { RefusesAs dialect range.now result }
-    ensures printed { IfOk result (λ set. IsPrintedAs dialect compat range.now (set_of set)) }
+    ensures printed { IfOk result (λ set. IsPrintedAs lower dialect compat range.now (set_of set)) }
 {
     let meaning = Meaning {
         dialect,
@@ -45,7 +46,7 @@ pub(crate) fn rewrite(
     if let Err(refusal) = check(meaning, range) {
         return Err(refusal);
     }
-    match ranges(alloc, range, dialect, compat) {
+    match ranges(alloc, range, dialect, compat, lower) {
         Ok(ranges) => Ok(RangeSet { ranges, compat }),
         Err(_) => Err(RangeError::OutOfMemory),
     }
@@ -57,20 +58,21 @@ fn ranges(
     range: &str,
     dialect: Dialect,
     compat: Compat,
+    lower: LowerBounds,
 ) -> Result<Vec<Range>, AllocError>
     requires { HasSetAs dialect range.now }
     ensures { IfOk result (λ ranges. (tree : TreeOf dialect) → SpellsAs dialect tree range.now
-        → map range_of ranges.items ≡ printed_ranges dialect compat tree) }
+        → map range_of ranges.items ≡ printed_ranges lower dialect compat tree) }
 {
     let grammar = dialect.grammar();
     let mut ranges = Vec::with_capacity(alloc, 1)?;
     let mut comparator_set = Vec::with_capacity(alloc, 4)?;
-    let Ok(mut cursor) = Cursor::new(range, dialect, LowerBounds::Stated) else {
+    let Ok(mut cursor) = Cursor::new(range, dialect, lower) else {
         return Ok(ranges);
     };
     while let Some(Ok(event)) = cursor.next(grammar) {
         match event {
-            Event::Simple(simple) => push(alloc, &simple, dialect, &mut comparator_set)?,
+            Event::Simple(simple) => push(alloc, &simple, dialect, lower, &mut comparator_set)?,
             Event::NextRange => {
                 ranges.push(Range {
                     comparator_set,
@@ -93,45 +95,51 @@ pub(crate) fn push(
     alloc: Global,
     simple: &Simple<'_>,
     dialect: Dialect,
+    lower: LowerBounds,
     comparators: &mut Vec<Comparator>,
 ) -> Result<(), AllocError>
     requires { (s : SimpleTree) × IsSimpleOf s simple.now }
     ensures { IfOk result (λ _. (s : SimpleTree) → IsSimpleOf s simple.now
         → term_fits dialect s ≡ true → map comparator_of comparators.new.items
-        ≡ map comparator_of comparators.old.items ++ printed_term dialect s) }
+        ≡ map comparator_of comparators.old.items ++ printed_term lower dialect s) }
 {
     let partial = &simple.partial;
-    let (lower, upper) = sides(simple, dialect);
-    if lower.is_some() & is_past(upper) {
+    let (first, last) = sides(simple, dialect);
+    if first.is_some() & is_past(last) {
         comparators.push(partial.as_comparator(alloc, Op::Eq)?)?;
         return Ok(());
     }
-    if let Some(lower) = lower {
-        comparators.push(lower_comparator(alloc, partial, lower)?)?;
+    if let Some(side) = first {
+        comparators.push(lower_comparator(alloc, partial, side, lower)?)?;
     }
-    if let Some(upper) = upper {
-        comparators.push(upper_comparator(alloc, partial, upper)?)?;
+    if let Some(side) = last {
+        comparators.push(upper_comparator(alloc, partial, side)?)?;
     }
     Ok(())
 }
 
-/// Returns the comparator of a lower side. `Below` and `At` give the same one: comparators are exact
-/// only for releases.
+/// Returns the comparator of a lower side. If lower bounds are as stated, `Below` and `At` give the
+/// same one: then comparators are exact only for releases.
 #[inline(always)]
 fn lower_comparator(
     alloc: Global,
     partial: &Partial<'_>,
-    lower: Side,
+    side: Side,
+    lower: LowerBounds,
 ) -> Result<Comparator, AllocError>
     requires { PartsPass partial.now }
-    ensures { may_rise (2 ^ 64 - 1) (Some (side_value lower)) (numbers (version_of partial.now))
+    ensures { may_rise (2 ^ 64 - 1) (Some (side_value side)) (numbers (version_of partial.now))
         ≡ true → IfOk result (λ c. comparator_of c
-        ≡ lower_comparator (side_value lower) (version_of partial.now)) }
+        ≡ lower_comparator lower (side_value side) (version_of partial.now)) }
 {
-    match lower {
-        Side::Below | Side::At => partial.as_comparator(alloc, Op::Gte),
-        Side::Past => partial.as_comparator(alloc, Op::Gt),
-        Side::Above(place) => {
+    match (side, lower) {
+        (Side::At, _) | (Side::Below, LowerBounds::Stated) => partial.as_comparator(alloc, Op::Gte),
+        (Side::Below, LowerBounds::Lowest) => lowest_with(alloc, Op::Gte, numbers(partial)),
+        (Side::Past, _) => partial.as_comparator(alloc, Op::Gt),
+        (Side::Above(place), LowerBounds::Lowest) => {
+            lowest_with(alloc, Op::Gte, raised(partial, place))
+        }
+        (Side::Above(place), LowerBounds::Stated) => {
             let Release {
                 major,
                 minor,
@@ -153,29 +161,29 @@ fn lower_comparator(
 fn upper_comparator(
     alloc: Global,
     partial: &Partial<'_>,
-    upper: Side,
+    side: Side,
 ) -> Result<Comparator, AllocError>
     requires { PartsPass partial.now }
-    ensures { may_rise (2 ^ 64 - 1) (Some (side_value upper)) (numbers (version_of partial.now))
+    ensures { may_rise (2 ^ 64 - 1) (Some (side_value side)) (numbers (version_of partial.now))
         ≡ true → IfOk result (λ c. comparator_of c
-        ≡ upper_comparator (side_value upper) (version_of partial.now)) }
+        ≡ upper_comparator (side_value side) (version_of partial.now)) }
 {
-    match upper {
-        Side::Below => below_all(alloc, numbers(partial)),
+    match side {
+        Side::Below => lowest_with(alloc, Op::Lt, numbers(partial)),
         Side::At => partial.as_comparator(alloc, Op::Lt),
         Side::Past => partial.as_comparator(alloc, Op::Lte),
-        Side::Above(place) => below_all(alloc, raised(partial, place)),
+        Side::Above(place) => lowest_with(alloc, Op::Lt, raised(partial, place)),
     }
 }
 
-/// Returns the comparator that is below all versions with some numbers.
+/// Returns the comparator with the lowest of all versions with some numbers.
 #[inline(always)]
-fn below_all(alloc: Global, numbers: Release) -> Result<Comparator, AllocError>
+fn lowest_with(alloc: Global, op: Op, numbers: Release) -> Result<Comparator, AllocError>
     ensures { IfOk result (λ c. comparator_of c
-        ≡ comparator Op.Lt (exact_bound (release_value numbers))) }
+        ≡ comparator op (exact_bound (release_value numbers))) }
 {
     Ok(Comparator {
-        op: Op::Lt,
+        op,
         major: numbers.major,
         minor: numbers.minor,
         patch: numbers.patch,

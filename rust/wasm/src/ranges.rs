@@ -106,7 +106,7 @@ pub unsafe extern "C" fn range_comparators(
     let (Some(meaning), Some(range)) = (meaning(dialect, rule), unsafe { string(at, len) }) else {
         return status::INVALID_RANGE;
     };
-    match layers::comparators(range, meaning.dialect) {
+    match layers::comparators_of_meaning(range, meaning) {
         Ok(set) => show(set),
         Err(RangeError::OutOfMemory) => status::OUT_OF_MEMORY,
         Err(_) => status::INVALID_RANGE,

@@ -9,6 +9,7 @@ use crate::proved::tool_ranges::printing;
 use crate::proved::tool_ranges::table::fits;
 pub(crate) use grammar::read_comparator;
 use crate::proved::semver_ranges::grammar::Simple;
+use crate::proved::semver_ranges::partial::LowerBounds;
 use crate::proved::semver_ranges::{Compat, Range, RangeError, RangeSet};
 use crate::rattle_std::AllocError;
 
@@ -41,7 +42,12 @@ pub fn rewrite(requirement: &str) -> Result<RangeSet, RangeError> {
 /// Returns the set of a requirement. For speed one comparator alone is rewritten as it is read.
 fn rewritten(requirement: &str) -> Result<RangeSet, RangeError> {
     let Some((simple, None)) = read_comparator(requirement.as_bytes()) else {
-        return printing::rewrite(requirement, Dialect::Cargo, Compat::Cargo);
+        return printing::rewrite(
+            requirement,
+            Dialect::Cargo,
+            Compat::Cargo,
+            LowerBounds::Stated,
+        );
     };
     if !fits(&simple, Dialect::Cargo) {
         return Err(RangeError::NumberTooLarge);
@@ -55,7 +61,12 @@ fn rewritten(requirement: &str) -> Result<RangeSet, RangeError> {
 /// Returns the set of one comparator that fits. `Err` is out of memory.
 fn set_of_one(simple: &Simple<'_>) -> Result<RangeSet, AllocError> {
     let mut comparator_set = Vec::fallible_with_capacity(2)?;
-    printing::push(simple, Dialect::Cargo, &mut comparator_set)?;
+    printing::push(
+        simple,
+        Dialect::Cargo,
+        LowerBounds::Stated,
+        &mut comparator_set,
+    )?;
     let mut ranges = Vec::fallible_with_capacity(1)?;
     ranges.push_reserved(Range {
         comparator_set,

@@ -4,6 +4,7 @@
 use crate::rattle_std::prelude::*;
 use crate::proved::tool_ranges::dialect::Dialect;
 use crate::proved::tool_ranges::printing;
+use crate::proved::semver_ranges::partial::LowerBounds;
 use crate::proved::semver_ranges::{Compat, RangeError, RangeSet};
 use crate::proved::semver_texts::white_space::is_white_space_beyond_ascii;
 
@@ -28,7 +29,21 @@ use crate::proved::semver_texts::white_space::is_white_space_beyond_ascii;
 ///   by one is above 2^53 - 1, as `>1.9007199254740991`.
 /// - `OutOfMemory` if an allocation fails. The first two do not allocate.
 pub fn rewrite(range: &str) -> Result<RangeSet, RangeError> {
-    printing::rewrite(range, Dialect::Npm, Compat::Npm)
+    printing::rewrite(range, Dialect::Npm, Compat::Npm, LowerBounds::Stated)
+}
+
+/// Rewrites a range, as npm reads it with `includePrerelease`, into plain comparators that say which
+/// pre-releases satisfy it, too: `^1.2` gives `>=1.2.0-0 <2.0.0-0`.
+///
+/// A version satisfies the result, compared by precedence, if and only if it satisfies the range and
+/// pre-releases are included. The result has the ranges in the order of the string, in Npm mode, and
+/// is `>=0.0.0-0` if npm matches everything.
+///
+/// # Errors
+///
+/// Those of [`rewrite`].
+pub fn rewrite_included(range: &str) -> Result<RangeSet, RangeError> {
+    printing::rewrite(range, Dialect::Npm, Compat::Npm, LowerBounds::Lowest)
 }
 
 /// Whether each character beyond ASCII is white space to JavaScript. For speed it is asked first

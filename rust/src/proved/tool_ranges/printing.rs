@@ -19,6 +19,7 @@ pub(crate) fn rewrite(
     range: &str,
     dialect: Dialect,
     compat: Compat,
+    lower: LowerBounds,
 ) -> Result<RangeSet, RangeError> {
     let meaning = Meaning {
         dialect,
@@ -27,7 +28,7 @@ pub(crate) fn rewrite(
     if let Err(refusal) = check(meaning, range) {
         return Err(refusal);
     }
-    match ranges(range, dialect, compat) {
+    match ranges(range, dialect, compat, lower) {
         Ok(ranges) => Ok(RangeSet { ranges, compat }),
         Err(_) => Err(RangeError::OutOfMemory),
     }
@@ -38,16 +39,17 @@ fn ranges(
     range: &str,
     dialect: Dialect,
     compat: Compat,
+    lower: LowerBounds,
 ) -> Result<Vec<Range>, AllocError> {
     let grammar = dialect.grammar();
     let mut ranges = Vec::fallible_with_capacity(1)?;
     let mut comparator_set = Vec::fallible_with_capacity(4)?;
-    let Ok(mut cursor) = Cursor::new(range, dialect, LowerBounds::Stated) else {
+    let Ok(mut cursor) = Cursor::new(range, dialect, lower) else {
         return Ok(ranges);
     };
     while let Some(Ok(event)) = cursor.next(grammar) {
         match event {
-            Event::Simple(simple) => push(&simple, dialect, &mut comparator_set)?,
+            Event::Simple(simple) => push(&simple, dialect, lower, &mut comparator_set)?,
             Event::NextRange => {
                 ranges.fallible_push(Range {
                     comparator_set,
@@ -69,34 +71,40 @@ fn ranges(
 pub(crate) fn push(
     simple: &Simple<'_>,
     dialect: Dialect,
+    lower: LowerBounds,
     comparators: &mut Vec<Comparator>,
 ) -> Result<(), AllocError> {
     let partial = &simple.partial;
-    let (lower, upper) = sides(simple, dialect);
-    if lower.is_some() & is_past(upper) {
+    let (first, last) = sides(simple, dialect);
+    if first.is_some() & is_past(last) {
         comparators.fallible_push(partial.as_comparator(Op::Eq)?)?;
         return Ok(());
     }
-    if let Some(lower) = lower {
-        comparators.fallible_push(lower_comparator(partial, lower)?)?;
+    if let Some(side) = first {
+        comparators.fallible_push(lower_comparator(partial, side, lower)?)?;
     }
-    if let Some(upper) = upper {
-        comparators.fallible_push(upper_comparator(partial, upper)?)?;
+    if let Some(side) = last {
+        comparators.fallible_push(upper_comparator(partial, side)?)?;
     }
     Ok(())
 }
 
-/// Returns the comparator of a lower side. `Below` and `At` give the same one: comparators are exact
-/// only for releases.
+/// Returns the comparator of a lower side. If lower bounds are as stated, `Below` and `At` give the
+/// same one: then comparators are exact only for releases.
 #[inline(always)]
 fn lower_comparator(
     partial: &Partial<'_>,
-    lower: Side,
+    side: Side,
+    lower: LowerBounds,
 ) -> Result<Comparator, AllocError> {
-    match lower {
-        Side::Below | Side::At => partial.as_comparator(Op::Gte),
-        Side::Past => partial.as_comparator(Op::Gt),
-        Side::Above(place) => {
+    match (side, lower) {
+        (Side::At, _) | (Side::Below, LowerBounds::Stated) => partial.as_comparator(Op::Gte),
+        (Side::Below, LowerBounds::Lowest) => lowest_with(Op::Gte, numbers(partial)),
+        (Side::Past, _) => partial.as_comparator(Op::Gt),
+        (Side::Above(place), LowerBounds::Lowest) => {
+            lowest_with(Op::Gte, raised(partial, place))
+        }
+        (Side::Above(place), LowerBounds::Stated) => {
             let Release {
                 major,
                 minor,
@@ -117,21 +125,21 @@ fn lower_comparator(
 #[inline(always)]
 fn upper_comparator(
     partial: &Partial<'_>,
-    upper: Side,
+    side: Side,
 ) -> Result<Comparator, AllocError> {
-    match upper {
-        Side::Below => below_all(numbers(partial)),
+    match side {
+        Side::Below => lowest_with(Op::Lt, numbers(partial)),
         Side::At => partial.as_comparator(Op::Lt),
         Side::Past => partial.as_comparator(Op::Lte),
-        Side::Above(place) => below_all(raised(partial, place)),
+        Side::Above(place) => lowest_with(Op::Lt, raised(partial, place)),
     }
 }
 
-/// Returns the comparator that is below all versions with some numbers.
+/// Returns the comparator with the lowest of all versions with some numbers.
 #[inline(always)]
-fn below_all(numbers: Release) -> Result<Comparator, AllocError> {
+fn lowest_with(op: Op, numbers: Release) -> Result<Comparator, AllocError> {
     Ok(Comparator {
-        op: Op::Lt,
+        op,
         major: numbers.major,
         minor: numbers.minor,
         patch: numbers.patch,

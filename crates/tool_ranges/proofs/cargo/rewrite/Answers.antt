@@ -2,6 +2,7 @@ use Rattle.std.proofs.Common.{◌≡◌, ap, sym, ◌∙◌, subst, List, []}
 use Rattle.std.specs.Prelude.{IfOk, IsTrue, Result, Ok, Err}
 use Rattle.semver_texts.specs.Texts.{Text}
 use Rattle.semver_texts.specs.Versions.{PlainVersion}
+use Rattle.semver_ranges.specs.declared.partial.LowerBounds.TheVariants.{Stated}
 use Rattle.semver_ranges.specs.declared.range.Compat.TheVariants.{Cargo}
 use Rattle.semver_ranges.specs.declared.range_set.RangeSet.{RangeSet}
 use Rattle.semver_ranges.specs.declared.range_set.RangeError.{RangeError}
@@ -24,9 +25,9 @@ use Rattle.tool_ranges.proofs.cargo.rewrite.Goals as goal
 
 module _ (t : Text) where
   abbrev Printed : Result RangeSet RangeError → Type 0
-  Printed r = IfOk r (λ set. IsPrintedAs dialect.Cargo Cargo t (set_of set))
+  Printed r = IfOk r (λ set. IsPrintedAs Stated dialect.Cargo Cargo t (set_of set))
 
-  spelled : (set : PlainSet) → IsPrintedAs dialect.Cargo Cargo t set → (tree : List Simple) → SpellsRequirement tree t
+  spelled : (set : PlainSet) → IsPrintedAs Stated dialect.Cargo Cargo t set → (tree : List Simple) → SpellsRequirement tree t
       → set ≡ rewritten_requirement tree
   spelled set is tree h = is tree h ∙ ap (λ ranges. record { ranges = ranges; compat = Cargo }) (requirement_ranges tree t h.comparators)
 
@@ -41,7 +42,7 @@ module _ (t : Text) where
       ap (meets_set v) (spelled (set_of set) is tree h) ∙ requirement_meets v tree t release h.comparators
   releases (Err e) is = tt
 
-  one_printable : (set : PlainSet) → HasSetAs dialect.Cargo t → IsPrintedAs dialect.Cargo Cargo t set → IsPrintableSet set
+  one_printable : (set : PlainSet) → HasSetAs dialect.Cargo t → IsPrintedAs Stated dialect.Cargo Cargo t set → IsPrintableSet set
   one_printable set (tree, h, fit) is =
       subst IsPrintableSet (sym (spelled set is tree h)) (requirement_printable tree t h.comparators fit)
 

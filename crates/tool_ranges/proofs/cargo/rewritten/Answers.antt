@@ -1,6 +1,7 @@
 use Rattle.std.proofs.Common.{◌≡◌, ◌∷◌, [], ◌&&◌, Bool, true, false, Some, None, refl, sym, ap, ◌∙◌, append-nil}
 use Rattle.std.proofs.Math.Bool.{and-true}
 use Rattle.semver_texts.specs.Texts.{Text}
+use Rattle.semver_ranges.specs.declared.partial.LowerBounds.TheVariants.{Stated}
 use Rattle.semver_ranges.specs.declared.grammar.Simple as read
 use Rattle.semver_ranges.specs.declared.range.Compat.TheVariants as mode
 use Rattle.semver_ranges.specs.RangeTree.{Simple}
@@ -59,10 +60,10 @@ returns-in-Ok-clause-refusals c = let here = one (goal.at.returns-in-Ok-clause-r
     (and-true _ ∙ fits_so c.args.requirement.now c.in-Some-default-None.simple here c.fits.result true c.fits.ensures c.if-not-fits.false)
 
 one_printed : (t : Text) (s : Simple) (set : PlainSet) → read_as Cargo t ≡ Some (s ∷ [])
-    → set ≡ in_one_range (printed_term Cargo (as_read s)) → IsPrintedAs Cargo mode.Cargo t set
+    → set ≡ in_one_range (printed_term Stated Cargo (as_read s)) → IsPrintedAs Stated Cargo mode.Cargo t set
 one_printed t s set is same = λ tree h.
-    same ∙ ap in_one_range (sym (append-nil (printed_term Cargo (as_read s))))
-    ∙ ap (λ tree. record { ranges = printed_ranges Cargo mode.Cargo tree; compat = mode.Cargo }) (same_read Cargo t (s ∷ []) tree is h)
+    same ∙ ap in_one_range (sym (append-nil (printed_term Stated Cargo (as_read s))))
+    ∙ ap (λ tree. record { ranges = printed_ranges Stated Cargo mode.Cargo tree; compat = mode.Cargo }) (same_read Cargo t (s ∷ []) tree is h)
 
 pub returns-in-Ok-clause-printed : goal.returns-in-Ok-clause-printed
 returns-in-Ok-clause-printed c = let here = one (goal.at.returns-in-Ok-clause-printed c).In-Some-default-None in

@@ -3,6 +3,7 @@ use Rattle.std.specs.Prelude.{IfOk, IsTrue, Result, Ok, Err}
 use Rattle.semver_texts.specs.Texts.{Text}
 use Rattle.semver_texts.specs.Versions.{PlainVersion}
 use Rattle.semver_texts.specs.declared.grammar.Grammar.TheVariants as grammar
+use Rattle.semver_ranges.specs.declared.partial.LowerBounds.TheVariants.{Stated}
 use Rattle.semver_ranges.specs.declared.range.Compat.TheVariants.{Npm}
 use Rattle.semver_ranges.specs.declared.range_set.RangeError.{RangeError}
 use Rattle.semver_ranges.specs.declared.range_set.RangeSet.{RangeSet}
@@ -27,9 +28,9 @@ use Rattle.tool_ranges.proofs.npm.rewrite.Goals as goal
 
 module _ (t : Text) where
   abbrev Printed : Result RangeSet RangeError → Type 0
-  Printed r = IfOk r (λ set. IsPrintedAs dialect.Npm Npm t (set_of set))
+  Printed r = IfOk r (λ set. IsPrintedAs Stated dialect.Npm Npm t (set_of set))
 
-  spelled : (set : PlainSet) → IsPrintedAs dialect.Npm Npm t set → (tree : SetTree) → SpellsNpmRange tree t → set ≡ rewritten_npm tree
+  spelled : (set : PlainSet) → IsPrintedAs Stated dialect.Npm Npm t set → (tree : SetTree) → SpellsNpmRange tree t → set ≡ rewritten_npm tree
   spelled set is tree h = is tree h ∙ ap (λ ranges. record { ranges = ranges; compat = Npm }) (npm_ranges tree)
 
   as_rewritten : (r : Result RangeSet RangeError) → Printed r
@@ -42,7 +43,7 @@ module _ (t : Text) where
   releases (Ok set) is = λ tree v h release. ap (meets_set v) (spelled (set_of set) is tree h) ∙ npm_meets v release tree
   releases (Err e) is = tt
 
-  one_printable : (set : PlainSet) → HasSetAs dialect.Npm t → IsPrintedAs dialect.Npm Npm t set → IsPrintableSet set
+  one_printable : (set : PlainSet) → HasSetAs dialect.Npm t → IsPrintedAs Stated dialect.Npm Npm t set → IsPrintableSet set
   one_printable set (tree, h, fit) is =
       subst IsPrintableSet (sym (spelled set is tree h)) (set_printable grammar.Npm npm_prints Npm tree t h.spelled fit)
 

@@ -1,5 +1,4 @@
 use Rattle.std.proofs.Common.{◌≡◌, ◌+◌, ◌∷◌, length, arith, ap, ◌∙◌, sym, length-append}
-use Rattle.std.proofs.lemmas.Bool.{not-false}
 use Rattle.std.specs.List.{slice_split}
 use Rattle.semver_texts.specs.Texts.{is_dot}
 use Rattle.tool_ranges.specs.TooLarge.{component_at}

@@ -1,6 +1,5 @@
 use Rattle.std.proofs.Common.{◌≡◌, ◌++◌, Some, None, Option, List, [], map, refl, sym, ap, ◌∙◌, subst, rules}
 use Rattle.std.specs.Prelude.{option_map}
-use Rattle.semver_ranges.specs.declared.partial.LowerBounds.TheVariants.{Stated}
 use Rattle.semver_ranges.specs.RangeViews.{comparator_of, range_of}
 use Rattle.semver_ranges.specs.Steps.DesugaredViews.{ranges_by}
 use Rattle.semver_ranges.specs.Steps.RangeEvents.{Event}
@@ -24,18 +23,18 @@ pub loop-event-init : goal.loop-event-init
 loop-event-init c =
     let d = c.args.dialect in
     let tree = c.requires.0 in
-    let all = events_in (ranges_of Stated d tree) in
+    let all = events_in (ranges_of c.args.lower d tree) in
     let is = complete_as d c.args.range.now tree c.requires.1 in
     let has : HasLeftIn (grammar_of d) c.in-Ok.cursor (Some all) =
-    subst (HasLeftIn (grammar_of d) c.in-Ok.cursor) (ap (option_map (λ tree. events_in (ranges_of Stated d tree))) is) c.in-Ok.ensures.0 in (
+    subst (HasLeftIn (grammar_of d) c.in-Ok.cursor) (ap (option_map (λ tree. events_in (ranges_of c.args.lower d tree))) is) c.in-Ok.ensures.0 in (
       tree,
       all,
       c.requires.1,
       has,
-      ranges_fit Stated d tree ∙ c.requires.2,
-      printed_events d c.args.compat c.args.range.now tree c.requires.1
+      ranges_fit c.args.lower d tree ∙ c.requires.2,
+      printed_events c.args.lower d c.args.compat c.args.range.now tree c.requires.1
           ∙ (λ i. map range_of (sym c.in_ok-ranges.ensures.items i)
-          ++ ranges_by (printed_term d) c.args.compat (map comparator_of (sym c.in_ok-comparator_set.ensures.items i)) all),
+          ++ ranges_by (printed_term c.args.lower d) c.args.compat (map comparator_of (sym c.in_ok-comparator_set.ensures.items i)) all),
     )
 
 first : (c : In-Simple) → FirstFits (grammar_of c.args.dialect) c.args.dialect c.loop-event.invariant.1 c.in-Simple.simple c.next.new.self
@@ -61,8 +60,8 @@ loop-event-preserved-in_ok-push-in-Simple c =
       so_far.2,
       here.has,
       here.others_fit,
-      so_far.5 ∙ ap (λ es. before ++ ranges_by (printed_term d) c.args.compat (map comparator_of c.loop-event.comparator_set.items) es) here.whole
-          ∙ ap (λ cs. before ++ ranges_by (printed_term d) c.args.compat cs here.others) (sym (c.in_ok-push-in-Simple.ensures here.s here.is here.fits)),
+      so_far.5 ∙ ap (λ es. before ++ ranges_by (printed_term c.args.lower d) c.args.compat (map comparator_of c.loop-event.comparator_set.items) es) here.whole
+          ∙ ap (λ cs. before ++ ranges_by (printed_term c.args.lower d) c.args.compat cs here.others) (sym (c.in_ok-push-in-Simple.ensures here.s here.is here.fits)),
     )
 
 pub loop-event-preserved : goal.loop-event-preserved
@@ -79,7 +78,7 @@ loop-event-preserved c =
       so_far.2,
       here.1,
       here.2,
-      so_far.5 ∙ range_ended (printed_term d) mode c.loop-event.ranges.items c.push-in-NextRange.new.self.items c.loop-event.comparator_set.items _
+      so_far.5 ∙ range_ended (printed_term c.args.lower d) mode c.loop-event.ranges.items c.push-in-NextRange.new.self.items c.loop-event.comparator_set.items _
           c.in_ok-push-in-NextRange.ensures.items refl c.in_ok-comparator_set-in-NextRange.comparator_set.items so_far.1 here.0
           c.in_ok-comparator_set-in-NextRange.ensures.items here.3,
     )
@@ -94,7 +93,7 @@ returns c = λ tree spelled.
       | in_default-next w ↦ search rules
       | in_default-next-2 w ↦ search rules
     ]) in
-    text_ended (printed_term d) c.args.compat c.loop-event.ranges.items c.push-2.new.self.items c.loop-event.comparator_set.items _
+    text_ended (printed_term c.args.lower d) c.args.compat c.loop-event.ranges.items c.push-2.new.self.items c.loop-event.comparator_set.items _
     c.in_ok-push.ensures.items refl so_far.1 none_left
     ∙ sym so_far.5
-    ∙ ap (printed_ranges d c.args.compat) (one_tree d so_far.0 tree c.args.range.now so_far.2 spelled)
+    ∙ ap (printed_ranges c.args.lower d c.args.compat) (one_tree d so_far.0 tree c.args.range.now so_far.2 spelled)

@@ -12,8 +12,8 @@ use Rattle.tool_ranges.proofs.printing.ranges.Given as goal
 abbrev pub invariant-loop-event : goal.invariant-loop-event
 invariant-loop-event l = (tree : TreeOf l.dialect) × (left : List Event) × SpellsAs l.dialect tree l.range
     × HasLeftIn (grammar_of l.dialect) l.cursor (Some left) × (list_all (event_fits (term_fits l.dialect)) left ≡ true)
-    × (printed_ranges l.dialect l.compat tree
-    ≡ map range_of l.ranges.items ++ ranges_by (printed_term l.dialect) l.compat (map comparator_of l.comparator_set.items) left)
+    × (printed_ranges l.lower l.dialect l.compat tree
+    ≡ map range_of l.ranges.items ++ ranges_by (printed_term l.lower l.dialect) l.compat (map comparator_of l.comparator_set.items) left)
 
 abbrev pub decreases-loop-event : goal.decreases-loop-event
 decreases-loop-event l = size_of l.cursor
