@@ -60,10 +60,11 @@ refused() {
 # ---- npm
 
 for name in package-lock version-1 version-2 links missing peers kinds accepted any archives archives-1 names ranges aliases aliases-1 versions overrides/package-lock canaries tags \
-    unread from-npm/package-lock stale/package-lock workspaces/package-lock workspaces-1/package-lock legacy-peers/package-lock overrides-turn/package-lock workspaces-stale/package-lock overrides-conflict/package-lock overrides-linked/package-lock overrides-late/package-lock peers-conflict/package-lock peers-strict/package-lock fetched/package-lock; do
+    unread from-npm/package-lock stale/package-lock workspaces/package-lock workspaces-1/package-lock legacy-peers/package-lock overrides-turn/package-lock workspaces-stale/package-lock overrides-conflict/package-lock overrides-linked/package-lock overrides-late/package-lock peers-conflict/package-lock peers-strict/package-lock fetched/package-lock gone-links/requires-1 gone-links/requires-3; do
     checked 1 "$name.json"
 done
-for name in nothing-wrong canaries-right left-alone/package-lock own-versions/package-lock hidden/node_modules/.package-lock; do
+for name in nothing-wrong canaries-right left-alone/package-lock own-versions/package-lock hidden/node_modules/.package-lock \
+    gone-links/version-1 gone-links/version-2 gone-links/version-3; do
     checked 0 "$name.json"
 done
 cp -R cases/hidden "$work" && sed -i -f cases/hidden/broken.sed "$work/hidden/node_modules/.package-lock.json"
