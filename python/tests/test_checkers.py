@@ -10,7 +10,7 @@ from unittest.mock import patch
 from semver_parser import Dialect
 from semver_parser.checks import judge, repository, tools
 from semver_parser.checks.cargo.demands import is_reached
-from semver_parser.checks.cargo.validity import refuse_invalid
+from semver_parser.checks.cargo.validity import is_target, refuse_invalid
 from semver_parser.checks.files import WrongShape, toml_object
 from semver_parser.checks.findings import CLASSES, NotChecked, Overridden, Unsatisfied
 from semver_parser.checks.judge import Scheme, Verdict
@@ -228,3 +228,16 @@ class Tools(unittest.TestCase):
             package = toml_object(line.encode())
             self.assertRaises(WrongShape, refuse_invalid, {}, package, {}, "/nowhere")
         refuse_invalid({}, {"name": "a", "edition": "2024"}, {}, "/nowhere")
+
+    def test_targets_of_cargo(self) -> None:
+        for text in (
+            "", "x86_64-unknown-linux-gnu", "cfg(unix)", "cfg( all() )", "cfg(any(a, not(b),))",
+            'cfg(all(a = "all(b)", r#all, not_a = ")"))', "cfg(all (not(not(a))))",
+        ):  # fmt: skip
+            self.assertTrue(is_target(text), text)
+        for text in (
+            "cfg(", "cfg(foo", "cfg()", "cfg(not())", "cfg(not(a, b))", "cfg(all(a b))", "cfg(,)",
+            "cfg(all)", 'cfg("a")', "cfg(a = b)", 'cfg(all() = "b")', "cfg(all()a)", "foo(a)",
+            'cfg(a = "b)', "cfg(r#)", "cfg(9a)", "cfg(a-b)", "cfg(a))", "cfg (a)", "a b",
+        ):  # fmt: skip
+            self.assertFalse(is_target(text), text)

@@ -122,6 +122,7 @@ if python3 -c 'import tomllib' 2> /dev/null; then
     refused_by_cargo 'it has a workspace and names another one' 'workspace = ".."' '[workspace]'
     refused_by_cargo 'replace and patch are both there' '' '[replace]\n[patch.crates-io]'
     refused_by_cargo 'target cfg(foo is invalid' '' '[target."cfg(foo".dependencies]'
+    refused_by_cargo 'target cfg(not(a, b)) is invalid' '' '[target."cfg(not(a, b))".dependencies]'
     refused_by_cargo 'target foo bar is invalid' '' '[target."foo bar".dependencies]'
     refused_by_cargo 'features: x requires itself' '' '[features]\nx = ["x"]'
     refused_by_cargo 'features: x/y has a slash or dep:' '' '[features]\n"x/y" = []'

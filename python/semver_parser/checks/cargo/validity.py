@@ -13,8 +13,13 @@ from ..satisfaction import is_version
 EDITIONS, RESOLVERS = ("2015", "2018", "2021", "2024"), ("1", "2", "3")
 NAME = re.compile(r"[^\W\d][\w-]*")
 
-# A target: its name, or an expression, in which only the brackets are counted.
-TARGET = re.compile(r"[\w.-]*|cfg\(.+\)", re.S)
+# A setting of a `cfg(..)`, whose text is left out, and an expression of settings.
+SETTING = r'(?:r#|(?!(?:all|any|not)\b))[A-Za-z_]\w*(?: *= *"")? *'
+SETTINGS = rf"(?:{SETTING}(?:, *{SETTING})*(?:, *)?)?"
+EXPRESSION = re.compile(
+    rf"(?<![\w#])(?:(?:all|any) *\( *{SETTINGS}|not *\( *{SETTING})\)", re.ASCII
+)
+ONE_SETTING = re.compile(f" *{SETTING}", re.ASCII)
 
 # The tables that a manifest without a package may not have.
 OF_PACKAGE = (
@@ -57,9 +62,19 @@ def wrong_in_workspace(entry: Entry, package: Entry) -> Iterator[str]:
     if "replace" in entry and "patch" in entry:
         yield "replace and patch are both there"
     for target in entry.get("target", {}):
-        is_even = target.count("(") == target.count(")")
-        if not TARGET.fullmatch(target) or not is_even:
+        if not is_target(target):
             yield f"target {target} is invalid"
+
+
+def is_target(text: str) -> bool:
+    """Returns whether a text is the name of a target, or a `cfg(..)`, in which each expression is
+    replaced by a setting, the inner ones first, until one is left."""
+    if not text.startswith("cfg(") or not text.endswith(")"):
+        return re.fullmatch(r"[\w.-]*", text) is not None
+    inner, count = re.sub('"[^"]*"', '""', text[len("cfg(") : -1]), 1
+    while count:
+        inner, count = EXPRESSION.subn(' _ = "" ', inner)
+    return ONE_SETTING.fullmatch(inner) is not None
 
 
 def wrong_in_dependency(table: str, value: Any) -> Iterator[str]:
