@@ -93,7 +93,7 @@ for name in no-graph no-node no-package another-format; do checked 2 "cargo/$nam
 if python3 -c 'import tomllib' 2> /dev/null; then
     for name in right package empty removed replaced; do checked 0 "cargo-lock/$name/Cargo.lock"; done
     for name in wrong outside/workspace project root source no-source edges lost unreached beside patches not-replaced exchanged \
-        features checksums conflicts unreplaced; do
+        features checksums conflicts two-names unreplaced; do
         checked 1 "cargo-lock/$name/Cargo.lock"
     done
     for name in alone no-member zero-path zero-pattern twice newer; do checked 2 "cargo-lock/$name/Cargo.lock"; done

@@ -96,12 +96,16 @@ def is_reached(start: str, requires: Dict[str, List[str]]) -> bool:
 
 
 def two_names(manifest: Manifest, package: Package, resolution: Resolution) -> Iterator[Finding]:
-    """Yields the findings about packages that a manifest requires by two names. Optional
-    dependencies aren't listed: Cargo looks only at those that the default features include."""
+    """Yields the findings about packages that a manifest requires by two names. Cargo looks only at
+    those to which the default features of the members lead."""
     names: Dict[object, str] = {}
+    features = resolution.features_by_default.get(manifest.folder)
+    if features is None and manifest.folder not in resolution.asked_by_others:
+        return
+    by_default = activated_by(manifest, features or set())
     for match in resolution.matches_of(manifest):
         it = match.dependency
-        if match.found is not None and not it.is_optional:
+        if match.found is not None and (not it.is_optional or it.key in by_default):
             first = names.setdefault(key_of(match.found), it.key)
             if first.replace("-", "_") != it.key.replace("-", "_"):
                 what = f"requires {match.found.label} by two names, {first} and {it.key}"

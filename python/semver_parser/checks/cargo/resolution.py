@@ -25,8 +25,8 @@ class Match(NamedTuple):
 
 class Resolution:
     """A lock file with its project. It knows which packages something leads to, which features are
-    required of each package at a path, and which packages at paths are required by a package whose
-    manifest isn't there."""
+    required of each package at a path (if members have all of theirs, and if they have the default
+    ones), and which packages at paths are required by a package whose manifest isn't there."""
 
     def __init__(self, lock: Lock, project: Workspace) -> None:
         self.lock, self.project = lock, project
@@ -39,8 +39,11 @@ class Resolution:
         self.asked_by_others: Set[str] = set()
         self.reached: Set[PackageKey] = set()
         self.reach()
-        self.features: Dict[str, Set[str]] = {}
-        self.ask()
+        members = self.project.members
+        self.features = {it.folder: set(features_of(it)) for it in members}
+        self.ask(self.features)
+        self.features_by_default = {it.folder: {"default"} for it in members}
+        self.ask(self.features_by_default)
 
     def edges_of(self, package: Package) -> List[Edge]:
         """Returns what a package depends on."""
@@ -70,21 +73,19 @@ class Resolution:
                     self.reached.add(key_of(edge.to))
                     left.append(edge.to)
 
-    def ask(self) -> None:
-        """Finds the features that are required of each package at a path. A member has all its
-        features."""
+    def ask(self, features: Dict[str, Set[str]]) -> None:
+        """Adds to the features of members those that are required of each package at a path."""
         left = list(self.project.members)
         for manifest in left:
-            self.features[manifest.folder] = set(features_of(manifest))
-        for manifest in left:
-            asked = activated_by(manifest, self.features[manifest.folder])
+            asked = activated_by(manifest, features[manifest.folder])
             for match in self.matches_of(manifest):
+                need = match.dependency
                 folder = self.lock.directory_of(match.found) if match.found else None
-                if not match.is_active or folder is None:
+                if folder is None or (need.is_optional and need.key not in asked):
                     continue
-                wanted = asked.get(match.dependency.key, set()).union(match.dependency.features)
-                if folder not in self.features or not wanted <= self.features[folder]:
-                    self.features.setdefault(folder, set()).update(wanted)
+                wanted = asked.get(need.key, set()).union(need.features)
+                if folder not in features or not wanted <= features[folder]:
+                    features.setdefault(folder, set()).update(wanted)
                     left.append(self.project.at(folder))
 
     def manifests(self) -> Iterator[Manifest]:
