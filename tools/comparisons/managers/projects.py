@@ -9,8 +9,10 @@ from worlds import World
 
 
 def environment(top: Path) -> Dict[str, str]:
-    """What a tool is run with: nothing of the user."""
+    """What a tool is run with: nothing of the user. It fetches once: the registry is there, and
+    other URLs aren't."""
     own = {"npm_config_cache": str(top / "cache"), "npm_config_userconfig": os.devnull}
+    own["npm_config_fetch_retries"] = "0"
     path = {"PATH": os.environ["PATH"], "NODE_PATH": "/usr/share/nodejs"}
     return {**path, "HOME": str(top), **own}
 
