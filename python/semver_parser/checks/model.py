@@ -137,6 +137,15 @@ class Requirement(NamedTuple):
     locked: Optional[Locked] = None
     stated: Any = None
 
+    def written_as(self, specifier: str) -> "Requirement":
+        """Returns a requirement of a manifest with the specifier for which the lock file was
+        written, whose kind isn't compared."""
+        return self._replace(locked=Locked("", specifier, "", (self.specifier,), self.specifier))
+
+    def only_locked(self) -> "Requirement":
+        """Returns a requirement of the lock file that the manifest has no longer."""
+        return self._replace(locked=Locked("", self.specifier, None, (), ""))
+
     @property
     def is_gone(self) -> bool:
         """Whether only the lock file has it, and the manifest no longer has it."""
@@ -175,7 +184,7 @@ class LockFile:
     - `if_right` returns findings that count only if nothing else is listed.
     - `scheme` is that of the file, if it isn't that of its tool.
     - `left_out` counts what the scope leaves out, and `from_lock` the workspaces and links whose
-      manifests aren't there.
+      manifests aren't there. `package_count` is the number of packages in the closing line.
     """
 
     nodes: List[Node]

@@ -27,7 +27,6 @@ from ..model import (
     PEERS,
     USUAL,
     Keys,
-    Locked,
     LockFile,
     Node,
     Package,
@@ -38,18 +37,17 @@ from ..node.json_with_comments import object_with_comments, plain_json
 from ..node.package_json import (
     MANIFEST,
     TOP,
+    NodeTool,
     Project,
-    advise,
     manifest_in,
     missing_workspace,
     name_in,
     project_beside,
     requirer_of,
-    statement_of,
 )
-from ..node.specifiers import CATALOG, NodeScheme
+from ..node.specifiers import NodeScheme
 from ..pnpm.specifiers import npm_form_of_workspace
-from ..tool import Input, Offsets, Statement, Tool
+from ..tool import Input, Offsets
 from .lock import nearest, packages_of, path_of, workspaces_of
 from .replacements import Replacements, locked_replacements, replaced_by, replacements_of
 
@@ -132,11 +130,10 @@ class Reader:
         for it in own:
             there = written.pop(it.name, None)
             if there is not None:
-                spec = it.specifier
-                it = it._replace(locked=Locked("", there.specifier, "", (spec,), spec))
+                it = it.written_as(there.specifier)
             yield self.looked_up(it, path)
         for it in written.values():
-            yield it._replace(locked=Locked("", it.specifier, None, (), ""))
+            yield it.only_locked()
 
     def of_package(self, package: Package) -> Iterator[Requirement]:
         """Yields what a package requires."""
@@ -222,12 +219,11 @@ def is_known(key: str, spec: str) -> bool:
     return not spec.startswith("$") and ("/" not in key or key.startswith("@"))
 
 
-class Bun(Tool):
+class Bun(NodeTool):
     """Bun."""
 
     name, repair, scheme = "Bun", "bun install", BunScheme()
     lock_files = ("bun.lock", "bun.lockb")
-    manifests = (MANIFEST,)
 
     def recognizes(self, file: Input) -> bool:
         """Returns whether a file begins as only Bun's lock files do. A binary one is rejected."""
@@ -243,14 +239,6 @@ class Bun(Tool):
         """Yields the entries of a file. They are found in its plain JSON, in which all offsets are
         the same."""
         return json_offsets(plain_json(text), wanted)
-
-    def advise(self, finding: Finding) -> None:
-        """Adds advice to a finding if the command doesn't repair it."""
-        advise(finding)
-
-    def statement(self, finding: Finding, file: Input) -> Optional[Statement]:
-        """Returns where a package.json states a requirement."""
-        return statement_of(finding, file, file.directory)
 
 
 BUN = Bun()

@@ -26,7 +26,7 @@ from ..model import (
     Requirement,
     Requirer,
 )
-from ..tool import Input, Statement
+from ..tool import Input, Statement, Tool
 from .workspaces import directories_of, patterns_in
 
 MANIFEST = "package.json"
@@ -68,7 +68,8 @@ def requirer_of(directory: str, at: Keys = ()) -> Requirer:
 def requirements_in(
     manifest: Entry, requirer: Requirer, kinds: Tuple[str, ...] = KINDS
 ) -> Iterator[Requirement]:
-    """Yields what a package.json requires, each name once."""
+    """Yields what a package.json requires, each name once: peers only if they are among the
+    kinds."""
     seen = set()
     for kind in kinds:
         for name, spec in texts_at(manifest.get(kind, {}), kind).items():
@@ -185,11 +186,21 @@ def text_or(value: object, where: str, other: str) -> str:
     return other if value is None else text_at(value, where)
 
 
-# ---- what repairs a lock file
+# ---- the tools
 
 
-def advise(finding: Finding) -> None:
-    """Adds advice to a finding that the command doesn't repair: if a directory of the project
-    doesn't have the required version, the command would look for that in the registry."""
-    if isinstance(finding, Unsatisfied) and finding.found is not None and finding.found.is_own:
-        finding.advised("change the version of the package, or what is required of it", True)
+class NodeTool(Tool):
+    """A tool whose lock files are for package.json files."""
+
+    manifests: Tuple[str, ...] = (MANIFEST,)
+
+    def advise(self, finding: Finding) -> None:
+        """Says of a finding what to change, if writing the lock file anew doesn't repair it: if a
+        directory of the project has another version than is required, the registry has to have
+        that."""
+        if isinstance(finding, Unsatisfied) and finding.found is not None and finding.found.is_own:
+            finding.advised("change the version of the package, or what is required of it", True)
+
+    def statement(self, finding: Finding, file: Input) -> Optional[Statement]:
+        """Returns where a package.json states a requirement."""
+        return statement_of(finding, file, file.directory)

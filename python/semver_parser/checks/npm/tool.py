@@ -51,7 +51,7 @@ from ..node.archives import archive_at
 from ..node.npmrc import LEGACY_PEERS, STRICT_PEERS, is_set
 from ..node.package_json import (
     MANIFEST,
-    advise,
+    NodeTool,
     compared_in,
     manifest_path,
     missing_workspace,
@@ -67,7 +67,7 @@ from ..node.specifiers import (
     verdict_on,
 )
 from ..satisfaction import is_met, is_version
-from ..tool import Input, Offsets, Statement, Tool
+from ..tool import Input, Offsets, Statement
 from .disk import check_manifest, read_links, root_around, workspaces_of
 from .leaving import Leaving
 from .lock import (
@@ -230,7 +230,7 @@ def looked_at(required: Requirements) -> Set[str]:
     return found
 
 
-class Npm(Tool):
+class Npm(NodeTool):
     """npm."""
 
     name, repair, scheme = "npm", "npm install", NPM_SCHEME
@@ -264,9 +264,9 @@ class Npm(Tool):
         return json_offsets(text, wanted, AFTER_KEY_OF_OBJECT)
 
     def advise(self, finding: Finding) -> None:
-        """Adds advice to a finding if the command doesn't repair it: npm leaves out an optional
-        dependency that can't be installed."""
-        advise(finding)
+        """Says of a finding what to change, if the command doesn't repair it: npm leaves out what
+        is optional and can't be installed."""
+        super().advise(finding)
         is_unmet = isinstance(finding, (Missing, Unsatisfied))
         if is_unmet and isinstance(finding, OfRequirement) and finding.requirement.kind == OPTIONAL:
             finding.advised("install it, or remove it, if it can't be installed", False)

@@ -29,10 +29,10 @@ from ..model import (
     Requirement,
     Scope,
 )
-from ..node.package_json import MANIFEST, TOP, advise, statement_of
+from ..node.package_json import MANIFEST, TOP, NodeTool
 from ..node.specifiers import CATALOG, NodeScheme, may_overlap, name_and_rest, range_of
 from ..satisfaction import is_met, range_in
-from ..tool import Input, Offsets, Statement, Tool
+from ..tool import Input, Offsets, Statement
 from . import settings
 from .entries import LINK, Entries, called_by, entries_of, missing_entries
 from .lock import (
@@ -255,7 +255,7 @@ def keys_from(importers: List[Importer], entries: Entries) -> List[str]:
     return [it for it in dict.fromkeys(keys) if it in entries.snapshots]
 
 
-class Pnpm(Tool):
+class Pnpm(NodeTool):
     """pnpm."""
 
     name, repair, scheme = "pnpm", "pnpm install", PnpmScheme()
@@ -282,10 +282,6 @@ class Pnpm(Tool):
         """Yields the keys of a file."""
         return yaml_offsets(text, wanted)
 
-    def advise(self, finding: Finding) -> None:
-        """Adds advice to a finding if the command doesn't repair it."""
-        advise(finding)
-
     def statement(self, finding: Finding, file: Input) -> Optional[Statement]:
         """Returns where a package.json states a requirement, or where a pnpm-workspace.yaml states
         that of a catalog, or a setting."""
@@ -303,7 +299,7 @@ class Pnpm(Tool):
                 catalog = it.requirer.name[len(CATALOG) :]
                 keys = settings.keys_of_catalog(catalog, it.name)
                 return Statement(os.path.join(directory, WORKSPACE_FILE), keys)
-        return statement_of(finding, file, directory)
+        return super().statement(finding, file)
 
 
 PNPM = Pnpm()
