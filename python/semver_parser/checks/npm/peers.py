@@ -1,15 +1,15 @@
 """Which mismatched peers `npm ci` leaves as they are.
 
-npm looks for a place for a peer in the directories around its requirer. It begins with the first
-directory whose package does not have the same peer itself. No other version has a place there if
-that package needs the one that is there, or if it brings in a package that has that one as a peer.
-
-Then npm only warns, unless the project or a workspace requires the peer, or brought in its
-requirer. For npm, nobody brought in a linked directory that is not a workspace.
+npm looks for a place for a peer in the folders round who requires it, beginning with the first
+whose package has no such peer itself. No other version has a place there if that package needs the
+one that is there, or brings along who has that for a peer. Then npm only warns, unless the project
+or a workspace requires the peer, or brought along who does. To npm nobody brought along a linked
+directory that is no workspace. What that requires has no rule of overrides, and only replaces what
+has none either.
 """
 
 from functools import cached_property
-from typing import Callable, Dict, Iterable, Iterator, List, Set
+from typing import Callable, Container, Dict, Iterable, Iterator, List, Set
 
 from ..model import PEERS, Requirement
 from ..node.specifiers import is_elsewhere, is_no_range, may_overlap, range_of
@@ -17,16 +17,18 @@ from .lock import folders, inside, is_top
 
 
 class Peers:
-    """The requirements of the packages of a lock file: which of them are satisfied, and who
-    requires each package."""
+    """What the packages of a lock file require, which of that fits, who requires each, and which
+    have a rule of overrides."""
 
     def __init__(
         self,
         required: Dict[str, List[Requirement]],
         fits: Callable[[Requirement], bool],
         tops: Iterable[str],
+        with_rule: Container[str],
     ) -> None:
         self.required, self.fits, self.tops = required, fits, {"", *tops}
+        self.with_rule = with_rule
         self.known: Dict[str, List[Requirement]] = {}
 
     @cached_property
@@ -46,14 +48,16 @@ class Peers:
         return self.known[place]
 
     def is_left(self, ask: Requirement) -> bool:
-        """Returns whether npm leaves a mismatched peer as it is: no version satisfies both the peer
-        and another requirement that needs the package that is there."""
+        """Returns whether npm leaves a peer that doesn't fit as it is: no version is for that and
+        for others that need what is there, or what is there can't be replaced."""
         if ask.kind != PEERS or ask.found is None or ask.requirer.place in self.tops:
             return False
         if is_elsewhere(ask.specifier):
             return False
-        place = ask.requirer.place
-        others = self.others(self.first_folder(place, ask.name), ask, ask.found.place)
+        place, there = ask.requirer.place, ask.found.place
+        if is_top(place) and there in self.with_rule:
+            return True
+        others = self.others(self.first_folder(place, ask.name), ask, there)
         is_needed = any(is_apart(it.specifier, ask.specifier) for it in others)
         return is_needed and (is_top(place) or not self.is_of_project(place))
 

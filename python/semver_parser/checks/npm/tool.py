@@ -370,7 +370,7 @@ class Reader:
         put_overrides(packages, required, reading)
         is_strict = is_set(self.directory, STRICT_PEERS)
         tops = self.workspaces.values()
-        peers = None if is_strict else Peers(required, NPM_SCHEME.fits, tops)
+        peers = None if is_strict else Peers(required, NPM_SCHEME.fits, tops, reading.rules)
         there = [it for it in packages if not is_top(it) and not packages[it].get("link")]
         return LockFile(
             list(self.nodes(checked, first)),
