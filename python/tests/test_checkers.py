@@ -34,6 +34,7 @@ from semver_parser.checks.node.package_json import refuse_twice
 from semver_parser.checks.node.specifiers import NodeScheme, reason_of
 from semver_parser.checks.node.workspaces import directories_of, is_workspace, patterns_of
 from semver_parser.checks.npm.lock import folders, name_by_place
+from semver_parser.checks.npm.overrides import have_in_common
 from semver_parser.checks.paths import Paths
 from semver_parser.checks.tool import Input
 from semver_parser.checks.yarn.lock import tree_of
@@ -217,6 +218,17 @@ class Tools(unittest.TestCase):
         around = list(folders("a/node_modules/b"))
         self.assertEqual(around, ["a/node_modules/b", "a", ""])
         self.assertEqual(name_by_place("node_modules/a/node_modules/@of/b"), "@of/b")
+
+    def test_overrides_of_npm(self) -> None:
+        pairs = {
+            ("1.2.0-rc.1", "1.x"): False,
+            ("=1.2.0-rc.1", "^1.2.0-alpha"): False,
+            ("1.2.0-rc.1", ">=1.2.0-alpha"): True,
+            (">=1.2.0-rc.1", "1.x"): True,
+            ("1.2.0", "1.x"): True,
+            ("^2", "2.0.0-alpha.1"): False,
+        }
+        self.assertEqual({it: have_in_common(*it) for it in pairs}, pairs)
 
     def test_yarn(self) -> None:
         self.assertEqual(tree_of(b'a@1:\n  version "1.0.0"\n'), {"a@1": {"version": "1.0.0"}})

@@ -124,10 +124,20 @@ class RulesOfName:
         rule applies. Only a rule for any version applies to git without a range."""
         number = self.of_any
         if not is_git_without_range(spec):
-            wanted = range_in(range_of(spec), Dialect.NPM, "included")
-            found = 0 if wanted is None else self.overlaps.first(wanted)
+            text = range_of(spec)
+            wanted, found = range_in(text, Dialect.NPM, "included"), None
+            if wanted is not None and (is_pre_release(text) or self.have_pre_release):
+                ranges = enumerate(it.within for it in self.rules[: self.of_any])
+                found = next((at for at, it in ranges if have_in_common(text, it)), None)
+            else:
+                found = 0 if wanted is None else self.overlaps.first(wanted)
             number = number if found is None else found
         return None if number is None else self.rules[number]
+
+    @cached_property
+    def have_pre_release(self) -> bool:
+        """Whether a key has a pre-release alone."""
+        return any(is_pre_release(it.within) for it in self.rules)
 
     @cached_property
     def versions(self) -> Overlaps:
@@ -137,6 +147,26 @@ class RulesOfName:
     def having(self, version: str) -> Iterator[Rule]:
         """Returns the rules whose key or value has a version, in their order."""
         return (self.rules[number] for number in self.versions.having(version))
+
+
+def is_pre_release(text: str) -> bool:
+    """Returns whether a range is a pre-release alone."""
+    version = text.strip().lstrip("=v ")
+    return "-" in version.partition("+")[0] and is_version(version, Dialect.NPM)
+
+
+def have_in_common(one: str, other: str) -> bool:
+    """Returns whether two ranges have versions in common to npm: a pre-release alone has to satisfy
+    each comparator of the other range by itself, so `1.2.0-rc.1` and `1.x` have none."""
+    for text, around in ((one, other), (other, one)):
+        if is_pre_release(text):
+            version = text.strip().lstrip("=v ")
+            sets = str(Range(around, dialect=Dialect.NPM).comparators).split("||")
+            return any(
+                all(is_met(it, version, Dialect.NPM) for it in each.split()) for each in sets
+            )
+    ranges = (Range(it, dialect=Dialect.NPM, pre_releases="included") for it in (one, other))
+    return not next(ranges).isdisjoint(next(ranges))
 
 
 def is_git_without_range(spec: str) -> bool:
