@@ -14,8 +14,8 @@ from .unsupported import refuse_others
 from .yarn import BERRY, CLASSIC
 
 TOOLS: List[Tool] = [BUN, DENO, METADATA, NPM, BERRY, CLASSIC, PNPM, CARGO]
-"""All tools, in the order in which they are tried. NPM takes each object of JSON, so what recognizes
-its own comes before."""
+"""All tools, in the order in which they are tried. NPM takes each object of JSON, so those that
+recognize their own JSON come before."""
 
 
 LOCK_FILES = [name for tool in TOOLS for name in tool.lock_files]

@@ -130,6 +130,13 @@ def choice_of(finding: Finding, it: Case, answer: Answer) -> Optional[str]:
     return "a peer whose newest version has no place" if is_left_peer(finding, it) else None
 
 
+def are_chosen(listed: List[Finding], it: Case, npm: Npm) -> bool:
+    """Whether each finding of a project as it is now is listed by a row of the README."""
+    now = it._replace(lock=json.loads((it.folder / LOCK).read_text()))
+    answer = npm.answer(it.folder)
+    return all(each.advice or choice_of(each, now, answer) for each in listed)
+
+
 def is_left_peer(finding: Finding, it: Case) -> bool:
     """Whether a peer doesn't fit, and the version that npm picks for it isn't for all else that
     requires what is there and is right."""
@@ -281,6 +288,8 @@ def run(top: Path, count: int, seed: int) -> Differences:
             flags = ["--package-lock-only", "--no-audit", "--no-fund", "--ignore-scripts"]
             flags.append(f"--registry={registry.url}")
             again = lambda: not npm.answer(it.folder).refused  # noqa: B023
-            repair(it.folder / LOCK, flags, environment(top), again, found, shown(it, answer))
+            chosen = lambda listed: are_chosen(listed, it, npm)  # noqa: B023
+            seen = shown(it, answer)
+            repair(it.folder / LOCK, flags, environment(top), again, found, seen, chosen)
     found.counts["worlds"] = made
     return found

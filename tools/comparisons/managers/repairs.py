@@ -5,7 +5,7 @@ import subprocess
 from pathlib import Path
 from typing import Callable, Dict, List, Optional
 
-from differences import Differences, listed_in
+from differences import Differences, Finding, listed_in
 from semver_parser.checks.model import Scope
 from semver_parser.checks.repairs import command_for
 from semver_parser.checks.reports import Wanted, report_on
@@ -28,9 +28,11 @@ def repair(
     is_taken: Callable[[], bool],
     found: Differences,
     shown: object,
+    is_chosen: Callable[[List[Finding]], bool] = lambda _: False,
 ) -> None:
     """Runs the command that is proposed for a lock file, if one is. What it leaves has to be what
-    the checker says that it doesn't repair. It may fail for want of a release in the registry."""
+    the checker says that it doesn't repair, what its own tool refuses, too, or what is listed by
+    choice. It may fail for want of a release in the registry."""
     command = proposed(path)
     if command is None:
         return
@@ -41,6 +43,10 @@ def repair(
     listed = listed_in(path)
     if ended.returncode:
         found.choose("a repair that the tool rejects, as without a release", shown)
+    elif listed and not is_taken():
+        found.choose("a repair that the tool itself rejects afterwards", shown)
+    elif listed and is_chosen(listed):
+        found.choose("a repair that leaves what is listed by choice", shown)
     elif any(not it.advice for it in listed) or not (listed or is_taken()):
         found.add("a repair that repairs nothing", shown)
     else:

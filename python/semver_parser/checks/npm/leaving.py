@@ -6,8 +6,16 @@ from typing import Callable, Optional, Set
 
 from semver_parser import Dialect
 
-from ..findings import Finding, InvalidRange, Missing, NoVersion, OfRequirement, Overridden
-from ..findings import Unsatisfied
+from ..findings import (
+    Finding,
+    InvalidRange,
+    Missing,
+    NoVersion,
+    OfFound,
+    OfRequirement,
+    Overridden,
+    Unsatisfied,
+)
 from ..model import Requirement
 from ..satisfaction import is_met
 from .lock import Packages, folder_round, folders, inside, is_outside, is_top, locked_in
@@ -16,7 +24,8 @@ from .peers import Peers
 UNMET = (Unsatisfied, Overridden)
 
 
-# The advice for what npm doesn't check: it checks what workspaces require, and nothing below.
+# What repairs what npm doesn't look at: it looks at what workspaces require, and no further. And
+# what npm only leaves out, since further up there is what fits.
 ANEW = "remove it, and have npm write it without the old one"
 
 
@@ -47,15 +56,17 @@ class Leaving:
             return "bundled"
         if not is_top(it.requirer.place) and it.requirer.place not in self.looked:
             finding.advised(ANEW, False)
-        if isinstance(finding, Overridden) and self.may_stay(finding):
-            return "override"
         is_unmet = isinstance(finding, UNMET)
+        if isinstance(finding, UNMET) and self.may_stay(finding):
+            if isinstance(finding, Overridden):
+                return "override"
+            finding.advised(ANEW, False)
         is_peer = self.peers is not None and is_unmet and self.peers.is_left(it)
         return "conflicting peer" if is_peer else ""
 
-    def may_stay(self, finding: Overridden) -> bool:
-        """Returns whether npm may leave a package that an override is for: another package of the
-        name further up satisfies the override."""
+    def may_stay(self, finding: OfFound) -> bool:
+        """Returns whether npm may leave what a finding is about: a package further up than what is
+        found is what the requirement or its override is for."""
         it, specifier = finding.requirement, finding.specifier
         if it.found is None or is_top(it.found.place):
             return False
