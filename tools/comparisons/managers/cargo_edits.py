@@ -54,6 +54,16 @@ def another_table(world: World, maker: Maker) -> Edited:
     )
 
 
+def another_target(world: World, maker: Maker) -> Edited:
+    """A table for an expression of targets that is valid or nearly so."""
+    text = "cfg(all(unix, not(any(a, b = \"c\"))))"
+    at = maker.chance.randrange(len(text) + 1)
+    piece = maker.chance.choice(("", " ", "(", ")", ",", "=", '"', "a", "not", "r#"))
+    text = text[:at] + piece + text[at + maker.chance.randrange(2) :]
+    table = f"target.'{text}'.dependencies"
+    return change_need(world, maker, lambda it: it._replace(table=table, is_optional=False))
+
+
 def optional(world: World, maker: Maker) -> Edited:
     """What is optional isn't, or the other way round."""
 
@@ -239,6 +249,7 @@ MANIFEST_EDITS: Dict[str, Callable[[World, Maker], Edited]] = {
     "a line of a manifest": invalid_manifest,
     "a requirement changed": another_requirement,
     "a requirement in another table": another_table,
+    "a requirement for another target": another_target,
     "a requirement optional": optional,
     "a requirement at a path": another_source,
     "other features": features,
