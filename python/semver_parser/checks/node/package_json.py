@@ -195,9 +195,8 @@ class NodeTool(Tool):
     manifests: Tuple[str, ...] = (MANIFEST,)
 
     def advise(self, finding: Finding) -> None:
-        """Says of a finding what to change, if writing the lock file anew doesn't repair it: if a
-        directory of the project has another version than is required, the registry has to have
-        that."""
+        """Adds advice to a finding that the command doesn't repair: if a directory of the project
+        doesn't have the required version, the command would look for that in the registry."""
         if isinstance(finding, Unsatisfied) and finding.found is not None and finding.found.is_own:
             finding.advised("change the version of the package, or what is required of it", True)
 

@@ -24,8 +24,8 @@ from .peers import Peers
 UNMET = (Unsatisfied, Overridden)
 
 
-# What repairs what npm doesn't look at: it looks at what workspaces require, and no further. And
-# what npm only leaves out, since further up there is what fits.
+# The advice for what npm doesn't check: it checks what workspaces require, and nothing below. And
+# the advice for a package that npm only leaves out, since one further up satisfies the requirement.
 ANEW = "remove it, and have npm write it without the old one"
 
 
@@ -65,8 +65,8 @@ class Leaving:
         return "conflicting peer" if is_peer else ""
 
     def may_stay(self, finding: OfFound) -> bool:
-        """Returns whether npm may leave what a finding is about: a package further up than what is
-        found is what the requirement or its override is for."""
+        """Returns whether npm may leave the package that a finding is about: a package of the name
+        further up satisfies the requirement or its override."""
         it, specifier = finding.requirement, finding.specifier
         if it.found is None or is_top(it.found.place):
             return False

@@ -1,11 +1,12 @@
 """Which mismatched peers `npm ci` leaves as they are.
 
-npm looks for a place for a peer in the folders round who requires it, beginning with the first
-whose package has no such peer itself. No other version has a place there if that package needs the
-one that is there, or brings along who has that for a peer. Then npm only warns, unless the project
-or a workspace requires the peer, or brought along who does. To npm nobody brought along a linked
-directory that is no workspace. What that requires has no rule of overrides, and only replaces what
-has none either.
+npm looks for a place for a peer in the directories around its requirer. It begins with the first
+directory whose package does not have the same peer itself. No other version has a place there if
+that package needs the one that is there, or if it brings in a package that has that one as a peer.
+
+Then npm only warns, unless the project or a workspace requires the peer, or brought in its
+requirer. For npm, nobody brought in a linked directory that is not a workspace. Overrides don't
+apply to what such a directory requires, and that only replaces packages without overrides.
 """
 
 from functools import cached_property
@@ -17,8 +18,8 @@ from .lock import folders, inside, is_top
 
 
 class Peers:
-    """What the packages of a lock file require, which of that fits, who requires each, and which
-    have a rule of overrides."""
+    """The requirements of the packages of a lock file: which of them are satisfied, who requires
+    each package, and which packages have overrides."""
 
     def __init__(
         self,
@@ -48,8 +49,9 @@ class Peers:
         return self.known[place]
 
     def is_left(self, ask: Requirement) -> bool:
-        """Returns whether npm leaves a peer that doesn't fit as it is: no version is for that and
-        for others that need what is there, or what is there can't be replaced."""
+        """Returns whether npm leaves a mismatched peer as it is: no version satisfies both the peer
+        and another requirement that needs the package that is there, or that package can't be
+        replaced."""
         if ask.kind != PEERS or ask.found is None or ask.requirer.place in self.tops:
             return False
         if is_elsewhere(ask.specifier):

@@ -264,8 +264,8 @@ class Npm(NodeTool):
         return json_offsets(text, wanted, AFTER_KEY_OF_OBJECT)
 
     def advise(self, finding: Finding) -> None:
-        """Says of a finding what to change, if the command doesn't repair it: npm leaves out what
-        is optional and can't be installed."""
+        """Adds advice to a finding if the command doesn't repair it: npm leaves out an optional
+        dependency that can't be installed."""
         super().advise(finding)
         is_unmet = isinstance(finding, (Missing, Unsatisfied))
         if is_unmet and isinstance(finding, OfRequirement) and finding.requirement.kind == OPTIONAL:
